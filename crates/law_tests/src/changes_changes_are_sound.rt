@@ -2,7 +2,7 @@
 
 ghost use Rattle.std.specs.Prelude.{◌≡◌, ◌⊎◌, ℕ, Bool, List, [], None};
 ghost use Rattle.std.specs.List.{list_any};
-ghost use Rattle.sbl_changes.specs.Changes.{Change, changes_of, renamed, split};
+ghost use Rattle.sbl_changes.specs.Changes.{Change, changes_of, class_renaming, class_split};
 ghost use Rattle.sbl_changes.specs.Classes.{Class};
 ghost use Rattle.sbl_changes.specs.Rows.{Row};
 ghost use Rattle.sbl_changes.specs.ChangesAreSound.{HasOneRowEach, other_way};
@@ -12,7 +12,7 @@ use sbl_changes::laws::changes_are_sound;
 /// Needs the whole of the law `changes_are_sound`.
 pub fn needs_changes_are_sound()
     ensures none { (rows : List Row) → HasOneRowEach rows → changes_of rows rows ≡ [] }
-    ensures either { (new : List Class) (c : Class) → (split c c.members ≡ None) ⊎ (renamed new c c.members ≡ None) }
+    ensures either { (new : List Class) (c : Class) → (class_split c c.members ≡ None) ⊎ (class_renaming new c c.members ≡ None) }
     ensures exchange { (before after : List Row) → HasOneRowEach before → HasOneRowEach after → (test : Change → Bool) → list_any test (changes_of before after) ≡ list_any (λ c. test (other_way c)) (changes_of after before) }
 {
     changes_are_sound();

@@ -2,7 +2,7 @@
 //! tests is in this crate.
 #![tactic(auto)]
 
-pub mod amongs_replaced;
+pub mod amongs_replacement;
 pub mod bench_equal_scripts;
 pub mod bench_undo;
 pub mod changes_changes_are_sound;

@@ -4,9 +4,9 @@ ghost use Rattle.std.specs.Prelude.{◌≡◌, ℕ, Bool, false, List, map};
 ghost use Rattle.std.specs.List.{list_any};
 ghost use Rattle.std.specs.List.Sorted.{IsStrictlySortedBy};
 ghost use Rattle.sbl_resolver.specs.Checks.{WellDeclared};
-ghost use Rattle.sbl_machine.specs.BuiltFrom.{IsClosed, affected, affected_by, meets, meets_one};
+ghost use Rattle.sbl_machine.specs.BuiltFrom.{IsClosed, is_affected_by, affected_by, meets, meets_one};
 ghost use Rattle.sbl_semantics.specs.Outcome.{touches_of};
-ghost use Rattle.sbl_semantics.specs.Touched.{Item', item_cmp, named, same_item, touched_of, touches, names_of};
+ghost use Rattle.sbl_semantics.specs.TouchedItems.{Item', item_cmp, item_of_touch, same_item, touched_items, touches, names_of};
 ghost use Rattle.sbl_ast.specs.Source.{Source};
 ghost use Rattle.sbl_machine.specs.Frame.{AgreeOutside, RunsAlike, StaysAsItWas};
 
@@ -14,22 +14,22 @@ use sbl_machine::laws::{clear_stay, frame, touches_are_touched, unmet_by_one_sta
 
 /// Needs the whole of the law `touches_are_touched`.
 pub fn needs_touches_are_touched()
-    ensures touched { (x : Item') (script : Source) (word : List ℕ) (limit : ℕ) → list_any (same_item x) (touched_of script word limit) ≡ touches x script word limit }
-    ensures rise { (script : Source) (word : List ℕ) (limit : ℕ) → IsStrictlySortedBy item_cmp (touched_of script word limit) }
+    ensures touched { (x : Item') (script : Source) (word : List ℕ) (limit : ℕ) → list_any (same_item x) (touched_items script word limit) ≡ touches x script word limit }
+    ensures rise { (script : Source) (word : List ℕ) (limit : ℕ) → IsStrictlySortedBy item_cmp (touched_items script word limit) }
 {
     touches_are_touched();
 }
 
 /// Needs the whole of the law `frame`.
 pub fn needs_frame()
-    ensures { (picked : Item' → Bool) (s t : Source) → IsClosed picked s → AgreeOutside picked s t → (word : List ℕ) (limit : ℕ) → list_any picked (touched_of s word limit) ≡ false → RunsAlike s t word limit }
+    ensures { (picked : Item' → Bool) (s t : Source) → IsClosed picked s → AgreeOutside picked s t → (word : List ℕ) (limit : ℕ) → list_any picked (touched_items s word limit) ≡ false → RunsAlike s t word limit }
 {
     frame();
 }
 
 /// Needs the whole of the law `unmet_stay`.
 pub fn needs_unmet_stay()
-    ensures { (x : Item') (s t : Source) → WellDeclared s.items s.external → AgreeOutside (affected s x) s t → (word : List ℕ) (limit : ℕ) → meets x s word limit ≡ false → StaysAsItWas s t word limit }
+    ensures { (x : Item') (s t : Source) → WellDeclared s.items s.external → AgreeOutside (is_affected_by s x) s t → (word : List ℕ) (limit : ℕ) → meets x s word limit ≡ false → StaysAsItWas s t word limit }
 {
     unmet_stay();
 }
@@ -37,7 +37,7 @@ pub fn needs_unmet_stay()
 /// Needs the whole of the law `clear_stay`.
 pub fn needs_clear_stay()
     ensures names { (picked : Item' → Bool) (s t : Source) → AgreeOutside picked s t → names_of t ≡ names_of s }
-    ensures clear { (picked : Item' → Bool) (s t : Source) → IsClosed picked s → AgreeOutside picked s t → (word : List ℕ) (limit : ℕ) → list_any picked (map (named (names_of s)) (touches_of s word limit)) ≡ false → StaysAsItWas s t word limit }
+    ensures clear { (picked : Item' → Bool) (s t : Source) → IsClosed picked s → AgreeOutside picked s t → (word : List ℕ) (limit : ℕ) → list_any picked (map (item_of_touch (names_of s)) (touches_of s word limit)) ≡ false → StaysAsItWas s t word limit }
 {
     clear_stay();
 }

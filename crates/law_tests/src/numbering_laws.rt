@@ -1,15 +1,10 @@
 //! Laws of sbl_compiler (specs/Laws.antt), written out.
 
 ghost use Rattle.std.specs.Prelude.{◌≡◌, ℕ, false, List, []};
-ghost use Rattle.sbl_compiler.specs.Ahead.{routines_in};
+ghost use Rattle.sbl_compiler.specs.{Ahead.routines_in, Laws.names_in, Laws.routine_at, NumberedAmongs.found_behind, NumberedItems.numbered_items, NumberedItems.routines_behind, NumberedNames.Names, NumberedNames.number_of};
 ghost use Rattle.sbl_semantics.specs.Items.{body_named, class_of, classes_behind};
-ghost use Rattle.sbl_compiler.specs.Numbered.{numbered_items, routines_behind};
-ghost use Rattle.sbl_compiler.specs.NumberedAmongs.{found_behind};
-ghost use Rattle.sbl_compiler.specs.NumberedNames.{Names, number_of};
 ghost use Rattle.sbl_char_class.specs.Terms.{class_at};
-ghost use Rattle.sbl_ast.specs.Order.{ItemInMode, in_order};
-ghost use Rattle.sbl_ast.specs.Tree.{Item};
-ghost use Rattle.sbl_compiler.specs.Laws.{names_in, routine_at};
+ghost use Rattle.sbl_ast.specs.{Order.ItemInMode, Order.in_order, Tree.Item};
 
 use sbl_compiler::laws::{classes_are_their_terms, own_is_made, routine_is_its_own};
 

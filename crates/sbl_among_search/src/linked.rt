@@ -13,7 +13,7 @@ mod rows;
 use crate::linked::beginnings::{Beginnings, beginnings_of};
 use crate::linked::links::{best_of, links_of};
 use crate::linked::rows::rows_of;
-use crate::plain::{ahead, copied_all};
+use crate::plain::{ahead, copy_strings};
 use crate::search::AmongSearch;
 use sbl_ast::Mode;
 use std::alloc::{AllocError, Global};
@@ -43,7 +43,10 @@ impl LinkedTable {
     fn best(&self, part: &[char], below: usize) -> Option<usize>
         ensures { ∥ IsBest (strings_of self.now) (read_as self.now.direction part.now) below result ∥₁ }
     {
-        best_of(&self.rows, &self.links, self.direction, part, below)
+        match self.direction {
+            Mode::Forward => best_of(&self.rows, &self.links, Mode::Forward, part, below),
+            Mode::Backward => best_of(&self.rows, &self.links, Mode::Backward, part, below),
+        }
     }
 }
 
@@ -54,15 +57,11 @@ impl AmongSearch for LinkedTable {
 
     ghost mode = { mode_of };
 
-    fn build(
-        alloc: Global,
-        strings: &[Vec<char>],
-        direction: Mode,
-    ) -> Result<LinkedTable, AllocError> {
+    fn build(alloc: Global, strings: &[Vec<char>], direction: Mode) -> Result<Self, AllocError> {
         let rows = rows_of(alloc, strings, direction)?;
         let links = links_of(alloc, &rows)?;
         let beginnings = beginnings_of(alloc, &rows)?;
-        let copies = copied_all(alloc, strings)?;
+        let copies = copy_strings(alloc, strings)?;
         Ok(LinkedTable {
             strings: copies,
             direction,

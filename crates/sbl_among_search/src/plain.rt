@@ -58,13 +58,9 @@ impl AmongSearch for PlainTable {
 
     ghost mode = { mode_of };
 
-    fn build(
-        alloc: Global,
-        strings: &[Vec<char>],
-        direction: Mode,
-    ) -> Result<PlainTable, AllocError> {
+    fn build(alloc: Global, strings: &[Vec<char>], direction: Mode) -> Result<Self, AllocError> {
         Ok(PlainTable {
-            strings: copied_all(alloc, strings)?,
+            strings: copy_strings(alloc, strings)?,
             direction,
         })
     }
@@ -83,7 +79,7 @@ impl AmongSearch for PlainTable {
 }
 
 /// Returns copies of strings. Returns `AllocError` if an allocation fails.
-pub fn copied_all(alloc: Global, strings: &[Vec<char>]) -> Result<Vec<Vec<char>>, AllocError>
+pub fn copy_strings(alloc: Global, strings: &[Vec<char>]) -> Result<Vec<Vec<char>>, AllocError>
     ensures { IfOk result (λ copies. map (λ v. v.items) copies.items ≡ map (λ v. v.items) strings.now) }
 {
     let mut copies = Vec::with_capacity(alloc, strings.len())?;
@@ -94,7 +90,7 @@ pub fn copied_all(alloc: Global, strings: &[Vec<char>]) -> Result<Vec<Vec<char>>
 }
 
 /// Returns a copy of a string. Returns `AllocError` if an allocation fails.
-fn copied(alloc: Global, string: &[char]) -> Result<Vec<char>, AllocError>
+fn copy_string(alloc: Global, string: &[char]) -> Result<Vec<char>, AllocError>
     ensures { IfOk result (λ v. v.items ≡ string.now) }
 {
     string.to_vec(alloc)
@@ -104,7 +100,7 @@ fn copied(alloc: Global, string: &[char]) -> Result<Vec<char>, AllocError>
 fn add(alloc: Global, copies: &mut Vec<Vec<char>>, string: &[char]) -> Result<(), AllocError>
     ensures { IfOk result (λ _. map (λ v. v.items) copies.new.items ≡ map (λ v. v.items) copies.old.items ++ (string.now ∷ [])) }
 {
-    copies.push(copied(alloc, string)?)?;
+    copies.push(copy_string(alloc, string)?)?;
     Ok(())
 }
 

@@ -5,7 +5,7 @@ use Rattle.sbl_ast.specs.Tree.{Command, bracket, simple_, literal_, name_, non_,
 use Rattle.sbl_ast.specs.Terminal as t
 use Rattle.sbl_ast.specs.Counts.{count_amongs, count_in_rows, count_in_others, count_in_starter, count_in_groups}
 use Rattle.sbl_amongs.specs.Amongs.{FitsAt, Held, amongs, amongs_of_rows, amongs_of_others, amongs_of_starter, amongs_of_groups, amongs_of_body, nth_held, put_among, put_in_rows, put_in_others, put_in_starter, put_in_groups, put_in_body}
-use Rattle.sbl_ast.specs.Places.{placed, placed_rows, placed_others, placed_starter, placed_groups, placed_entry, placed_entries, placed_expression, AreShallow}
+use Rattle.sbl_ast.specs.Places.{placed_command, placed_rows, placed_others, placed_starter, placed_groups, placed_entry, placed_entries, placed_expression, AreShallow}
 use Rattle.sbl_ast.specs.Texts.{body, places_in}
 use Rattle.sbl_ast.proofs.Behind.{by_itself, behind_it, with_behind, entry_before, entries_before, expression_before, tree_before, rows_before, others_before, starter_before, groups_before}
 
@@ -85,7 +85,7 @@ mutual
 -- what fits behind a part
 fits_behind : (n : ℕ) (part : Hs → Hs) → Counts n part → (k : ℕ) (rest : Hs) (a : Starter × Groups) → FitsAt k (part rest) a → FitsAt (k - n) rest a
 fits_behind n part counts k rest a fits h is = go (k - n) refl is where
-  go : (m : ℕ) → k - n ≡ m → nth_held m rest ≡ Some h → AreShallow (placed (among_ a.0 a.1) h.0 [])
+  go : (m : ℕ) → k - n ≡ m → nth_held m rest ≡ Some h → AreShallow (placed_command (among_ a.0 a.1) h.0 [])
   go zero e there = let never : None ≡ Some h = sym (none_is_first rest) ∙ there in absurd cc
   go (suc m) e there = fits h (ap (λ (x : ℕ). nth_held x (part rest)) (omega (arith, e)) ∙ counts rest m ∙ next_is rest m ∙ there)
 
@@ -94,11 +94,11 @@ fits_inside : (k : ℕ) (g : Held) (rest : Hs) (a : Starter × Groups) → nat_e
 fits_inside k g rest a ne fits h is = fits h (ap (λ (b : Bool). if b then Some g else nth_held (k - 1) rest) ne ∙ is)
 
 -- an among with others inside, where those are known to be shallow
-chosen_put : (s : Starter) (gs : Groups) (d k : ℕ) (rest : Hs) (a : Starter × Groups) → AreShallow (placed (among_ s gs) d []) → FitsAt k (amongs (among_ s gs) d rest) a
+chosen_put : (s : Starter) (gs : Groups) (d k : ℕ) (rest : Hs) (a : Starter × Groups) → AreShallow (placed_command (among_ s gs) d []) → FitsAt k (amongs (among_ s gs) d rest) a
     → (FitsAt (k - 1) (amongs_of_starter s d (amongs_of_groups gs d rest)) a → AreShallow (placed_starter (put_in_starter s (k - 1) a) d []))
-    → (FitsAt (k - 1) (amongs_of_starter s d (amongs_of_groups gs d rest)) a → AreShallow (placed_groups (put_in_groups gs (k - 1 - count_in_starter s) a) d [])) → AreShallow (placed (put_among (among_ s gs) k a) d [])
+    → (FitsAt (k - 1) (amongs_of_starter s d (amongs_of_groups gs d rest)) a → AreShallow (placed_groups (put_in_groups gs (k - 1 - count_in_starter s) a) d [])) → AreShallow (placed_command (put_among (among_ s gs) k a) d [])
 chosen_put s gs d k rest a h fits starts groups = go (nat_eq k 1) refl where
-  go : (b : Bool) → nat_eq k 1 ≡ b → AreShallow (placed (if b then among_ a.0 a.1 else among_ (put_in_starter s (k - 1) a) (put_in_groups gs (k - 1 - count_in_starter s) a)) d [])
+  go : (b : Bool) → nat_eq k 1 ≡ b → AreShallow (placed_command (if b then among_ a.0 a.1 else among_ (put_in_starter s (k - 1) a) (put_in_groups gs (k - 1 - count_in_starter s) a)) d [])
   go true e = fits (d, s, gs) (ap (λ (b : Bool). if b then Some (d, s, gs) else nth_held (k - 1) (amongs_of_starter s d (amongs_of_groups gs d rest))) e)
   go false e =
       let close = (t.close_, d) ∷ [] in
@@ -115,7 +115,7 @@ chosen_put s gs d k rest a h fits starts groups = go (nat_eq k 1) refl where
       )
 
 mutual
-  pub tree_put : (c : Command) (d k : ℕ) (rest : Hs) (a : Starter × Groups) → AreShallow (placed c d []) → FitsAt k (amongs c d rest) a → AreShallow (placed (put_among c k a) d [])
+  pub tree_put : (c : Command) (d k : ℕ) (rest : Hs) (a : Starter × Groups) → AreShallow (placed_command c d []) → FitsAt k (amongs c d rest) a → AreShallow (placed_command (put_among c k a) d [])
   tree_put (bracket rs) d k rest a h fits =
       let close = (t.close_, d) ∷ [] in
       (h.0, with_behind (placed_rows (put_in_rows rs k a) (d + 1)) (rows_before (put_in_rows rs k a) (d + 1)) close (rows_put rs (d + 1) k rest a (by_itself (placed_rows rs (d + 1)) (rows_before rs (d + 1)) close h.1) fits) (behind_it (placed_rows rs (d + 1)) (rows_before rs (d + 1)) close h.1))
@@ -125,18 +125,18 @@ mutual
   tree_put (non_ x y) d k rest a h fits = h
   tree_put (prefixed p c) d k rest a h fits = (h.0, tree_put c (d + 1) k rest a h.1 fits)
   tree_put (counted n e c) d k rest a h fits =
-      let whole = placed c (d + 1) [] in
-      (h.0, with_behind (placed_expression e d) (expression_before e d) (placed (put_among c k a) (d + 1) []) (by_itself (placed_expression e d) (expression_before e d) whole h.1) (tree_put c (d + 1) k rest a (behind_it (placed_expression e d) (expression_before e d) whole h.1) fits))
+      let whole = placed_command c (d + 1) [] in
+      (h.0, with_behind (placed_expression e d) (expression_before e d) (placed_command (put_among c k a) (d + 1) []) (by_itself (placed_expression e d) (expression_before e d) whole h.1) (tree_put c (d + 1) k rest a (behind_it (placed_expression e d) (expression_before e d) whole h.1) fits))
   tree_put (move_ x y) d k rest a h fits = h
   tree_put (named x y) d k rest a h fits = h
   tree_put (splice_ x y) d k rest a h fits = h
   tree_put (setlimit_ b c) d k rest a h fits =
       let m = k - count_amongs b in
-      let left = (t.for_, d) ∷ placed c (d + 1) [] in
-      let tail = behind_it (placed b (d + 1)) (tree_before b (d + 1)) left h.1 in
+      let left = (t.for_, d) ∷ placed_command c (d + 1) [] in
+      let tail = behind_it (placed_command b (d + 1)) (tree_before b (d + 1)) left h.1 in
       let second = tree_put c (d + 1) m rest a tail.1 (fits_behind (count_amongs b) (λ r. amongs b (d + 1) r) (tree_counts b (d + 1)) k (amongs c (d + 1) rest) a fits) in
-      let first = tree_put b (d + 1) k (amongs c (d + 1) rest) a (by_itself (placed b (d + 1)) (tree_before b (d + 1)) left h.1) fits in
-      (h.0, with_behind (placed (put_among b k a) (d + 1)) (tree_before (put_among b k a) (d + 1)) ((t.for_, d) ∷ placed (put_among c m a) (d + 1) []) first (tail.0, second))
+      let first = tree_put b (d + 1) k (amongs c (d + 1) rest) a (by_itself (placed_command b (d + 1)) (tree_before b (d + 1)) left h.1) fits in
+      (h.0, with_behind (placed_command (put_among b k a) (d + 1)) (tree_before (put_among b k a) (d + 1)) ((t.for_, d) ∷ placed_command (put_among c m a) (d + 1) []) first (tail.0, second))
   tree_put (assign_ x y z) d k rest a h fits = h
   tree_put (compare_ x y z) d k rest a h fits = h
   tree_put (compare_values_ x y z) d k rest a h fits = h
@@ -155,23 +155,23 @@ mutual
       let n = m - count_in_others os in
       let more = placed_rows rs d [] in
       let inner = amongs_of_others os d (amongs_of_rows rs d rest) in
-      let tail = behind_it (placed c d) (tree_before c d) (placed_others os d more) h in
-      let first = tree_put c d k inner a (by_itself (placed c d) (tree_before c d) (placed_others os d more) h) fits in
+      let tail = behind_it (placed_command c d) (tree_before c d) (placed_others os d more) h in
+      let first = tree_put c d k inner a (by_itself (placed_command c d) (tree_before c d) (placed_others os d more) h) fits in
       let after = fits_behind (count_amongs c) (λ r. amongs c d r) (tree_counts c d) k inner a fits in
       let second = others_put os d m (amongs_of_rows rs d rest) a (by_itself (placed_others os d) (others_before os d) more tail) after in
       let third = rows_put rs d n rest a (behind_it (placed_others os d) (others_before os d) more tail) (fits_behind (count_in_others os) (λ r. amongs_of_others os d r) (others_count os d) m (amongs_of_rows rs d rest) a after) in
       let next = put_in_rows rs n a in
       let others = put_in_others os m a in
-      with_behind (placed (put_among c k a) d) (tree_before (put_among c k a) d) (placed_others others d (placed_rows next d [])) first (with_behind (placed_others others d) (others_before others d) (placed_rows next d []) second third)
+      with_behind (placed_command (put_among c k a) d) (tree_before (put_among c k a) d) (placed_others others d (placed_rows next d [])) first (with_behind (placed_others others d) (others_before others d) (placed_rows next d []) second third)
 
   pub others_put : (os : Others) (d k : ℕ) (rest : Hs) (a : Starter × Groups) → AreShallow (placed_others os d []) → FitsAt k (amongs_of_others os d rest) a → AreShallow (placed_others (put_in_others os k a) d [])
   others_put no_others d k rest a h fits = h
   others_put (joined j c os) d k rest a h fits =
       let m = k - count_amongs c in
       let more = placed_others os d [] in
-      let first = tree_put c d k (amongs_of_others os d rest) a (by_itself (placed c d) (tree_before c d) more h.1) fits in
-      let second = others_put os d m rest a (behind_it (placed c d) (tree_before c d) more h.1) (fits_behind (count_amongs c) (λ r. amongs c d r) (tree_counts c d) k (amongs_of_others os d rest) a fits) in
-      (h.0, with_behind (placed (put_among c k a) d) (tree_before (put_among c k a) d) (placed_others (put_in_others os m a) d []) first second)
+      let first = tree_put c d k (amongs_of_others os d rest) a (by_itself (placed_command c d) (tree_before c d) more h.1) fits in
+      let second = others_put os d m rest a (behind_it (placed_command c d) (tree_before c d) more h.1) (fits_behind (count_amongs c) (λ r. amongs c d r) (tree_counts c d) k (amongs_of_others os d rest) a fits) in
+      (h.0, with_behind (placed_command (put_among c k a) d) (tree_before (put_among c k a) d) (placed_others (put_in_others os m a) d []) first second)
 
   pub starter_put : (s : Starter) (d k : ℕ) (rest : Hs) (a : Starter × Groups) → AreShallow (placed_starter s d []) → FitsAt k (amongs_of_starter s d rest) a → AreShallow (placed_starter (put_in_starter s k a) d [])
   starter_put no_starter d k rest a h fits = h
@@ -205,6 +205,6 @@ pub body_put : (b : Command × Others) (k : ℕ) (a : Starter × Groups) → Are
 body_put b k a h fits =
     let m = k - count_amongs b.0 in
     let more = placed_others b.1 1 [] in
-    let first = tree_put b.0 1 k (amongs_of_others b.1 1 []) a (by_itself (placed b.0 1) (tree_before b.0 1) more h) fits in
-    let second = others_put b.1 1 m [] a (behind_it (placed b.0 1) (tree_before b.0 1) more h) (fits_behind (count_amongs b.0) (λ r. amongs b.0 1 r) (tree_counts b.0 1) k (amongs_of_others b.1 1 []) a fits) in
-    with_behind (placed (put_among b.0 k a) 1) (tree_before (put_among b.0 k a) 1) (placed_others (put_in_others b.1 m a) 1 []) first second
+    let first = tree_put b.0 1 k (amongs_of_others b.1 1 []) a (by_itself (placed_command b.0 1) (tree_before b.0 1) more h) fits in
+    let second = others_put b.1 1 m [] a (behind_it (placed_command b.0 1) (tree_before b.0 1) more h) (fits_behind (count_amongs b.0) (λ r. amongs b.0 1 r) (tree_counts b.0 1) k (amongs_of_others b.1 1 []) a fits) in
+    with_behind (placed_command (put_among b.0 k a) 1) (tree_before (put_among b.0 k a) 1) (placed_others (put_in_others b.1 m a) 1 []) first second

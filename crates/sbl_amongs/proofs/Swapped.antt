@@ -3,11 +3,11 @@ use Rattle.std.proofs.Common.{◌≡◌, ℕ, ◌+◌, ◌-◌, Bool, true, fals
 use Rattle.sbl_ast.specs.Tree.{Command, bracket, simple_, literal_, name_, non_, prefixed, counted, move_, named, splice_, setlimit_, assign_, compare_, compare_values_, among_, Rows, no_rows, row, Others, no_others, joined, Starter, no_starter, starter, Groups, bare, group}
 use Rattle.sbl_ast.specs.Terminal as t
 use Rattle.sbl_ast.specs.Counts.{count_amongs, count_in_rows, count_in_others, count_in_starter, count_in_groups}
-use Rattle.sbl_ast.specs.Places.{AtDepth, placed, placed_rows, placed_others, placed_starter, placed_groups, placed_entry, placed_entries, placed_expression}
+use Rattle.sbl_ast.specs.Places.{AtDepth, placed_command, placed_rows, placed_others, placed_starter, placed_groups, placed_entry, placed_entries, placed_expression}
 use Rattle.sbl_ast.specs.Texts.{body, places_in}
 use Rattle.sbl_ast.proofs.Behind.{IsBefore, entry_before, entries_before, expression_before, tree_before}
 use Rattle.sbl_amongs.specs.Amongs.{Held, amongs, amongs_of_body, amongs_of_rows, amongs_of_others, amongs_of_starter, amongs_of_groups, nth_held, put_among, put_in_body, put_in_rows, put_in_others, put_in_starter, put_in_groups}
-use Rattle.sbl_amongs.specs.Replaced.{IsBetween, is_among, count_words}
+use Rattle.sbl_amongs.specs.Replacement.{IsBetween, is_among, count_words}
 use Rattle.sbl_amongs.proofs.Held.{none_is_first}
 use Rattle.sbl_amongs.proofs.Words.{IsWithout, argument_without, expression_without, entry_without, entries_without}
 use Rattle.sbl_amongs.proofs.Putting.{less_none, less_two, less_three}
@@ -30,8 +30,8 @@ between part before without k h a r q b =
       front = part b.front;
       behind = b.behind;
       number = b.number ∙ ap (λ (n : ℕ). n + 1) (sym (without b.front));
-      was = ap part b.was ∙ before b.front (placed (among_ h.1 h.2) h.0 b.behind);
-      is = ap part b.is ∙ before b.front (placed (among_ a.0 a.1) h.0 b.behind);
+      was = ap part b.was ∙ before b.front (placed_command (among_ h.1 h.2) h.0 b.behind);
+      is = ap part b.is ∙ before b.front (placed_command (among_ a.0 a.1) h.0 b.behind);
     }
 
 along : (part : Ps → Ps) → IsBefore part → IsWithout part → (k : ℕ) (o : Option Held) (a : Starter × Groups) (r q : Ps) → Swaps k o a r q → Swaps k o a (part r) (part q)
@@ -78,7 +78,7 @@ is_first k e = go k e where
   go m h = grind (arith, h)
 
 -- the among with this number: what stands behind it stays
-itself : (s : Starter) (gs : Groups) (d k : ℕ) (a : Starter × Groups) (r q : Ps) → k ≡ 1 → r ≡ q → Swaps k (Some (d, s, gs)) a (placed (among_ s gs) d r) (placed (among_ a.0 a.1) d q)
+itself : (s : Starter) (gs : Groups) (d k : ℕ) (a : Starter × Groups) (r q : Ps) → k ≡ 1 → r ≡ q → Swaps k (Some (d, s, gs)) a (placed_command (among_ s gs) d r) (placed_command (among_ a.0 a.1) d q)
 itself s gs d k a r q first same =
     record {
       there = λ h e. let is : (d, s, gs) ≡ h = cc in
@@ -86,53 +86,53 @@ itself s gs d k a r q first same =
             front = [];
             behind = r;
             number = first;
-            was = ap (λ (g : Held). placed (among_ g.1 g.2) g.0 r) is;
-            is = ap (λ (z : Ps). placed (among_ a.0 a.1) d z) (sym same) ∙ ap (λ (g : Held). placed (among_ a.0 a.1) g.0 r) is;
+            was = ap (λ (g : Held). placed_command (among_ g.1 g.2) g.0 r) is;
+            is = ap (λ (z : Ps). placed_command (among_ a.0 a.1) d z) (sym same) ∙ ap (λ (g : Held). placed_command (among_ a.0 a.1) g.0 r) is;
           };
       gone = λ e. absurd cc;
     }
 
 -- an among is the one, or what is in it is looked at
 chosen : (s : Starter) (gs : Groups) (d k : ℕ) (rest : Hs) (a : Starter × Groups) (r q : Ps) → At (k - (1 + (count_in_starter s + count_in_groups gs))) rest a r q
-    → (let s1 : Starter = put_in_starter s (k - 1) a in let g1 : Groups = put_in_groups gs (k - 1 - count_in_starter s) a in Swaps k (nth_held (k - 1) (amongs_of_starter s d (amongs_of_groups gs d rest))) a (placed (among_ s gs) d r) (placed (among_ s1 g1) d q))
-    → At k (amongs (among_ s gs) d rest) a (placed (among_ s gs) d r) (placed (put_among (among_ s gs) k a) d q)
+    → (let s1 : Starter = put_in_starter s (k - 1) a in let g1 : Groups = put_in_groups gs (k - 1 - count_in_starter s) a in Swaps k (nth_held (k - 1) (amongs_of_starter s d (amongs_of_groups gs d rest))) a (placed_command (among_ s gs) d r) (placed_command (among_ s1 g1) d q))
+    → At k (amongs (among_ s gs) d rest) a (placed_command (among_ s gs) d r) (placed_command (put_among (among_ s gs) k a) d q)
 chosen s gs d k rest a r q hyp inside = go (nat_eq k 1) refl where
-  go : (b : Bool) → nat_eq k 1 ≡ b → Swaps k (if b then Some (d, s, gs) else nth_held (k - 1) (amongs_of_starter s d (amongs_of_groups gs d rest))) a (placed (among_ s gs) d r) (placed (if b then among_ a.0 a.1 else among_ (put_in_starter s (k - 1) a) (put_in_groups gs (k - 1 - count_in_starter s) a)) d q)
+  go : (b : Bool) → nat_eq k 1 ≡ b → Swaps k (if b then Some (d, s, gs) else nth_held (k - 1) (amongs_of_starter s d (amongs_of_groups gs d rest))) a (placed_command (among_ s gs) d r) (placed_command (if b then among_ a.0 a.1 else among_ (put_in_starter s (k - 1) a) (put_in_groups gs (k - 1 - count_in_starter s) a)) d q)
   go true e = itself s gs d k a r q (is_first k e) (hyp.gone (ap (λ (x : ℕ). nth_held x rest) (omega (arith, is_first k e)) ∙ none_is_first rest))
   go false e = inside
 
 mutual
-  tree_swaps : (a : Starter × Groups) (c : Command) (d k : ℕ) (rest : Hs) (r q : Ps) → At (k - count_amongs c) rest a r q → At k (amongs c d rest) a (placed c d r) (placed (put_among c k a) d q)
+  tree_swaps : (a : Starter × Groups) (c : Command) (d k : ℕ) (rest : Hs) (r q : Ps) → At (k - count_amongs c) rest a r q → At k (amongs c d rest) a (placed_command c d r) (placed_command (put_among c k a) d q)
   tree_swaps a (bracket rs) d k rest r q s =
       let o = nth_held k (amongs_of_rows rs (d + 1) rest) in
       let close = step (t.close_, d) refl (k - count_in_rows rs) (nth_held (k - count_in_rows rs) rest) a r q s in
       step (t.open_, d) refl k o a (placed_rows rs (d + 1) ((t.close_, d) ∷ r)) (placed_rows (put_in_rows rs k a) (d + 1) ((t.close_, d) ∷ q)) (rows_swaps a rs (d + 1) k rest ((t.close_, d) ∷ r) ((t.close_, d) ∷ q) close)
-  tree_swaps a (simple_ x) d k rest r q s = plain (placed (simple_ x) d) (tree_before (simple_ x) d) (λ z. refl) k rest a r q s
-  tree_swaps a (literal_ x) d k rest r q s = plain (placed (literal_ x) d) (tree_before (literal_ x) d) (λ z. refl) k rest a r q s
-  tree_swaps a (name_ x) d k rest r q s = plain (placed (name_ x) d) (tree_before (name_ x) d) (λ z. refl) k rest a r q s
-  tree_swaps a (non_ true y) d k rest r q s = plain (placed (non_ true y) d) (tree_before (non_ true y) d) (λ z. refl) k rest a r q s
-  tree_swaps a (non_ false y) d k rest r q s = plain (placed (non_ false y) d) (tree_before (non_ false y) d) (λ z. refl) k rest a r q s
+  tree_swaps a (simple_ x) d k rest r q s = plain (placed_command (simple_ x) d) (tree_before (simple_ x) d) (λ z. refl) k rest a r q s
+  tree_swaps a (literal_ x) d k rest r q s = plain (placed_command (literal_ x) d) (tree_before (literal_ x) d) (λ z. refl) k rest a r q s
+  tree_swaps a (name_ x) d k rest r q s = plain (placed_command (name_ x) d) (tree_before (name_ x) d) (λ z. refl) k rest a r q s
+  tree_swaps a (non_ true y) d k rest r q s = plain (placed_command (non_ true y) d) (tree_before (non_ true y) d) (λ z. refl) k rest a r q s
+  tree_swaps a (non_ false y) d k rest r q s = plain (placed_command (non_ false y) d) (tree_before (non_ false y) d) (λ z. refl) k rest a r q s
   tree_swaps a (prefixed p c) d k rest r q s =
-      step (t.prefix p, d) refl k (nth_held k (amongs c (d + 1) rest)) a (placed c (d + 1) r) (placed (put_among c k a) (d + 1) q) (tree_swaps a c (d + 1) k rest r q s)
+      step (t.prefix p, d) refl k (nth_held k (amongs c (d + 1) rest)) a (placed_command c (d + 1) r) (placed_command (put_among c k a) (d + 1) q) (tree_swaps a c (d + 1) k rest r q s)
   tree_swaps a (counted n e c) d k rest r q s =
       let o = nth_held k (amongs c (d + 1) rest) in
-      let old = placed c (d + 1) r in
-      let new = placed (put_among c k a) (d + 1) q in
+      let old = placed_command c (d + 1) r in
+      let new = placed_command (put_among c k a) (d + 1) q in
       step (t.count n, d) refl k o a (placed_expression e d old) (placed_expression e d new) (along (placed_expression e d) (expression_before e d) (expression_without e d) k o a old new (tree_swaps a c (d + 1) k rest r q s))
-  tree_swaps a (move_ x y) d k rest r q s = plain (placed (move_ x y) d) (tree_before (move_ x y) d) (expression_without y d) k rest a r q s
-  tree_swaps a (named x y) d k rest r q s = plain (placed (named x y) d) (tree_before (named x y) d) (λ z. refl) k rest a r q s
-  tree_swaps a (splice_ x y) d k rest r q s = plain (placed (splice_ x y) d) (tree_before (splice_ x y) d) (argument_without y d) k rest a r q s
+  tree_swaps a (move_ x y) d k rest r q s = plain (placed_command (move_ x y) d) (tree_before (move_ x y) d) (expression_without y d) k rest a r q s
+  tree_swaps a (named x y) d k rest r q s = plain (placed_command (named x y) d) (tree_before (named x y) d) (λ z. refl) k rest a r q s
+  tree_swaps a (splice_ x y) d k rest r q s = plain (placed_command (splice_ x y) d) (tree_before (splice_ x y) d) (argument_without y d) k rest a r q s
   tree_swaps a (setlimit_ b c) d k rest r q s =
       let m = k - count_amongs b in
-      let old = (t.for_, d) ∷ placed c (d + 1) r in
-      let new = (t.for_, d) ∷ placed (put_among c m a) (d + 1) q in
+      let old = (t.for_, d) ∷ placed_command c (d + 1) r in
+      let new = (t.for_, d) ∷ placed_command (put_among c m a) (d + 1) q in
       let behind = amongs c (d + 1) rest in
       let second = tree_swaps a c (d + 1) m rest r q (number (k - (count_amongs b + count_amongs c)) (m - count_amongs c) rest a r q (less_two k (count_amongs b) (count_amongs c)) s) in
-      let first = tree_swaps a b (d + 1) k behind old new (step (t.for_, d) refl m (nth_held m behind) a (placed c (d + 1) r) (placed (put_among c m a) (d + 1) q) second) in
-      step (t.set_limit, d) refl k (nth_held k (amongs b (d + 1) behind)) a (placed b (d + 1) old) (placed (put_among b k a) (d + 1) new) first
-  tree_swaps a (assign_ x y z) d k rest r q s = plain (placed (assign_ x y z) d) (tree_before (assign_ x y z) d) (expression_without z d) k rest a r q s
-  tree_swaps a (compare_ x y z) d k rest r q s = plain (placed (compare_ x y z) d) (tree_before (compare_ x y z) d) (expression_without z d) k rest a r q s
-  tree_swaps a (compare_values_ x y z) d k rest r q s = plain (placed (compare_values_ x y z) d) (tree_before (compare_values_ x y z) d) (λ v. expression_without x d ((t.compares y, d) ∷ placed_expression z d ((t.close_, d) ∷ v)) ∙ expression_without z d ((t.close_, d) ∷ v)) k rest a r q s
+      let first = tree_swaps a b (d + 1) k behind old new (step (t.for_, d) refl m (nth_held m behind) a (placed_command c (d + 1) r) (placed_command (put_among c m a) (d + 1) q) second) in
+      step (t.set_limit, d) refl k (nth_held k (amongs b (d + 1) behind)) a (placed_command b (d + 1) old) (placed_command (put_among b k a) (d + 1) new) first
+  tree_swaps a (assign_ x y z) d k rest r q s = plain (placed_command (assign_ x y z) d) (tree_before (assign_ x y z) d) (expression_without z d) k rest a r q s
+  tree_swaps a (compare_ x y z) d k rest r q s = plain (placed_command (compare_ x y z) d) (tree_before (compare_ x y z) d) (expression_without z d) k rest a r q s
+  tree_swaps a (compare_values_ x y z) d k rest r q s = plain (placed_command (compare_values_ x y z) d) (tree_before (compare_values_ x y z) d) (λ v. expression_without x d ((t.compares y, d) ∷ placed_expression z d ((t.close_, d) ∷ v)) ∙ expression_without z d ((t.close_, d) ∷ v)) k rest a r q s
   tree_swaps a (among_ s0 gs) d k rest r q s =
       let n = count_in_starter s0 in
       let m = k - 1 - n in
@@ -168,7 +168,7 @@ mutual
       let old = placed_others os d r in
       let new = placed_others (put_in_others os m a) d q in
       let second = others_swaps a os d m rest r q (number (k - (count_amongs c + count_in_others os)) (m - count_in_others os) rest a r q (less_two k (count_amongs c) (count_in_others os)) s) in
-      step (t.joiner j, d) refl k (nth_held k (amongs c d inner)) a (placed c d old) (placed (put_among c k a) d new) (tree_swaps a c d k inner old new second)
+      step (t.joiner j, d) refl k (nth_held k (amongs c d inner)) a (placed_command c d old) (placed_command (put_among c k a) d new) (tree_swaps a c d k inner old new second)
 
   starter_swaps : (a : Starter × Groups) (s0 : Starter) (d k : ℕ) (rest : Hs) (r q : Ps) → At (k - count_in_starter s0) rest a r q → At k (amongs_of_starter s0 d rest) a (placed_starter s0 d r) (placed_starter (put_in_starter s0 k a) d q)
   starter_swaps a no_starter d k rest r q s = number (k - 0) k rest a r q (sym (less_none k)) s

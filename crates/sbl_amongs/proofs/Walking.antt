@@ -12,7 +12,7 @@ use Rattle.sbl_ast.specs.Terminal as t
 use Rattle.sbl_ast.specs.Tree.{Command, bracket, counted, setlimit_, among_, Rows, Others, Starter, starter, Groups, Entry, Expression}
 use Rattle.sbl_amongs.specs.Amongs.{Held, amongs, amongs_of_rows, amongs_of_others, amongs_of_starter, amongs_of_groups, nth_held}
 use Rattle.sbl_amongs.specs.WalkEnds.{Finds}
-use Rattle.sbl_ast.specs.Places.{AtDepth, placed_expression, placed_entry, placed_entries, placed, placed_rows, placed_others, placed_starter, placed_groups, AreShallow}
+use Rattle.sbl_ast.specs.Places.{AtDepth, placed_expression, placed_entry, placed_entries, placed_command, placed_rows, placed_others, placed_starter, placed_groups, AreShallow}
 use Rattle.sbl_ast.specs.View.{AmongView, RowView, JoinedView, GroupView, among_step, command_step, group_step, joined_step, row_step, rows_of, others_of, groups_of, view_among, view_command, view_entry, view_groups, view_others, view_row}
 use Rattle.sbl_ast.proofs.Behind.{IsBefore, by_itself, behind_it, with_behind, entry_before, entries_before, expression_before, tree_before, rows_before, others_before, starter_before, groups_before}
 
@@ -24,19 +24,19 @@ Ps = List AtDepth
 
 -- ---- what is shallow inside
 
-pub bracket_in : (c : Command) (rs : Rows) (d : ℕ) → c ≡ bracket rs → AreShallow (placed c d []) → AreShallow (placed_rows rs (d + 1) [])
-bracket_in c rs d is h = by_itself (placed_rows rs (d + 1)) (rows_before rs (d + 1)) ((t.close_, d) ∷ []) (subst (λ (x : Command). AreShallow (placed x d [])) is h).1
+pub bracket_in : (c : Command) (rs : Rows) (d : ℕ) → c ≡ bracket rs → AreShallow (placed_command c d []) → AreShallow (placed_rows rs (d + 1) [])
+bracket_in c rs d is h = by_itself (placed_rows rs (d + 1)) (rows_before rs (d + 1)) ((t.close_, d) ∷ []) (subst (λ (x : Command). AreShallow (placed_command x d [])) is h).1
 
-pub counted_in : (c b : Command) (n : Count) (e : Expression) (d : ℕ) → c ≡ counted n e b → AreShallow (placed c d []) → AreShallow (placed b (d + 1) [])
-counted_in c b n e d is h = behind_it (placed_expression e d) (expression_before e d) (placed b (d + 1) []) (subst (λ (x : Command). AreShallow (placed x d [])) is h).1
+pub counted_in : (c b : Command) (n : Count) (e : Expression) (d : ℕ) → c ≡ counted n e b → AreShallow (placed_command c d []) → AreShallow (placed_command b (d + 1) [])
+counted_in c b n e d is h = behind_it (placed_expression e d) (expression_before e d) (placed_command b (d + 1) []) (subst (λ (x : Command). AreShallow (placed_command x d [])) is h).1
 
-pub limit_in : (c a b : Command) (d : ℕ) → c ≡ setlimit_ a b → AreShallow (placed c d []) → AreShallow (placed a (d + 1) [])
-limit_in c a b d is h = by_itself (placed a (d + 1)) (tree_before a (d + 1)) ((t.for_, d) ∷ placed b (d + 1) []) (subst (λ (x : Command). AreShallow (placed x d [])) is h).1
+pub limit_in : (c a b : Command) (d : ℕ) → c ≡ setlimit_ a b → AreShallow (placed_command c d []) → AreShallow (placed_command a (d + 1) [])
+limit_in c a b d is h = by_itself (placed_command a (d + 1)) (tree_before a (d + 1)) ((t.for_, d) ∷ placed_command b (d + 1) []) (subst (λ (x : Command). AreShallow (placed_command x d [])) is h).1
 
-pub limited_in : (c a b : Command) (d : ℕ) → c ≡ setlimit_ a b → AreShallow (placed c d []) → AreShallow (placed b (d + 1) [])
-limited_in c a b d is h = (behind_it (placed a (d + 1)) (tree_before a (d + 1)) ((t.for_, d) ∷ placed b (d + 1) []) (subst (λ (x : Command). AreShallow (placed x d [])) is h).1).1
+pub limited_in : (c a b : Command) (d : ℕ) → c ≡ setlimit_ a b → AreShallow (placed_command c d []) → AreShallow (placed_command b (d + 1) [])
+limited_in c a b d is h = (behind_it (placed_command a (d + 1)) (tree_before a (d + 1)) ((t.for_, d) ∷ placed_command b (d + 1) []) (subst (λ (x : Command). AreShallow (placed_command x d [])) is h).1).1
 
-pub starter_in : (s : Starter) (gs : Groups) (d : ℕ) → AreShallow (placed (among_ s gs) d []) → AreShallow (placed_starter s d [])
+pub starter_in : (s : Starter) (gs : Groups) (d : ℕ) → AreShallow (placed_command (among_ s gs) d []) → AreShallow (placed_starter s d [])
 starter_in s gs d h = by_itself (placed_starter s d) (starter_before s d) (placed_groups gs d ((t.close_, d) ∷ [])) h.1.1
 
 pub rows_in : (s : Starter) (rs : Rows) (d : ℕ) → s ≡ starter rs → AreShallow (placed_starter s d []) → AreShallow (placed_rows rs (d + 1 + 1) [])
@@ -66,7 +66,7 @@ seen_groups a = ap (λ (x : AmongView). x.1) (fold_out-Among Command AmongView G
 pub seen_row : (r : Row) → view_row r ≡ (view_command (out-RowOfCommands r).first, view_others (out-RowOfCommands r).others.items)
 seen_row r = fold_out-RowOfCommands Command AmongView GroupView JoinedView RowView command_step among_step group_step joined_step row_step r
 
-pub groups_in : (s : Starter) (all : Groups) (gs : List GroupView) (es : List Entry) (d : ℕ) → all ≡ groups_of gs es → AreShallow (placed (among_ s all) d []) → AreShallow (placed_groups (groups_of gs []) d [])
+pub groups_in : (s : Starter) (all : Groups) (gs : List GroupView) (es : List Entry) (d : ℕ) → all ≡ groups_of gs es → AreShallow (placed_command (among_ s all) d []) → AreShallow (placed_groups (groups_of gs []) d [])
 groups_in s all gs es d is h =
     let close = (t.close_, d) ∷ [] in
     let there = behind_it (placed_starter s d) (starter_before s d) (placed_groups all d close) h.1.1 in
@@ -84,30 +84,30 @@ pub groups_on : (g : GroupView) (whole left : List GroupView) (d : ℕ) → whol
 groups_on g whole left d is h =
     behind_it (one_group g.first g.others g.rows d) (group_before g.first g.others g.rows d) (placed_groups (groups_of left []) d []) (subst (λ (x : List GroupView). AreShallow (placed_groups (groups_of x []) d [])) is h)
 
-pub row_in : (x : RowView) (whole left : List RowView) (d : ℕ) → whole ≡ x ∷ left → AreShallow (placed_rows (rows_of whole) d []) → AreShallow (placed x.0 d (placed_others x.1 d []))
+pub row_in : (x : RowView) (whole left : List RowView) (d : ℕ) → whole ≡ x ∷ left → AreShallow (placed_rows (rows_of whole) d []) → AreShallow (placed_command x.0 d (placed_others x.1 d []))
 row_in x whole left d is h =
     let more = placed_rows (rows_of left) d [] in
     let start = subst (λ (z : List RowView). AreShallow (placed_rows (rows_of z) d [])) is h in
-    let tail = behind_it (placed x.0 d) (tree_before x.0 d) (placed_others x.1 d more) start in
-    with_behind (placed x.0 d) (tree_before x.0 d) (placed_others x.1 d []) (by_itself (placed x.0 d) (tree_before x.0 d) (placed_others x.1 d more) start) (by_itself (placed_others x.1 d) (others_before x.1 d) more tail)
+    let tail = behind_it (placed_command x.0 d) (tree_before x.0 d) (placed_others x.1 d more) start in
+    with_behind (placed_command x.0 d) (tree_before x.0 d) (placed_others x.1 d []) (by_itself (placed_command x.0 d) (tree_before x.0 d) (placed_others x.1 d more) start) (by_itself (placed_others x.1 d) (others_before x.1 d) more tail)
 
 pub rows_on : (x : RowView) (whole left : List RowView) (d : ℕ) → whole ≡ x ∷ left → AreShallow (placed_rows (rows_of whole) d []) → AreShallow (placed_rows (rows_of left) d [])
 rows_on x whole left d is h =
     let more = placed_rows (rows_of left) d [] in
     let start = subst (λ (z : List RowView). AreShallow (placed_rows (rows_of z) d [])) is h in
-    behind_it (placed_others x.1 d) (others_before x.1 d) more (behind_it (placed x.0 d) (tree_before x.0 d) (placed_others x.1 d more) start)
+    behind_it (placed_others x.1 d) (others_before x.1 d) more (behind_it (placed_command x.0 d) (tree_before x.0 d) (placed_others x.1 d more) start)
 
-pub joined_in : (x : JoinedView) (whole left : List JoinedView) (d : ℕ) → whole ≡ x ∷ left → AreShallow (placed_others (others_of whole) d []) → AreShallow (placed x.1 d [])
-joined_in x whole left d is h = by_itself (placed x.1 d) (tree_before x.1 d) (placed_others (others_of left) d []) (subst (λ (z : List JoinedView). AreShallow (placed_others (others_of z) d [])) is h).1
+pub joined_in : (x : JoinedView) (whole left : List JoinedView) (d : ℕ) → whole ≡ x ∷ left → AreShallow (placed_others (others_of whole) d []) → AreShallow (placed_command x.1 d [])
+joined_in x whole left d is h = by_itself (placed_command x.1 d) (tree_before x.1 d) (placed_others (others_of left) d []) (subst (λ (z : List JoinedView). AreShallow (placed_others (others_of z) d [])) is h).1
 
 pub others_on : (x : JoinedView) (whole left : List JoinedView) (d : ℕ) → whole ≡ x ∷ left → AreShallow (placed_others (others_of whole) d []) → AreShallow (placed_others (others_of left) d [])
-others_on x whole left d is h = behind_it (placed x.1 d) (tree_before x.1 d) (placed_others (others_of left) d []) (subst (λ (z : List JoinedView). AreShallow (placed_others (others_of z) d [])) is h).1
+others_on x whole left d is h = behind_it (placed_command x.1 d) (tree_before x.1 d) (placed_others (others_of left) d []) (subst (λ (z : List JoinedView). AreShallow (placed_others (others_of z) d [])) is h).1
 
-pub first_in : (b : RowView) (c : Command) (os : Others) (d : ℕ) → b ≡ (c, os) → AreShallow (placed b.0 d (placed_others b.1 d [])) → AreShallow (placed c d [])
-first_in b c os d is h = by_itself (placed c d) (tree_before c d) (placed_others os d []) (subst (λ (z : RowView). AreShallow (placed z.0 d (placed_others z.1 d []))) is h)
+pub first_in : (b : RowView) (c : Command) (os : Others) (d : ℕ) → b ≡ (c, os) → AreShallow (placed_command b.0 d (placed_others b.1 d [])) → AreShallow (placed_command c d [])
+first_in b c os d is h = by_itself (placed_command c d) (tree_before c d) (placed_others os d []) (subst (λ (z : RowView). AreShallow (placed_command z.0 d (placed_others z.1 d []))) is h)
 
-pub others_in : (b : RowView) (c : Command) (os : Others) (d : ℕ) → b ≡ (c, os) → AreShallow (placed b.0 d (placed_others b.1 d [])) → AreShallow (placed_others os d [])
-others_in b c os d is h = behind_it (placed c d) (tree_before c d) (placed_others os d []) (subst (λ (z : RowView). AreShallow (placed z.0 d (placed_others z.1 d []))) is h)
+pub others_in : (b : RowView) (c : Command) (os : Others) (d : ℕ) → b ≡ (c, os) → AreShallow (placed_command b.0 d (placed_others b.1 d [])) → AreShallow (placed_others os d [])
+others_in b c os d is h = behind_it (placed_command c d) (tree_before c d) (placed_others os d []) (subst (λ (z : RowView). AreShallow (placed_command z.0 d (placed_others z.1 d []))) is h)
 
 -- ---- what is found
 
@@ -135,14 +135,14 @@ one_deeper d e is le = omega (arith, is, le)
 two_deeper : (d e : ℕ) → e ≡ min (d + 2) (2 ^ 8 - 1) → d + 1 ≤ 64 → e ≡ d + 1 + 1
 two_deeper d e is le = omega (arith, is, le)
 
-first_shallow : (c x : Command) (d : ℕ) → c ≡ x → AreShallow (placed c d []) → AreShallow (placed x d [])
-first_shallow c x d is h = subst (λ (y : Command). AreShallow (placed y d [])) is h
+first_shallow : (c x : Command) (d : ℕ) → c ≡ x → AreShallow (placed_command c d []) → AreShallow (placed_command x d [])
+first_shallow c x d is h = subst (λ (y : Command). AreShallow (placed_command y d [])) is h
 
 abbrev RowsFind : WalkEnd → ℕ → Rows → ℕ → Type 0
 RowsFind r n rs e = AreShallow (placed_rows rs e []) → Finds r n (λ rest. amongs_of_rows rs e rest)
 
 abbrev TreeFinds : WalkEnd → ℕ → Command → ℕ → Type 0
-TreeFinds r n c e = AreShallow (placed c e []) → Finds r n (λ rest. amongs c e rest)
+TreeFinds r n c e = AreShallow (placed_command c e []) → Finds r n (λ rest. amongs c e rest)
 
 as_seen : (r : WalkEnd) (n d : ℕ) (c x : Command) → c ≡ x → Finds r n (λ rest. amongs x d rest) → Finds r n (λ rest. amongs c d rest)
 as_seen r n d c x is f = finds_there r n (λ rest. amongs x d rest) (λ rest. amongs c d rest) (λ rest. ap (λ (y : Command). amongs y d rest) (sym is)) f
@@ -226,7 +226,7 @@ groups_next b n m d e g whole left all is deep inv f h =
     (groups_on g whole left d is now.0, λ bare rest. sym (found_ (amongs_of_groups (groups_of left bare) d rest)) ∙ ap (λ (x : List GroupView). nth_held b (amongs_of_groups (groups_of x bare) d rest)) (sym is) ∙ now.1 bare rest)
 
 abbrev pub RowFinds : WalkEnd → ℕ → RowView → ℕ → Type 0
-RowFinds r n x d = AreShallow (placed x.0 d (placed_others x.1 d [])) → Finds r n (λ rest. amongs x.0 d (amongs_of_others x.1 d rest))
+RowFinds r n x d = AreShallow (placed_command x.0 d (placed_others x.1 d [])) → Finds r n (λ rest. amongs x.0 d (amongs_of_others x.1 d rest))
 
 pub rows_there : (dd : ℕ) (p : Place) (b n d : ℕ) (x : RowView) (whole left all : List RowView) → whole ≡ x ∷ left → RowsSofar b n whole all d → RowFinds (ends.There dd p) b x d → RowsFind (ends.There dd p) n (rows_of all) d
 rows_there dd p b n d x whole left all is inv f h =

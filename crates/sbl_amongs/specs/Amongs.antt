@@ -1,7 +1,7 @@
 -- The amongs of a tree, in the order of the words `among`, and a tree in which another among replaces one.
 use Rattle.std.specs.Prelude.{◌≡◌, ℕ, ◌+◌, ◌-◌, List, [], ◌∷◌, Option, Some, None, nat_eq, if◌then◌else◌}
 use Rattle.sbl_ast.specs.Tree.{Command, bracket, prefixed, counted, setlimit_, among_, Rows, no_rows, row, Others, no_others, joined, Starter, no_starter, starter, Groups, bare, group}
-use Rattle.sbl_ast.specs.Places.{placed, AreShallow}
+use Rattle.sbl_ast.specs.Places.{placed_command, AreShallow}
 use Rattle.sbl_ast.specs.Counts.{count_amongs, count_in_rows, count_in_others, count_in_starter}
 
 -- an among: its depth, its starter and its groups
@@ -80,4 +80,4 @@ put_in_among b k a = if nat_eq k 1 then a else (put_in_starter b.0 (k - 1) a, pu
 
 -- an among fits in place of the one with number k: at that depth none of its tokens is too deep
 abbrev pub FitsAt : ℕ → List Held → Starter × Groups → Type 0
-FitsAt k hs a = (h : Held) → nth_held k hs ≡ Some h → AreShallow (placed (among_ a.0 a.1) h.0 [])
+FitsAt k hs a = (h : Held) → nth_held k hs ≡ Some h → AreShallow (placed_command (among_ a.0 a.1) h.0 [])

@@ -5,7 +5,7 @@ ghost use Rattle.sbl_amongs.specs.Amongs as spec;
 ghost use Rattle.sbl_ast.specs.Counts.{count_amongs, count_in_among, count_in_groups, count_in_others, count_in_rows};
 ghost use Rattle.sbl_amongs.specs.Amongs.{Held, amongs_of_body, nth_held};
 ghost use Rattle.sbl_amongs.specs.WalkEnds.{Finds};
-ghost use Rattle.sbl_ast.specs.Places.{placed, placed_groups, placed_others, placed_rows, placed_starter, max_depth, AreShallow};
+ghost use Rattle.sbl_ast.specs.Places.{placed_command, placed_groups, placed_others, placed_rows, placed_starter, max_depth, AreShallow};
 ghost use Rattle.sbl_ast.specs.Texts.{body, places_in};
 ghost use Rattle.sbl_ast.specs.Tree as trees;
 ghost use Rattle.sbl_ast.specs.View.{view_among, view_command, view_groups, view_others, view_row, view_rows};
@@ -23,7 +23,7 @@ pub(crate) enum WalkEnd<'a> {
 /// Finds the among with this number in a command at `depth`.
 #[cycle(find)]
 fn in_command(command: &Command, depth: u8, number: u64) -> WalkEnd<'_>
-    ensures { AreShallow (placed (view_command command.now) depth []) → Finds result number (λ rest. spec.amongs (view_command command.now) depth rest) }
+    ensures { AreShallow (placed_command (view_command command.now) depth []) → Finds result number (λ rest. spec.amongs (view_command command.now) depth rest) }
 {
     let inside = depth.saturating_add(1);
     match command {
@@ -42,7 +42,7 @@ fn in_command(command: &Command, depth: u8, number: u64) -> WalkEnd<'_>
 /// An among comes before those in its starter, and these come before those in its groups.
 #[cycle(find)]
 fn in_among(among: &Among, depth: u8, number: u64) -> WalkEnd<'_>
-    ensures { AreShallow (placed (trees.among_ (view_among among.now).0 (view_among among.now).1) depth []) → Finds result number (λ rest. spec.amongs (trees.among_ (view_among among.now).0 (view_among among.now).1) depth rest) }
+    ensures { AreShallow (placed_command (trees.among_ (view_among among.now).0 (view_among among.now).1) depth []) → Finds result number (λ rest. spec.amongs (trees.among_ (view_among among.now).0 (view_among among.now).1) depth rest) }
 {
     if number == 1 {
         return WalkEnd::There(depth, among);
@@ -68,10 +68,9 @@ fn in_starter(among: &Among, depth: u8, number: u64) -> WalkEnd<'_>
 fn in_groups(groups: &Vec<Group>, depth: u8, number: u64) -> WalkEnd<'_>
     ensures { AreShallow (placed_groups (view_groups groups.now.items []) depth []) → (bare : List trees.Entry) → Finds result number (λ rest. spec.amongs_of_groups (view_groups groups.now.items bare) depth rest) }
 {
-    let inside = depth.saturating_add(2);
     let mut behind = number;
     for group in groups {
-        match in_rows(&group.rows, inside, behind) {
+        match in_rows(&group.rows, depth.saturating_add(2), behind) {
             WalkEnd::Behind(next) => behind = next,
             WalkEnd::There(depth, among) => return WalkEnd::There(depth, among),
         }
@@ -95,7 +94,7 @@ fn in_rows(rows: &Vec<RowOfCommands>, depth: u8, number: u64) -> WalkEnd<'_>
 
 #[cycle(find)]
 fn in_row(row: &RowOfCommands, depth: u8, number: u64) -> WalkEnd<'_>
-    ensures { AreShallow (placed (view_row row.now).0 depth (placed_others (view_row row.now).1 depth [])) → Finds result number (λ rest. spec.amongs (view_row row.now).0 depth (spec.amongs_of_others (view_row row.now).1 depth rest)) }
+    ensures { AreShallow (placed_command (view_row row.now).0 depth (placed_others (view_row row.now).1 depth [])) → Finds result number (λ rest. spec.amongs (view_row row.now).0 depth (spec.amongs_of_others (view_row row.now).1 depth rest)) }
 {
     match in_command(&row.first, depth, number) {
         WalkEnd::Behind(number) => in_others(&row.others, depth, number),

@@ -1,6 +1,6 @@
 //! Laws of replaced amongs.
 
-ghost use Rattle.sbl_amongs.specs.Replaced.{NoneIsReplaced, OneIsReplaced};
+ghost use Rattle.sbl_amongs.specs.Replacement.{NoneIsReplaced, OneIsReplaced};
 
 /// If an among of a body is replaced, the tokens are those before it, those of the new among at the same depth, and
 /// those after it, each at its old depth. If no among has this number, all tokens stay.

@@ -15,166 +15,152 @@ use sbl_ast::{
 };
 use std::alloc::{AllocError, Global};
 
-/// Returns a copy with `among` in place of the among with number `at`, counted from 1. Subtracts the number of amongs
-/// in the command from `at`.
-#[cycle(put_among)]
-fn put_in_command(
+/// The among that is put in the place of another one.
+#[derive(Clone, Copy)]
+struct Replacement<'a> {
     alloc: Global,
-    command: &Command,
-    at: u64,
-    among: &Among,
-) -> Result<(Command, u64), AllocError>
-    ensures put { IfOk result (λ x. view_command x.0 ≡ spec.put_among (view_command command.now) at (view_among among.now)) }
-    ensures rest { IfOk result (λ x. x.1 ≡ at - count_amongs (view_command command.now)) }
-{
-    match command {
-        Command::Bracket(rows) => {
-            let (rows, rest) = put_in_rows(alloc, rows, at, among)?;
-            Ok((Command::Bracket(rows), rest))
-        }
-        Command::Prefixed(prefix, inner) => {
-            let (inner, rest) = put_in_command(alloc, inner, at, among)?;
-            Ok((Command::Prefixed(*prefix, Box::new(alloc, inner)?), rest))
-        }
-        Command::Counted(count, times, inner) => {
-            let times = copy_expression(alloc, times)?;
-            let (inner, rest) = put_in_command(alloc, inner, at, among)?;
-            Ok((
-                Command::Counted(*count, times, Box::new(alloc, inner)?),
-                rest,
-            ))
-        }
-        Command::SetLimit(limit, inner) => {
-            let (limit, rest) = put_in_command(alloc, limit, at, among)?;
-            let (inner, rest) = put_in_command(alloc, inner, rest, among)?;
-            Ok((
-                Command::SetLimit(Box::new(alloc, limit)?, Box::new(alloc, inner)?),
-                rest,
-            ))
-        }
-        Command::Among(one) => {
-            let (one, rest) = put_in_one(alloc, one, at, among)?;
-            Ok((Command::Among(one), rest))
-        }
-        _ => Ok((copy_command(alloc, command)?, at)),
-    }
+    among: &'a Among,
 }
 
-#[cycle(put_among)]
-fn put_in_one(
-    alloc: Global,
-    one: &Among,
-    at: u64,
-    among: &Among,
-) -> Result<(Among, u64), AllocError>
-    ensures put { IfOk result (λ x. view_among x.0 ≡ put_in_among (view_among one.now) at (view_among among.now)) }
-    ensures rest { IfOk result (λ x. x.1 ≡ at - count_in_among (view_among one.now)) }
-{
-    if at == 1 {
-        return Ok((copy_among(alloc, among)?, 0));
-    }
-    let inside = at.saturating_sub(1);
-    let (starter, rest) = match &one.starter {
-        None => (None, inside),
-        Some(rows) => {
-            let (rows, rest) = put_in_rows(alloc, rows, inside, among)?;
-            (Some(rows), rest)
+impl Replacement<'_> {
+    /// Returns a copy with `among` in place of the among with number `at`, counted from 1. Subtracts the number of amongs
+    /// in the command from `at`.
+    #[cycle(put_among)]
+    fn put_in_command(&self, command: &Command, at: u64) -> Result<(Command, u64), AllocError>
+        ensures put { IfOk result (λ x. view_command x.0 ≡ spec.put_among (view_command command.now) at (view_among self.now.among.now)) }
+        ensures rest { IfOk result (λ x. x.1 ≡ at - count_amongs (view_command command.now)) }
+    {
+        match command {
+            Command::Bracket(rows) => {
+                let (rows, rest) = self.put_in_rows(rows, at)?;
+                Ok((Command::Bracket(rows), rest))
+            }
+            Command::Prefixed(prefix, inner) => {
+                let (inner, rest) = self.put_in_command(inner, at)?;
+                Ok((
+                    Command::Prefixed(*prefix, Box::new(self.alloc, inner)?),
+                    rest,
+                ))
+            }
+            Command::Counted(count, times, inner) => {
+                let times = copy_expression(self.alloc, times)?;
+                let (inner, rest) = self.put_in_command(inner, at)?;
+                Ok((
+                    Command::Counted(*count, times, Box::new(self.alloc, inner)?),
+                    rest,
+                ))
+            }
+            Command::SetLimit(limit, inner) => {
+                let (limit, rest) = self.put_in_command(limit, at)?;
+                let (inner, rest) = self.put_in_command(inner, rest)?;
+                Ok((
+                    Command::SetLimit(Box::new(self.alloc, limit)?, Box::new(self.alloc, inner)?),
+                    rest,
+                ))
+            }
+            Command::Among(one) => {
+                let (one, rest) = self.put_in_one(one, at)?;
+                Ok((Command::Among(one), rest))
+            }
+            _ => Ok((copy_command(self.alloc, command)?, at)),
         }
-    };
-    let (groups, rest) = put_in_groups(alloc, &one.groups, rest, among)?;
-    let bare = copy_entries(alloc, &one.bare)?;
-    Ok((
-        Among {
-            starter,
-            groups,
-            bare,
-        },
-        rest,
-    ))
-}
-
-#[cycle(put_among)]
-fn put_in_groups(
-    alloc: Global,
-    groups: &Vec<Group>,
-    at: u64,
-    among: &Among,
-) -> Result<(Vec<Group>, u64), AllocError>
-    ensures put { IfOk result (λ x. (bare : List trees.Entry) → view_groups x.0.items bare ≡ spec.put_in_groups (view_groups groups.now.items bare) at (view_among among.now)) }
-    ensures rest { IfOk result (λ x. (bare : List trees.Entry) → x.1 ≡ at - count_in_groups (view_groups groups.now.items bare)) }
-{
-    let mut copies = Vec::new(alloc);
-    let mut rest = at;
-    for group in groups {
-        let first = copy_entry(alloc, &group.first)?;
-        let others = copy_entries(alloc, &group.others)?;
-        let (rows, after) = put_in_rows(alloc, &group.rows, rest, among)?;
-        copies.push(Group {
-            first,
-            others,
-            rows,
-        })?;
-        rest = after;
     }
-    Ok((copies, rest))
-}
 
-#[cycle(put_among)]
-fn put_in_rows(
-    alloc: Global,
-    rows: &Vec<RowOfCommands>,
-    at: u64,
-    among: &Among,
-) -> Result<(Vec<RowOfCommands>, u64), AllocError>
-    ensures put { IfOk result (λ x. view_rows x.0.items ≡ spec.put_in_rows (view_rows rows.now.items) at (view_among among.now)) }
-    ensures rest { IfOk result (λ x. x.1 ≡ at - count_in_rows (view_rows rows.now.items)) }
-{
-    let mut copies = Vec::new(alloc);
-    let mut rest = at;
-    for row in rows {
-        let (copy, after) = put_in_row(alloc, row, rest, among)?;
-        copies.push(copy)?;
-        rest = after;
+    #[cycle(put_among)]
+    fn put_in_one(&self, one: &Among, at: u64) -> Result<(Among, u64), AllocError>
+        ensures put { IfOk result (λ x. view_among x.0 ≡ put_in_among (view_among one.now) at (view_among self.now.among.now)) }
+        ensures rest { IfOk result (λ x. x.1 ≡ at - count_in_among (view_among one.now)) }
+    {
+        if at == 1 {
+            return Ok((copy_among(self.alloc, self.among)?, 0));
+        }
+        let inside = at.saturating_sub(1);
+        let (starter, rest) = match &one.starter {
+            None => (None, inside),
+            Some(rows) => {
+                let (rows, rest) = self.put_in_rows(rows, inside)?;
+                (Some(rows), rest)
+            }
+        };
+        let (groups, rest) = self.put_in_groups(&one.groups, rest)?;
+        let bare = copy_entries(self.alloc, &one.bare)?;
+        Ok((
+            Among {
+                starter,
+                groups,
+                bare,
+            },
+            rest,
+        ))
     }
-    Ok((copies, rest))
-}
 
-#[cycle(put_among)]
-fn put_in_row(
-    alloc: Global,
-    row: &RowOfCommands,
-    at: u64,
-    among: &Among,
-) -> Result<(RowOfCommands, u64), AllocError>
-    ensures put { IfOk result (λ x. view_row x.0 ≡ put_in_body (view_row row.now) at (view_among among.now)) }
-    ensures rest { IfOk result (λ x. x.1 ≡ at - count_amongs (view_row row.now).0 - count_in_others (view_row row.now).1) }
-{
-    let (first, rest) = put_in_command(alloc, &row.first, at, among)?;
-    let (others, rest) = put_in_others(alloc, &row.others, rest, among)?;
-    Ok((RowOfCommands { first, others }, rest))
-}
-
-#[cycle(put_among)]
-fn put_in_others(
-    alloc: Global,
-    others: &Vec<Joined>,
-    at: u64,
-    among: &Among,
-) -> Result<(Vec<Joined>, u64), AllocError>
-    ensures put { IfOk result (λ x. view_others x.0.items ≡ spec.put_in_others (view_others others.now.items) at (view_among among.now)) }
-    ensures rest { IfOk result (λ x. x.1 ≡ at - count_in_others (view_others others.now.items)) }
-{
-    let mut copies = Vec::new(alloc);
-    let mut rest = at;
-    for joined in others {
-        let (command, after) = put_in_command(alloc, &joined.command, rest, among)?;
-        copies.push(Joined {
-            joiner: joined.joiner,
-            command,
-        })?;
-        rest = after;
+    #[cycle(put_among)]
+    fn put_in_groups(&self, groups: &Vec<Group>, at: u64) -> Result<(Vec<Group>, u64), AllocError>
+        ensures put { IfOk result (λ x. (bare : List trees.Entry) → view_groups x.0.items bare ≡ spec.put_in_groups (view_groups groups.now.items bare) at (view_among self.now.among.now)) }
+        ensures rest { IfOk result (λ x. (bare : List trees.Entry) → x.1 ≡ at - count_in_groups (view_groups groups.now.items bare)) }
+    {
+        let mut copies = Vec::new(self.alloc);
+        let mut rest = at;
+        for group in groups {
+            let first = copy_entry(self.alloc, &group.first)?;
+            let others = copy_entries(self.alloc, &group.others)?;
+            let (rows, after) = self.put_in_rows(&group.rows, rest)?;
+            copies.push(Group {
+                first,
+                others,
+                rows,
+            })?;
+            rest = after;
+        }
+        Ok((copies, rest))
     }
-    Ok((copies, rest))
+
+    #[cycle(put_among)]
+    fn put_in_rows(
+        &self,
+        rows: &Vec<RowOfCommands>,
+        at: u64,
+    ) -> Result<(Vec<RowOfCommands>, u64), AllocError>
+        ensures put { IfOk result (λ x. view_rows x.0.items ≡ spec.put_in_rows (view_rows rows.now.items) at (view_among self.now.among.now)) }
+        ensures rest { IfOk result (λ x. x.1 ≡ at - count_in_rows (view_rows rows.now.items)) }
+    {
+        let mut copies = Vec::new(self.alloc);
+        let mut rest = at;
+        for row in rows {
+            let (copy, after) = self.put_in_row(row, rest)?;
+            copies.push(copy)?;
+            rest = after;
+        }
+        Ok((copies, rest))
+    }
+
+    #[cycle(put_among)]
+    fn put_in_row(&self, row: &RowOfCommands, at: u64) -> Result<(RowOfCommands, u64), AllocError>
+        ensures put { IfOk result (λ x. view_row x.0 ≡ put_in_body (view_row row.now) at (view_among self.now.among.now)) }
+        ensures rest { IfOk result (λ x. x.1 ≡ at - count_amongs (view_row row.now).0 - count_in_others (view_row row.now).1) }
+    {
+        let (first, rest) = self.put_in_command(&row.first, at)?;
+        let (others, rest) = self.put_behind(&row.others, rest)?;
+        Ok((RowOfCommands { first, others }, rest))
+    }
+
+    #[cycle(put_among)]
+    fn put_behind(&self, others: &Vec<Joined>, at: u64) -> Result<(Vec<Joined>, u64), AllocError>
+        ensures put { IfOk result (λ x. view_others x.0.items ≡ spec.put_in_others (view_others others.now.items) at (view_among self.now.among.now)) }
+        ensures rest { IfOk result (λ x. x.1 ≡ at - count_in_others (view_others others.now.items)) }
+    {
+        let mut copies = Vec::new(self.alloc);
+        let mut rest = at;
+        for joined in others {
+            let (command, after) = self.put_in_command(&joined.command, rest)?;
+            copies.push(Joined {
+                joiner: joined.joiner,
+                command,
+            })?;
+            rest = after;
+        }
+        Ok((copies, rest))
+    }
 }
 
 /// Returns a copy of a routine's body with `among` in place of the among with number `at`, counted from 1 in the order
@@ -191,6 +177,7 @@ pub fn put_in_place(
     ensures put { IfOk result (λ r. view_row r ≡ put_in_body (view_row row.now) at (view_among among.now)) }
     ensures shallow { IfOk result (λ r. AreShallow (places_in body (view_row row.now)) → FitsAt at (amongs_of_body (view_row row.now)) (view_among among.now) → AreShallow (places_in body (view_row r))) }
 {
-    let (copy, _) = put_in_row(alloc, row, at, among)?;
+    let replacement = Replacement { alloc, among };
+    let (copy, _) = replacement.put_in_row(row, at)?;
     Ok(copy)
 }

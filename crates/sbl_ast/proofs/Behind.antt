@@ -3,7 +3,7 @@ use Rattle.std.proofs.Common.{◌≡◌, ℕ, ◌+◌, true, false, List, [], �
 use Rattle.sbl_ast.specs.declared.tree.Additive.TheVariants as additives
 use Rattle.sbl_ast.specs.Terminal as t
 use Rattle.sbl_ast.specs.Tree.{Expression, expression, Sums, no_sums, sum, Product, product, Scales, no_scales, scale, Factor, negated, bracketed, numeral, variable, fixed, length_of, Entry, entry, Command, bracket, simple_, literal_, name_, non_, prefixed, counted, move_, named, splice_, setlimit_, assign_, compare_, compare_values_, among_, Rows, no_rows, row, Others, no_others, joined, Starter, no_starter, starter, Groups, bare, group, Term, term, Plain, declaration, escapes, macro, routine, grouping, argument_terminal}
-use Rattle.sbl_ast.specs.Places.{AtDepth, placed_expression, placed_sums, placed_product, placed_scales, placed_factor, placed_entry, placed_entries, placed, placed_rows, placed_others, placed_starter, placed_groups, placed_names, placed_terms, placed_plain, AreShallow}
+use Rattle.sbl_ast.specs.Places.{AtDepth, placed_expression, placed_sums, placed_product, placed_scales, placed_factor, placed_entry, placed_entries, placed_command, placed_rows, placed_others, placed_starter, placed_groups, placed_names, placed_terms, placed_plain, AreShallow}
 
 abbrev Ps : Type 0
 Ps = List AtDepth
@@ -47,7 +47,7 @@ entries_before [] d r q = refl
 entries_before (x ∷ xs) d r q = ap (placed_entry x d) (entries_before xs d r q) ∙ entry_before x d (placed_entries xs d r) q
 
 mutual
-  pub tree_before : (c : Command) (d : ℕ) → IsBefore (placed c d)
+  pub tree_before : (c : Command) (d : ℕ) → IsBefore (placed_command c d)
   tree_before (bracket rs) d r q = cons (t.open_, d) (rows_before rs (d + 1) ((t.close_, d) ∷ r) q)
   tree_before (simple_ s) d r q = refl
   tree_before (literal_ s) d r q = refl
@@ -55,11 +55,11 @@ mutual
   tree_before (non_ true n) d r q = refl
   tree_before (non_ false n) d r q = refl
   tree_before (prefixed p c) d r q = cons (t.prefix p, d) (tree_before c (d + 1) r q)
-  tree_before (counted n e c) d r q = cons (t.count n, d) (ap (placed_expression e d) (tree_before c (d + 1) r q) ∙ expression_before e d (placed c (d + 1) r) q)
+  tree_before (counted n e c) d r q = cons (t.count n, d) (ap (placed_expression e d) (tree_before c (d + 1) r q) ∙ expression_before e d (placed_command c (d + 1) r) q)
   tree_before (move_ m e) d r q = cons (t.move m, d) (expression_before e d r q)
   tree_before (named x n) d r q = refl
   tree_before (splice_ x a) d r q = refl
-  tree_before (setlimit_ b c) d r q = cons (t.set_limit, d) (ap (λ (z : Ps). placed b (d + 1) ((t.for_, d) ∷ z)) (tree_before c (d + 1) r q) ∙ tree_before b (d + 1) ((t.for_, d) ∷ placed c (d + 1) r) q)
+  tree_before (setlimit_ b c) d r q = cons (t.set_limit, d) (ap (λ (z : Ps). placed_command b (d + 1) ((t.for_, d) ∷ z)) (tree_before c (d + 1) r q) ∙ tree_before b (d + 1) ((t.for_, d) ∷ placed_command c (d + 1) r) q)
   tree_before (assign_ n o e) d r q = cons (t.dollar, d) (cons (t.name n, d) (cons (t.assigns o, d) (expression_before e d r q)))
   tree_before (compare_ n o e) d r q = cons (t.dollar, d) (cons (t.name n, d) (cons (t.compares o, d) (expression_before e d r q)))
   tree_before (compare_values_ e o f) d r q = cons (t.dollar, d) (cons (t.open_, d) (ap (λ (z : Ps). placed_expression e d ((t.compares o, d) ∷ z)) (expression_before f d ((t.close_, d) ∷ r) q) ∙ expression_before e d ((t.compares o, d) ∷ placed_expression f d ((t.close_, d) ∷ r)) q))
@@ -67,11 +67,11 @@ mutual
 
   pub rows_before : (rs : Rows) (d : ℕ) → IsBefore (placed_rows rs d)
   rows_before no_rows d r q = refl
-  rows_before (row c os rs) d r q = ap (λ (z : Ps). placed c d (placed_others os d z)) (rows_before rs d r q) ∙ ap (placed c d) (others_before os d (placed_rows rs d r) q) ∙ tree_before c d (placed_others os d (placed_rows rs d r)) q
+  rows_before (row c os rs) d r q = ap (λ (z : Ps). placed_command c d (placed_others os d z)) (rows_before rs d r q) ∙ ap (placed_command c d) (others_before os d (placed_rows rs d r) q) ∙ tree_before c d (placed_others os d (placed_rows rs d r)) q
 
   pub others_before : (os : Others) (d : ℕ) → IsBefore (placed_others os d)
   others_before no_others d r q = refl
-  others_before (joined j c os) d r q = cons (t.joiner j, d) (ap (placed c d) (others_before os d r q) ∙ tree_before c d (placed_others os d r) q)
+  others_before (joined j c os) d r q = cons (t.joiner j, d) (ap (placed_command c d) (others_before os d r q) ∙ tree_before c d (placed_others os d r) q)
 
   pub starter_before : (s : Starter) (d : ℕ) → IsBefore (placed_starter s d)
   starter_before no_starter d r q = refl
@@ -97,7 +97,7 @@ plain_before (declaration k ns) r q = cons (t.declares k, 0) (cons (t.open_, 0) 
 plain_before (escapes a b) r q = refl
 plain_before (macro n None s) r q = refl
 plain_before (macro n (Some b) s) r q = refl
-plain_before (routine n c os) r q = cons (t.define, 0) (cons (t.name n, 0) (cons (t.as_, 0) (ap (placed c 1) (others_before os 1 r q) ∙ tree_before c 1 (placed_others os 1 r) q)))
+plain_before (routine n c os) r q = cons (t.define, 0) (cons (t.name n, 0) (cons (t.as_, 0) (ap (placed_command c 1) (others_before os 1 r q) ∙ tree_before c 1 (placed_others os 1 r) q)))
 plain_before (grouping n a xs) r q = cons (t.define, 0) (cons (t.name n, 0) (cons (argument_terminal a, 0) (terms_before xs r q)))
 
 -- ---- shallow parts

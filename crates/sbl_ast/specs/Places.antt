@@ -53,31 +53,31 @@ placed_entries es d rest = foldr (λ e r. placed_entry e d r) rest es
 -- a command inside a command is one level deeper, and so are the parentheses of a group or a starter; a row adds no
 -- level
 abbrev mutual
-  pub placed : Command → ℕ → List AtDepth → List AtDepth
-  placed (bracket rs) d rest = (t.open_, d) ∷ placed_rows rs (d + 1) ((t.close_, d) ∷ rest)
-  placed (simple_ s) d rest = (t.simple s, d) ∷ rest
-  placed (literal_ q) d rest = (t.literal q, d) ∷ rest
-  placed (name_ n) d rest = (t.name n, d) ∷ rest
-  placed (non_ true n) d rest = (t.non, d) ∷ (t.additive additives.Minus, d) ∷ (t.name n, d) ∷ rest
-  placed (non_ false n) d rest = (t.non, d) ∷ (t.name n, d) ∷ rest
-  placed (prefixed p c) d rest = (t.prefix p, d) ∷ placed c (d + 1) rest
-  placed (counted n e c) d rest = (t.count n, d) ∷ placed_expression e d (placed c (d + 1) rest)
-  placed (move_ m e) d rest = (t.move m, d) ∷ placed_expression e d rest
-  placed (named x n) d rest = (t.naming x, d) ∷ (t.name n, d) ∷ rest
-  placed (splice_ x a) d rest = (t.edit x, d) ∷ (argument_terminal a, d) ∷ rest
-  placed (setlimit_ b c) d rest = (t.set_limit, d) ∷ placed b (d + 1) ((t.for_, d) ∷ placed c (d + 1) rest)
-  placed (assign_ n o e) d rest = (t.dollar, d) ∷ (t.name n, d) ∷ (t.assigns o, d) ∷ placed_expression e d rest
-  placed (compare_ n o e) d rest = (t.dollar, d) ∷ (t.name n, d) ∷ (t.compares o, d) ∷ placed_expression e d rest
-  placed (compare_values_ e o f) d rest = (t.dollar, d) ∷ (t.open_, d) ∷ placed_expression e d ((t.compares o, d) ∷ placed_expression f d ((t.close_, d) ∷ rest))
-  placed (among_ s gs) d rest = (t.among, d) ∷ (t.open_, d) ∷ placed_starter s d (placed_groups gs d ((t.close_, d) ∷ rest))
+  pub placed_command : Command → ℕ → List AtDepth → List AtDepth
+  placed_command (bracket rs) d rest = (t.open_, d) ∷ placed_rows rs (d + 1) ((t.close_, d) ∷ rest)
+  placed_command (simple_ s) d rest = (t.simple s, d) ∷ rest
+  placed_command (literal_ q) d rest = (t.literal q, d) ∷ rest
+  placed_command (name_ n) d rest = (t.name n, d) ∷ rest
+  placed_command (non_ true n) d rest = (t.non, d) ∷ (t.additive additives.Minus, d) ∷ (t.name n, d) ∷ rest
+  placed_command (non_ false n) d rest = (t.non, d) ∷ (t.name n, d) ∷ rest
+  placed_command (prefixed p c) d rest = (t.prefix p, d) ∷ placed_command c (d + 1) rest
+  placed_command (counted n e c) d rest = (t.count n, d) ∷ placed_expression e d (placed_command c (d + 1) rest)
+  placed_command (move_ m e) d rest = (t.move m, d) ∷ placed_expression e d rest
+  placed_command (named x n) d rest = (t.naming x, d) ∷ (t.name n, d) ∷ rest
+  placed_command (splice_ x a) d rest = (t.edit x, d) ∷ (argument_terminal a, d) ∷ rest
+  placed_command (setlimit_ b c) d rest = (t.set_limit, d) ∷ placed_command b (d + 1) ((t.for_, d) ∷ placed_command c (d + 1) rest)
+  placed_command (assign_ n o e) d rest = (t.dollar, d) ∷ (t.name n, d) ∷ (t.assigns o, d) ∷ placed_expression e d rest
+  placed_command (compare_ n o e) d rest = (t.dollar, d) ∷ (t.name n, d) ∷ (t.compares o, d) ∷ placed_expression e d rest
+  placed_command (compare_values_ e o f) d rest = (t.dollar, d) ∷ (t.open_, d) ∷ placed_expression e d ((t.compares o, d) ∷ placed_expression f d ((t.close_, d) ∷ rest))
+  placed_command (among_ s gs) d rest = (t.among, d) ∷ (t.open_, d) ∷ placed_starter s d (placed_groups gs d ((t.close_, d) ∷ rest))
 
   pub placed_rows : Rows → ℕ → List AtDepth → List AtDepth
   placed_rows no_rows d rest = rest
-  placed_rows (row c os rs) d rest = placed c d (placed_others os d (placed_rows rs d rest))
+  placed_rows (row c os rs) d rest = placed_command c d (placed_others os d (placed_rows rs d rest))
 
   pub placed_others : Others → ℕ → List AtDepth → List AtDepth
   placed_others no_others d rest = rest
-  placed_others (joined j c os) d rest = (t.joiner j, d) ∷ placed c d (placed_others os d rest)
+  placed_others (joined j c os) d rest = (t.joiner j, d) ∷ placed_command c d (placed_others os d rest)
 
   pub placed_starter : Starter → ℕ → List AtDepth → List AtDepth
   placed_starter no_starter d rest = rest
@@ -97,7 +97,7 @@ abbrev pub placed_plain : Plain → List AtDepth → List AtDepth
 placed_plain (declaration k ns) rest = (t.declares k, 0) ∷ (t.open_, 0) ∷ foldr (λ n r. (t.name n, 0) ∷ r) ((t.close_, 0) ∷ rest) ns
 placed_plain (escapes a b) rest = (t.string_escapes, 0) ∷ (t.inserts a b, 0) ∷ rest
 placed_plain (macro n b q) rest = (t.string_def, 0) ∷ (t.macro_name n, 0) ∷ cons_option (option_map (λ x. (t.base x, 0)) b) ((t.literal q, 0) ∷ rest)
-placed_plain (routine n c os) rest = (t.define, 0) ∷ (t.name n, 0) ∷ (t.as_, 0) ∷ placed c 1 (placed_others os 1 rest)
+placed_plain (routine n c os) rest = (t.define, 0) ∷ (t.name n, 0) ∷ (t.as_, 0) ∷ placed_command c 1 (placed_others os 1 rest)
 placed_plain (grouping n a ts) rest = (t.define, 0) ∷ (t.name n, 0) ∷ (argument_terminal a, 0) ∷ placed_terms ts rest
 
 abbrev pub placed_item : Item → List AtDepth → List AtDepth

@@ -168,8 +168,8 @@ abbrev pub terminals_of : List Token → List Terminal
 terminals_of ts = map (λ t. terminal_of (lexeme_of t)) ts
 
 -- the tokens from index `at` on
-abbrev pub left : List Token → ℕ → List Terminal
-left ts at = terminals_of (drop at ts)
+abbrev pub tokens_left : List Token → ℕ → List Terminal
+tokens_left ts at = terminals_of (drop at ts)
 
 -- ---- the lexeme of each role
 

@@ -2,7 +2,7 @@
 use Rattle.std.specs.Prelude.{ℕ, List, [], ◌∷◌}
 use Rattle.sbl_ast.specs.Terminal.{Terminal}
 use Rattle.sbl_ast.specs.Tree.{Item, Command, Others, Starter, Groups, among_, Argument, Term, argument_terminal}
-use Rattle.sbl_ast.specs.Places.{AtDepth, placed, placed_others, placed_terms, places, tokens}
+use Rattle.sbl_ast.specs.Places.{AtDepth, placed_command, placed_others, placed_terms, places, tokens}
 
 -- a script; the body of a routine; the terms of a grouping; an among at a nesting depth
 pub data Text : Type 0 where
@@ -19,9 +19,9 @@ TreeOf (among d) = Starter × Groups
 -- the tokens of the tree with their nesting depths
 abbrev pub places_in : (t : Text) → TreeOf t → List AtDepth
 places_in script is = places is
-places_in body b = placed b.0 1 (placed_others b.1 1 [])
+places_in body b = placed_command b.0 1 (placed_others b.1 1 [])
 places_in terms x = (argument_terminal x.0, 0) ∷ placed_terms x.1 []
-places_in (among d) a = placed (among_ a.0 a.1) d []
+places_in (among d) a = placed_command (among_ a.0 a.1) d []
 
 abbrev pub tokens_of : (t : Text) → TreeOf t → List Terminal
 tokens_of t x = tokens (places_in t x)

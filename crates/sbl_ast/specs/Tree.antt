@@ -150,31 +150,31 @@ spelled_entries [] rest = rest
 spelled_entries (e ∷ es) rest = spelled_entry e (spelled_entries es rest)
 
 abbrev mutual
-  pub spelled : Command → List Terminal → List Terminal
-  spelled (bracket rs) rest = t.open_ ∷ spelled_rows rs (t.close_ ∷ rest)
-  spelled (simple_ s) rest = t.simple s ∷ rest
-  spelled (literal_ q) rest = t.literal q ∷ rest
-  spelled (name_ n) rest = t.name n ∷ rest
-  spelled (non_ true n) rest = t.non ∷ t.additive additives.Minus ∷ t.name n ∷ rest
-  spelled (non_ false n) rest = t.non ∷ t.name n ∷ rest
-  spelled (prefixed p c) rest = t.prefix p ∷ spelled c rest
-  spelled (counted n e c) rest = t.count n ∷ spelled_expression e (spelled c rest)
-  spelled (move_ m e) rest = t.move m ∷ spelled_expression e rest
-  spelled (named x n) rest = t.naming x ∷ t.name n ∷ rest
-  spelled (splice_ x a) rest = t.edit x ∷ argument_terminal a ∷ rest
-  spelled (setlimit_ b c) rest = t.set_limit ∷ spelled b (t.for_ ∷ spelled c rest)
-  spelled (assign_ n o e) rest = t.dollar ∷ t.name n ∷ t.assigns o ∷ spelled_expression e rest
-  spelled (compare_ n o e) rest = t.dollar ∷ t.name n ∷ t.compares o ∷ spelled_expression e rest
-  spelled (compare_values_ e o f) rest = t.dollar ∷ t.open_ ∷ spelled_expression e (t.compares o ∷ spelled_expression f (t.close_ ∷ rest))
-  spelled (among_ s gs) rest = t.among ∷ t.open_ ∷ spelled_starter s (spelled_groups gs (t.close_ ∷ rest))
+  pub spelled_command : Command → List Terminal → List Terminal
+  spelled_command (bracket rs) rest = t.open_ ∷ spelled_rows rs (t.close_ ∷ rest)
+  spelled_command (simple_ s) rest = t.simple s ∷ rest
+  spelled_command (literal_ q) rest = t.literal q ∷ rest
+  spelled_command (name_ n) rest = t.name n ∷ rest
+  spelled_command (non_ true n) rest = t.non ∷ t.additive additives.Minus ∷ t.name n ∷ rest
+  spelled_command (non_ false n) rest = t.non ∷ t.name n ∷ rest
+  spelled_command (prefixed p c) rest = t.prefix p ∷ spelled_command c rest
+  spelled_command (counted n e c) rest = t.count n ∷ spelled_expression e (spelled_command c rest)
+  spelled_command (move_ m e) rest = t.move m ∷ spelled_expression e rest
+  spelled_command (named x n) rest = t.naming x ∷ t.name n ∷ rest
+  spelled_command (splice_ x a) rest = t.edit x ∷ argument_terminal a ∷ rest
+  spelled_command (setlimit_ b c) rest = t.set_limit ∷ spelled_command b (t.for_ ∷ spelled_command c rest)
+  spelled_command (assign_ n o e) rest = t.dollar ∷ t.name n ∷ t.assigns o ∷ spelled_expression e rest
+  spelled_command (compare_ n o e) rest = t.dollar ∷ t.name n ∷ t.compares o ∷ spelled_expression e rest
+  spelled_command (compare_values_ e o f) rest = t.dollar ∷ t.open_ ∷ spelled_expression e (t.compares o ∷ spelled_expression f (t.close_ ∷ rest))
+  spelled_command (among_ s gs) rest = t.among ∷ t.open_ ∷ spelled_starter s (spelled_groups gs (t.close_ ∷ rest))
 
   pub spelled_rows : Rows → List Terminal → List Terminal
   spelled_rows no_rows rest = rest
-  spelled_rows (row c os rs) rest = spelled c (spelled_others os (spelled_rows rs rest))
+  spelled_rows (row c os rs) rest = spelled_command c (spelled_others os (spelled_rows rs rest))
 
   pub spelled_others : Others → List Terminal → List Terminal
   spelled_others no_others rest = rest
-  spelled_others (joined j c os) rest = t.joiner j ∷ spelled c (spelled_others os rest)
+  spelled_others (joined j c os) rest = t.joiner j ∷ spelled_command c (spelled_others os rest)
 
   pub spelled_starter : Starter → List Terminal → List Terminal
   spelled_starter no_starter rest = rest
@@ -200,7 +200,7 @@ abbrev pub spelled_plain : Plain → List Terminal → List Terminal
 spelled_plain (declaration k ns) rest = t.declares k ∷ t.open_ ∷ spelled_names ns (t.close_ ∷ rest)
 spelled_plain (escapes a b) rest = t.string_escapes ∷ t.inserts a b ∷ rest
 spelled_plain (macro n b q) rest = t.string_def ∷ t.macro_name n ∷ spelled_base b (t.literal q ∷ rest)
-spelled_plain (routine n c os) rest = t.define ∷ t.name n ∷ t.as_ ∷ spelled c (spelled_others os rest)
+spelled_plain (routine n c os) rest = t.define ∷ t.name n ∷ t.as_ ∷ spelled_command c (spelled_others os rest)
 spelled_plain (grouping n a ts) rest = t.define ∷ t.name n ∷ argument_terminal a ∷ spelled_terms ts rest
 
 abbrev pub spelled_plains : List Plain → List Terminal → List Terminal
@@ -216,8 +216,8 @@ spelled_items [] rest = rest
 spelled_items (i ∷ is) rest = spelled_item i (spelled_items is rest)
 
 -- the tokens of a script
-abbrev pub written : List Item → List Terminal
-written items = spelled_items items []
+abbrev pub script_tokens : List Item → List Terminal
+script_tokens items = spelled_items items []
 
 abbrev pub lexemes_of : List Item → List Lexeme
-lexemes_of items = map lexeme_as (written items)
+lexemes_of items = map lexeme_as (script_tokens items)

@@ -9,6 +9,27 @@ use crate::tree::{
 };
 use std::alloc::{AllocError, Global};
 
+/// Copies each element of a vector.
+macro_rules! copy_each {
+    ($alloc:ident, $items:expr, $item:ident => $copy:expr) => {{
+        let mut copies = Vec::new($alloc);
+        for $item in $items {
+            copies.push($copy)?;
+        }
+        copies
+    }};
+}
+
+/// Copies each element of a vector, an operator with its operand.
+macro_rules! copy_operations {
+    ($alloc:ident, $others:ident, $copy:ident, $other:ident { $operator:ident, $operand:ident }) => {
+        copy_each!($alloc, $others, other => $other {
+            $operator: other.$operator,
+            $operand: $copy($alloc, &other.$operand)?,
+        })
+    };
+}
+
 /// Returns a copy of a name. Returns `AllocError` if an allocation fails.
 pub fn copy_name(alloc: Global, name: &String) -> Result<String, AllocError>
     ensures { IfOk result (λ copy. string_bytes copy ≡ string_bytes name.now) }
@@ -47,21 +68,6 @@ pub fn copy_expression(alloc: Global, expression: &Expression) -> Result<Express
 }
 
 #[cycle(arithmetic_copies)]
-fn copy_sums(alloc: Global, others: &Vec<Added>) -> Result<Vec<Added>, AllocError>
-    ensures { IfOk result (λ copy. map view_added copy.items ≡ map view_added others.now.items) }
-{
-    let mut copies = Vec::new(alloc);
-    for added in others {
-        let product = copy_product(alloc, &added.product)?;
-        copies.push(Added {
-            operator: added.operator,
-            product,
-        })?;
-    }
-    Ok(copies)
-}
-
-#[cycle(arithmetic_copies)]
 fn copy_product(alloc: Global, product: &Product) -> Result<Product, AllocError>
     ensures { IfOk result (λ copy. view_product copy ≡ view_product product.now) }
 {
@@ -71,18 +77,17 @@ fn copy_product(alloc: Global, product: &Product) -> Result<Product, AllocError>
 }
 
 #[cycle(arithmetic_copies)]
+fn copy_sums(alloc: Global, others: &Vec<Added>) -> Result<Vec<Added>, AllocError>
+    ensures { IfOk result (λ copy. map view_added copy.items ≡ map view_added others.now.items) }
+{
+    Ok(copy_operations!(alloc, others, copy_product, Added { operator, product }))
+}
+
+#[cycle(arithmetic_copies)]
 fn copy_scales(alloc: Global, others: &Vec<Scaled>) -> Result<Vec<Scaled>, AllocError>
     ensures { IfOk result (λ copy. map view_scaled copy.items ≡ map view_scaled others.now.items) }
 {
-    let mut copies = Vec::new(alloc);
-    for scaled in others {
-        let factor = copy_factor(alloc, &scaled.factor)?;
-        copies.push(Scaled {
-            operator: scaled.operator,
-            factor,
-        })?;
-    }
-    Ok(copies)
+    Ok(copy_operations!(alloc, others, copy_factor, Scaled { operator, factor }))
 }
 
 #[cycle(arithmetic_copies)]
@@ -121,12 +126,7 @@ pub fn copy_entry(alloc: Global, entry: &Entry) -> Result<Entry, AllocError>
 pub fn copy_entries(alloc: Global, entries: &Vec<Entry>) -> Result<Vec<Entry>, AllocError>
     ensures { IfOk result (λ copy. map view_entry copy.items ≡ map view_entry entries.now.items) }
 {
-    let mut copies = Vec::new(alloc);
-    for entry in entries {
-        let copy = copy_entry(alloc, entry)?;
-        copies.push(copy)?;
-    }
-    Ok(copies)
+    Ok(copy_each!(alloc, entries, entry => copy_entry(alloc, entry)?))
 }
 
 /// Returns a copy of a command. Returns `AllocError` if an allocation fails.
@@ -203,30 +203,25 @@ pub fn copy_among(alloc: Global, among: &Among) -> Result<Among, AllocError>
 fn copy_groups(alloc: Global, groups: &Vec<Group>) -> Result<Vec<Group>, AllocError>
     ensures { IfOk result (λ copy. map view_group copy.items ≡ map view_group groups.now.items) }
 {
-    let mut copies = Vec::new(alloc);
-    for group in groups {
-        let first = copy_entry(alloc, &group.first)?;
-        let others = copy_entries(alloc, &group.others)?;
-        let rows = copy_rows(alloc, &group.rows)?;
-        copies.push(Group {
-            first,
-            others,
-            rows,
-        })?;
-    }
-    Ok(copies)
+    Ok(copy_each!(alloc, groups, group => Group {
+        first: copy_entry(alloc, &group.first)?,
+        others: copy_entries(alloc, &group.others)?,
+        rows: copy_rows(alloc, &group.rows)?,
+    }))
 }
 
 #[cycle(copies)]
 fn copy_rows(alloc: Global, rows: &Vec<RowOfCommands>) -> Result<Vec<RowOfCommands>, AllocError>
     ensures { IfOk result (λ copy. map view_row copy.items ≡ map view_row rows.now.items) }
 {
-    let mut copies = Vec::new(alloc);
-    for row in rows {
-        let copy = copy_row(alloc, row)?;
-        copies.push(copy)?;
-    }
-    Ok(copies)
+    Ok(copy_each!(alloc, rows, row => copy_row(alloc, row)?))
+}
+
+#[cycle(copies)]
+fn copy_others(alloc: Global, others: &Vec<Joined>) -> Result<Vec<Joined>, AllocError>
+    ensures { IfOk result (λ copy. map view_joined copy.items ≡ map view_joined others.now.items) }
+{
+    Ok(copy_operations!(alloc, others, copy_command, Joined { joiner, command }))
 }
 
 /// Returns a copy of a row. Returns `AllocError` if an allocation fails.
@@ -239,46 +234,18 @@ pub fn copy_row(alloc: Global, row: &RowOfCommands) -> Result<RowOfCommands, All
     Ok(RowOfCommands { first, others })
 }
 
-#[cycle(copies)]
-fn copy_others(alloc: Global, others: &Vec<Joined>) -> Result<Vec<Joined>, AllocError>
-    ensures { IfOk result (λ copy. map view_joined copy.items ≡ map view_joined others.now.items) }
-{
-    let mut copies = Vec::new(alloc);
-    for joined in others {
-        let command = copy_command(alloc, &joined.command)?;
-        copies.push(Joined {
-            joiner: joined.joiner,
-            command,
-        })?;
-    }
-    Ok(copies)
-}
-
 /// Returns a copy of names. Returns `AllocError` if an allocation fails.
 pub fn copy_names(alloc: Global, names: &Vec<String>) -> Result<Vec<String>, AllocError>
     ensures { IfOk result (λ copy. map string_bytes copy.items ≡ map string_bytes names.now.items) }
 {
-    let mut copies = Vec::new(alloc);
-    for name in names {
-        let copy = copy_name(alloc, name)?;
-        copies.push(copy)?;
-    }
-    Ok(copies)
+    Ok(copy_each!(alloc, names, name => copy_name(alloc, name)?))
 }
 
 /// Returns a copy of the terms after the first one of a grouping. Returns `AllocError` if an allocation fails.
 pub fn copy_terms(alloc: Global, terms: &Vec<Term>) -> Result<Vec<Term>, AllocError>
     ensures { IfOk result (λ copy. map view_term copy.items ≡ map view_term terms.now.items) }
 {
-    let mut copies = Vec::new(alloc);
-    for term in terms {
-        let argument = copy_argument(alloc, &term.argument)?;
-        copies.push(Term {
-            operator: term.operator,
-            argument,
-        })?;
-    }
-    Ok(copies)
+    Ok(copy_operations!(alloc, terms, copy_argument, Term { operator, argument }))
 }
 
 /// Returns a copy of an item that is allowed in a `backwardmode`. Returns `AllocError` if an allocation fails.

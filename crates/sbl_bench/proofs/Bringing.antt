@@ -11,15 +11,15 @@ use Rattle.sbl_ast.specs.Source.{Source}
 use Rattle.sbl_script.specs.Reading.{IsScriptOf}
 use Rattle.sbl_semantics.specs.declared.touch.Touch.{Touch}
 use Rattle.sbl_machine.specs.BuiltFrom.{affected_by, meets, meets_one}
-use Rattle.sbl_machine.specs.Differs.{differs}
+use Rattle.sbl_semantics.specs.Differs.{differs}
 use Rattle.sbl_machine.specs.EnoughSteps.{UsedStepsSuffice, UsedStepsTouch}
 use Rattle.sbl_machine.specs.DifferLaws.{DifferingStay, OneMeets}
 use Rattle.sbl_machine.specs.Frame.{StaysAsItWas, UntouchedStay}
 use Rattle.sbl_machine.specs.Marks.{AreMarksOf, EditedAreThere, has_item}
 use Rattle.sbl_semantics.specs.Outcome.{touches_of, used_of}
-use Rattle.sbl_semantics.specs.Touched.{Item', named, names_of}
-use Rattle.sbl_machine.specs.EditedItem.{replaced}
-use Rattle.sbl_bench.specs.Affected.{Affected, AreMet, Touching, Above, is_affected}
+use Rattle.sbl_semantics.specs.TouchedItems.{Item', item_of_touch, names_of}
+use Rattle.sbl_machine.specs.EditedItem.{edited_item}
+use Rattle.sbl_bench.specs.AffectedWords.{Affected, AreMet, Touching, Above, is_affected}
 use Rattle.sbl_bench.specs.Changes.{Brings, IsExchange, IsTaken}
 use Rattle.sbl_bench.specs.Contents.{Contents}
 use Rattle.sbl_bench.specs.Edits.{Edit, Install, Replace, Limit, Whole, is_limit, is_of_text, meets_listed, smaller}
@@ -35,18 +35,18 @@ any_mapped f test (x ∷ xs) = ap (λ (b : Bool). test (f x) || b) (any_mapped f
 pub met_by_marks : (s : Source) (xs : List Item') (marks : List Touch) → AreMarksOf s xs marks → AreMet s (Some xs) (Touching marks)
 unfolding meets_one
 met_by_marks s xs marks are limit w =
-    any_mapped (named (names_of s)) (affected_by s xs) (touches_of s w limit)
+    any_mapped (item_of_touch (names_of s)) (affected_by s xs) (touches_of s w limit)
     ∙ ap (λ (test : Touch → Bool). list_any test (touches_of s w limit)) (fun_ext (λ t. sym (are t)))
 
 stays_same : (s t : Source) (w : List ℕ) (limit : ℕ) → StaysAsItWas s t w limit → RunsSame (under s limit) (under t limit) w
 stays_same s t w limit h = record { outcome = h.alike.outcome; touches = h.touches; used = h.alike.used }
 
 pub taken_brings : UntouchedStay → OneMeets → (s : Contents) (e : ScriptEdit) (text : List ℕ) (t : Source) (x : Item') → IsTaken s e text t x → WellDeclared s.setting.script.items s.setting.script.external
-    → (a : Affected) → AreMet s.setting.script (Some (replaced e ∷ [])) a → Brings s (Replace e text) (under t s.setting.limit) a
+    → (a : Affected) → AreMet s.setting.script (Some (edited_item e ∷ [])) a → Brings s (Replace e text) (under t s.setting.limit) a
 taken_brings law alone s e text t x is well a met =
     let p = s.setting.script in
     let l = s.setting.limit in
-    let same : (w : List ℕ) → meets (replaced e) p w l ≡ is_affected (under p l) a w = λ w. sym (alone (replaced e) p w l) ∙ met l w in
+    let same : (w : List ℕ) → meets (edited_item e) p w l ≡ is_affected (under p l) a w = λ w. sym (alone (edited_item e) p w l) ∙ met l w in
     record {
       after = (is.edited, refl);
       passes = is.passes;
@@ -62,8 +62,8 @@ pub edited_brings : UntouchedStay → OneMeets → EditedAreThere → (s : Conte
     → Brings s (Replace e text) (under t s.setting.limit) a
 edited_brings law one there s e text t x is well xs alone a met =
     let p = s.setting.script in
-    let same : xs ≡ replaced e ∷ [] = alone ∙ ap (λ (y : Item'). y ∷ []) is.replaces in
-    let all : list_all (has_item (names_of p)) (replaced e ∷ []) ≡ true = ap (λ (b : Bool). b && true) (there p t e text is.edited) in
+    let same : xs ≡ edited_item e ∷ [] = alone ∙ ap (λ (y : Item'). y ∷ []) is.replaces in
+    let all : list_all (has_item (names_of p)) (edited_item e ∷ []) ≡ true = ap (λ (b : Bool). b && true) (there p t e text is.edited) in
     let known : list_all (has_item (names_of p)) xs ≡ true = subst (λ (ys : List Item'). list_all (has_item (names_of p)) ys ≡ true) (sym same) all in
     taken_brings law one s e text t x is well a (subst (λ (ys : List Item'). AreMet p (Some ys) a) same (met known))
 

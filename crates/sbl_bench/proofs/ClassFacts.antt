@@ -20,8 +20,8 @@ use Rattle.sbl_semantics.specs.declared.outcome.Outcome.{Outcome}
 use Rattle.sbl_machine.specs.declared.outcome.Traced.{Traced}
 use Rattle.sbl_semantics.specs.declared.outcome.Outcome.TheVariants as code
 use Rattle.sbl_bench.specs.Classes.{class_of, class_with, in_order, is_stem, stem_of, words_with}
-use Rattle.sbl_bench.specs.Grouping.{Pair, pair_cmp, sorted, stem_pairs, with_pair, words_paired}
-use Rattle.sbl_bench.specs.Kept.{KeptWord, AreFresh, words_in}
+use Rattle.sbl_bench.specs.Grouping.{Pair, pair_cmp, pairs_in_order, stem_pairs, with_pair, words_paired}
+use Rattle.sbl_bench.specs.KeptRuns.{KeptWord, AreFresh, words_in}
 use Rattle.sbl_bench.specs.Pairs.{ArePaired, Key, Text, find, has, has_stem, key_cmp, plain}
 use Rattle.sbl_bench.specs.Rows.{Row, rows_of}
 use Rattle.sbl_bench.proofs.PairFacts.{then_eq}
@@ -34,16 +34,16 @@ is_in p ps = mem pair_cmp p ps
 
 -- ---- what sorting keeps
 
-all-sorted : (P : Pair → Type 0) (ps : List Pair) → All P ps → All P (sorted ps)
+all-sorted : (P : Pair → Type 0) (ps : List Pair) → All P ps → All P (pairs_in_order ps)
 all-sorted P [] a = a
-all-sorted P (p ∷ ps) a = All-insert_key pair_cmp p P (sorted ps) (all-sorted P ps (All-tail P p ps a)) (All-head P p ps a)
+all-sorted P (p ∷ ps) a = All-insert_key pair_cmp p P (pairs_in_order ps) (all-sorted P ps (All-tail P p ps a)) (All-head P p ps a)
 
-mem-sorted : (ps : List Pair) → All (λ p. is_in p (sorted ps) ≡ true) ps
+mem-sorted : (ps : List Pair) → All (λ p. is_in p (pairs_in_order ps) ≡ true) ps
 mem-sorted [] = λ k d h. absurd (omega (arith, h))
-mem-sorted (p ∷ ps) = All-cons (λ q. is_in q (sorted (p ∷ ps)) ≡ true) p ps (mem-inserted pair_cmp total exact (sorted ps) p) (stay ps (mem-sorted ps))
+mem-sorted (p ∷ ps) = All-cons (λ q. is_in q (pairs_in_order (p ∷ ps)) ≡ true) p ps (mem-inserted pair_cmp total exact (pairs_in_order ps) p) (stay ps (mem-sorted ps))
   where
-    stay : (qs : List Pair) → All (λ q. is_in q (sorted ps) ≡ true) qs → All (λ q. is_in q (sorted (p ∷ ps)) ≡ true) qs
-    stay qs a = λ k d h. mem-stays pair_cmp total exact (sorted ps) p _ (a k d h)
+    stay : (qs : List Pair) → All (λ q. is_in q (pairs_in_order ps) ≡ true) qs → All (λ q. is_in q (pairs_in_order (p ∷ ps)) ≡ true) qs
+    stay qs a = λ k d h. mem-stays pair_cmp total exact (pairs_in_order ps) p _ (a k d h)
 
 -- ---- the pairs of the entries
 
@@ -126,21 +126,21 @@ mem-plain (k ∷ ks) q = ap (λ (b : Bool). is_eq (key_cmp q k) || b) (mem-plain
 -- the pairs that are kept are those of the rows in order
 pub kept_sorted : (script : Setting) (es : List KeptWord) (set : BTreeSet Key) → AreFresh script es → IsDistinct (λ (x y : Text). bytes_eq x.items y.items) (keys_of es)
     → ArePaired es set → IsStrictlySortedBy key_cmp set.keys → All (λ k. has set k ≡ true) set.keys
-    → map plain set.keys ≡ sorted (stem_pairs (rows_of script (words_in es)))
+    → map plain set.keys ≡ pairs_in_order (stem_pairs (rows_of script (words_in es)))
 kept_sorted script es set fresh unique paired ordered found =
-    one_list pair_cmp total exact (map plain set.keys) (sorted (pairs_of es)) (sorted-plain set.keys ordered) (sorted-sorted (pairs_of es))
-    (All-map (λ p. is_in p (sorted (pairs_of es)) ≡ true) plain set.keys forth)
+    one_list pair_cmp total exact (map plain set.keys) (pairs_in_order (pairs_of es)) (sorted-plain set.keys ordered) (sorted-sorted (pairs_of es))
+    (All-map (λ p. is_in p (pairs_in_order (pairs_of es)) ≡ true) plain set.keys forth)
     (all-sorted (λ p. is_in p (map plain set.keys) ≡ true) (pairs_of es) (all_kept (map plain set.keys) es unique back))
-    ∙ ap (λ (rows : List Row). sorted (stem_pairs rows)) (rows_shown script es fresh)
+    ∙ ap (λ (rows : List Row). pairs_in_order (stem_pairs rows)) (rows_shown script es fresh)
   where
     back : (t w : Text) → has_stem t.items (find w.items es) ≡ true → is_in (t.items, w.items) (map plain set.keys) ≡ true
     back t w h = mem-plain set.keys (t, w) ∙ paired (t, w) ∙ h
 
-    forth : All (λ k. is_in (plain k) (sorted (pairs_of es)) ≡ true) set.keys
+    forth : All (λ k. is_in (plain k) (pairs_in_order (pairs_of es)) ≡ true) set.keys
     forth = λ i d h. one (slice_index_or set.keys i d) (found i d h)
       where
-        one : (k : Key) → has set k ≡ true → is_in (plain k) (sorted (pairs_of es)) ≡ true
-        one k h = from_mem pair_cmp total exact (λ p. is_in p (sorted (pairs_of es)) ≡ true) (pairs_of es) (plain k) (mem-sorted (pairs_of es)) (has_pair es k.0.items k.1.items (sym (paired k) ∙ h))
+        one : (k : Key) → has set k ≡ true → is_in (plain k) (pairs_in_order (pairs_of es)) ≡ true
+        one k h = from_mem pair_cmp total exact (λ p. is_in p (pairs_in_order (pairs_of es)) ≡ true) (pairs_of es) (plain k) (mem-sorted (pairs_of es)) (has_pair es k.0.items k.1.items (sym (paired k) ∙ h))
 
 -- ---- the class of one word
 

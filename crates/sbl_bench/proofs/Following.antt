@@ -12,7 +12,7 @@ use Rattle.sbl_machine.specs.declared.outcome.Traced.{Traced}
 use Rattle.sbl_bench.specs.ChangedRows.{same_outcome}
 use Rattle.sbl_bench.specs.Changes.{is_changed}
 use Rattle.sbl_bench.specs.Classes.{is_stem}
-use Rattle.sbl_bench.specs.Kept.{KeptWord}
+use Rattle.sbl_bench.specs.KeptRuns.{KeptWord}
 use Rattle.sbl_bench.specs.Last.{Follows, word_found, word_run}
 use Rattle.sbl_bench.specs.Pairs.{ArePaired, IsFollowed, IsOneMore, Key, Text, find, has, has_stem, is_pair_of, key_cmp}
 use Rattle.sbl_bench.specs.declared.change.Change.{Change}

@@ -15,7 +15,7 @@ use Rattle.std.proofs.lemmas.Map.Views.{All-insert_key}
 use Rattle.std.proofs.lemmas.Slice.Eq.{bytes_eq-Decides}
 use Rattle.sbl_bench.specs.Rows.{Row}
 use Rattle.sbl_bench.specs.Classes.{Class, class_with, classes_of, in_order, stems_in}
-use Rattle.sbl_bench.specs.Grouping.{Pair, class_paired, classes_paired, grouped, is_last, one_word, pair_cmp, put_in_last, put_last, sorted, stem_pairs, words_paired}
+use Rattle.sbl_bench.specs.Grouping.{Pair, class_paired, classes_paired, put_pairs, is_last, one_word, pair_cmp, put_in_last, put_last, pairs_in_order, stem_pairs, words_paired}
 use Rattle.sbl_bench.proofs.Sorting.{mem, or_swap}
 use Rattle.sbl_bench.proofs.OrderFacts.{any-in_order, in_order-sorted, one_order, sorted-sorted, stems-rows, text_cmp, words-rows}
 
@@ -133,20 +133,20 @@ front_below (d ∷ done) p ps s = (at done s.0, front_below done p ps s.1)
     at [] a = a.0
     at (x ∷ xs) a = at xs a.1
 
-grouped_on : (done ps : List Pair) → IsStrictlySortedBy pair_cmp (done ++ ps) → grouped (classes_paired done) ps ≡ classes_paired (done ++ ps)
+grouped_on : (done ps : List Pair) → IsStrictlySortedBy pair_cmp (done ++ ps) → put_pairs (classes_paired done) ps ≡ classes_paired (done ++ ps)
 grouped_on done [] s = ap classes_paired (sym (append-nil done))
 grouped_on done (p ∷ ps) s =
-    ap (λ (cs : List Class). grouped cs ps) (put_more done p (front_below done p ps s))
+    ap (λ (cs : List Class). put_pairs cs ps) (put_more done p (front_below done p ps s))
     ∙ grouped_on (done ++ p ∷ []) ps (subst (IsStrictlySortedBy pair_cmp) (sym (append_assoc done (p ∷ []) ps)) s)
     ∙ ap classes_paired (append_assoc done (p ∷ []) ps)
 
 -- the pairs of the rows in order, put one after another, make the classes of the rows
-pub grouped_rows : (rows : List Row) → grouped [] (sorted (stem_pairs rows)) ≡ classes_of rows
+pub grouped_rows : (rows : List Row) → put_pairs [] (pairs_in_order (stem_pairs rows)) ≡ classes_of rows
 grouped_rows rows =
-    grouped_on [] (sorted (stem_pairs rows)) (sorted-sorted (stem_pairs rows))
-    ∙ ap (map (class_paired (sorted (stem_pairs rows)))) (stems-rows rows)
+    grouped_on [] (pairs_in_order (stem_pairs rows)) (sorted-sorted (stem_pairs rows))
+    ∙ ap (map (class_paired (pairs_in_order (stem_pairs rows)))) (stems-rows rows)
     ∙ each (in_order (stems_in rows))
   where
-    each : (ss : List (List ℕ)) → map (class_paired (sorted (stem_pairs rows))) ss ≡ map (class_with rows) ss
+    each : (ss : List (List ℕ)) → map (class_paired (pairs_in_order (stem_pairs rows))) ss ≡ map (class_with rows) ss
     each [] = refl
     each (s ∷ ss) = λ i. record { stem = s; words = words-rows s rows i } ∷ each ss i

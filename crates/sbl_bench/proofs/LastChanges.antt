@@ -14,10 +14,10 @@ use denote.Enum.Bare.{true_same}
 use Rattle.sbl_semantics.specs.contracts.fault.RunFault as fault
 use Rattle.sbl_semantics.specs.Outcome.{Outcome', Stem, Refused, outcome_of, run_of}
 use Rattle.sbl_machine.specs.declared.outcome.Traced.{Traced}
-use Rattle.sbl_bench.specs.Affected.{Affected, is_affected}
+use Rattle.sbl_bench.specs.AffectedWords.{Affected, is_affected}
 use Rattle.sbl_bench.specs.ChangedRows.{ChangedRow, changed_rows, if_changed, outcome_in, same_outcome}
 use Rattle.sbl_bench.specs.Changes.{AreAnew, AreRun, Rerun, is_met, met_words, reruns, view_change}
-use Rattle.sbl_bench.specs.Kept.{KeptWord, AreFresh, IsFresh, words_in}
+use Rattle.sbl_bench.specs.KeptRuns.{KeptWord, AreFresh, IsFresh, words_in}
 use Rattle.sbl_bench.specs.Last.{AreApart, AreThere, change_of, last_change, last_changes, word_found, word_run}
 use Rattle.sbl_bench.specs.Pairs.{Text, find}
 use Rattle.sbl_bench.specs.Rows.{row_of, rows_of}

@@ -9,11 +9,11 @@ use Rattle.std.proofs.Math.Path.{fun_ext}
 use Rattle.std.specs.Prelude.{if◌then◌else◌}
 use Rattle.sbl_semantics.specs.Outcome.{run_of, touches_of, used_of}
 use Rattle.sbl_machine.specs.declared.outcome.Traced.{Traced}
-use Rattle.sbl_bench.specs.Affected.{Affected, is_affected, is_affected_run}
+use Rattle.sbl_bench.specs.AffectedWords.{Affected, is_affected, is_affected_run}
 use Rattle.sbl_bench.specs.Changes.{AreAnew, AreRun, AreStill, Brings, Rerun, is_changed, is_met, met_words, rerun_of, reruns, view_change}
 use Rattle.sbl_bench.specs.Contents.{Contents}
-use Rattle.sbl_bench.specs.Edits.{Edit, met, runs_needed}
-use Rattle.sbl_bench.specs.Kept.{KeptWord, AreFresh, IsFresh, IsWord, words_in}
+use Rattle.sbl_bench.specs.Edits.{Edit, needs_run, runs_needed}
+use Rattle.sbl_bench.specs.KeptRuns.{KeptWord, AreFresh, IsFresh, IsWord, words_in}
 use Rattle.sbl_bench.specs.Pairs.{Text, find}
 use Rattle.sbl_bench.specs.Setting.{Setting, RunsSame}
 use Rattle.sbl_bench.specs.declared.change.Change.{Change}
@@ -40,8 +40,8 @@ pub needed_is : (s : Contents) (e : Edit) (t : Setting) (a : Affected) (es : Lis
     → length (met_words a es) ≡ runs_needed s e t
 needed_is s e t a es b words fresh =
     met_count s.setting a es fresh
-    ∙ sym (ap (λ (met : List ℕ → Bool). length (filter met (words_in es))) (fun_ext b.met_is))
-    ∙ sym (ap (λ (ws : List (List ℕ)). length (filter (met s e t) ws)) (b.words ∙ words))
+    ∙ sym (ap (λ (needs_run : List ℕ → Bool). length (filter needs_run (words_in es))) (fun_ext b.met_is))
+    ∙ sym (ap (λ (ws : List (List ℕ)). length (filter (needs_run s e t) ws)) (b.words ∙ words))
 
 -- a word that is not met runs as before
 pub still : (s t : Setting) (a : Affected) → ((w : List ℕ) → is_affected s a w ≡ false → RunsSame s t w) → (es : List KeptWord) → AreFresh s es → AreStill (is_met a) t es
@@ -94,18 +94,18 @@ short_at f ws k d words below =
 
 -- a word that is not met is not run
 abbrev with_change : Bool → Rerun → List Rerun → List Rerun
-with_change met r rs = if met then r ∷ rs else rs
+with_change needs_run r rs = if needs_run then r ∷ rs else rs
 
 abbrev changes_of : (KeptWord → Bool) → Setting → List KeptWord → List Rerun
-changes_of met script [] = []
-changes_of met script (e ∷ es) = with_change (met e) (rerun_of script e.0.items) (changes_of met script es)
+changes_of needs_run script [] = []
+changes_of needs_run script (e ∷ es) = with_change (needs_run e) (rerun_of script e.0.items) (changes_of needs_run script es)
 
-changes_are : (met : KeptWord → Bool) (script : Setting) (es : List KeptWord) → reruns script (words_in (filter met es)) ≡ changes_of met script es
-changes_are met script [] = refl
-changes_are met script (e ∷ es) = by (met e) (changes_are met script es)
+changes_are : (needs_run : KeptWord → Bool) (script : Setting) (es : List KeptWord) → reruns script (words_in (filter needs_run es)) ≡ changes_of needs_run script es
+changes_are needs_run script [] = refl
+changes_are needs_run script (e ∷ es) = by (needs_run e) (changes_are needs_run script es)
   where
-    by : (b : Bool) → reruns script (words_in (filter met es)) ≡ changes_of met script es
-        → reruns script (words_in (cond b (e ∷ filter met es) (filter met es))) ≡ with_change b (rerun_of script e.0.items) (changes_of met script es)
+    by : (b : Bool) → reruns script (words_in (filter needs_run es)) ≡ changes_of needs_run script es
+        → reruns script (words_in (cond b (e ∷ filter needs_run es) (filter needs_run es))) ≡ with_change b (rerun_of script e.0.items) (changes_of needs_run script es)
     by true rest = ap (λ (rs : List Rerun). rerun_of script e.0.items ∷ rs) rest
     by false rest = rest
 
@@ -130,13 +130,13 @@ run_later script e es rs a = λ k d h.
     record { outcome = p.outcome; touches = p.touches; used = p.used; there = found_later (slice_index_or rs k d).word e es p.there }
 
 -- each change is that of a word that is there, with its new run
-runs_there : (met : KeptWord → Bool) (script : Setting) (es : List KeptWord) → All (RunOf script es) (changes_of met script es)
-runs_there met script [] = λ k d h. absurd (omega (arith, h))
-runs_there met script (e ∷ es) = by (met e) (run_later script e es (changes_of met script es) (runs_there met script es))
+runs_there : (needs_run : KeptWord → Bool) (script : Setting) (es : List KeptWord) → All (RunOf script es) (changes_of needs_run script es)
+runs_there needs_run script [] = λ k d h. absurd (omega (arith, h))
+runs_there needs_run script (e ∷ es) = by (needs_run e) (run_later script e es (changes_of needs_run script es) (runs_there needs_run script es))
   where
-    by : (b : Bool) → All (RunOf script (e ∷ es)) (changes_of met script es) → All (RunOf script (e ∷ es)) (with_change b (rerun_of script e.0.items) (changes_of met script es))
+    by : (b : Bool) → All (RunOf script (e ∷ es)) (changes_of needs_run script es) → All (RunOf script (e ∷ es)) (with_change b (rerun_of script e.0.items) (changes_of needs_run script es))
     by false rest = rest
-    by true rest = All-cons (RunOf script (e ∷ es)) (rerun_of script e.0.items) (changes_of met script es) (record { outcome = refl; touches = refl; used = refl; there = here }) rest
+    by true rest = All-cons (RunOf script (e ∷ es)) (rerun_of script e.0.items) (changes_of needs_run script es) (record { outcome = refl; touches = refl; used = refl; there = here }) rest
       where
         here : IsSome (find e.0.items (e ∷ es))
         here = rw ((bytes_eq-Decides e.0.items e.0.items).1 refl) refl
@@ -149,21 +149,21 @@ or_true true = refl
 or_true false = refl
 
 -- a run is fresh, or its word is run again
-fresh_or_rerun : (met : KeptWord → Bool) (script : Setting) (es : List KeptWord) (w : List ℕ) → AreStill met script es
-    → IfSome (find w es) (λ t. IsFresh script w t ⊎ (is_rerun (changes_of met script es) w ≡ true))
-fresh_or_rerun met script [] w still = tt
-fresh_or_rerun met script (e ∷ es) w still = by (bytes_eq w e.0.items) refl (met e) refl (fresh_or_rerun met script es w still.1)
+fresh_or_rerun : (needs_run : KeptWord → Bool) (script : Setting) (es : List KeptWord) (w : List ℕ) → AreStill needs_run script es
+    → IfSome (find w es) (λ t. IsFresh script w t ⊎ (is_rerun (changes_of needs_run script es) w ≡ true))
+fresh_or_rerun needs_run script [] w still = tt
+fresh_or_rerun needs_run script (e ∷ es) w still = by (bytes_eq w e.0.items) refl (needs_run e) refl (fresh_or_rerun needs_run script es w still.1)
   where
-    later : (b : Bool) (x : Option Traced) → IfSome x (λ t. IsFresh script w t ⊎ (is_rerun (changes_of met script es) w ≡ true))
-        → IfSome x (λ t. IsFresh script w t ⊎ (is_rerun (with_change b (rerun_of script e.0.items) (changes_of met script es)) w ≡ true))
+    later : (b : Bool) (x : Option Traced) → IfSome x (λ t. IsFresh script w t ⊎ (is_rerun (changes_of needs_run script es) w ≡ true))
+        → IfSome x (λ t. IsFresh script w t ⊎ (is_rerun (with_change b (rerun_of script e.0.items) (changes_of needs_run script es)) w ≡ true))
     later b None h = tt
     later b (Some t) (inl p) = inl p
     later false (Some t) (inr p) = inr p
     later true (Some t) (inr p) = inr (rw p (or_true (bytes_eq e.0.items w)))
 
-    by : (b : Bool) → bytes_eq w e.0.items ≡ b → (c : Bool) → met e ≡ c
-        → IfSome (find w es) (λ t. IsFresh script w t ⊎ (is_rerun (changes_of met script es) w ≡ true))
-        → IfSome (cond b (Some e.1) (find w es)) (λ t. IsFresh script w t ⊎ (is_rerun (with_change c (rerun_of script e.0.items) (changes_of met script es)) w ≡ true))
+    by : (b : Bool) → bytes_eq w e.0.items ≡ b → (c : Bool) → needs_run e ≡ c
+        → IfSome (find w es) (λ t. IsFresh script w t ⊎ (is_rerun (changes_of needs_run script es) w ≡ true))
+        → IfSome (cond b (Some e.1) (find w es)) (λ t. IsFresh script w t ⊎ (is_rerun (with_change c (rerun_of script e.0.items) (changes_of needs_run script es)) w ≡ true))
     by false h c k rest = later c (find w es) rest
     by true h false k rest = inl (subst (λ (x : List ℕ). IsFresh script x e.1) (sym ((bytes_eq-Decides w e.0.items).0 h)) (still.0 k))
     by true h true k rest = inr (rw ((bytes_eq-Decides e.0.items w).1 (sym ((bytes_eq-Decides w e.0.items).0 h))) refl)
@@ -183,14 +183,14 @@ run_view script es (c ∷ cs) a = All-cons (Run script es) c cs (one (All-head (
     one r = (record { outcome = r.outcome; touches = r.touches; used = r.used }, r.there)
 
 -- the words that are not met stay, and those that are met are run: then all is anew
-anew_by : (met : KeptWord → Bool) (script : Setting) (es : List KeptWord) (cs : List Change) → map view_change cs ≡ changes_of met script es
-    → AreStill met script es → AreAnew script es cs
-anew_by met script es cs is still = record {
-  run = run_view script es cs (subst (All (RunOf script es)) (sym is) (runs_there met script es));
-  fresh = λ w. at w (find w.items es) (fresh_or_rerun met script es w.items still);
+anew_by : (needs_run : KeptWord → Bool) (script : Setting) (es : List KeptWord) (cs : List Change) → map view_change cs ≡ changes_of needs_run script es
+    → AreStill needs_run script es → AreAnew script es cs
+anew_by needs_run script es cs is still = record {
+  run = run_view script es cs (subst (All (RunOf script es)) (sym is) (runs_there needs_run script es));
+  fresh = λ w. at w (find w.items es) (fresh_or_rerun needs_run script es w.items still);
 }
   where
-    at : (w : Text) (x : Option Traced) → IfSome x (λ t. IsFresh script w.items t ⊎ (is_rerun (changes_of met script es) w.items ≡ true))
+    at : (w : Text) (x : Option Traced) → IfSome x (λ t. IsFresh script w.items t ⊎ (is_rerun (changes_of needs_run script es) w.items ≡ true))
         → IfSome x (λ t. IsFresh script w.items t ⊎ (is_changed cs w.items ≡ true))
     at w None h = tt
     at w (Some t) (inl p) = inl p

@@ -7,7 +7,7 @@ use Rattle.sbl_script.specs.OneReading.{FaultIsOne, ScriptIsOne, ScriptOrFault}
 use Rattle.sbl_bench.specs.Setting.{Setting}
 use Rattle.sbl_bench.specs.declared.fault.EditFault.{EditFault}
 use Rattle.sbl_bench.specs.declared.fault.EditFault.TheVariants as fault
-use Rattle.sbl_bench.specs.Edits.{Edit, Add, Remove, Replace, Whole, Install, Limit, IsAccepted, IsMeterFull, IsRefused, IsSettingAfter, IsVerdict, edited, fault_of_script, lacks_counts}
+use Rattle.sbl_bench.specs.Edits.{Edit, Add, Remove, Replace, Whole, Install, Limit, IsAccepted, IsMeterFull, IsRefused, IsSettingAfter, IsVerdict, contents_after, fault_of_script, lacks_counts}
 use Rattle.sbl_bench.specs.Contents.{Contents}
 
 -- the laws of the edits and the readings of a script
@@ -61,7 +61,7 @@ fault_is_one k s e f g (inr h) (inl j) = absurd (script_or_refusal k s e h.setti
 fault_is_one k s e f g (inr h) (inr j) = h.is ∙ sym j.is
 
 pub verdict_is_one : Known → (s : Contents) (e : Edit) (v w : Option EditFault) (t u : Contents) → IsVerdict s e v t → IsVerdict s e w u → (v ≡ w) × (t ≡ u)
-verdict_is_one k s e None None t u h j = (refl, h.is ∙ ap (edited s e) (setting_is_one k s e h.setting j.setting h.after j.after) ∙ sym j.is)
+verdict_is_one k s e None None t u h j = (refl, h.is ∙ ap (contents_after s e) (setting_is_one k s e h.setting j.setting h.after j.after) ∙ sym j.is)
 verdict_is_one k s e None (Some g) t u h j = absurd (accepted_or_refused k s e t g h j.0)
 verdict_is_one k s e (Some f) None t u h j = absurd (accepted_or_refused k s e u f j h.0)
 verdict_is_one k s e (Some f) (Some g) t u h j = (ap Some (fault_is_one k s e f g h.0 j.0), h.1 ∙ sym j.1)

@@ -1,7 +1,7 @@
 -- Where opening stands between two words.
 use Rattle.std.proofs.Common.{◌≡◌, ℕ, List, [], length}
 use Rattle.sbl_bench.specs.Setting.{Setting}
-use Rattle.sbl_bench.specs.Kept.{KeptWord, words_in, IsKept}
+use Rattle.sbl_bench.specs.KeptRuns.{KeptWord, words_in, IsKept}
 use Rattle.sbl_bench.specs.Contents.{opening_fault}
 use Rattle.sbl_bench.specs.Vocabulary.{with_all, vocabulary}
 

@@ -16,7 +16,7 @@ use Rattle.std.proofs.lemmas.Slice.Eq.{bytes_eq-Decides}
 use Rattle.sbl_semantics.specs.Outcome.{Outcome', Stem, Refused}
 use Rattle.sbl_bench.specs.Rows.{Row}
 use Rattle.sbl_bench.specs.Classes.{in_order, is_stem, stem_of, stems_in, words_with}
-use Rattle.sbl_bench.specs.Grouping.{Pair, pair_cmp, sorted, stem_pairs, with_pair, words_paired}
+use Rattle.sbl_bench.specs.Grouping.{Pair, pair_cmp, pairs_in_order, stem_pairs, with_pair, words_paired}
 use Rattle.sbl_bench.proofs.Sorting.{any_inserted, first_below, mem, sorted-insert}
 
 pub total : IsTotalOrder pair_cmp
@@ -51,9 +51,9 @@ in_order-stays (t ∷ ts) s = ap (λ (l : List (List ℕ)). insert_key text_cmp 
 
 -- ---- the pairs in order have the same stems, and the same words with a stem
 
-pub any-sorted : (test : Pair → Bool) (ps : List Pair) → list_any test (sorted ps) ≡ list_any test ps
+pub any-sorted : (test : Pair → Bool) (ps : List Pair) → list_any test (pairs_in_order ps) ≡ list_any test ps
 any-sorted test [] = refl
-any-sorted test (p ∷ ps) = any_inserted pair_cmp total exact test (sorted ps) p ∙ ap (λ (b : Bool). test p || b) (any-sorted test ps)
+any-sorted test (p ∷ ps) = any_inserted pair_cmp total exact test (pairs_in_order ps) p ∙ ap (λ (b : Bool). test p || b) (any-sorted test ps)
 
 any-stems : (test : List ℕ → Bool) (ps : List Pair) → list_any test (map (λ p. p.0) ps) ≡ list_any (λ p. test p.0) ps
 any-stems test [] = refl
@@ -68,15 +68,15 @@ any-words test stem (p ∷ ps) = by (bytes_eq stem p.0) (any-words test stem ps)
     by true rest = ap (λ (b : Bool). test p.1 || b) rest
     by false rest = rest
 
-pub stems-sorted : (ps : List Pair) → in_order (map (λ p. p.0) (sorted ps)) ≡ in_order (map (λ p. p.0) ps)
+pub stems-sorted : (ps : List Pair) → in_order (map (λ p. p.0) (pairs_in_order ps)) ≡ in_order (map (λ p. p.0) ps)
 stems-sorted ps =
-    one_order (map (λ p. p.0) (sorted ps)) (map (λ p. p.0) ps)
-    (λ q. any-stems (λ x. is_eq (text_cmp q x)) (sorted ps) ∙ any-sorted (λ p. is_eq (text_cmp q p.0)) ps ∙ sym (any-stems (λ x. is_eq (text_cmp q x)) ps))
+    one_order (map (λ p. p.0) (pairs_in_order ps)) (map (λ p. p.0) ps)
+    (λ q. any-stems (λ x. is_eq (text_cmp q x)) (pairs_in_order ps) ∙ any-sorted (λ p. is_eq (text_cmp q p.0)) ps ∙ sym (any-stems (λ x. is_eq (text_cmp q x)) ps))
 
-words-sorted : (stem : List ℕ) (ps : List Pair) → in_order (words_paired stem (sorted ps)) ≡ in_order (words_paired stem ps)
+words-sorted : (stem : List ℕ) (ps : List Pair) → in_order (words_paired stem (pairs_in_order ps)) ≡ in_order (words_paired stem ps)
 words-sorted stem ps =
-    one_order (words_paired stem (sorted ps)) (words_paired stem ps)
-    (λ q. any-words (λ x. is_eq (text_cmp q x)) stem (sorted ps) ∙ any-sorted (λ p. bytes_eq stem p.0 && is_eq (text_cmp q p.1)) ps ∙ sym (any-words (λ x. is_eq (text_cmp q x)) stem ps))
+    one_order (words_paired stem (pairs_in_order ps)) (words_paired stem ps)
+    (λ q. any-words (λ x. is_eq (text_cmp q x)) stem (pairs_in_order ps) ∙ any-sorted (λ p. bytes_eq stem p.0 && is_eq (text_cmp q p.1)) ps ∙ sym (any-words (λ x. is_eq (text_cmp q x)) stem ps))
 
 -- the words with a stem are in order where the pairs are
 words_rise : (stem : List ℕ) (ps : List Pair) → IsStrictlySortedBy pair_cmp ps → IsStrictlySortedBy text_cmp (words_paired stem ps)
@@ -111,10 +111,10 @@ words_rise stem (p ∷ ps) s = by (bytes_eq stem p.0) refl (words_rise stem ps s
     by true e rest = rw e (later e ps s.0, rest)
     by false e rest = rw e rest
 
-pub sorted-sorted : (ps : List Pair) → IsStrictlySortedBy pair_cmp (sorted ps)
+pub sorted-sorted : (ps : List Pair) → IsStrictlySortedBy pair_cmp (pairs_in_order ps)
 unfolding IsStrictlySortedBy
 sorted-sorted [] = tt
-sorted-sorted (p ∷ ps) = sorted-insert pair_cmp total exact (sorted ps) p (sorted-sorted ps)
+sorted-sorted (p ∷ ps) = sorted-insert pair_cmp total exact (pairs_in_order ps) p (sorted-sorted ps)
 
 -- ---- the pairs of rows
 
@@ -152,10 +152,10 @@ words_of_rows stem (r ∷ rows) = by r.outcome (words_of_rows stem rows)
     by (Refused f) rest = rest
 
 -- the stems of the pairs of the rows, and the words with each
-pub stems-rows : (rows : List Row) → in_order (map (λ p. p.0) (sorted (stem_pairs rows))) ≡ in_order (stems_in rows)
+pub stems-rows : (rows : List Row) → in_order (map (λ p. p.0) (pairs_in_order (stem_pairs rows))) ≡ in_order (stems_in rows)
 stems-rows rows = stems-sorted (stem_pairs rows) ∙ ap in_order (stems_paired rows)
 
-pub words-rows : (stem : List ℕ) (rows : List Row) → words_paired stem (sorted (stem_pairs rows)) ≡ in_order (words_with stem rows)
+pub words-rows : (stem : List ℕ) (rows : List Row) → words_paired stem (pairs_in_order (stem_pairs rows)) ≡ in_order (words_with stem rows)
 words-rows stem rows =
-    sym (in_order-stays (words_paired stem (sorted (stem_pairs rows))) (words_rise stem (sorted (stem_pairs rows)) (sorted-sorted (stem_pairs rows))))
+    sym (in_order-stays (words_paired stem (pairs_in_order (stem_pairs rows))) (words_rise stem (pairs_in_order (stem_pairs rows)) (sorted-sorted (stem_pairs rows))))
     ∙ words-sorted stem (stem_pairs rows) ∙ ap in_order (words_of_rows stem rows)

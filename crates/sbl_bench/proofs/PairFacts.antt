@@ -11,7 +11,7 @@ use Rattle.std.proofs.lemmas.Map.Text.{is_eq-slice_cmp}
 use Rattle.std.proofs.lemmas.Slice.Eq.{bytes_eq-Decides}
 use Rattle.sbl_semantics.specs.Outcome as rows
 use Rattle.sbl_semantics.specs.Outcome.{outcome_of}
-use Rattle.sbl_bench.specs.Kept.{KeptWord}
+use Rattle.sbl_bench.specs.KeptRuns.{KeptWord}
 use Rattle.sbl_bench.specs.Classes.{is_stem}
 use Rattle.sbl_bench.specs.Pairs.{Key, Text, ArePaired, find, has, has_stem, is_pair_of, key_cmp}
 

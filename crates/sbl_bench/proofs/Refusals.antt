@@ -9,11 +9,11 @@ use Rattle.std.proofs.lemmas.Bool.Decides.{nat_tests}
 use Rattle.std.proofs.lemmas.List.{length-map}
 use Rattle.std.proofs.lemmas.Option.{none-some}
 use Rattle.sbl_bench.specs.Setting.{Setting}
-use Rattle.sbl_bench.specs.Kept.{KeptWord, words_in}
+use Rattle.sbl_bench.specs.KeptRuns.{KeptWord, words_in}
 use Rattle.sbl_bench.specs.declared.fault.EditFault.{EditFault}
 use Rattle.sbl_bench.specs.declared.fault.EditFault.TheVariants as fault
 use Rattle.sbl_bench.specs.Contents.{Contents, max_runs}
-use Rattle.sbl_bench.specs.Edits.{Edit, Edits, Add, Remove, IsSettingAfter, edited, lacks_counts, refusal_of_add, runs_needed, wants_memory, words_after}
+use Rattle.sbl_bench.specs.Edits.{Edit, Edits, Add, Remove, IsSettingAfter, contents_after, lacks_counts, refusal_of_add, runs_needed, wants_memory, words_after}
 use Rattle.sbl_bench.specs.Stops.{IsStop}
 use Rattle.sbl_bench.specs.Vocabulary.{is_word, without}
 
@@ -83,7 +83,7 @@ adds (Ok u) s word words count free new small last counts _ _ = record {
 adds (Err fault.OutOfMemory) s word words count free new small _ _ same stop = record {
   wanted = refl;
   is = inr (record {
-    made = edited s (Add word) s.setting;
+    made = contents_after s (Add word) s.setting;
     accepted = record { setting = s.setting; after = (free, refl); counts = one_left s word new small; is = refl };
     runs = stop.0;
     bound = rw (one_run s word new) stop.1;
@@ -144,7 +144,7 @@ pub replaces_nothing : (s : Contents) (e : Edit) (p : Setting) (words : List (Li
 replaces_nothing s e p words before needed count wanted after so many room same ran = record {
   wanted = wanted;
   is = inr (record {
-    made = edited s e p;
+    made = contents_after s e p;
     accepted = record { setting = p; after = after; counts = enough s e p before needed so many room; is = refl };
     runs = ran.0;
     bound = ran.1;

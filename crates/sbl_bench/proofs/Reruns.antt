@@ -2,11 +2,11 @@
 use Rattle.std.proofs.Common.{◌≡◌, ◌∙◌, ◌≤◌, ◌+◌, ◌-◌, ℕ, List, Ok, Err, inl, inr, length, ap, sym, refl, subst}
 use Rattle.sbl_bench.specs.declared.fault.EditFault.{EditFault}
 use Rattle.sbl_bench.specs.declared.fault.EditFault.TheVariants as fault
-use Rattle.sbl_bench.specs.Affected.{Affected}
+use Rattle.sbl_bench.specs.AffectedWords.{Affected}
 use Rattle.sbl_bench.specs.Changes.{Brings, met_words}
 use Rattle.sbl_bench.specs.Contents.{Contents, max_runs}
 use Rattle.sbl_bench.specs.Edits.{Edit, Edits, runs_needed}
-use Rattle.sbl_bench.specs.Kept.{AreFresh, KeptWord, words_in}
+use Rattle.sbl_bench.specs.KeptRuns.{AreFresh, KeptWord, words_in}
 use Rattle.sbl_bench.specs.Setting.{Setting}
 use Rattle.sbl_bench.specs.Stops.{IsStopOf}
 use Rattle.sbl_bench.proofs.Meeting.{needed_is}

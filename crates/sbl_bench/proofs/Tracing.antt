@@ -2,10 +2,10 @@
 use Rattle.std.proofs.Common.{◌≡◌, ◌∙◌, ℕ, Bool, true, false, cond, List, [], ◌∷◌, Some, None, is_some, refl, sym, ap, subst}
 use Rattle.std.specs.Str.{bytes_eq}
 use Rattle.std.proofs.lemmas.Slice.Eq.{bytes_eq-Decides}
-use Rattle.sbl_semantics.specs.Touched.{Item', items_of, names_of, touched_of}
+use Rattle.sbl_semantics.specs.TouchedItems.{Item', items_of, names_of, touched_items}
 use Rattle.sbl_machine.specs.declared.outcome.Traced.{Traced}
 use Rattle.sbl_bench.specs.Setting.{Setting}
-use Rattle.sbl_bench.specs.Kept.{KeptWord, AreFresh, IsFresh, words_in}
+use Rattle.sbl_bench.specs.KeptRuns.{KeptWord, AreFresh, IsFresh, words_in}
 use Rattle.sbl_bench.specs.Pairs.{find}
 use Rattle.sbl_bench.specs.Traces.{trace_of}
 use Rattle.sbl_bench.specs.Vocabulary.{is_word}
@@ -38,11 +38,11 @@ not_there word es is = sym (found_word word es) ∙ ap is_some (sym is)
 -- the items of its touches are its trace
 pub trace_found : (script : Setting) (word : List ℕ) (es : List KeptWord) (t : Traced) (items : List Item') → AreFresh script es → Some t ≡ find word es
     → items ≡ items_of (names_of script.script) t.touches.items → Some items ≡ trace_of script (words_in es) word
-unfolding touched_of
+unfolding touched_items
 trace_found script word es t items fresh is of =
     ap Some (of ∙ ap (items_of (names_of script.script)) (fresh_found script word es t fresh is).touches)
-    ∙ ap (λ (b : Bool). cond b (Some (touched_of script.script word script.limit)) None) (sym (is_there word es t is))
+    ∙ ap (λ (b : Bool). cond b (Some (touched_items script.script word script.limit)) None) (sym (is_there word es t is))
 
 -- a word without an entry has none
 pub no_trace : (script : Setting) (word : List ℕ) (es : List KeptWord) → None ≡ find word es → None ≡ trace_of script (words_in es) word
-no_trace script word es is = ap (λ (b : Bool). cond b (Some (touched_of script.script word script.limit)) None) (sym (not_there word es is))
+no_trace script word es is = ap (λ (b : Bool). cond b (Some (touched_items script.script word script.limit)) None) (sym (not_there word es is))

@@ -5,10 +5,10 @@ use Rattle.std.proofs.Math.Path.{fun_ext}
 use Rattle.std.proofs.lemmas.Bool.{true≢false}
 use Rattle.sbl_ast.specs.Source.{Source}
 use Rattle.sbl_machine.specs.BuiltFrom.{meets_one}
-use Rattle.sbl_machine.specs.Differs.{differs}
+use Rattle.sbl_semantics.specs.Differs.{differs}
 use Rattle.sbl_machine.specs.DifferLaws.{AlikeDifferNowhere}
 use Rattle.sbl_semantics.specs.Outcome.{touches_of}
-use Rattle.sbl_semantics.specs.Touched.{Item', named, names_of}
+use Rattle.sbl_semantics.specs.TouchedItems.{Item', item_of_touch, names_of}
 use Rattle.sbl_bench.specs.Classes.{classes_of}
 use Rattle.sbl_bench.specs.Contents.{Contents}
 use Rattle.sbl_bench.specs.Edits.{Edit, Add, Remove, Replace, Whole, Install, Limit, IsSettingAfter, is_of_script, meets_listed, runs_needed}
@@ -57,7 +57,7 @@ none_any (x ∷ xs) = none_any xs
 
 meets_none : (s : Source) (w : List ℕ) (limit : ℕ) → meets_one [] s w limit ≡ false
 unfolding meets_one
-meets_none s w limit = none_any (map (named (names_of s)) (touches_of s w limit))
+meets_none s w limit = none_any (map (item_of_touch (names_of s)) (touches_of s w limit))
 
 nothing_met : AlikeDifferNowhere → (p q : Source) (limit : ℕ) → q ≡ p → (w : List ℕ) → meets_listed (differs p q) p w limit ≡ false
 nothing_met law p q limit same w =

@@ -4,20 +4,20 @@ use Rattle.std.specs.List.{All, filter, list_any}
 use Rattle.std.specs.Str.{bytes_eq}
 use Rattle.sbl_script.specs.Edits.{ScriptEdit, IsEdited}
 use Rattle.sbl_ast.specs.Source.{Source}
-use Rattle.sbl_machine.specs.Differs.{differs}
-use Rattle.sbl_semantics.specs.Touched.{Item'}
-use Rattle.sbl_machine.specs.EditedItem.{replaced}
+use Rattle.sbl_semantics.specs.Differs.{differs}
+use Rattle.sbl_semantics.specs.TouchedItems.{Item'}
+use Rattle.sbl_machine.specs.EditedItem.{edited_item}
 use Rattle.sbl_machine.specs.declared.outcome.Traced.{Traced}
 use Rattle.sbl_semantics.specs.declared.touch.Touch.{Touch}
 use Rattle.sbl_semantics.specs.Outcome.{Outcome', outcome_of, run_of, touches_of, used_of}
-use Rattle.sbl_bench.specs.Kept.{KeptWord, IsFresh, words_in}
+use Rattle.sbl_bench.specs.KeptRuns.{KeptWord, IsFresh, words_in}
 use Rattle.sbl_bench.specs.Pairs.{Text, find}
 use Rattle.sbl_bench.specs.Setting.{Setting, RunsSame, under}
-use Rattle.sbl_bench.specs.Affected.{Affected, Touching, Above, Every, is_affected, is_affected_run}
+use Rattle.sbl_bench.specs.AffectedWords.{Affected, Touching, Above, Every, is_affected, is_affected_run}
 use Rattle.sbl_bench.specs.Contents.{Contents}
-use Rattle.sbl_bench.specs.Edits.{Edit, Replace, IsSettingAfter, PassesTests, meets_listed, met, wants_memory, words_after}
-use Rattle.sbl_bench.specs.declared.affected.Affected as declared
-use Rattle.sbl_bench.specs.declared.affected.Affected.TheVariants as code
+use Rattle.sbl_bench.specs.Edits.{Edit, Replace, IsSettingAfter, PassesTests, meets_listed, needs_run, wants_memory, words_after}
+use Rattle.sbl_bench.specs.declared.affected_words.Affected as declared
+use Rattle.sbl_bench.specs.declared.affected_words.Affected.TheVariants as code
 use Rattle.sbl_bench.specs.declared.change.Change.{Change}
 
 -- the words that are affected, without memory addresses
@@ -57,8 +57,8 @@ reruns s words = map (rerun_of s) words
 
 -- the last run of each word that is not met is fresh in this setting too
 abbrev pub AreStill : (KeptWord → Bool) → Setting → List KeptWord → Type 0
-AreStill met script [] = ⊤
-AreStill met script (e ∷ es) = (met e ≡ false → IsFresh script e.0.items e.1) × AreStill met script es
+AreStill needs_run script [] = ⊤
+AreStill needs_run script (e ∷ es) = (needs_run e ≡ false → IsFresh script e.0.items e.1) × AreStill needs_run script es
 
 -- whether one of the changes is a change of this word
 abbrev pub is_changed : List Change → List ℕ → Bool
@@ -84,13 +84,13 @@ pub record Brings (s : Contents) (e : Edit) (t : Setting) (a : Affected) : Type 
   pub passes : PassesTests s e
   pub wants : wants_memory e ≡ true
   pub words : words_after s e ≡ s.words
-  pub met_is : (w : List ℕ) → met s e t w ≡ is_affected s.setting a w
+  pub met_is : (w : List ℕ) → needs_run s e t w ≡ is_affected s.setting a w
   pub stays : (w : List ℕ) → is_affected s.setting a w ≡ false → RunsSame s.setting t w
 
 -- An edit made this script by replacing this item, and passes all tests but those of its text.
 pub record IsTaken (s : Contents) (e : ScriptEdit) (text : List ℕ) (t : Source) (x : Item') : Type 0 where
   pub edited : IsEdited s.setting.script e text t
-  pub replaces : x ≡ replaced e
+  pub replaces : x ≡ edited_item e
   pub passes : PassesTests s (Replace e text)
 
 -- An edit puts a whole script into force under the limit before, and passes all tests but those of its text. It has to run the
@@ -100,4 +100,4 @@ pub record IsExchange (s : Contents) (e : Edit) (t : Source) : Type 0 where
   pub passes : PassesTests s e
   pub wants : wants_memory e ≡ true
   pub words : words_after s e ≡ s.words
-  pub met_is : (w : List ℕ) → met s e (under t s.setting.limit) w ≡ meets_listed (differs s.setting.script t) s.setting.script w s.setting.limit
+  pub met_is : (w : List ℕ) → needs_run s e (under t s.setting.limit) w ≡ meets_listed (differs s.setting.script t) s.setting.script w s.setting.limit

@@ -39,8 +39,8 @@ opening_fault words [] = None
 opening_fault words (w ∷ ws) = option_or (word_fault words w) (opening_fault (with_word words w) ws)
 
 -- the bench of a script and a list of words: each word of the vocabulary is run once
-abbrev pub opened : Source → List (List ℕ) → Contents
-opened script words = record { setting = under script default_limit; words = vocabulary words; count = length (vocabulary words) }
+abbrev pub opening_contents : Source → List (List ℕ) → Contents
+opening_contents script words = record { setting = under script default_limit; words = vocabulary words; count = length (vocabulary words) }
 
 -- the fault is this one, or an allocation failed
 abbrev pub IsFaultOrMemory : Option EditFault → EditFault → Type 0
@@ -49,5 +49,5 @@ IsFaultOrMemory verdict f = verdict ≡ Some f
 
 -- the result of opening
 abbrev pub Opens : {B : Type 0} → Source → List (List ℕ) → (B → Contents) → Result B EditFault → Type 0
-Opens script words state (Ok bench) = (opening_fault [] words ≡ None) × (state bench ≡ opened script words)
+Opens script words state (Ok bench) = (opening_fault [] words ≡ None) × (state bench ≡ opening_contents script words)
 Opens script words state (Err f) = IsFaultOrMemory (opening_fault [] words) f

@@ -13,10 +13,10 @@ use Rattle.sbl_bench.specs.Contents.{Contents, is_full, max_runs}
 use Rattle.sbl_bench.specs.Setting.{Setting}
 use Rattle.sbl_bench.specs.Vocabulary.{is_word, without}
 use Rattle.sbl_machine.specs.BuiltFrom.{meets, meets_one}
-use Rattle.sbl_machine.specs.Differs.{differs}
+use Rattle.sbl_semantics.specs.Differs.{differs}
 use Rattle.sbl_semantics.specs.Outcome.{used_of}
-use Rattle.sbl_semantics.specs.Touched.{Item'}
-use Rattle.sbl_machine.specs.EditedItem.{replaced}
+use Rattle.sbl_semantics.specs.TouchedItems.{Item'}
+use Rattle.sbl_machine.specs.EditedItem.{edited_item}
 use Rattle.sbl_bench.specs.declared.fault.EditFault.{EditFault}
 use Rattle.sbl_bench.specs.declared.fault.EditFault.TheVariants as fault
 
@@ -114,29 +114,29 @@ meets_listed None script word limit = true
 -- before the edit. A whole script, read or installed: each word whose run before the edit touches an item in which the two
 -- scripts differ or, for a grouping, one that is built from it; all words if the scripts differ in more than such items. A
 -- limit: each word whose run used more steps than the smaller of the old limit and the new one.
-abbrev pub met : Contents → Edit → Setting → List ℕ → Bool
-met s (Add word) t w = bytes_eq word w
-met s (Remove word) t w = false
-met s (Replace what text) t w = meets (replaced what) s.setting.script w s.setting.limit
-met s (Whole bytes) t w = meets_listed (differs s.setting.script t.script) s.setting.script w s.setting.limit
-met s (Install script) t w = meets_listed (differs s.setting.script t.script) s.setting.script w s.setting.limit
-met s (Limit n) t w = nat_lt (smaller s.setting.limit n) (used_of s.setting.script w s.setting.limit)
+abbrev pub needs_run : Contents → Edit → Setting → List ℕ → Bool
+needs_run s (Add word) t w = bytes_eq word w
+needs_run s (Remove word) t w = false
+needs_run s (Replace what text) t w = meets (edited_item what) s.setting.script w s.setting.limit
+needs_run s (Whole bytes) t w = meets_listed (differs s.setting.script t.script) s.setting.script w s.setting.limit
+needs_run s (Install script) t w = meets_listed (differs s.setting.script t.script) s.setting.script w s.setting.limit
+needs_run s (Limit n) t w = nat_lt (smaller s.setting.limit n) (used_of s.setting.script w s.setting.limit)
 
 -- how many words of the vocabulary after the edit have to be run
 abbrev pub runs_needed : Contents → Edit → Setting → ℕ
-runs_needed s e t = length (filter (met s e t) (words_after s e))
+runs_needed s e t = length (filter (needs_run s e t) (words_after s e))
 
 -- whether fewer counts are left than the edit has words to run
 abbrev pub lacks_counts : Contents → Edit → Setting → Bool
 lacks_counts s e t = nat_lt (max_runs - s.count) (runs_needed s e t)
 
 -- the bench with n more runs counted
-abbrev pub counted : ℕ → Contents → Contents
-counted n s = record s { count = s.count + n }
+abbrev pub count_runs : ℕ → Contents → Contents
+count_runs n s = record s { count = s.count + n }
 
 -- the bench after an accepted edit with this setting after it: each word that the edit has to run was run once
-abbrev pub edited : Contents → Edit → Setting → Contents
-edited s e t = record { setting = t; words = words_after s e; count = s.count + runs_needed s e t }
+abbrev pub contents_after : Contents → Edit → Setting → Contents
+contents_after s e t = record { setting = t; words = words_after s e; count = s.count + runs_needed s e t }
 
 -- ---- the verdict
 
@@ -145,7 +145,7 @@ pub record IsAccepted (s : Contents) (e : Edit) (t : Contents) : Type 0 where
   pub setting : Setting
   pub after : IsSettingAfter s e setting
   pub counts : lacks_counts s e setting ≡ false
-  pub is : t ≡ edited s e setting
+  pub is : t ≡ contents_after s e setting
 
 -- only the number of counts that are left is too low for the edit
 pub record IsMeterFull (s : Contents) (e : Edit) (f : EditFault) : Type 0 where
@@ -182,7 +182,7 @@ pub record IsBrokenOff (s : Contents) (e : Edit) (t : Contents) : Type 0 where
   pub accepted : IsAccepted s e made
   pub runs : ℕ
   pub bound : runs ≤ runs_needed s e accepted.setting
-  pub is : t ≡ counted runs s
+  pub is : t ≡ count_runs runs s
 
 -- An allocation failed, instead of an acceptance, of a refusal for the text or of too few counts. Nothing is changed, except
 -- that some runs may have been counted if the edit would have been accepted.

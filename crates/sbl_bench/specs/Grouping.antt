@@ -27,9 +27,9 @@ stem_pairs (r ∷ rows) = with_pair r.outcome r.word (stem_pairs rows)
 abbrev pub pair_cmp : Pair → Pair → Ordering
 pair_cmp p q = ordering_then (slice_cmp nat_cmp p.0 q.0) (slice_cmp nat_cmp p.1 q.1)
 
-abbrev pub sorted : List Pair → List Pair
-sorted [] = []
-sorted (p ∷ pairs) = insert_key pair_cmp (sorted pairs) p
+abbrev pub pairs_in_order : List Pair → List Pair
+pairs_in_order [] = []
+pairs_in_order (p ∷ pairs) = insert_key pair_cmp (pairs_in_order pairs) p
 
 -- the words of the pairs that have this stem
 abbrev pub words_paired : List ℕ → List Pair → List (List ℕ)
@@ -59,6 +59,6 @@ put_in_last (c ∷ d ∷ classes) word = c ∷ put_in_last (d ∷ classes) word
 abbrev pub put_last : List Class → Pair → List Class
 put_last classes p = if is_last p.0 classes then put_in_last classes p.1 else classes ++ one_word p ∷ []
 
-abbrev pub grouped : List Class → List Pair → List Class
-grouped classes [] = classes
-grouped classes (p ∷ pairs) = grouped (put_last classes p) pairs
+abbrev pub put_pairs : List Class → List Pair → List Class
+put_pairs classes [] = classes
+put_pairs classes (p ∷ pairs) = put_pairs (put_last classes p) pairs

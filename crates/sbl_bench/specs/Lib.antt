@@ -12,7 +12,7 @@ pub mod Names
 pub mod Classes
 pub mod ClassesAreSound
 pub mod Undo
-pub mod Kept
+pub mod KeptRuns
 pub mod LeavesChanges
 pub mod Whys
 pub mod WordHash
@@ -20,6 +20,6 @@ pub mod WordHash
 pub mod Pairs
 pub mod Grouping
 pub mod Stops
-pub mod Affected
+pub mod AffectedWords
 pub mod Changes
 pub mod Last

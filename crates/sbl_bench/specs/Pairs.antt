@@ -11,10 +11,14 @@ use Rattle.std.specs.BTreeSet.{BTreeSet, contains}
 use Rattle.sbl_machine.specs.declared.outcome.Traced.{Traced}
 use Rattle.sbl_semantics.specs.Outcome.{Outcome', outcome_of}
 use Rattle.sbl_bench.specs.Classes.{is_stem}
-use Rattle.sbl_bench.specs.Kept.{KeptWord}
+use Rattle.sbl_bench.specs.KeptRuns.{KeptWord}
+pub use Rattle.indexmap.specs.IndexMap.{IsUnique, keys}
 
 abbrev pub Text : Type 0
 Text = Vec ℕ Global
+
+abbrev pub same_text : Text → Text → Bool
+same_text x y = bytes_eq x.items y.items
 
 -- a stem, and a word that has it
 abbrev pub Key : Type 0

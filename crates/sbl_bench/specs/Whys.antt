@@ -5,7 +5,7 @@ use Rattle.sbl_bench.specs.declared.fault.EditFault.{EditFault}
 use Rattle.sbl_bench.specs.declared.fault.EditFault.TheVariants as fault
 use Rattle.sbl_machine.specs.declared.outcome.Why.{Why}
 use Rattle.sbl_semantics.specs.Outcome.{integers_of, outcome_of, run_of, used_of, events_of}
-use Rattle.sbl_semantics.specs.Touched.{names_of}
+use Rattle.sbl_semantics.specs.TouchedItems.{names_of}
 use Rattle.sbl_semantics.specs.Events.{event_of}
 use Rattle.sbl_semantics.specs.Limit.{max_word_length}
 

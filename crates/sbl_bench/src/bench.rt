@@ -41,9 +41,9 @@ pub struct Bench {
 impl Model for Bench {
     ghost use Rattle.std.specs.Coded.{codes};
     ghost use Rattle.sbl_ast.specs.contracts.tree.ScriptItem as e;
-    ghost use Rattle.sbl_script.specs.Parsed.{source_of};
+    ghost use Rattle.sbl_script.specs.ParsedScript.{source_of};
     ghost use Rattle.sbl_machine.specs.MachineOf.{IsLinkedMachineOf};
-    ghost use Rattle.sbl_bench.specs.Kept.{Kept, words_in, IsKept};
+    ghost use Rattle.sbl_bench.specs.KeptRuns.{Kept, words_in, IsKept};
     ghost use Rattle.sbl_bench.specs.Last.{last_changes};
     ghost use Rattle.sbl_bench.specs.Pairs.{IsIndexed};
     ghost use Rattle.sbl_bench.specs.Setting.{under};
@@ -61,8 +61,8 @@ impl Bench {
     ghost use Rattle.std.specs.List.{find};
     ghost use Rattle.std.specs.Option.{option_map};
     ghost use Rattle.std.specs.Str.{bytes_eq};
-    ghost use Rattle.sbl_bench.specs.Kept.{setting_of};
-    ghost use Rattle.sbl_semantics.specs.Touched.{items_in};
+    ghost use Rattle.sbl_bench.specs.KeptRuns.{setting_of};
+    ghost use Rattle.sbl_semantics.specs.TouchedItems.{items_in};
     ghost use Rattle.sbl_bench.specs.Rows.{rows_of, view_row};
     ghost use Rattle.sbl_bench.specs.Traces.{trace_of};
     ghost use Rattle.sbl_bench.specs.Vocabulary.{is_word};
@@ -126,7 +126,7 @@ impl Bench {
     /// order, then the amongs whose searches it pays for, by name and number, then the groupings whose tests it pays for, by
     /// name. Returns `None` exactly if the word is not in the vocabulary; this does not allocate. Returns `AllocError` if an
     /// allocation fails.
-    pub fn touched(&self, word: &[char]) -> Result<Option<BTreeSet<Item>>, AllocError>
+    pub fn items_of_trace(&self, word: &[char]) -> Result<Option<BTreeSet<Item>>, AllocError>
         ensures touched { IfOk result (λ items. option_map items_in items ≡ trace_of (setting_of self.now) self.now.words word.now) }
         ensures absent { is_word word.now self.now.words ≡ false → result ≡ Ok None }
     {

@@ -4,19 +4,18 @@
 ghost use Rattle.std.specs.Prelude.{◌≡◌, ◌≤◌, ◌+◌, ◌-◌, ◌++◌, ◌∷◌, ℕ, [], length, map, OnOk, OnErr, IfOk, IfErr, IsSome, Some, All, false, if◌then◌else◌};
 ghost use Rattle.std.specs.List.{filter_map};
 ghost use Rattle.std.specs.Str.{bytes_eq};
-ghost use Rattle.indexmap.specs.IndexMap.{keys, IsUnique};
 ghost use Rattle.sbl_ast.specs.Source.{Source};
 ghost use Rattle.sbl_machine.specs.MachineOf.{IsLinkedMachineOf};
 ghost use Rattle.sbl_bench.specs.Changes as spec;
 ghost use Rattle.sbl_bench.specs.Changes.{affected_of, is_changed, reruns, view_change, view_run, AreAnew};
-ghost use Rattle.sbl_bench.specs.Kept.{words_in, AreFresh, IsWord};
+ghost use Rattle.sbl_bench.specs.KeptRuns.{words_in, AreFresh, IsWord};
 ghost use Rattle.sbl_bench.specs.Last.{change_of, last_changes, word_found, word_run, AreApart, AreThere, Follows};
-ghost use Rattle.sbl_bench.specs.Pairs.{Text, find};
+ghost use Rattle.sbl_bench.specs.Pairs.{IsUnique, Text, find, keys, same_text};
 ghost use Rattle.sbl_bench.specs.Contents.{max_runs};
 ghost use Rattle.sbl_bench.specs.Setting.{Setting, under};
 ghost use Rattle.sbl_bench.specs.Stops.{IsStopOf};
 
-use crate::affected::{Affected, is_affected};
+use crate::affected_words::{Affected, is_affected};
 use crate::fault::EditFault;
 use crate::last_run::{LastRun, SharedLists};
 use crate::traces::{Traces, words_are_unique};
@@ -80,7 +79,7 @@ fn met_words<'a>(
     traces: &'a Traces,
 ) -> Result<Vec<&'a [char]>, AllocError>
     ensures words { IfOk result (λ words. map (λ w. w.now) words.items ≡ spec.met_words (affected_of affected.now) traces.now.entries) }
-    ensures unique { IsUnique (λ (x y : Text). bytes_eq x.items y.items) traces.now }
+    ensures unique { IsUnique same_text traces.now }
 {
     words_are_unique(traces);
     let mut words = Vec::new(alloc);
@@ -111,7 +110,7 @@ fn run_words(
     for word in words {
         match machine.trace(alloc, meter, word, limit) {
             Ok(traced) => {
-                let last = lists.keep(alloc, traced)?;
+                let last = lists.keep(alloc, meter, traced)?;
                 push_change(alloc, &mut changes, word, last)?;
             }
             Err(_) => return Err(AllocError),
@@ -139,7 +138,7 @@ pub(crate) fn rerun(
     ensures counted { OnOk result (meter.new ≡ meter.old + length (spec.met_words (affected_of affected.now) traces.now.entries)) }
     ensures room { OnOk result (length (spec.met_words (affected_of affected.now) traces.now.entries) ≤ max_runs - meter.old) }
     ensures stop { IfErr result (λ f. IsStopOf (length (spec.met_words (affected_of affected.now) traces.now.entries)) f meter.old meter.new) }
-    ensures unique { IsUnique (λ (x y : Text). bytes_eq x.items y.items) traces.now }
+    ensures unique { IsUnique same_text traces.now }
 {
     let words = met_words(alloc, affected, traces)?;
     if u64::MAX - meter.count() < words.len() as u64 {
@@ -153,7 +152,7 @@ pub(crate) fn rerun(
 pub(crate) fn make_changes(traces: &mut Traces, changes: Vec<Change>) -> Vec<Change>
     requires changes { (t : Setting) × AreAnew t traces.old.entries changes.items }
     requires apart { AreApart changes.items }
-    requires unique { IsUnique (λ (x y : Text). bytes_eq x.items y.items) traces.old }
+    requires unique { IsUnique same_text traces.old }
     ensures fresh { (t : Setting) → AreAnew t traces.old.entries changes.items → AreFresh t traces.new.entries }
     ensures words { words_in traces.new.entries ≡ words_in traces.old.entries }
     ensures follows { Follows traces.old.entries result.items traces.new.entries }

@@ -5,7 +5,7 @@ ghost use Rattle.std.specs.BTreeSet.{IsOrdered};
 ghost use Rattle.std.specs.Option.{option_map};
 ghost use Rattle.sbl_bench.specs.Classes.{in_order, view_class, words_of, words_with};
 ghost use Rattle.sbl_bench.specs.Grouping as spec;
-ghost use Rattle.sbl_bench.specs.Kept.{AreFresh, words_in};
+ghost use Rattle.sbl_bench.specs.KeptRuns.{AreFresh, words_in};
 ghost use Rattle.sbl_bench.specs.Pairs.{IsIndexed, key_cmp, plain};
 ghost use Rattle.sbl_bench.specs.Rows.{rows_of};
 ghost use Rattle.sbl_bench.specs.Setting.{Setting};
@@ -26,7 +26,7 @@ pub struct Class {
 }
 
 impl Bench {
-    ghost use Rattle.sbl_bench.specs.Kept.{setting_of};
+    ghost use Rattle.sbl_bench.specs.KeptRuns.{setting_of};
     ghost use Rattle.sbl_bench.specs.Rows.{rows_of};
     ghost use Rattle.sbl_bench.specs.Classes.{class_of, classes_of};
 
@@ -79,12 +79,12 @@ impl Bench {
 
 /// Returns the classes of pairs, in order. Returns `AllocError` if an allocation fails.
 fn classes_among(alloc: Global, pairs: &Pairs) -> Result<Vec<Class>, AllocError>
-    ensures classes { IfOk result (λ classes. map view_class classes.items ≡ spec.grouped [] (map plain pairs.now.keys)) }
+    ensures classes { IfOk result (λ classes. map view_class classes.items ≡ spec.put_pairs [] (map plain pairs.now.keys)) }
     ensures ordered { IsOrdered key_cmp pairs.now }
 {
     let mut classes = Vec::new(alloc);
     for pair in pairs.iter() {
-        put_last(alloc, &mut classes, pair.0.as_slice(), pair.1.as_slice())?;
+        put_last(alloc, &mut classes, pair)?;
     }
     Ok(classes)
 }
@@ -167,20 +167,20 @@ fn one_word(alloc: Global, stem: &[char], word: Vec<char>) -> Result<Class, Allo
     Ok(Class { stem, words })
 }
 
-/// Appends a word to the last class, if that class has the word's stem, and otherwise appends a new class with this word.
-/// Returns `AllocError` if an allocation fails.
+/// Appends the word of a pair to the last class, if that class has the stem of the pair, and otherwise appends a new class with
+/// this word. Returns `AllocError` if an allocation fails.
 fn put_last(
     alloc: Global,
     classes: &mut Vec<Class>,
-    stem: &[char],
-    word: &[char],
+    pair: &(Vec<char>, Vec<char>),
 ) -> Result<(), AllocError>
-    ensures { OnOk result (map view_class classes.new.items ≡ spec.put_last (map view_class classes.old.items) (stem.now, word.now)) }
+    ensures { OnOk result (map view_class classes.new.items ≡ spec.put_last (map view_class classes.old.items) (plain pair.now)) }
 {
-    let word = Vec::from_slice(alloc, word)?;
-    if is_last(stem, classes) {
+    let (stem, word) = pair;
+    let word = Vec::from_slice(alloc, word.as_slice())?;
+    if is_last(stem.as_slice(), classes) {
         return put_in_last(classes, word);
     }
-    let class = one_word(alloc, stem, word)?;
+    let class = one_word(alloc, stem.as_slice(), word)?;
     classes.push(class).map_err(|_| AllocError)
 }

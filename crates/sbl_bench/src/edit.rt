@@ -3,7 +3,7 @@
 ghost use Rattle.std.specs.Prelude.{◌≡◌, ◌≤◌, ◌<◌, ◌+◌, ◌^◌, ℕ, List, MatchOption, OnOk, OnErr, true, false};
 ghost use Rattle.sbl_bench.specs.Edits.{is_limit};
 
-use crate::affected::{Affected, above_smaller, affected_by_exchange, affected_by_items};
+use crate::affected_words::{Affected, above_smaller, affected_by_exchange, affected_by_items};
 use crate::bench::{Bench, MAX_LIMIT, MAX_WORDS};
 use crate::change::{make_changes, rerun};
 use crate::fault::EditFault;
@@ -20,14 +20,14 @@ use std::mem::swap;
 use std::slice::from_ref;
 
 impl Bench {
-    ghost use Rattle.sbl_bench.specs.Kept.{contents_of};
+    ghost use Rattle.sbl_bench.specs.KeptRuns.{contents_of};
     ghost use Rattle.sbl_bench.specs.Changes.{Brings, IsExchange, IsTaken, affected_of};
     ghost use Rattle.sbl_bench.specs.Edits.{Edit, Edits, Add, Grouping, Install, Limit, Remove, Replace, Routine, Among, Whole};
     ghost use Rattle.sbl_bench.specs.LeavesChanges.{LeavesChanges};
     ghost use Rattle.sbl_bench.specs.Setting.{under};
-    ghost use Rattle.sbl_semantics.specs.Touched.{item_of};
+    ghost use Rattle.sbl_semantics.specs.TouchedItems.{item_of};
     ghost use Rattle.sbl_script.specs.Edits.{ScriptEdit};
-    ghost use Rattle.sbl_script.specs.Parsed.{source_of};
+    ghost use Rattle.sbl_script.specs.ParsedScript.{source_of};
 
     /// Appends a word to the vocabulary and runs it once.
     ///

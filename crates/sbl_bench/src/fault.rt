@@ -54,40 +54,47 @@ pub enum EditFault {
     NoGrouping,
 }
 
+/// The name of a fault of a script between two texts, without the fault's position or item.
+#[macro_export]
+macro_rules! script_name_between {
+    ($before:literal, $fault:expr, $after:literal) => {
+        match $fault {
+            $crate::ScriptFault::BadCharacter { place: _ } => concat!($before, "BadCharacter", $after),
+            $crate::ScriptFault::UnclosedString { place: _ } => concat!($before, "UnclosedString", $after),
+            $crate::ScriptFault::UnclosedComment { place: _ } => concat!($before, "UnclosedComment", $after),
+            $crate::ScriptFault::UnknownEscape { place: _ } => concat!($before, "UnknownEscape", $after),
+            $crate::ScriptFault::BadCode { place: _ } => concat!($before, "BadCode", $after),
+            $crate::ScriptFault::NumberTooLarge { place: _ } => concat!($before, "NumberTooLarge", $after),
+            $crate::ScriptFault::Syntax { place: _ } => concat!($before, "Syntax", $after),
+            $crate::ScriptFault::TooDeep { place: _ } => concat!($before, "TooDeep", $after),
+            $crate::ScriptFault::DeclaredTwice { item: _ } => concat!($before, "DeclaredTwice", $after),
+            $crate::ScriptFault::Undeclared { item: _ } => concat!($before, "Undeclared", $after),
+            $crate::ScriptFault::WrongKind { item: _ } => concat!($before, "WrongKind", $after),
+            $crate::ScriptFault::DefinedTwice { item: _ } => concat!($before, "DefinedTwice", $after),
+            $crate::ScriptFault::Undefined { item: _ } => concat!($before, "Undefined", $after),
+            $crate::ScriptFault::WrongMode { item: _ } => concat!($before, "WrongMode", $after),
+            $crate::ScriptFault::Substring { item: _ } => concat!($before, "Substring", $after),
+            $crate::ScriptFault::Starter { item: _ } => concat!($before, "Starter", $after),
+            $crate::ScriptFault::RepeatedString { item: _ } => concat!($before, "RepeatedString", $after),
+            $crate::ScriptFault::EmptyAmong { item: _ } => concat!($before, "EmptyAmong", $after),
+            $crate::ScriptFault::NestedBackwards { item: _ } => concat!($before, "NestedBackwards", $after),
+            $crate::ScriptFault::OutOfProfile { place: _ } => concat!($before, "OutOfProfile", $after),
+            $crate::ScriptFault::NoExternal => concat!($before, "NoExternal", $after),
+            $crate::ScriptFault::NotUtf8 => concat!($before, "NotUtf8", $after),
+            $crate::ScriptFault::ScriptTooLong => concat!($before, "ScriptTooLong", $after),
+            $crate::ScriptFault::OutOfMemory => concat!($before, "OutOfMemory", $after),
+        }
+    };
+}
+
 /// Returns the name of a fault of a script, without its position or item.
 pub fn script_name(fault: ScriptFault) -> &'static str
     ensures { result.now ≡ spec.script_name fault }
 {
-    match fault {
-        ScriptFault::BadCharacter { place: _ } => "BadCharacter",
-        ScriptFault::UnclosedString { place: _ } => "UnclosedString",
-        ScriptFault::UnclosedComment { place: _ } => "UnclosedComment",
-        ScriptFault::UnknownEscape { place: _ } => "UnknownEscape",
-        ScriptFault::BadCode { place: _ } => "BadCode",
-        ScriptFault::NumberTooLarge { place: _ } => "NumberTooLarge",
-        ScriptFault::Syntax { place: _ } => "Syntax",
-        ScriptFault::TooDeep { place: _ } => "TooDeep",
-        ScriptFault::DeclaredTwice { item: _ } => "DeclaredTwice",
-        ScriptFault::Undeclared { item: _ } => "Undeclared",
-        ScriptFault::WrongKind { item: _ } => "WrongKind",
-        ScriptFault::DefinedTwice { item: _ } => "DefinedTwice",
-        ScriptFault::Undefined { item: _ } => "Undefined",
-        ScriptFault::WrongMode { item: _ } => "WrongMode",
-        ScriptFault::Substring { item: _ } => "Substring",
-        ScriptFault::Starter { item: _ } => "Starter",
-        ScriptFault::RepeatedString { item: _ } => "RepeatedString",
-        ScriptFault::EmptyAmong { item: _ } => "EmptyAmong",
-        ScriptFault::NestedBackwards { item: _ } => "NestedBackwards",
-        ScriptFault::OutOfProfile { place: _ } => "OutOfProfile",
-        ScriptFault::NoExternal => "NoExternal",
-        ScriptFault::NotUtf8 => "NotUtf8",
-        ScriptFault::ScriptTooLong => "ScriptTooLong",
-        ScriptFault::OutOfMemory => "OutOfMemory",
-    }
+    script_name_between!("", fault, "")
 }
 
 impl From<AllocError> for EditFault {
-    ghost use Rattle.std.specs.Prelude.{◌≡◌};
     ghost use Rattle.sbl_bench.specs.declared.fault.EditFault.TheVariants.{OutOfMemory};
 
     ghost from_gives = { λ _ fault. fault ≡ OutOfMemory };
@@ -98,7 +105,6 @@ impl From<AllocError> for EditFault {
 }
 
 impl From<sbl_script::ScriptEditFault> for EditFault {
-    ghost use Rattle.std.specs.Prelude.{◌≡◌};
     ghost use Rattle.sbl_bench.specs.Edits.{fault_of_script};
 
     ghost from_gives = { λ fault result. result ≡ fault_of_script fault };
@@ -121,16 +127,11 @@ impl From<ScriptFault> for EditFault {
     ghost from_gives = { λ fault result. IsFaultOfText fault result };
 
     fn from(fault: ScriptFault) -> EditFault {
-        if fault == ScriptFault::OutOfMemory {
-            EditFault::OutOfMemory
-        } else {
-            EditFault::Script(fault)
-        }
+        sbl_script::ScriptEditFault::from(fault).into()
     }
 }
 
 impl From<RunStop> for EditFault {
-    ghost use Rattle.std.specs.Prelude.{◌≡◌};
     ghost use Rattle.sbl_bench.specs.Stops.{fault_of_stop};
 
     ghost from_gives = { λ stop fault. fault ≡ fault_of_stop stop };

@@ -2,9 +2,8 @@
 
 ghost use Rattle.std.specs.Prelude.{◌≡◌, IfOk, IfSome};
 
-use sbl_machine::{Outcome, Touch, Traced};
+use sbl_machine::{Meter, Outcome, Touch, Traced};
 use std::alloc::{AllocError, Global};
-use std::collections::BTreeMap;
 use std::marker::Model;
 use std::rc::Rc;
 
@@ -87,52 +86,92 @@ impl LastRun {
     }
 }
 
-/// Lists of touches that runs share, each at its digest. Of lists that have one digest, the last is kept.
+/// The number of lists that runs can share at a time; a published stemmer needs less than 200.
+const SLOTS: usize = 1_024;
+
+/// Lists of touches that runs share, each in the slot of its digest. Of lists with one slot, the last is kept.
 #[derive(Drop)]
 pub(crate) struct SharedLists {
-    lists: BTreeMap<u64, Rc<Vec<Touch>>>,
+    // no slots before the first list
+    slots: Vec<Option<Rc<Vec<Touch>>>>,
 }
 
 impl SharedLists {
     /// Returns no lists. Does not allocate.
     pub(crate) fn new(alloc: Global) -> SharedLists {
         SharedLists {
-            lists: BTreeMap::new(alloc),
+            slots: Vec::new(alloc),
         }
     }
 
-    /// Returns a run whose touches share one of the lists, if that is equal; otherwise keeps its own among the lists. Returns
-    /// `AllocError` if an allocation fails.
-    pub(crate) fn keep(&mut self, alloc: Global, traced: Traced) -> Result<LastRun, AllocError>
+    /// Returns a run whose touches share one of the lists, if that is equal; otherwise keeps its own among the lists. Gives the
+    /// list of the run back to the meter. Returns `AllocError` if an allocation fails.
+    pub(crate) fn keep(
+        &mut self,
+        alloc: Global,
+        meter: &mut Meter,
+        traced: Traced,
+    ) -> Result<LastRun, AllocError>
         ensures outcome { IfOk result (λ run. run.outcome ≡ traced.outcome) }
         ensures touches { IfOk result (λ run. run.touches.items ≡ traced.touches.items) }
         ensures used { IfOk result (λ run. run.used ≡ traced.used) }
+        ensures meter { meter.new ≡ meter.old }
     {
-        let number = digest(traced.touches.as_slice());
-        let touches = match shared_list(self.lists.get(&number), traced.touches.as_slice())? {
-            Some(list) => list,
-            None => self.add(alloc, number, traced.touches.as_slice())?,
-        };
+        let list = self.share(alloc, traced.touches.as_slice())?;
+        meter.reuse(traced.touches);
         Ok(LastRun {
             outcome: traced.outcome,
-            touches,
+            touches: list,
             used: traced.used,
         })
     }
 
-    // Returns a new list of touches, and keeps it at its digest.
+    // Returns an owner of the list in the slot of these touches, if that list has them; otherwise a new list, which is kept.
+    fn share(&mut self, alloc: Global, touches: &[Touch]) -> Result<Rc<Vec<Touch>>, AllocError>
+        ensures { IfOk result (λ list. list.value.items ≡ touches.now) }
+    {
+        let slot = slot_of(touches);
+        match shared_list(self.list_in(slot), touches)? {
+            Some(list) => Ok(list),
+            None => self.add(alloc, slot, touches),
+        }
+    }
+
+    // Returns the list in a slot, if there is one.
+    fn list_in(&self, slot: usize) -> Option<&Rc<Vec<Touch>>> {
+        match self.slots.get(slot) {
+            Some(list) => list.as_ref(),
+            None => None,
+        }
+    }
+
+    // Returns a new list of touches, and keeps it in a slot.
     fn add(
         &mut self,
         alloc: Global,
-        digest: u64,
+        slot: usize,
         touches: &[Touch],
     ) -> Result<Rc<Vec<Touch>>, AllocError>
         ensures { IfOk result (λ list. list.value.items ≡ touches.now) }
     {
+        if self.slots.is_empty() {
+            self.slots = empty_slots(alloc)?;
+        }
         let list = new_list(alloc, touches)?;
-        self.lists.insert(digest, list.clone()?)?;
+        if let Some(kept) = self.slots.get_mut(slot) {
+            *kept = Some(list.clone()?);
+        }
         Ok(list)
     }
+}
+
+// Returns the slots, with no list in them.
+fn empty_slots(alloc: Global) -> Result<Vec<Option<Rc<Vec<Touch>>>>, AllocError> {
+    let mut slots = Vec::with_capacity(alloc, SLOTS)?;
+    for _ in 0..SLOTS {
+        slots.push(None).map_err(|_| AllocError)?;
+    }
+    Ok(slots)
 }
 
 // Returns another owner of the list if it has these touches. Returns `AllocError` if the list has too many owners.
@@ -172,13 +211,13 @@ fn list_of(
     }
 }
 
-// A number that is made of the touches in their order. Nothing rests on it but how many lists are shared.
-fn digest(touches: &[Touch]) -> u64 {
+// The slot of a list, by a digest of its touches in their order. Nothing rests on it but how many lists are shared.
+fn slot_of(touches: &[Touch]) -> usize {
     let mut digest = touches.len() as u64;
     for touch in touches {
         digest = mix(digest, *touch);
     }
-    digest
+    digest as usize / (usize::MAX / SLOTS + 1)
 }
 
 // The digest with one touch more.

@@ -2,7 +2,7 @@
 
 ghost use Rattle.std.specs.Prelude.{All};
 ghost use Rattle.sbl_bench.specs.ClassesAreSound.{ClassesAreOfRows, ClassesRise};
-ghost use Rattle.sbl_bench.specs.Kept.{IsWord};
+ghost use Rattle.sbl_bench.specs.KeptRuns.{IsWord};
 ghost use Rattle.sbl_bench.specs.EqualScripts.{EqualScriptRunsNothing, InstalledAgainRunsNothing};
 ghost use Rattle.sbl_bench.specs.OneVerdict.{VerdictIsOne};
 ghost use Rattle.sbl_bench.specs.Undo.{UndoOfLimit, UndoOfScript};

@@ -4,7 +4,7 @@
 //! on the row's word.
 #![tactic(auto)]
 
-mod affected;
+mod affected_words;
 mod bench;
 mod change;
 mod changed_row;

@@ -7,7 +7,7 @@ ghost use Rattle.indexmap.specs.declared.map.entry.Entry.TheVariants.{Occupied};
 ghost use Rattle.indexmap.specs.Entry.{entry_map};
 ghost use Rattle.sbl_bench.specs.Vocabulary.{is_word, with_word};
 ghost use Rattle.sbl_bench.specs.Contents.{is_full, word_fault, IsFaultOrMemory};
-ghost use Rattle.sbl_bench.specs.Kept.{words_in, IsKept};
+ghost use Rattle.sbl_bench.specs.KeptRuns.{words_in, IsKept};
 ghost use Rattle.sbl_semantics.specs.Limit.{default_limit};
 ghost use Rattle.sbl_bench.specs.Setting.{under};
 
@@ -25,9 +25,9 @@ use std::alloc::Global;
 use std::hash::RandomState;
 
 impl Bench {
-    ghost use Rattle.sbl_bench.specs.Kept.{contents_of};
+    ghost use Rattle.sbl_bench.specs.KeptRuns.{contents_of};
     ghost use Rattle.sbl_bench.specs.Contents.{Opens};
-    ghost use Rattle.sbl_script.specs.Parsed.{source_of};
+    ghost use Rattle.sbl_script.specs.ParsedScript.{source_of};
 
     /// Returns the bench of a script and a list of words. The words are taken in order. Empty words and repeats are skipped, so
     /// a word keeps its first position. Each word of the vocabulary is run once.
@@ -50,6 +50,7 @@ impl Bench {
         let machine = Machine::new(alloc, &script)?;
         let mut meter = Meter::new();
         let mut traces = IndexMap::with_hasher(alloc, WordKeys::new(keys));
+        traces.reserve(words.len().min(MAX_WORDS))?;
         let mut lists = SharedLists::new(alloc);
         for word in words {
             take_word(alloc, &machine, &mut meter, &mut lists, &mut traces, word)?;
@@ -108,7 +109,7 @@ fn take_word(
         Entry::Occupied(entry) => leave(entry),
         Entry::Vacant(entry) => {
             let traced = machine.trace(alloc, meter, entry.key().as_slice(), DEFAULT_LIMIT)?;
-            let last = lists.keep(alloc, traced)?;
+            let last = lists.keep(alloc, meter, traced)?;
             entry.insert(last);
         }
     }

@@ -5,7 +5,7 @@
 ghost use Rattle.std.specs.Prelude.{◌≡◌, ◌||◌, ◌&&◌, List, Some, not, IfOk, OnOk, OnErr};
 ghost use Rattle.std.specs.Str.{bytes_eq};
 ghost use Rattle.sbl_semantics.specs.Outcome.{outcome_of};
-ghost use Rattle.sbl_bench.specs.Kept.{KeptWord};
+ghost use Rattle.sbl_bench.specs.KeptRuns.{KeptWord};
 ghost use Rattle.sbl_bench.specs.Pairs.{ArePaired, IsFollowed, IsIndexed, IsOneMore, Key, find, has, is_pair_of};
 ghost use Rattle.sbl_bench.specs.Last.{Follows};
 

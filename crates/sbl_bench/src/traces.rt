@@ -1,13 +1,11 @@
 //! The words of a bench, each with its last run, apart from the bench itself.
 
 ghost use Rattle.std.specs.Prelude.{◌≡◌, ◌≤◌, ◌<◌, ◌+◌, ◌^◌, ◌++◌, [], ◌∷◌, false, length, OnOk, OnErr, IfErr};
-ghost use Rattle.std.specs.Str.{bytes_eq};
-ghost use Rattle.indexmap.specs.IndexMap.{IsUnique};
 ghost use Rattle.sbl_ast.specs.Source.{Source};
 ghost use Rattle.sbl_machine.specs.MachineOf.{IsLinkedMachineOf};
 ghost use Rattle.sbl_bench.specs.Vocabulary.{is_word};
-ghost use Rattle.sbl_bench.specs.Kept.{words_in, IsWord, IsKept};
-ghost use Rattle.sbl_bench.specs.Pairs.{IsOneMore, Text};
+ghost use Rattle.sbl_bench.specs.KeptRuns.{words_in, IsWord, IsKept};
+ghost use Rattle.sbl_bench.specs.Pairs.{IsOneMore, IsUnique, same_text};
 ghost use Rattle.sbl_bench.specs.Setting.{under};
 ghost use Rattle.sbl_bench.specs.Stops.{IsStop};
 
@@ -23,7 +21,7 @@ pub(crate) type Traces = IndexMap<Vec<char>, LastRun, WordKeys>;
 
 /// A map does not contain a word twice.
 pub(crate) fn words_are_unique(traces: &Traces)
-    ensures { IsUnique (λ (x y : Text). bytes_eq x.items y.items) traces.now }
+    ensures { IsUnique same_text traces.now }
 {
     let _count = traces.len();
 }

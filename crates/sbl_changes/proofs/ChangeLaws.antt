@@ -8,10 +8,10 @@ use Rattle.std.specs.BTreeSet.{insert_key}
 use Rattle.std.proofs.lemmas.Cmp.{nat_list_cmp_total}
 use Rattle.std.proofs.lemmas.Map.Lookups.{exact_bytes}
 use Rattle.std.proofs.lemmas.Slice.Eq.{bytes_eq-Decides}
-use Rattle.sbl_changes.specs.Changes.{Change, Changed, added, changed, merged, removed, renamed, split}
+use Rattle.sbl_changes.specs.Changes.{Change, Changed, word_addition, outcome_change, class_merger, word_removal, class_renaming, class_split}
 use Rattle.sbl_changes.specs.Classes.{Class, Pair, class_with, classes_of, in_order, members_of}
 use Rattle.sbl_changes.specs.ChangesAreSound.{EqualListsHaveNoChanges, HasOneRowEach, NoClassIsSplitAndRenamed}
-use Rattle.sbl_changes.specs.Moves.{move_of, moves_of, turned}
+use Rattle.sbl_changes.specs.Moves.{move_of, moves_of, moves_back}
 use Rattle.sbl_changes.specs.Rows.{Outcome, Stem, Refused, Row, outcome_in, same_outcome}
 use Rattle.sbl_changes.proofs.OrderFacts.{bytes_eq-back, text_cmp}
 use Rattle.sbl_changes.proofs.Sorting.{self_equal}
@@ -63,7 +63,7 @@ stays f (r ∷ rows) a = at (f r.word) r.outcome a.0 (stays f rows a.1)
     at (Some (Refused m)) o e rest = rest
     at None o e rest = rest
 
-turned-stays : (moves : List Pair) → AllByRecursion Stays moves → turned moves ≡ moves
+turned-stays : (moves : List Pair) → AllByRecursion Stays moves → moves_back moves ≡ moves
 turned-stays [] a = refl
 turned-stays (m ∷ moves) a = λ i. (sym a.0 i, a.0 i) ∷ turned-stays moves a.1 i
 
@@ -93,37 +93,37 @@ module _ (moves : List Pair) (a : AllByRecursion Stays moves) where
       here : h class class.members ≡ None
       here = ⊎_elim (λ e. ap (h class) e ∙ empty class) (λ e. ap (h class) e ∙ one class) (alike_order s (members_of s moves) (alike s moves a))
 
-  none_split : filter_map (λ c. split c c.members) (classes_of moves) ≡ []
-  none_split = none_of split (λ c. refl) (λ c. refl) (in_order (map (λ m. m.0) moves))
+  none_split : filter_map (λ c. class_split c c.members) (classes_of moves) ≡ []
+  none_split = none_of class_split (λ c. refl) (λ c. refl) (in_order (map (λ m. m.0) moves))
 
-  none_merged : filter_map (λ c. merged c c.members) (classes_of (turned moves)) ≡ []
-  none_merged = ap (λ ms. filter_map (λ c. merged c c.members) (classes_of ms)) (turned-stays moves a) ∙ none_of merged (λ c. refl) (λ c. refl) (in_order (map (λ m. m.0) moves))
+  none_merged : filter_map (λ c. class_merger c c.members) (classes_of (moves_back moves)) ≡ []
+  none_merged = ap (λ ms. filter_map (λ c. class_merger c c.members) (classes_of ms)) (turned-stays moves a) ∙ none_of class_merger (λ c. refl) (λ c. refl) (in_order (map (λ m. m.0) moves))
 
-  none_renamed : (new : List Class) → filter_map (λ c. renamed new c c.members) (classes_of moves) ≡ []
-  none_renamed new = none_of (renamed new) (λ c. refl) (λ c. rw (bytes_eq-self c.stem) refl) (in_order (map (λ m. m.0) moves))
+  none_renamed : (new : List Class) → filter_map (λ c. class_renaming new c c.members) (classes_of moves) ≡ []
+  none_renamed new = none_of (class_renaming new) (λ c. refl) (λ c. rw (bytes_eq-self c.stem) refl) (in_order (map (λ m. m.0) moves))
 
 pub no_changes : EqualListsHaveNoChanges
 no_changes rows one =
     let known : AllByRecursion (Known (outcome_in rows)) rows = found rows one in
     let still : AllByRecursion Stays (moves_of (outcome_in rows) rows) = stays (outcome_in rows) rows known in
-    let no_added : filter_map (λ r. added (outcome_in rows r.word) r) rows ≡ [] =
-    none_made (λ r. added (outcome_in rows r.word) r) rows (each (Known (outcome_in rows)) (λ r. added (outcome_in rows r.word) r ≡ None) (λ r h. ap (λ o. added o r) h) rows known) in
-    let no_removed : filter_map (λ r. removed (outcome_in rows r.word) r) rows ≡ [] =
-    none_made (λ r. removed (outcome_in rows r.word) r) rows (each (Known (outcome_in rows)) (λ r. removed (outcome_in rows r.word) r ≡ None) (λ r h. ap (λ o. removed o r) h) rows known) in
-    let no_changed : filter_map (λ r. changed (outcome_in rows r.word) r) rows ≡ [] =
-    none_made (λ r. changed (outcome_in rows r.word) r) rows (each (Known (outcome_in rows)) (λ r. changed (outcome_in rows r.word) r ≡ None)
-    (λ r h. ap (λ o. changed o r) h ∙ unchanged r) rows known) in
+    let no_added : filter_map (λ r. word_addition (outcome_in rows r.word) r) rows ≡ [] =
+    none_made (λ r. word_addition (outcome_in rows r.word) r) rows (each (Known (outcome_in rows)) (λ r. word_addition (outcome_in rows r.word) r ≡ None) (λ r h. ap (λ o. word_addition o r) h) rows known) in
+    let no_removed : filter_map (λ r. word_removal (outcome_in rows r.word) r) rows ≡ [] =
+    none_made (λ r. word_removal (outcome_in rows r.word) r) rows (each (Known (outcome_in rows)) (λ r. word_removal (outcome_in rows r.word) r ≡ None) (λ r h. ap (λ o. word_removal o r) h) rows known) in
+    let no_changed : filter_map (λ r. outcome_change (outcome_in rows r.word) r) rows ≡ [] =
+    none_made (λ r. outcome_change (outcome_in rows r.word) r) rows (each (Known (outcome_in rows)) (λ r. outcome_change (outcome_in rows r.word) r ≡ None)
+    (λ r h. ap (λ o. outcome_change o r) h ∙ unchanged r) rows known) in
     λ i. ((no_added i ++ no_removed i) ++ no_changed i)
     ++ ((none_split (moves_of (outcome_in rows) rows) still i ++ none_merged (moves_of (outcome_in rows) rows) still i)
-    ++ none_renamed (moves_of (outcome_in rows) rows) still (classes_of (turned (moves_of (outcome_in rows) rows))) i)
+    ++ none_renamed (moves_of (outcome_in rows) rows) still (classes_of (moves_back (moves_of (outcome_in rows) rows))) i)
   where
-    unchanged : (r : Row) → changed (Some r.outcome) r ≡ None
+    unchanged : (r : Row) → outcome_change (Some r.outcome) r ≡ None
     unchanged r = λ i. if same_self r.outcome i then None else Some (Changed r.word r.outcome r.outcome)
 
 pub split_or_renamed : NoClassIsSplitAndRenamed
 split_or_renamed new c = by c.members
   where
-    by : (ms : List (List ℕ)) → (split c ms ≡ None) ⊎ (renamed new c ms ≡ None)
+    by : (ms : List (List ℕ)) → (class_split c ms ≡ None) ⊎ (class_renaming new c ms ≡ None)
     by [] = inl refl
     by (m ∷ []) = inl refl
     by (m ∷ n ∷ ms) = inr refl

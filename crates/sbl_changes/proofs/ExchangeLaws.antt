@@ -5,10 +5,10 @@ use Rattle.std.specs.Option.{option_map}
 use Rattle.std.specs.Ordering.{is_eq}
 use Rattle.std.specs.Str.{bytes_eq}
 use Rattle.std.proofs.lemmas.Slice.Eq.{bytes_eq-Decides}
-use Rattle.sbl_changes.specs.Changes.{Change, Changed, Renamed, added, changed, is_from_one, is_one, merged, removed, renamed, split}
+use Rattle.sbl_changes.specs.Changes.{Change, Changed, Renamed, word_addition, outcome_change, is_from_one, is_one, class_merger, word_removal, class_renaming, class_split}
 use Rattle.sbl_changes.specs.ChangesAreSound.{ExchangedListsTurnChanges, HasOneRowEach, other_way}
 use Rattle.sbl_changes.specs.Classes.{Class, Pair, class_with, classes_of, in_order, members_of}
-use Rattle.sbl_changes.specs.Moves.{move_of, moves_of, turned}
+use Rattle.sbl_changes.specs.Moves.{move_of, moves_of, moves_back}
 use Rattle.sbl_changes.specs.Rows.{Outcome, Refused, Row, Stem, outcome_in, same_outcome}
 use Rattle.sbl_changes.proofs.ChangeLaws.{Known, each, found}
 use Rattle.sbl_changes.proofs.ClassLaws.{any-class, any-given, any-map, any-same, some_stem}
@@ -147,18 +147,18 @@ moves-turned before after one other t =
 
 -- ---- the kinds of changes
 
-split-merged : (test : Change → Bool) (classes : List Class) → list_any test (filter_map (λ c. split c c.members) classes) ≡ list_any (back test) (filter_map (λ c. merged c c.members) classes)
-split-merged test classes = alike test (back test) (λ c. split c c.members) (λ c. merged c c.members) (λ c. by c c.members) classes
+split-merged : (test : Change → Bool) (classes : List Class) → list_any test (filter_map (λ c. class_split c c.members) classes) ≡ list_any (back test) (filter_map (λ c. class_merger c c.members) classes)
+split-merged test classes = alike test (back test) (λ c. class_split c c.members) (λ c. class_merger c c.members) (λ c. by c c.members) classes
   where
-    by : (c : Class) (ms : List (List ℕ)) → passes test (split c ms) ≡ passes (back test) (merged c ms)
+    by : (c : Class) (ms : List (List ℕ)) → passes test (class_split c ms) ≡ passes (back test) (class_merger c ms)
     by c [] = refl
     by c (m ∷ []) = refl
     by c (m ∷ n ∷ ms) = refl
 
-merged-split : (test : Change → Bool) (classes : List Class) → list_any test (filter_map (λ c. merged c c.members) classes) ≡ list_any (back test) (filter_map (λ c. split c c.members) classes)
-merged-split test classes = alike test (back test) (λ c. merged c c.members) (λ c. split c c.members) (λ c. by c c.members) classes
+merged-split : (test : Change → Bool) (classes : List Class) → list_any test (filter_map (λ c. class_merger c c.members) classes) ≡ list_any (back test) (filter_map (λ c. class_split c c.members) classes)
+merged-split test classes = alike test (back test) (λ c. class_merger c c.members) (λ c. class_split c c.members) (λ c. by c c.members) classes
   where
-    by : (c : Class) (ms : List (List ℕ)) → passes test (merged c ms) ≡ passes (back test) (split c ms)
+    by : (c : Class) (ms : List (List ℕ)) → passes test (class_merger c ms) ≡ passes (back test) (class_split c ms)
     by c [] = refl
     by c (m ∷ []) = refl
     by c (m ∷ n ∷ ms) = refl
@@ -203,16 +203,16 @@ abbrev is_renamed : List Pair → List Pair → Pair → Bool
 is_renamed ps qs p = not (bytes_eq p.0 p.1) && (has_one ps p.0 && has_one qs p.1)
 
 renamed-pairs : (test : Change → Bool) (ps qs : List Pair) → ((t : Pair → Bool) → list_any t qs ≡ list_any (λ p. t (flip p)) ps)
-    → list_any test (filter_map (λ c. renamed (classes_of qs) c c.members) (classes_of ps)) ≡ list_any (λ p. is_renamed ps qs p && test (Renamed p.0 p.1)) ps
+    → list_any test (filter_map (λ c. class_renaming (classes_of qs) c c.members) (classes_of ps)) ≡ list_any (λ p. is_renamed ps qs p && test (Renamed p.0 p.1)) ps
 renamed-pairs test ps qs h =
-    any-made test (λ c. renamed (classes_of qs) c c.members) (classes_of ps)
-    ∙ any-map (class_with ps) (λ c. passes test (renamed (classes_of qs) c c.members)) (in_order (map (λ p. p.0) ps))
+    any-made test (λ c. class_renaming (classes_of qs) c c.members) (classes_of ps)
+    ∙ any-map (class_with ps) (λ c. passes test (class_renaming (classes_of qs) c c.members)) (in_order (map (λ p. p.0) ps))
     ∙ any-in_order made (map (λ p. p.0) ps)
     ∙ any-stems made ps
     ∙ any-same-in (λ p. made p.0) (λ p. is_renamed ps qs p && test (Renamed p.0 p.1)) ps (each (Passes ps) (λ p. made p.0 ≡ (is_renamed ps qs p && test (Renamed p.0 p.1))) here ps (inside ps))
   where
     made : List ℕ → Bool
-    made s = passes test (renamed (classes_of qs) (class_with ps s) (in_order (members_of s ps)))
+    made s = passes test (class_renaming (classes_of qs) (class_with ps s) (in_order (members_of s ps)))
 
     -- a class of one member
     alone : (p : Pair) (same one : Bool) → passes test (if same then None else (if one then Some (Renamed p.0 p.1) else None)) ≡ ((not same && one) && test (Renamed p.0 p.1))
@@ -221,10 +221,10 @@ renamed-pairs test ps qs h =
     alone p false false = refl
 
     at : (p : Pair) → some_stem p.1 qs ≡ true → (ms : List (List ℕ)) → list_any (bytes_eq p.1) ms ≡ true
-        → passes test (renamed (classes_of qs) (class_with ps p.0) ms) ≡ ((not (bytes_eq p.0 p.1) && (is_one ms && has_one qs p.1)) && test (Renamed p.0 p.1))
+        → passes test (class_renaming (classes_of qs) (class_with ps p.0) ms) ≡ ((not (bytes_eq p.0 p.1) && (is_one ms && has_one qs p.1)) && test (Renamed p.0 p.1))
     at p there [] e = cc e
     at p there (n ∷ []) e =
-        ap (λ (m : List ℕ). passes test (renamed (classes_of qs) (class_with ps p.0) (m ∷ []))) (sym ((bytes_eq-Decides p.1 n).0 (first (bytes_eq p.1 n) e)))
+        ap (λ (m : List ℕ). passes test (class_renaming (classes_of qs) (class_with ps p.0) (m ∷ []))) (sym ((bytes_eq-Decides p.1 n).0 (first (bytes_eq p.1 n) e)))
         ∙ alone p (bytes_eq p.0 p.1) (is_from_one (classes_of qs) p.1)
         ∙ ap (λ (b : Bool). (not (bytes_eq p.0 p.1) && b) && test (Renamed p.0 p.1)) (from-one qs p.1 there)
       where
@@ -243,7 +243,7 @@ renamed-pairs test ps qs h =
         (any-class (bytes_eq p.1) ps p.0 ∙ there (λ q. bytes_eq p.0 q.0 && bytes_eq p.1 q.1) (λ i. (bytes_eq-Decides p.0 p.0).1 refl i && (bytes_eq-Decides p.1 p.1).1 refl i))
 
 renamed-turned : (test : Change → Bool) (ps qs : List Pair) → ((t : Pair → Bool) → list_any t qs ≡ list_any (λ p. t (flip p)) ps)
-    → list_any test (filter_map (λ c. renamed (classes_of qs) c c.members) (classes_of ps)) ≡ list_any (back test) (filter_map (λ c. renamed (classes_of ps) c c.members) (classes_of qs))
+    → list_any test (filter_map (λ c. class_renaming (classes_of qs) c c.members) (classes_of ps)) ≡ list_any (back test) (filter_map (λ c. class_renaming (classes_of ps) c c.members) (classes_of qs))
 renamed-turned test ps qs h =
     renamed-pairs test ps qs h
     ∙ sym (h (λ q. is_renamed ps qs (flip q) && test (Renamed q.1 q.0)))
@@ -258,17 +258,17 @@ renamed-turned test ps qs h =
     and_turned false false = refl
 
 -- words that are added, the other way
-added-removed : (test : Change → Bool) (f : List ℕ → Option Outcome) (rows : List Row) → list_any test (filter_map (λ r. added (f r.word) r) rows) ≡ list_any (back test) (filter_map (λ r. removed (f r.word) r) rows)
-added-removed test f rows = alike test (back test) (λ r. added (f r.word) r) (λ r. removed (f r.word) r) (λ r. by (f r.word) r) rows
+added-removed : (test : Change → Bool) (f : List ℕ → Option Outcome) (rows : List Row) → list_any test (filter_map (λ r. word_addition (f r.word) r) rows) ≡ list_any (back test) (filter_map (λ r. word_removal (f r.word) r) rows)
+added-removed test f rows = alike test (back test) (λ r. word_addition (f r.word) r) (λ r. word_removal (f r.word) r) (λ r. by (f r.word) r) rows
   where
-    by : (x : Option Outcome) (r : Row) → passes test (added x r) ≡ passes (back test) (removed x r)
+    by : (x : Option Outcome) (r : Row) → passes test (word_addition x r) ≡ passes (back test) (word_removal x r)
     by None r = refl
     by (Some o) r = refl
 
-removed-added : (test : Change → Bool) (f : List ℕ → Option Outcome) (rows : List Row) → list_any test (filter_map (λ r. removed (f r.word) r) rows) ≡ list_any (back test) (filter_map (λ r. added (f r.word) r) rows)
-removed-added test f rows = alike test (back test) (λ r. removed (f r.word) r) (λ r. added (f r.word) r) (λ r. by (f r.word) r) rows
+removed-added : (test : Change → Bool) (f : List ℕ → Option Outcome) (rows : List Row) → list_any test (filter_map (λ r. word_removal (f r.word) r) rows) ≡ list_any (back test) (filter_map (λ r. word_addition (f r.word) r) rows)
+removed-added test f rows = alike test (back test) (λ r. word_removal (f r.word) r) (λ r. word_addition (f r.word) r) (λ r. by (f r.word) r) rows
   where
-    by : (x : Option Outcome) (r : Row) → passes test (removed x r) ≡ passes (back test) (added x r)
+    by : (x : Option Outcome) (r : Row) → passes test (word_removal x r) ≡ passes (back test) (word_addition x r)
     by None r = refl
     by (Some o) r = refl
 
@@ -281,19 +281,19 @@ same-back (Refused m) (Refused n) = bytes_eq-back m n
 abbrev of_changes : (Change → Bool) → Of
 of_changes test w o n = if same_outcome o n then false else test (Changed w o n)
 
-changed-same : (test : Change → Bool) (f : List ℕ → Option Outcome) (rows : List Row) → list_any test (filter_map (λ r. changed (f r.word) r) rows) ≡ list_any (λ r. with_other (of_changes test) (f r.word) r) rows
-changed-same test f rows = any-made test (λ r. changed (f r.word) r) rows ∙ any-same (λ r. passes test (changed (f r.word) r)) (λ r. with_other (of_changes test) (f r.word) r) (λ r. by (f r.word) r) rows
+changed-same : (test : Change → Bool) (f : List ℕ → Option Outcome) (rows : List Row) → list_any test (filter_map (λ r. outcome_change (f r.word) r) rows) ≡ list_any (λ r. with_other (of_changes test) (f r.word) r) rows
+changed-same test f rows = any-made test (λ r. outcome_change (f r.word) r) rows ∙ any-same (λ r. passes test (outcome_change (f r.word) r)) (λ r. with_other (of_changes test) (f r.word) r) (λ r. by (f r.word) r) rows
   where
     at : (b : Bool) (c : Change) → passes test (if b then None else Some c) ≡ (if b then false else test c)
     at true c = refl
     at false c = refl
 
-    by : (x : Option Outcome) (r : Row) → passes test (changed x r) ≡ with_other (of_changes test) x r
+    by : (x : Option Outcome) (r : Row) → passes test (outcome_change x r) ≡ with_other (of_changes test) x r
     by None r = refl
     by (Some o) r = at (same_outcome o r.outcome) (Changed r.word o r.outcome)
 
 changed-turned : (test : Change → Bool) (before after : List Row) → HasOneRowEach before → HasOneRowEach after
-    → list_any test (filter_map (λ r. changed (outcome_in before r.word) r) after) ≡ list_any (back test) (filter_map (λ r. changed (outcome_in after r.word) r) before)
+    → list_any test (filter_map (λ r. outcome_change (outcome_in before r.word) r) after) ≡ list_any (back test) (filter_map (λ r. outcome_change (outcome_in after r.word) r) before)
 changed-turned test before after one other =
     changed-same test (outcome_in before) after
     ∙ exchanged before after one other (of_changes test)
@@ -323,32 +323,32 @@ pub turned_changes : ExchangedListsTurnChanges
 turned_changes before after one other test =
     let moves : List Pair = moves_of (outcome_in before) after in
     let back_moves : List Pair = moves_of (outcome_in after) before in
-    let old : classes_of moves ≡ classes_of (turned back_moves) =
-    classes-same moves (turned back_moves) (λ t. moves-turned before after one other t ∙ sym (any-map flip t back_moves)) in
-    let new : classes_of (turned moves) ≡ classes_of back_moves =
-    classes-same (turned moves) back_moves (λ t. any-map flip t moves ∙ moves-turned before after one other (λ m. t (flip m))) in
-    let a : List Change = filter_map (λ r. added (outcome_in before r.word) r) after in
-    let b : List Change = filter_map (λ r. removed (outcome_in after r.word) r) before in
-    let c : List Change = filter_map (λ r. changed (outcome_in before r.word) r) after in
-    let d : List Change = filter_map (λ k. split k k.members) (classes_of moves) in
-    let e : List Change = filter_map (λ k. merged k k.members) (classes_of (turned moves)) in
-    let f : List Change = filter_map (λ k. renamed (classes_of (turned moves)) k k.members) (classes_of moves) in
-    let a' : List Change = filter_map (λ r. added (outcome_in after r.word) r) before in
-    let b' : List Change = filter_map (λ r. removed (outcome_in before r.word) r) after in
-    let c' : List Change = filter_map (λ r. changed (outcome_in after r.word) r) before in
-    let d' : List Change = filter_map (λ k. split k k.members) (classes_of back_moves) in
-    let e' : List Change = filter_map (λ k. merged k k.members) (classes_of (turned back_moves)) in
-    let f' : List Change = filter_map (λ k. renamed (classes_of (turned back_moves)) k k.members) (classes_of back_moves) in
+    let old : classes_of moves ≡ classes_of (moves_back back_moves) =
+    classes-same moves (moves_back back_moves) (λ t. moves-turned before after one other t ∙ sym (any-map flip t back_moves)) in
+    let new : classes_of (moves_back moves) ≡ classes_of back_moves =
+    classes-same (moves_back moves) back_moves (λ t. any-map flip t moves ∙ moves-turned before after one other (λ m. t (flip m))) in
+    let a : List Change = filter_map (λ r. word_addition (outcome_in before r.word) r) after in
+    let b : List Change = filter_map (λ r. word_removal (outcome_in after r.word) r) before in
+    let c : List Change = filter_map (λ r. outcome_change (outcome_in before r.word) r) after in
+    let d : List Change = filter_map (λ k. class_split k k.members) (classes_of moves) in
+    let e : List Change = filter_map (λ k. class_merger k k.members) (classes_of (moves_back moves)) in
+    let f : List Change = filter_map (λ k. class_renaming (classes_of (moves_back moves)) k k.members) (classes_of moves) in
+    let a' : List Change = filter_map (λ r. word_addition (outcome_in after r.word) r) before in
+    let b' : List Change = filter_map (λ r. word_removal (outcome_in before r.word) r) after in
+    let c' : List Change = filter_map (λ r. outcome_change (outcome_in after r.word) r) before in
+    let d' : List Change = filter_map (λ k. class_split k k.members) (classes_of back_moves) in
+    let e' : List Change = filter_map (λ k. class_merger k k.members) (classes_of (moves_back back_moves)) in
+    let f' : List Change = filter_map (λ k. class_renaming (classes_of (moves_back back_moves)) k k.members) (classes_of back_moves) in
     let ab : (list_any test a || list_any test b) ≡ (list_any (back test) a' || list_any (back test) b') =
     (λ i. added-removed test (outcome_in before) after i || removed-added test (outcome_in after) before i) ∙ or_turned (list_any (back test) b') (list_any (back test) a') in
     let de : (list_any test d || list_any test e) ≡ (list_any (back test) d' || list_any (back test) e') =
-    (λ i. (split-merged test (classes_of moves) ∙ ap (λ (cs : List Class). list_any (back test) (filter_map (λ k. merged k k.members) cs)) old) i
-    || (merged-split test (classes_of (turned moves)) ∙ ap (λ (cs : List Class). list_any (back test) (filter_map (λ k. split k k.members) cs)) new) i)
+    (λ i. (split-merged test (classes_of moves) ∙ ap (λ (cs : List Class). list_any (back test) (filter_map (λ k. class_merger k k.members) cs)) old) i
+    || (merged-split test (classes_of (moves_back moves)) ∙ ap (λ (cs : List Class). list_any (back test) (filter_map (λ k. class_split k k.members) cs)) new) i)
     ∙ or_turned (list_any (back test) e') (list_any (back test) d') in
     let ff : list_any test f ≡ list_any (back test) f' =
-    (λ i. list_any test (filter_map (λ k. renamed (new i) k k.members) (classes_of moves)))
+    (λ i. list_any test (filter_map (λ k. class_renaming (new i) k k.members) (classes_of moves)))
     ∙ renamed-turned test moves back_moves (λ t. moves-turned after before other one t)
-    ∙ (λ i. list_any (back test) (filter_map (λ k. renamed (old i) k k.members) (classes_of back_moves))) in
+    ∙ (λ i. list_any (back test) (filter_map (λ k. class_renaming (old i) k k.members) (classes_of back_moves))) in
     parts test a b c d e f
     ∙ (λ i. (ab i || changed-turned test before after one other i) || (de i || ff i))
     ∙ sym (parts (back test) a' b' c' d' e' f')

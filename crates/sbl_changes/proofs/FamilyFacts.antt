@@ -4,8 +4,8 @@ use Rattle.std.specs.Str.{bytes_eq}
 use Rattle.sbl_changes.specs.declared.classes.StemPair.{StemPair}
 use Rattle.sbl_changes.specs.Classes.{Pair}
 use Rattle.sbl_changes.specs.Grouping.{view_pairs}
-use Rattle.sbl_changes.specs.Families.{FamilyResult, Under, counted, families_of, family_of, is_in, stems_of, under, under_with, with_stem}
-use Rattle.sbl_changes.specs.Counting.{Outcomes, all_taken, left, taken, without}
+use Rattle.sbl_changes.specs.Families.{FamilyResult, Under, pair_of_word, families_of, family_of, is_in, stems_of, under, under_with, with_stem}
+use Rattle.sbl_changes.specs.Counting.{Outcomes, all_taken, outcomes_left, pairs_taken, without}
 use Rattle.sbl_changes.specs.Rows.{Row, outcome_in}
 
 -- the outcomes of the rows without those of the words before
@@ -19,14 +19,14 @@ one_less rows before word outcome h q = by (bytes_eq q word)
     by true = refl
     by false = h q
 
-here : (rows : List Row) (before : List (List ℕ)) (word : List ℕ) (outcome : Outcomes) → AreLeft rows before outcome → with_stem word (outcome word) ≡ counted rows before word
+here : (rows : List Row) (before : List (List ℕ)) (word : List ℕ) (outcome : Outcomes) → AreLeft rows before outcome → with_stem word (outcome word) ≡ pair_of_word rows before word
 here rows before word outcome h = ap (with_stem word) (h word) ∙ by (is_in before word)
   where
     by : (b : Bool) → with_stem word (if b then None else outcome_in rows word) ≡ (if b then None else with_stem word (outcome_in rows word))
     by true = refl
     by false = refl
 
-taken-family : (rows : List Row) (before words : List (List ℕ)) (outcome : Outcomes) → AreLeft rows before outcome → taken outcome words ≡ family_of rows before words
+taken-family : (rows : List Row) (before words : List (List ℕ)) (outcome : Outcomes) → AreLeft rows before outcome → pairs_taken outcome words ≡ family_of rows before words
 taken-family rows before [] outcome h = refl
 taken-family rows before (word ∷ words) outcome h =
     λ i. option_to_list (here rows before word outcome h i) ++ taken-family rows (word ∷ before) words (without word outcome) (one_less rows before word outcome h) i
@@ -40,7 +40,7 @@ in_append (x ∷ xs) ys q = ap (λ (b : Bool). bytes_eq q x || b) (in_append xs 
     regroup true b c = refl
     regroup false b c = refl
 
-left-words : (rows : List Row) (before words : List (List ℕ)) (outcome : Outcomes) → AreLeft rows before outcome → AreLeft rows (words ++ before) (left outcome words)
+left-words : (rows : List Row) (before words : List (List ℕ)) (outcome : Outcomes) → AreLeft rows before outcome → AreLeft rows (words ++ before) (outcomes_left outcome words)
 left-words rows before [] outcome h q = h q
 left-words rows before (word ∷ words) outcome h q =
     left-words rows (word ∷ before) words (without word outcome) (one_less rows before word outcome h) q
@@ -54,7 +54,7 @@ left-words rows before (word ∷ words) outcome h q =
 taken-families : (rows : List Row) (before : List (List ℕ)) (lists : List (List (List ℕ))) (outcome : Outcomes) → AreLeft rows before outcome → all_taken outcome lists ≡ families_of rows before lists
 taken-families rows before [] outcome h = refl
 taken-families rows before (words ∷ lists) outcome h =
-    λ i. taken-family rows before words outcome h i ∷ taken-families rows (words ++ before) lists (left outcome words) (left-words rows before words outcome h) i
+    λ i. taken-family rows before words outcome h i ∷ taken-families rows (words ++ before) lists (outcomes_left outcome words) (left-words rows before words outcome h) i
 
 -- the families taken out of the outcomes of the rows
 pub all-taken : (rows : List Row) (lists : List (List (List ℕ))) → all_taken (outcome_in rows) lists ≡ families_of rows [] lists
@@ -62,8 +62,8 @@ all-taken rows lists = taken-families rows [] lists (outcome_in rows) (λ q. ref
 
 -- one word more, and one list more
 pub taken-step : (outcome : Outcomes) (word : List ℕ) (words : List (List ℕ)) (old new : List Pair) → new ≡ old ++ option_to_list (with_stem word (outcome word))
-    → new ++ taken (without word outcome) words ≡ old ++ taken outcome (word ∷ words)
-taken-step outcome word words old new e = ap (λ (l : List Pair). l ++ taken (without word outcome) words) e ∙ append_assoc old (option_to_list (with_stem word (outcome word))) (taken (without word outcome) words)
+    → new ++ pairs_taken (without word outcome) words ≡ old ++ pairs_taken outcome (word ∷ words)
+taken-step outcome word words old new e = ap (λ (l : List Pair). l ++ pairs_taken (without word outcome) words) e ∙ append_assoc old (option_to_list (with_stem word (outcome word))) (pairs_taken (without word outcome) words)
 
 -- ---- a family with few stems, and one with several
 

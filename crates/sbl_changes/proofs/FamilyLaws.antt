@@ -12,7 +12,7 @@ use Rattle.std.proofs.lemmas.Map.Lookups.{exact_bytes}
 use Rattle.std.proofs.lemmas.Map.Text.{is_eq-slice_cmp}
 use Rattle.std.proofs.lemmas.Slice.Eq.{bytes_eq-Decides}
 use Rattle.sbl_changes.specs.Classes.{Pair, members_of}
-use Rattle.sbl_changes.specs.Families.{FamilyResult, all_of, any_two, counted, families_of, family_of, first_with, is_in, other_stem, over, over_rows, pairs_across, pairs_between, pairs_in, pairs_within, same_stem, stems_of, under, under_with, with_stem}
+use Rattle.sbl_changes.specs.Families.{FamilyResult, all_of, any_two, pair_of_word, families_of, family_of, first_with, is_in, other_stem, over, over_rows, pairs_across, pairs_between, pairs_in, pairs_within, same_stem, stems_of, under, under_with, with_stem}
 use Rattle.sbl_changes.specs.FamiliesAreSound.{NoneApartIfNoUnder, NoneJoinedIfNoOver, PairsAddUp, WordsHaveTheirStems}
 use Rattle.sbl_changes.specs.Rows.{Outcome, Refused, Row, Stem, outcome_in}
 use Rattle.sbl_changes.proofs.ChangeLaws.{alike_order, none_made}
@@ -141,7 +141,7 @@ pairs_add_up families =
 abbrev HasStem : List Row → Pair → Type 0
 HasStem rows p = outcome_in rows p.1 ≡ Some (Stem p.0)
 
-with_its_stem : (rows : List Row) (before : List (List ℕ)) (word : List ℕ) → All (HasStem rows) (option_to_list (counted rows before word))
+with_its_stem : (rows : List Row) (before : List (List ℕ)) (word : List ℕ) → All (HasStem rows) (option_to_list (pair_of_word rows before word))
 with_its_stem rows before word = by (is_in before word)
   where
     at : (o : Option Outcome) → outcome_in rows word ≡ o → All (HasStem rows) (option_to_list (with_stem word o))
@@ -155,7 +155,7 @@ with_its_stem rows before word = by (is_in before word)
 
 family_stems : (rows : List Row) (before words : List (List ℕ)) → All (HasStem rows) (family_of rows before words)
 family_stems rows before [] = All-nil (HasStem rows)
-family_stems rows before (word ∷ words) = All-append (HasStem rows) (option_to_list (counted rows before word)) (family_of rows (word ∷ before) words) (with_its_stem rows before word) (family_stems rows (word ∷ before) words)
+family_stems rows before (word ∷ words) = All-append (HasStem rows) (option_to_list (pair_of_word rows before word)) (family_of rows (word ∷ before) words) (with_its_stem rows before word) (family_stems rows (word ∷ before) words)
 
 families_stems : (rows : List Row) (before : List (List ℕ)) (lists : List (List (List ℕ))) → All (HasStem rows) (all_of (families_of rows before lists))
 families_stems rows before [] = All-nil (HasStem rows)

@@ -15,7 +15,7 @@ use Rattle.std.proofs.lemmas.Map.Views.{All-insert_key}
 use Rattle.std.proofs.lemmas.Slice.Eq.{bytes_eq-Decides}
 use Rattle.sbl_changes.specs.Classes.{Class, Pair, class_with, classes_of, in_order, members_of}
 use Rattle.sbl_changes.specs.Counting.{DoNotFall}
-use Rattle.sbl_changes.specs.Grouping.{class_sorted, classes_sorted, grouped, is_last, pair_cmp, one_member, put_in_last, put_last, sorted}
+use Rattle.sbl_changes.specs.Grouping.{class_sorted, classes_sorted, group_pairs, is_last, pair_cmp, one_member, put_in_last, put_last, sorted_pairs}
 use Rattle.sbl_changes.proofs.Sorting.{mem, or_swap}
 use Rattle.sbl_changes.proofs.OrderFacts.{any-in_order, in_order-sorted, one_order, members-in_order, sorted-sorted, stems-sorted, text_cmp}
 
@@ -127,15 +127,15 @@ front_below (d ∷ done) p ps s = (at done s.0, front_below done p ps s.1)
     at [] a = a.0
     at (x ∷ xs) a = at xs a.1
 
-grouped_on : (done ps : List Pair) → DoNotFall (done ++ ps) → grouped (classes_sorted done) ps ≡ classes_sorted (done ++ ps)
+grouped_on : (done ps : List Pair) → DoNotFall (done ++ ps) → group_pairs (classes_sorted done) ps ≡ classes_sorted (done ++ ps)
 grouped_on done [] s = ap classes_sorted (sym (append-nil done))
 grouped_on done (p ∷ ps) s =
-    ap (λ (cs : List Class). grouped cs ps) (put_more done p (stems_below p.0 done (front_below done p ps s)))
+    ap (λ (cs : List Class). group_pairs cs ps) (put_more done p (stems_below p.0 done (front_below done p ps s)))
     ∙ grouped_on (done ++ p ∷ []) ps (subst DoNotFall (sym (append_assoc done (p ∷ []) ps)) s)
     ∙ ap classes_sorted (append_assoc done (p ∷ []) ps)
 
 -- pairs whose stems do not fall, put one after another, make the classes
-pub grouped_turn : (pairs : List Pair) → DoNotFall pairs → grouped [] pairs ≡ classes_sorted pairs
+pub grouped_turn : (pairs : List Pair) → DoNotFall pairs → group_pairs [] pairs ≡ classes_sorted pairs
 grouped_turn pairs s = grouped_on [] pairs s
 
 -- stems of pairs that rise do not fall
@@ -157,12 +157,12 @@ do_not_fall (p ∷ ps) s = (at ps s.0, do_not_fall ps s.1)
     at (x ∷ xs) a = (not_above p x a.0, at xs a.1)
 
 -- the pairs in order, put one after another, make the classes
-pub grouped_all : (pairs : List Pair) → grouped [] (sorted pairs) ≡ classes_of pairs
+pub grouped_all : (pairs : List Pair) → group_pairs [] (sorted_pairs pairs) ≡ classes_of pairs
 grouped_all pairs =
-    grouped_turn (sorted pairs) (do_not_fall (sorted pairs) (sorted-sorted pairs))
-    ∙ ap (map (class_sorted (sorted pairs))) (stems-sorted pairs)
+    grouped_turn (sorted_pairs pairs) (do_not_fall (sorted_pairs pairs) (sorted-sorted pairs))
+    ∙ ap (map (class_sorted (sorted_pairs pairs))) (stems-sorted pairs)
     ∙ each (in_order (map (λ p. p.0) pairs))
   where
-    each : (ss : List (List ℕ)) → map (class_sorted (sorted pairs)) ss ≡ map (class_with pairs) ss
+    each : (ss : List (List ℕ)) → map (class_sorted (sorted_pairs pairs)) ss ≡ map (class_with pairs) ss
     each [] = refl
     each (s ∷ ss) = λ i. record { stem = s; members = members-in_order s pairs i } ∷ each ss i

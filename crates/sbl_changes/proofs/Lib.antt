@@ -10,6 +10,7 @@ pub mod ClassLaws
 pub mod ChangeLaws
 pub mod ExchangeLaws
 pub mod RankFacts
+pub mod TurnFacts
 pub mod PairFacts
 pub mod FamilyFacts
 pub mod HeadFacts

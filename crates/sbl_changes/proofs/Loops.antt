@@ -1,7 +1,7 @@
 -- Steps of loops over slices.
 use Rattle.std.proofs.Common.{◌≡◌, ◌∙◌, ◌+◌, ◌<◌, ◌≤◌, ◌++◌, ℕ, arith, length-append, suc, List, [], ◌∷◌, map, drop, take, length, Option, Some, None, get_or, add-one, append_assoc, refl, sym, ap}
 use Rattle.std.specs.List.{cons_option, filter_map}
-use Rattle.std.specs.Option.{option_to_list}
+use Rattle.std.specs.Option.{option_map, option_to_list}
 use Rattle.std.proofs.lemmas.List.{length-map, map-append, take-append-drop}
 use Rattle.std.specs.List.{flat_map}
 use Rattle.std.proofs.Math.Seq.{drop-cons, take-suc}
@@ -20,15 +20,23 @@ pub put_option : {C : Type 0} (o : Option C) (xs : List C) → option_to_list o 
 put_option None xs = refl
 put_option (Some x) xs = refl
 
--- one item more of a list that `h` makes
-pub step : {D V C : Type 0} (h : V → Option C) (view : D → V) (xs : List D) (i : ℕ) (d x : D) (old new goal : List C)
-    → i < length xs → x ≡ get_or xs i d → new ≡ old ++ option_to_list (h (view x))
-    → old ++ filter_map h (map view (drop i xs)) ≡ goal → new ++ filter_map h (map view (drop (i + 1) xs)) ≡ goal
-step h view xs i d x old new goal lt is more so_far =
-    ap (λ l. l ++ filter_map h (map view (drop (i + 1) xs))) more
-    ∙ append_assoc old (option_to_list (h (view x))) (filter_map h (map view (drop (i + 1) xs)))
-    ∙ ap (λ l. old ++ l) (put_option (h (view x)) (filter_map h (map view (drop (i + 1) xs))))
-    ∙ ap (λ l. old ++ filter_map h l) (sym (next view xs i d x lt is))
+pub map-some : {A B : Type 0} (f : A → B) (o : Option A) → map f (option_to_list o) ≡ option_to_list (option_map f o)
+map-some f None = refl
+map-some f (Some x) = refl
+
+-- an item more of a list, if there is one, as `see` shows it
+pub seen : {E C : Type 0} (see : E → C) (old new : List E) (o : Option E) → new ≡ old ++ option_to_list o → map see new ≡ map see old ++ option_to_list (option_map see o)
+seen see old new o more = ap (map see) more ∙ map-append see old (option_to_list o) ∙ ap (λ l. map see old ++ l) (map-some see o)
+
+-- one item more, if there is one, of a list that `h` makes
+pub step : {D V E C : Type 0} (h : V → Option C) (view : D → V) (see : E → C) (xs : List D) (i : ℕ) (d x : D) (old new : List E) (o : Option E) (goal : List C)
+    → i < length xs → x ≡ get_or xs i d → new ≡ old ++ option_to_list o → option_map see o ≡ h (view x)
+    → map see old ++ filter_map h (map view (drop i xs)) ≡ goal → map see new ++ filter_map h (map view (drop (i + 1) xs)) ≡ goal
+step h view see xs i d x old new o goal lt is more made so_far =
+    ap (λ l. l ++ filter_map h (map view (drop (i + 1) xs))) (seen see old new o more ∙ ap (λ p. map see old ++ option_to_list p) made)
+    ∙ append_assoc (map see old) (option_to_list (h (view x))) (filter_map h (map view (drop (i + 1) xs)))
+    ∙ ap (λ l. map see old ++ l) (put_option (h (view x)) (filter_map h (map view (drop (i + 1) xs))))
+    ∙ ap (λ l. map see old ++ filter_map h l) (sym (next view xs i d x lt is))
     ∙ so_far
 
 -- one item more of a list that `f` makes

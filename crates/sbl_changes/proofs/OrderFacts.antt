@@ -14,7 +14,7 @@ use Rattle.std.proofs.lemmas.Map.Lookups.{CmpEqualImpliesEq, btree_set_from_cont
 use Rattle.std.proofs.lemmas.Map.Text.{is_eq-slice_cmp}
 use Rattle.std.proofs.lemmas.Slice.Eq.{bytes_eq-Decides}
 use Rattle.sbl_changes.specs.Classes.{Pair, in_order, members_of}
-use Rattle.sbl_changes.specs.Grouping.{pair_cmp, sorted}
+use Rattle.sbl_changes.specs.Grouping.{pair_cmp, sorted_pairs}
 use Rattle.sbl_changes.proofs.Sorting.{any_inserted, first_below, mem, sorted-insert}
 
 pub total : IsTotalOrder pair_cmp
@@ -49,9 +49,9 @@ in_order-stays (t ∷ ts) s = ap (λ (l : List (List ℕ)). insert_key text_cmp 
 
 -- ---- the pairs in order have the same stems, and the same members with a stem
 
-pub any-sorted : (test : Pair → Bool) (ps : List Pair) → list_any test (sorted ps) ≡ list_any test ps
+pub any-sorted : (test : Pair → Bool) (ps : List Pair) → list_any test (sorted_pairs ps) ≡ list_any test ps
 any-sorted test [] = refl
-any-sorted test (p ∷ ps) = any_inserted pair_cmp total exact test (sorted ps) p ∙ ap (λ (b : Bool). test p || b) (any-sorted test ps)
+any-sorted test (p ∷ ps) = any_inserted pair_cmp total exact test (sorted_pairs ps) p ∙ ap (λ (b : Bool). test p || b) (any-sorted test ps)
 
 pub any-stems : (test : List ℕ → Bool) (ps : List Pair) → list_any test (map (λ p. p.0) ps) ≡ list_any (λ p. test p.0) ps
 any-stems test [] = refl
@@ -66,15 +66,15 @@ any-members test stem (p ∷ ps) = by (bytes_eq stem p.0) (any-members test stem
     by true rest = ap (λ (b : Bool). test p.1 || b) rest
     by false rest = rest
 
-pub stems-sorted : (ps : List Pair) → in_order (map (λ p. p.0) (sorted ps)) ≡ in_order (map (λ p. p.0) ps)
+pub stems-sorted : (ps : List Pair) → in_order (map (λ p. p.0) (sorted_pairs ps)) ≡ in_order (map (λ p. p.0) ps)
 stems-sorted ps =
-    one_order (map (λ p. p.0) (sorted ps)) (map (λ p. p.0) ps)
-    (λ q. any-stems (λ x. is_eq (text_cmp q x)) (sorted ps) ∙ any-sorted (λ p. is_eq (text_cmp q p.0)) ps ∙ sym (any-stems (λ x. is_eq (text_cmp q x)) ps))
+    one_order (map (λ p. p.0) (sorted_pairs ps)) (map (λ p. p.0) ps)
+    (λ q. any-stems (λ x. is_eq (text_cmp q x)) (sorted_pairs ps) ∙ any-sorted (λ p. is_eq (text_cmp q p.0)) ps ∙ sym (any-stems (λ x. is_eq (text_cmp q x)) ps))
 
-members-sorted : (stem : List ℕ) (ps : List Pair) → in_order (members_of stem (sorted ps)) ≡ in_order (members_of stem ps)
+members-sorted : (stem : List ℕ) (ps : List Pair) → in_order (members_of stem (sorted_pairs ps)) ≡ in_order (members_of stem ps)
 members-sorted stem ps =
-    one_order (members_of stem (sorted ps)) (members_of stem ps)
-    (λ q. any-members (λ x. is_eq (text_cmp q x)) stem (sorted ps) ∙ any-sorted (λ p. bytes_eq stem p.0 && is_eq (text_cmp q p.1)) ps ∙ sym (any-members (λ x. is_eq (text_cmp q x)) stem ps))
+    one_order (members_of stem (sorted_pairs ps)) (members_of stem ps)
+    (λ q. any-members (λ x. is_eq (text_cmp q x)) stem (sorted_pairs ps) ∙ any-sorted (λ p. bytes_eq stem p.0 && is_eq (text_cmp q p.1)) ps ∙ sym (any-members (λ x. is_eq (text_cmp q x)) stem ps))
 
 -- the members with a stem are in order if the pairs are
 members_rise : (stem : List ℕ) (ps : List Pair) → IsStrictlySortedBy pair_cmp ps → IsStrictlySortedBy text_cmp (members_of stem ps)
@@ -109,10 +109,10 @@ members_rise stem (p ∷ ps) s = by (bytes_eq stem p.0) refl (members_rise stem 
     by true e rest = rw e (later e ps s.0, rest)
     by false e rest = rw e rest
 
-pub sorted-sorted : (ps : List Pair) → IsStrictlySortedBy pair_cmp (sorted ps)
+pub sorted-sorted : (ps : List Pair) → IsStrictlySortedBy pair_cmp (sorted_pairs ps)
 unfolding IsStrictlySortedBy
 sorted-sorted [] = tt
-sorted-sorted (p ∷ ps) = sorted-insert pair_cmp total exact (sorted ps) p (sorted-sorted ps)
+sorted-sorted (p ∷ ps) = sorted-insert pair_cmp total exact (sorted_pairs ps) p (sorted-sorted ps)
 
 pub bytes_eq-back : (x y : List ℕ) → bytes_eq x y ≡ bytes_eq y x
 bytes_eq-back x y = both (bytes_eq x y) (bytes_eq y x) (λ e. (bytes_eq-Decides y x).1 (sym ((bytes_eq-Decides x y).0 e))) (λ e. (bytes_eq-Decides x y).1 (sym ((bytes_eq-Decides y x).0 e)))
@@ -123,9 +123,9 @@ bytes_eq-back x y = both (bytes_eq x y) (bytes_eq y x) (λ e. (bytes_eq-Decides 
     both false false f g = refl
 
 -- the members with a stem among the pairs in order
-pub members-in_order : (stem : List ℕ) (pairs : List Pair) → members_of stem (sorted pairs) ≡ in_order (members_of stem pairs)
+pub members-in_order : (stem : List ℕ) (pairs : List Pair) → members_of stem (sorted_pairs pairs) ≡ in_order (members_of stem pairs)
 members-in_order stem pairs =
-    sym (in_order-stays (members_of stem (sorted pairs)) (members_rise stem (sorted pairs) (sorted-sorted pairs)))
+    sym (in_order-stays (members_of stem (sorted_pairs pairs)) (members_rise stem (sorted_pairs pairs) (sorted-sorted pairs)))
     ∙ members-sorted stem pairs
 
 -- ---- pairs that are put in from the first on
@@ -152,10 +152,10 @@ mem-put_in q keys (m ∷ pairs) =
     or_shift false false c = refl
 
 -- the order in which pairs are put in is all one
-pub put_in-all : (pairs : List Pair) → put_in [] pairs ≡ sorted pairs
+pub put_in-all : (pairs : List Pair) → put_in [] pairs ≡ sorted_pairs pairs
 unfolding IsStrictlySortedBy
 put_in-all pairs =
-    btree_set_from_contains total (record { keys = put_in [] pairs }) (record { keys = sorted pairs }) (put_in-sorted [] pairs tt) (sorted-sorted pairs)
+    btree_set_from_contains total (record { keys = put_in [] pairs }) (record { keys = sorted_pairs pairs }) (put_in-sorted [] pairs tt) (sorted-sorted pairs)
     (λ q. mem-put_in q [] pairs ∙ or_false (mem pair_cmp q pairs) ∙ sym (any-sorted (λ x. is_eq (pair_cmp q x)) pairs)) exact
   where
     or_false : (a : Bool) → (a || false) ≡ a

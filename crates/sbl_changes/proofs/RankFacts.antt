@@ -12,7 +12,7 @@ use Rattle.std.specs.BTreeSet.{replace_key}
 use Rattle.std.proofs.lemmas.List.{length-map}
 use Rattle.std.proofs.lemmas.Map.Lookups.{exact_bytes, exact_unsigned}
 use Rattle.sbl_changes.specs.Classes.{Class}
-use Rattle.sbl_changes.specs.Known.{Text}
+use Rattle.sbl_changes.specs.KnownOutcomes.{Text}
 use Rattle.sbl_changes.specs.Largest.{by_size, size_cmp}
 use Rattle.sbl_changes.specs.Ranking.{Entry, Rank, view_entry}
 use Rattle.sbl_changes.specs.Rows.{texts_of}

@@ -21,7 +21,7 @@ use Rattle.sbl_changes.specs.Rows.{Row, outcome_in, view_outcome, view_row, view
 use Rattle.sbl_changes.specs.Grouping.{Key, pair_cmp, plain}
 use Rattle.std.proofs.lemmas.Slice.Eq.{bytes_eq-Decides}
 use Rattle.sbl_changes.specs.Counting.{count_in, without}
-use Rattle.sbl_changes.specs.Known.{Text, has_text, known}
+use Rattle.sbl_changes.specs.KnownOutcomes.{Text, has_text, known_outcome}
 use Rattle.sbl_changes.proofs.OrderFacts.{bytes_eq-back}
 
 -- ---- moves
@@ -53,19 +53,19 @@ text word = record { ref_ptr = (0, 0); now = word }
 
 -- the row before the rows that the map has
 pub row_known : (rows : List WordRow) (row : WordRow) (m n : BTreeMap Text WordOutcome) (word : List ℕ) → tree.Updates text_order m n row.word (Some row.outcome)
-    → option_or (outcome_in (view_rows rows) word) (known n word) ≡ option_or (outcome_in (view_rows (rows ++ row ∷ [])) word) (known m word)
+    → option_or (outcome_in (view_rows rows) word) (known_outcome n word) ≡ option_or (outcome_in (view_rows (rows ++ row ∷ [])) word) (known_outcome m word)
 row_known [] row m n word put = ap (option_map view_outcome) (put.0 (text word)) ∙ by (is_eq (slice_cmp nat_cmp row.word.now word)) (bytes_eq word row.word.now) (is_eq-slice_cmp row.word.now word ∙ bytes_eq-back row.word.now word)
   where
-    by : (a b : Bool) → a ≡ b → option_map view_outcome (cond a (Some row.outcome) (tree.get text_order m (text word))) ≡ option_or (option_map (λ (r : Row). r.outcome) (cond b (Some (view_row row)) None)) (known m word)
+    by : (a b : Bool) → a ≡ b → option_map view_outcome (cond a (Some row.outcome) (tree.get text_order m (text word))) ≡ option_or (option_map (λ (r : Row). r.outcome) (cond b (Some (view_row row)) None)) (known_outcome m word)
     by true true e = refl
     by true false e = cc e
     by false true e = cc e
     by false false e = refl
 row_known (r ∷ rows) row m n word put = by (bytes_eq word r.word.now) (row_known rows row m n word put)
   where
-    by : (b : Bool) → option_or (outcome_in (view_rows rows) word) (known n word) ≡ option_or (outcome_in (view_rows (rows ++ row ∷ [])) word) (known m word)
-        → option_or (option_map (λ (q : Row). q.outcome) (cond b (Some (view_row r)) (find (λ q. bytes_eq word q.word) (view_rows rows)))) (known n word)
-        ≡ option_or (option_map (λ (q : Row). q.outcome) (cond b (Some (view_row r)) (find (λ q. bytes_eq word q.word) (view_rows (rows ++ row ∷ []))))) (known m word)
+    by : (b : Bool) → option_or (outcome_in (view_rows rows) word) (known_outcome n word) ≡ option_or (outcome_in (view_rows (rows ++ row ∷ [])) word) (known_outcome m word)
+        → option_or (option_map (λ (q : Row). q.outcome) (cond b (Some (view_row r)) (find (λ q. bytes_eq word q.word) (view_rows rows)))) (known_outcome n word)
+        ≡ option_or (option_map (λ (q : Row). q.outcome) (cond b (Some (view_row r)) (find (λ q. bytes_eq word q.word) (view_rows (rows ++ row ∷ []))))) (known_outcome m word)
     by true rest = refl
     by false rest = rest
 
@@ -91,10 +91,10 @@ and_one false one e = refl
 
 -- ---- words taken out, stems counted
 
-pub word_removed : (m n : BTreeMap Text WordOutcome) (word q : List ℕ) → tree.UpdatesBy text_order (λ (k : Text). slice_cmp nat_cmp word k.now) m n None → known n q ≡ without word (known m) q
+pub word_removed : (m n : BTreeMap Text WordOutcome) (word q : List ℕ) → tree.UpdatesBy text_order (λ (k : Text). slice_cmp nat_cmp word k.now) m n None → known_outcome n q ≡ without word (known_outcome m) q
 word_removed m n word q put = ap (option_map view_outcome) (put.0 (text q)) ∙ by (is_eq (slice_cmp nat_cmp word q)) (bytes_eq q word) (is_eq-slice_cmp word q ∙ bytes_eq-back word q)
   where
-    by : (a b : Bool) → a ≡ b → option_map view_outcome (cond a None (tree.get text_order m (text q))) ≡ (if b then None else known m q)
+    by : (a b : Bool) → a ≡ b → option_map view_outcome (cond a None (tree.get text_order m (text q))) ≡ (if b then None else known_outcome m q)
     by true true e = refl
     by true false e = cc e
     by false true e = cc e

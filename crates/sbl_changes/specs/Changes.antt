@@ -17,31 +17,31 @@ pub data Change : Type 0 where
   Renamed : List ℕ → List ℕ → Change
 
 -- a word that had no row is added
-abbrev pub added : Option Outcome → Row → Option Change
-added None r = Some (Added r.word)
-added (Some o) r = None
+abbrev pub word_addition : Option Outcome → Row → Option Change
+word_addition None r = Some (Added r.word)
+word_addition (Some o) r = None
 
 -- a word that has no row any more is removed
-abbrev pub removed : Option Outcome → Row → Option Change
-removed None r = Some (Removed r.word)
-removed (Some o) r = None
+abbrev pub word_removal : Option Outcome → Row → Option Change
+word_removal None r = Some (Removed r.word)
+word_removal (Some o) r = None
 
 -- a word of both lists is changed if its outcome is another one
-abbrev pub changed : Option Outcome → Row → Option Change
-changed None r = None
-changed (Some o) r = if same_outcome o r.outcome then None else Some (Changed r.word o r.outcome)
+abbrev pub outcome_change : Option Outcome → Row → Option Change
+outcome_change None r = None
+outcome_change (Some o) r = if same_outcome o r.outcome then None else Some (Changed r.word o r.outcome)
 
 -- a class before is split if its words now have two stems or more
-abbrev pub split : Class → List (List ℕ) → Option Change
-split c [] = None
-split c (n ∷ []) = None
-split c (n ∷ m ∷ ns) = Some (Split c.stem (n ∷ m ∷ ns))
+abbrev pub class_split : Class → List (List ℕ) → Option Change
+class_split c [] = None
+class_split c (n ∷ []) = None
+class_split c (n ∷ m ∷ ns) = Some (Split c.stem (n ∷ m ∷ ns))
 
 -- a class now is merged if its words had two stems or more
-abbrev pub merged : Class → List (List ℕ) → Option Change
-merged c [] = None
-merged c (o ∷ []) = None
-merged c (o ∷ p ∷ os) = Some (Merged c.stem (o ∷ p ∷ os))
+abbrev pub class_merger : Class → List (List ℕ) → Option Change
+class_merger c [] = None
+class_merger c (o ∷ []) = None
+class_merger c (o ∷ p ∷ os) = Some (Merged c.stem (o ∷ p ∷ os))
 
 -- one member alone
 abbrev pub is_one : List (List ℕ) → Bool
@@ -54,17 +54,17 @@ abbrev pub is_from_one : List Class → List ℕ → Bool
 is_from_one classes stem = list_any (λ c. bytes_eq c.stem stem && is_one c.members) classes
 
 -- a class before is renamed if its words are exactly those of one class now, and that has another stem
-abbrev pub renamed : List Class → Class → List (List ℕ) → Option Change
-renamed now c [] = None
-renamed now c (n ∷ []) = if bytes_eq c.stem n then None else (if is_from_one now n then Some (Renamed c.stem n) else None)
-renamed now c (n ∷ m ∷ ns) = None
+abbrev pub class_renaming : List Class → Class → List (List ℕ) → Option Change
+class_renaming now c [] = None
+class_renaming now c (n ∷ []) = if bytes_eq c.stem n then None else (if is_from_one now n then Some (Renamed c.stem n) else None)
+class_renaming now c (n ∷ m ∷ ns) = None
 
 -- split, merged and renamed classes
 abbrev pub class_changes : List Class → List Class → List Change
 class_changes old new =
-    filter_map (λ c. split c c.members) old
-    ++ filter_map (λ c. merged c c.members) new
-    ++ filter_map (λ c. renamed new c c.members) old
+    filter_map (λ c. class_split c c.members) old
+    ++ filter_map (λ c. class_merger c c.members) new
+    ++ filter_map (λ c. class_renaming new c c.members) old
 
 -- the changes of these moves
 abbrev pub changes_by : List Pair → List Change
@@ -73,9 +73,9 @@ changes_by moves = class_changes (old_classes moves) (new_classes moves)
 -- added, removed and changed words, then the changes of classes
 abbrev pub changes_of : List Row → List Row → List Change
 changes_of before after =
-    filter_map (λ r. added (outcome_in before r.word) r) after
-    ++ filter_map (λ r. removed (outcome_in after r.word) r) before
-    ++ filter_map (λ r. changed (outcome_in before r.word) r) after
+    filter_map (λ r. word_addition (outcome_in before r.word) r) after
+    ++ filter_map (λ r. word_removal (outcome_in after r.word) r) before
+    ++ filter_map (λ r. outcome_change (outcome_in before r.word) r) after
     ++ changes_by (moves_of (outcome_in before) after)
 
 -- the change that the code's value represents
@@ -83,8 +83,8 @@ abbrev pub view_change : ChangeRow → Change
 view_change (code.Added w) = Added w.now
 view_change (code.Removed w) = Removed w.now
 view_change (code.Changed w o n) = Changed w.now (view_outcome o) (view_outcome n)
-view_change (code.Split s ns) = Split s.now (texts_of ns.items)
-view_change (code.Merged s os) = Merged s.now (texts_of os.items)
+view_change (code.Split c) = Split c.stem.now (texts_of c.members.items)
+view_change (code.Merged c) = Merged c.stem.now (texts_of c.members.items)
 view_change (code.Renamed o n) = Renamed o.now n.now
 
 abbrev pub view_changes : List ChangeRow → List Change

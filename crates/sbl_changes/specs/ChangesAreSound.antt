@@ -5,7 +5,7 @@ use Rattle.std.specs.List.Sorted.{IsStrictlySortedBy}
 use Rattle.std.specs.Ordering.{nat_cmp}
 use Rattle.std.specs.Cmp.Lexicographic.{slice_cmp}
 use Rattle.std.specs.Str.{bytes_eq}
-use Rattle.sbl_changes.specs.Changes.{Added, Change, Changed, Merged, Removed, Renamed, Split, changes_of, renamed, split}
+use Rattle.sbl_changes.specs.Changes.{Added, Change, Changed, Merged, Removed, Renamed, Split, changes_of, class_renaming, class_split}
 use Rattle.sbl_changes.specs.Classes.{Class, Pair, classes_of}
 use Rattle.sbl_changes.specs.Rows.{Row}
 
@@ -17,7 +17,7 @@ abbrev pub EqualListsHaveNoChanges : Type 0
 EqualListsHaveNoChanges = (rows : List Row) → HasOneRowEach rows → changes_of rows rows ≡ []
 
 abbrev pub NoClassIsSplitAndRenamed : Type 0
-NoClassIsSplitAndRenamed = (new : List Class) (c : Class) → (split c c.members ≡ None) ⊎ (renamed new c c.members ≡ None)
+NoClassIsSplitAndRenamed = (new : List Class) (c : Class) → (class_split c c.members ≡ None) ⊎ (class_renaming new c c.members ≡ None)
 
 -- the change, seen from the second list to the first
 abbrev pub other_way : Change → Change

@@ -14,7 +14,7 @@ use Rattle.sbl_changes.specs.Rows.{Outcome}
 use Rattle.sbl_changes.specs.Classes.{Pair}
 use Rattle.sbl_changes.specs.Families.{with_stem}
 use Rattle.sbl_changes.specs.Grouping.{view_pairs}
-use Rattle.sbl_changes.specs.Known.{Text}
+use Rattle.sbl_changes.specs.KnownOutcomes.{Text}
 
 abbrev pub view_families : List (Vec StemPair Global) → List (List Pair)
 view_families families = map (λ f. view_pairs f.items) families
@@ -28,18 +28,18 @@ abbrev pub without : List ℕ → Outcomes → Outcomes
 without word outcome q = if bytes_eq q word then None else outcome q
 
 -- the words with a stem, each taken out of the outcomes
-abbrev pub taken : Outcomes → List (List ℕ) → List Pair
-taken outcome [] = []
-taken outcome (word ∷ words) = option_to_list (with_stem word (outcome word)) ++ taken (without word outcome) words
+abbrev pub pairs_taken : Outcomes → List (List ℕ) → List Pair
+pairs_taken outcome [] = []
+pairs_taken outcome (word ∷ words) = option_to_list (with_stem word (outcome word)) ++ pairs_taken (without word outcome) words
 
 -- the outcomes that are left after these words
-abbrev pub left : Outcomes → List (List ℕ) → Outcomes
-left outcome [] = outcome
-left outcome (word ∷ words) = left (without word outcome) words
+abbrev pub outcomes_left : Outcomes → List (List ℕ) → Outcomes
+outcomes_left outcome [] = outcome
+outcomes_left outcome (word ∷ words) = outcomes_left (without word outcome) words
 
 abbrev pub all_taken : Outcomes → List (List (List ℕ)) → List (List Pair)
 all_taken outcome [] = []
-all_taken outcome (words ∷ lists) = taken outcome words ∷ all_taken (left outcome words) lists
+all_taken outcome (words ∷ lists) = pairs_taken outcome words ∷ all_taken (outcomes_left outcome words) lists
 
 -- the pairs whose stem is none of those before, each stem once
 abbrev pub firsts : (List ℕ → Bool) → List Pair → List Pair

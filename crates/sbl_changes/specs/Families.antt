@@ -24,13 +24,13 @@ abbrev pub is_in : List (List ℕ) → List ℕ → Bool
 is_in texts text = list_any (bytes_eq text) texts
 
 -- a word counts if it has a stem and is none of those before
-abbrev pub counted : List Row → List (List ℕ) → List ℕ → Option Pair
-counted rows before word = if is_in before word then None else with_stem word (outcome_in rows word)
+abbrev pub pair_of_word : List Row → List (List ℕ) → List ℕ → Option Pair
+pair_of_word rows before word = if is_in before word then None else with_stem word (outcome_in rows word)
 
 -- the words of one family that count, each with its stem; `before` are the words before the family
 abbrev pub family_of : List Row → List (List ℕ) → List (List ℕ) → List Pair
 family_of rows before [] = []
-family_of rows before (word ∷ words) = option_to_list (counted rows before word) ++ family_of rows (word ∷ before) words
+family_of rows before (word ∷ words) = option_to_list (pair_of_word rows before word) ++ family_of rows (word ∷ before) words
 
 -- The families, each with its words that count. One without such a word has no pair, and so no part in what follows.
 abbrev pub families_of : List Row → List (List ℕ) → List (List (List ℕ)) → List (List Pair)
@@ -124,8 +124,8 @@ view_words lists = map (λ l. texts_of l.items) lists
 -- the result that the code's value represents
 abbrev pub view_result : FamilyRow → FamilyResult
 view_result (code.Under w ss) = Under w.now (texts_of ss.items)
-view_result (code.Over s ws) = Over s.now (texts_of ws.items)
-view_result (code.Pairs within apart across joined) = Pairs within apart across joined
+view_result (code.Over c) = Over c.stem.now (texts_of c.members.items)
+view_result (code.Pairs n) = Pairs n.within n.apart n.across n.joined
 
 abbrev pub view_results : List FamilyRow → List FamilyResult
 view_results rows = map view_result rows

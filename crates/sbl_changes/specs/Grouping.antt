@@ -7,16 +7,16 @@ use Rattle.std.specs.Str.{bytes_eq}
 use Rattle.std.specs.BTreeSet.{insert_key}
 use Rattle.sbl_changes.specs.declared.classes.StemPair as declared-pair
 use Rattle.sbl_changes.specs.Classes.{Class, Pair, in_order, members_of}
-use Rattle.sbl_changes.specs.Known.{Text}
+use Rattle.sbl_changes.specs.KnownOutcomes.{Text}
 pub use Rattle.sbl_changes.specs.Classes.{view_class, view_classes}
 
 -- by the stem, then by the member, both in code point order; a prefix comes first
 abbrev pub pair_cmp : Pair → Pair → Ordering
 pair_cmp p q = ordering_then (slice_cmp nat_cmp p.0 q.0) (slice_cmp nat_cmp p.1 q.1)
 
-abbrev pub sorted : List Pair → List Pair
-sorted [] = []
-sorted (p ∷ pairs) = insert_key pair_cmp (sorted pairs) p
+abbrev pub sorted_pairs : List Pair → List Pair
+sorted_pairs [] = []
+sorted_pairs (p ∷ pairs) = insert_key pair_cmp (sorted_pairs pairs) p
 
 -- the classes of pairs that are in this order
 abbrev pub class_sorted : List Pair → List ℕ → Class
@@ -42,9 +42,9 @@ put_in_last (c ∷ d ∷ classes) member = c ∷ put_in_last (d ∷ classes) mem
 abbrev pub put_last : List Class → Pair → List Class
 put_last classes p = if is_last p.0 classes then put_in_last classes p.1 else classes ++ one_member p ∷ []
 
-abbrev pub grouped : List Class → List Pair → List Class
-grouped classes [] = classes
-grouped classes (p ∷ pairs) = grouped (put_last classes p) pairs
+abbrev pub group_pairs : List Class → List Pair → List Class
+group_pairs classes [] = classes
+group_pairs classes (p ∷ pairs) = group_pairs (put_last classes p) pairs
 
 abbrev pub view_pair : declared-pair.StemPair → Pair
 view_pair p = (p.stem.now, p.member.now)

@@ -10,8 +10,9 @@ pub mod ChangesAreSound
 pub mod FamiliesAreSound
 pub mod LargestAreSound
 -- what the functions inside the crate promise each other: nothing in these need be believed
-pub mod Known
+pub mod KnownOutcomes
 pub mod Sides
 pub mod Grouping
 pub mod Ranking
 pub mod Counting
+pub mod Views

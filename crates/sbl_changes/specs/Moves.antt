@@ -16,8 +16,8 @@ abbrev pub moves_of : (List ℕ → Option Outcome) → List Row → List Pair
 moves_of before rows = filter_map (λ r. move_of (before r.word) r.outcome) rows
 
 -- the moves from now to before
-abbrev pub turned : List Pair → List Pair
-turned moves = map (λ m. (m.1, m.0)) moves
+abbrev pub moves_back : List Pair → List Pair
+moves_back moves = map (λ m. (m.1, m.0)) moves
 
 -- the classes before, each with the stems that its words have now
 abbrev pub old_classes : List Pair → List Class
@@ -25,4 +25,4 @@ old_classes moves = classes_of moves
 
 -- the classes now, each with the stems that its words had before
 abbrev pub new_classes : List Pair → List Class
-new_classes moves = classes_of (turned moves)
+new_classes moves = classes_of (moves_back moves)

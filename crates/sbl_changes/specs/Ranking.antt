@@ -4,7 +4,7 @@ use Rattle.std.specs.declared.vec.Vec.{Vec}
 use Rattle.std.specs.declared.alloc.Global.{Global}
 use Rattle.std.specs.declared.cmp.Reverse.{Reverse}
 use Rattle.sbl_changes.specs.Classes.{Class}
-use Rattle.sbl_changes.specs.Known.{Text}
+use Rattle.sbl_changes.specs.KnownOutcomes.{Text}
 use Rattle.sbl_changes.specs.Rows.{texts_of}
 
 abbrev pub Rank : Type 0

@@ -2,16 +2,16 @@
 use Rattle.std.specs.Prelude.{ℕ, List, Option}
 use Rattle.sbl_changes.specs.declared.change.Side.{Side}
 use Rattle.sbl_changes.specs.declared.change.Side.TheVariants as side
-use Rattle.sbl_changes.specs.Changes.{Change, added, merged, removed, split}
+use Rattle.sbl_changes.specs.Changes.{Change, word_addition, class_merger, word_removal, class_split}
 use Rattle.sbl_changes.specs.Classes.{Class}
 use Rattle.sbl_changes.specs.Rows.{Outcome, Row}
 
 -- a word of this list, by its outcome in the other one
 abbrev pub lone : Side → Option Outcome → Row → Option Change
-lone side.First other r = removed other r
-lone side.Second other r = added other r
+lone side.First other r = word_removal other r
+lone side.Second other r = word_addition other r
 
 -- a class of this list, by the stems of its words in the other one
 abbrev pub several : Side → Class → List (List ℕ) → Option Change
-several side.First c stems = split c stems
-several side.Second c stems = merged c stems
+several side.First c stems = class_split c stems
+several side.Second c stems = class_merger c stems

@@ -1,18 +1,14 @@
 //! Classes that are split, merged and renamed.
 
-ghost use Rattle.std.specs.Prelude.{◌≡◌, ◌++◌, ◌&&◌, ◌||◌, ℕ, List, IfOk, OnOk};
-ghost use Rattle.std.specs.List.{filter_map};
-ghost use Rattle.std.specs.Option.{option_map};
-ghost use Rattle.std.specs.Str.{bytes_eq};
+ghost use Rattle.std.specs.Prelude.{◌≡◌, ◌++◌, ◌&&◌, ◌||◌, ℕ, List, IfOk, OnOk, bytes_eq, filter_map, option_map};
 ghost use Rattle.sbl_changes.specs.Changes as spec;
-ghost use Rattle.sbl_changes.specs.Changes.{view_change, view_changes};
 ghost use Rattle.sbl_changes.specs.Classes.{Class};
-ghost use Rattle.sbl_changes.specs.Grouping.{view_class, view_classes};
-ghost use Rattle.sbl_changes.specs.Known.{has_text};
 ghost use Rattle.sbl_changes.specs.Sides as sides;
+ghost use Rattle.sbl_changes.specs.Views.{has_text, view_change, view_changes, view_class, view_classes};
 
-use crate::change::{ChangeRow, Side, push_some};
+use crate::change::{ChangeRow, Side};
 use crate::classes::StemClass;
+use crate::lists::push_some;
 use std::alloc::{AllocError, Global};
 use std::collections::BTreeSet;
 
@@ -28,18 +24,23 @@ fn several<'a>(
     if class.members.len() < 2 {
         return Ok(None);
     }
-    let stem = class.stem;
-    let stems = Vec::from_slice(alloc, class.members.as_slice())?;
+    let class = StemClass {
+        stem: class.stem,
+        members: Vec::from_slice(alloc, class.members.as_slice())?,
+    };
     Ok(Some(match side {
-        Side::First => ChangeRow::Split { stem, into: stems },
-        Side::Second => ChangeRow::Merged { stem, from: stems },
+        Side::First => ChangeRow::Split(class),
+        Side::Second => ChangeRow::Merged(class),
     }))
 }
 
 /// Returns that the class is renamed, if all its words have one stem, another one, that the words of no other class have. The set
 /// has the stems of the second list whose words have one stem in the first.
-fn renamed<'a>(from_one: &BTreeSet<&'a [char]>, class: &StemClass<'a>) -> Option<ChangeRow<'a>>
-    ensures { (now : List Class) → ((stem : List ℕ) → has_text from_one.now stem ≡ spec.is_from_one now stem) → option_map view_change result ≡ spec.renamed now (view_class class.now) (view_class class.now).members }
+fn class_renaming<'a>(
+    from_one: &BTreeSet<&'a [char]>,
+    class: &StemClass<'a>,
+) -> Option<ChangeRow<'a>>
+    ensures { (now : List Class) → ((stem : List ℕ) → has_text from_one.now stem ≡ spec.is_from_one now stem) → option_map view_change result ≡ spec.class_renaming now (view_class class.now) (view_class class.now).members }
 {
     match class.members.as_slice() {
         [new] if class.stem != *new && from_one.contains(*new) => {
@@ -102,11 +103,11 @@ pub(crate) fn push_renamed<'a>(
     before: &[StemClass<'a>],
     now: &[StemClass<'a>],
 ) -> Result<(), AllocError>
-    ensures { OnOk result (view_changes changes.new.items ≡ view_changes changes.old.items ++ filter_map (λ c. spec.renamed (view_classes now.now) c c.members) (view_classes before.now)) }
+    ensures { OnOk result (view_changes changes.new.items ≡ view_changes changes.old.items ++ filter_map (λ c. spec.class_renaming (view_classes now.now) c c.members) (view_classes before.now)) }
 {
     let from_one = stems_from_one(alloc, now)?;
     for class in before {
-        push_some(changes, renamed(&from_one, class))?;
+        push_some(changes, class_renaming(&from_one, class))?;
     }
     Ok(())
 }

@@ -1,11 +1,10 @@
 //! Classes: stems, each with its members.
 
 ghost use Rattle.std.specs.Prelude.{◌≡◌, ◌++◌, ◌∷◌, [], map, OnOk, IfOk};
-ghost use Rattle.std.specs.Option.{option_map, option_to_list};
 ghost use Rattle.sbl_changes.specs.Classes as classes;
 ghost use Rattle.sbl_changes.specs.Grouping as spec;
-ghost use Rattle.sbl_changes.specs.Grouping.{plain, view_class, view_classes, view_pair, view_pairs};
-ghost use Rattle.sbl_changes.specs.Rows.{texts_of};
+ghost use Rattle.sbl_changes.specs.Grouping.{plain};
+ghost use Rattle.sbl_changes.specs.Views.{texts_of, view_class, view_classes, view_pairs};
 
 use std::alloc::{AllocError, Global};
 use std::collections::BTreeSet;
@@ -17,34 +16,22 @@ pub(crate) struct StemPair<'a> {
     pub(crate) member: &'a [char],
 }
 
-/// A stem, and the words that have it, in code point order; a prefix comes first.
+/// A stem with its members: the words that have it or, in a change, the stems that these words have in the other list. They are in
+/// code point order, a prefix first.
 #[derive(Debug, Drop)]
 pub struct StemClass<'a> {
     /// The stem.
     pub stem: &'a [char],
-    /// The words; there is at least one. Inside the crate also the stems of these words in another list.
+    /// The members; there is at least one.
     pub members: Vec<&'a [char]>,
 }
 
-/// Appends the pair, if there is one. Returns `AllocError` if an allocation fails.
-pub(crate) fn push_pair<'a>(
-    pairs: &mut Vec<StemPair<'a>>,
-    pair: Option<StemPair<'a>>,
-) -> Result<(), AllocError>
-    ensures { OnOk result (view_pairs pairs.new.items ≡ view_pairs pairs.old.items ++ option_to_list (option_map view_pair pair.entry)) }
-{
-    if let Some(pair) = pair {
-        pairs.push(pair)?;
-    }
-    Ok(())
-}
-
 /// Returns the pairs in order, each once. Returns `AllocError` if an allocation fails.
-fn sorted<'a>(
+fn sorted_pairs<'a>(
     alloc: Global,
     pairs: &[StemPair<'a>],
 ) -> Result<BTreeSet<(&'a [char], &'a [char])>, AllocError>
-    ensures { IfOk result (λ set. map plain set.keys ≡ spec.sorted (view_pairs pairs.now)) }
+    ensures { IfOk result (λ set. map plain set.keys ≡ spec.sorted_pairs (view_pairs pairs.now)) }
 {
     let mut set = BTreeSet::new(alloc);
     for pair in pairs {
@@ -61,7 +48,7 @@ pub(crate) fn classes_of<'a>(
 ) -> Result<Vec<StemClass<'a>>, AllocError>
     ensures { IfOk result (λ found. view_classes found.items ≡ classes.classes_of (view_pairs pairs.now)) }
 {
-    let set = sorted(alloc, pairs)?;
+    let set = sorted_pairs(alloc, pairs)?;
     let mut classes = Vec::new(alloc);
     for pair in set.iter() {
         put_last(alloc, &mut classes, pair.0, pair.1)?;

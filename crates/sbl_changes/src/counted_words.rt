@@ -1,22 +1,19 @@
 //! The words of families that count, each with its stem.
 
-ghost use Rattle.std.specs.Prelude.{◌≡◌, OnOk, IfOk};
-ghost use Rattle.std.specs.Option.{option_map};
-ghost use Rattle.sbl_changes.specs.Families.{view_words, with_stem};
+ghost use Rattle.std.specs.Prelude.{◌≡◌, OnOk, IfOk, option_map};
+ghost use Rattle.sbl_changes.specs.Families.{with_stem};
 ghost use Rattle.sbl_changes.specs.Counting as spec;
-ghost use Rattle.sbl_changes.specs.Counting.{view_families, without};
-ghost use Rattle.sbl_changes.specs.Grouping.{view_pair, view_pairs};
-ghost use Rattle.sbl_changes.specs.Known.{known};
-ghost use Rattle.sbl_changes.specs.Rows.{texts_of};
+ghost use Rattle.sbl_changes.specs.Views.{known_outcome, texts_of, view_families, view_pair, view_pairs, view_words};
 
-use crate::classes::{StemPair, push_pair};
+use crate::classes::StemPair;
+use crate::lists::push_some;
 use crate::rows::{Outcomes, WordOutcome};
 use std::alloc::{AllocError, Global};
 
 /// Takes a word out of the outcomes. Returns it with its stem, if it has one. Does not allocate.
 fn take_word<'a>(outcomes: &mut Outcomes<'a>, word: &'a [char]) -> Option<StemPair<'a>>
-    ensures pair { option_map view_pair result ≡ with_stem word.now (known outcomes.old word.now) }
-    ensures others { known outcomes.new ≡ without word.now (known outcomes.old) }
+    ensures pair { option_map view_pair result ≡ with_stem word.now (known_outcome outcomes.old word.now) }
+    ensures others { known_outcome outcomes.new ≡ spec.without word.now (known_outcome outcomes.old) }
 {
     match outcomes.remove(word) {
         Some(WordOutcome::Stem(stem)) => Some(StemPair { stem, member: word }),
@@ -30,12 +27,12 @@ fn family_of<'a>(
     outcomes: &mut Outcomes<'a>,
     words: &[&'a [char]],
 ) -> Result<Vec<StemPair<'a>>, AllocError>
-    ensures pairs { IfOk result (λ pairs. view_pairs pairs.items ≡ spec.taken (known outcomes.old) (texts_of words.now)) }
-    ensures left { OnOk result (known outcomes.new ≡ spec.left (known outcomes.old) (texts_of words.now)) }
+    ensures pairs { IfOk result (λ pairs. view_pairs pairs.items ≡ spec.pairs_taken (known_outcome outcomes.old) (texts_of words.now)) }
+    ensures left { OnOk result (known_outcome outcomes.new ≡ spec.outcomes_left (known_outcome outcomes.old) (texts_of words.now)) }
 {
     let mut pairs = Vec::new(alloc);
     for word in words {
-        push_pair(&mut pairs, take_word(outcomes, *word))?;
+        push_some(&mut pairs, take_word(outcomes, *word))?;
     }
     Ok(pairs)
 }
@@ -47,7 +44,7 @@ pub(crate) fn families_of<'a>(
     outcomes: &mut Outcomes<'a>,
     lists: &[Vec<&'a [char]>],
 ) -> Result<Vec<Vec<StemPair<'a>>>, AllocError>
-    ensures { IfOk result (λ families. view_families families.items ≡ spec.all_taken (known outcomes.old) (view_words lists.now)) }
+    ensures { IfOk result (λ families. view_families families.items ≡ spec.all_taken (known_outcome outcomes.old) (view_words lists.now)) }
 {
     let mut families = Vec::new(alloc);
     for words in lists {

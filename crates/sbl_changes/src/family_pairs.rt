@@ -1,14 +1,13 @@
 //! The numbers of pairs of words within families and across them.
 
-ghost use Rattle.std.specs.Prelude.{◌≡◌, ◌++◌, ◌+◌, ◌*◌, ◌<◌, ◌≤◌, ◌^◌, ℕ, List, OnOk, IfOk, if◌then◌else◌};
-ghost use Rattle.std.specs.Str.{bytes_eq};
+ghost use Rattle.std.specs.Prelude.{◌≡◌, ◌++◌, ◌+◌, ◌<◌, ◌≤◌, ◌^◌, ℕ, List, OnOk, IfOk, bytes_eq, if◌then◌else◌};
 ghost use Rattle.sbl_changes.specs.Families as spec;
-ghost use Rattle.sbl_changes.specs.Families.{all_of, any_two, pairs_in, pairs_within, same_stem, view_result};
-ghost use Rattle.sbl_changes.specs.Counting.{count_in, view_families};
-ghost use Rattle.sbl_changes.specs.Grouping.{view_pairs};
+ghost use Rattle.sbl_changes.specs.Families.{all_of, any_two, pairs_in, pairs_within, same_stem};
+ghost use Rattle.sbl_changes.specs.Counting.{count_in};
+ghost use Rattle.sbl_changes.specs.Views.{view_families, view_pairs, view_result};
 
 use crate::classes::StemPair;
-use crate::family_report::FamilyRow;
+use crate::family_report::{FamilyRow, PairCounts};
 use std::alloc::{AllocError, Global};
 use std::collections::BTreeMap;
 
@@ -98,10 +97,10 @@ pub(crate) fn pairs_row<'a>(
 {
     let tally = tally_of(alloc, families)?;
     let same = same_stem_pairs(alloc, &tally.words)?;
-    Ok(FamilyRow::Pairs {
+    Ok(FamilyRow::Pairs(PairCounts {
         within: tally.within,
         apart: tally.within - tally.same,
         across: all_pairs(&tally.words) - tally.within,
         joined: same - tally.same,
-    })
+    }))
 }

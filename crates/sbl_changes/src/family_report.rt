@@ -1,11 +1,10 @@
 //! Families: words that belong together, and how far their stems agree with that.
 
-ghost use Rattle.std.specs.Prelude.{◌≡◌, ◌++◌, OnOk, IfOk, map};
-ghost use Rattle.std.specs.Option.{option_map, option_to_list};
-ghost use Rattle.sbl_changes.specs.Families as spec;
-ghost use Rattle.sbl_changes.specs.Families.{family_results, view_result, view_results, view_words};
+ghost use Rattle.std.specs.Prelude.{◌≡◌, IfOk};
+ghost use Rattle.sbl_changes.specs.Families.{family_results, view_results, view_words};
 ghost use Rattle.sbl_changes.specs.Rows.{view_rows};
 
+use crate::classes::StemClass;
 use crate::counted_words::families_of;
 use crate::family_pairs::pairs_row;
 use crate::family_rows::{push_over, push_under};
@@ -22,37 +21,24 @@ pub enum FamilyRow<'a> {
         /// The stems, in code point order.
         stems: Vec<&'a [char]>,
     },
-    /// Words of two families or more have one stem.
-    Over {
-        /// The stem.
-        stem: &'a [char],
-        /// The first word with it of each such family, in the order of the families.
-        words: Vec<&'a [char]>,
-    },
+    /// Words of two families or more have one stem. The members are the first word with it of each such family, in the order of
+    /// the families.
+    Over(StemClass<'a>),
     /// The numbers of pairs of words.
-    Pairs {
-        /// The pairs of words of one family.
-        within: u128,
-        /// Those of them that have different stems.
-        apart: u128,
-        /// The pairs of words of two families.
-        across: u128,
-        /// Those of them that have the same stem.
-        joined: u128,
-    },
+    Pairs(PairCounts),
 }
 
-/// Appends the row, if there is one. Returns `AllocError` if an allocation fails.
-pub(crate) fn push_row<'a>(
-    rows: &mut Vec<FamilyRow<'a>>,
-    row: Option<FamilyRow<'a>>,
-) -> Result<(), AllocError>
-    ensures { OnOk result (view_results rows.new.items ≡ view_results rows.old.items ++ option_to_list (option_map view_result row.entry)) }
-{
-    if let Some(row) = row {
-        rows.push(row)?;
-    }
-    Ok(())
+/// Numbers of pairs of words.
+#[derive(Clone, Copy, Debug)]
+pub struct PairCounts {
+    /// The pairs of words of one family.
+    pub within: u128,
+    /// Those of them that have different stems.
+    pub apart: u128,
+    /// The pairs of words of two families.
+    pub across: u128,
+    /// Those of them that have the same stem.
+    pub joined: u128,
 }
 
 /// Returns how far stems agree with families, which are lists of words. A word counts if it has a row and a stem, and was not before,

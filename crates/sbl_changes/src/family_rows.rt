@@ -1,20 +1,15 @@
 //! Families whose words have several stems, and stems that several families have.
 
-ghost use Rattle.std.specs.Prelude.{◌≡◌, ◌++◌, ◌||◌, ◌∷◌, [], ℕ, List, map, false, OnOk, IfOk, if◌then◌else◌};
-ghost use Rattle.std.specs.List.{filter_map};
-ghost use Rattle.std.specs.Option.{option_map};
-ghost use Rattle.std.specs.Str.{bytes_eq};
+ghost use Rattle.std.specs.Prelude.{◌≡◌, ◌++◌, ◌||◌, ◌∷◌, [], ℕ, List, map, false, OnOk, IfOk, bytes_eq, filter_map, if◌then◌else◌, option_map};
 ghost use Rattle.sbl_changes.specs.Classes.{members_of};
 ghost use Rattle.sbl_changes.specs.Families as spec;
-ghost use Rattle.sbl_changes.specs.Families.{view_result, view_results};
-ghost use Rattle.sbl_changes.specs.Counting.{DoNotFall, firsts, heads, view_families};
-ghost use Rattle.sbl_changes.specs.Grouping as grouping;
-ghost use Rattle.sbl_changes.specs.Grouping.{classes_sorted, view_class, view_classes, view_pair, view_pairs};
-ghost use Rattle.sbl_changes.specs.Known.{has_text};
-ghost use Rattle.sbl_changes.specs.Rows.{texts_of};
+ghost use Rattle.sbl_changes.specs.Counting.{DoNotFall, firsts, heads};
+ghost use Rattle.sbl_changes.specs.Grouping.{classes_sorted, group_pairs};
+ghost use Rattle.sbl_changes.specs.Views.{has_text, texts_of, view_class, view_classes, view_families, view_pair, view_pairs, view_result, view_results};
 
 use crate::classes::{StemClass, StemPair, classes_of, put_last};
-use crate::family_report::{FamilyRow, push_row};
+use crate::family_report::FamilyRow;
+use crate::lists::push_some;
 use std::alloc::{AllocError, Global};
 use std::collections::BTreeSet;
 
@@ -63,7 +58,7 @@ pub(crate) fn push_under<'a>(
     ensures { OnOk result (view_results rows.new.items ≡ view_results rows.old.items ++ filter_map spec.under (view_families families.now)) }
 {
     for family in families {
-        push_row(rows, under(alloc, family)?)?;
+        push_some(rows, under(alloc, family)?)?;
     }
     Ok(())
 }
@@ -121,12 +116,12 @@ fn classes_in_turn<'a>(
     ensures { IfOk result (λ classes. view_classes classes.items ≡ classes_sorted (view_pairs pairs.entry.items)) }
 {
     let pairs = by_stem(pairs)?;
-    grouped(alloc, &pairs)
+    group_pairs(alloc, &pairs)
 }
 
 /// Returns the classes of the pairs, put one after another. Returns `AllocError` if an allocation fails.
-fn grouped<'a>(alloc: Global, pairs: &[StemPair<'a>]) -> Result<Vec<StemClass<'a>>, AllocError>
-    ensures { IfOk result (λ classes. view_classes classes.items ≡ grouping.grouped [] (view_pairs pairs.now)) }
+fn group_pairs<'a>(alloc: Global, pairs: &[StemPair<'a>]) -> Result<Vec<StemClass<'a>>, AllocError>
+    ensures { IfOk result (λ classes. view_classes classes.items ≡ group_pairs [] (view_pairs pairs.now)) }
 {
     let mut classes = Vec::new(alloc);
     for pair in pairs {
@@ -152,11 +147,10 @@ fn over<'a>(alloc: Global, class: &StemClass<'a>) -> Result<Option<FamilyRow<'a>
     if class.members.len() < 2 {
         return Ok(None);
     }
-    let words = Vec::from_slice(alloc, class.members.as_slice())?;
-    Ok(Some(FamilyRow::Over {
+    Ok(Some(FamilyRow::Over(StemClass {
         stem: class.stem,
-        words,
-    }))
+        members: Vec::from_slice(alloc, class.members.as_slice())?,
+    })))
 }
 
 /// Appends the classes of two members or more. Returns `AllocError` if an allocation fails.
@@ -168,7 +162,7 @@ fn push_classes<'a>(
     ensures { OnOk result (view_results rows.new.items ≡ view_results rows.old.items ++ filter_map (λ c. spec.over c.stem c.members) (view_classes classes.now)) }
 {
     for class in classes {
-        push_row(rows, over(alloc, class)?)?;
+        push_some(rows, over(alloc, class)?)?;
     }
     Ok(())
 }

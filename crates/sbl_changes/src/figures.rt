@@ -1,14 +1,13 @@
 //! Figures about rows and their classes.
 
-ghost use Rattle.std.specs.Prelude.{◌≡◌, IfOk, length};
-ghost use Rattle.std.specs.List.{count_by, filter_map};
-ghost use Rattle.std.specs.Option.{option_map};
+ghost use Rattle.std.specs.Prelude.{◌≡◌, IfOk, count_by, filter_map, option_map};
 ghost use Rattle.sbl_changes.specs.Changes.{is_one};
 ghost use Rattle.sbl_changes.specs.Grouping.{view_class, view_classes, view_pair, view_pairs};
 ghost use Rattle.sbl_changes.specs.Rows.{view_row, view_rows};
 ghost use Rattle.sbl_changes.specs.Stats as spec;
 
-use crate::classes::{StemClass, StemPair, classes_of, push_pair};
+use crate::classes::{StemClass, StemPair, classes_of};
+use crate::lists::push_some;
 use crate::rows::{WordOutcome, WordRow};
 use std::alloc::{AllocError, Global};
 
@@ -51,8 +50,7 @@ pub(crate) fn word_classes<'a>(
 ) -> Result<Vec<StemClass<'a>>, AllocError>
     ensures { IfOk result (λ classes. view_classes classes.items ≡ spec.word_classes (view_rows rows.now)) }
 {
-    let pairs = word_pairs(alloc, rows)?;
-    classes_of(alloc, &pairs)
+    classes_of(alloc, &word_pairs(alloc, rows)?)
 }
 
 /// Returns each word that has a stem with it. Returns `AllocError` if an allocation fails.
@@ -61,7 +59,7 @@ fn word_pairs<'a>(alloc: Global, rows: &[WordRow<'a>]) -> Result<Vec<StemPair<'a
 {
     let mut pairs = Vec::new(alloc);
     for row in rows {
-        push_pair(&mut pairs, pair_of(row))?;
+        push_some(&mut pairs, pair_of(row))?;
     }
     Ok(pairs)
 }

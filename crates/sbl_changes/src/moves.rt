@@ -1,19 +1,17 @@
 //! The words that have a stem in both lists: where they move from and to.
 
-ghost use Rattle.std.specs.Prelude.{◌≡◌, IfOk};
-ghost use Rattle.std.specs.Option.{option_map};
-ghost use Rattle.sbl_changes.specs.Grouping.{view_pair, view_pairs};
-ghost use Rattle.sbl_changes.specs.Known.{known};
+ghost use Rattle.std.specs.Prelude.{◌≡◌, IfOk, option_map};
 ghost use Rattle.sbl_changes.specs.Moves as spec;
-ghost use Rattle.sbl_changes.specs.Rows.{view_rows, view_row};
+ghost use Rattle.sbl_changes.specs.Views.{known_outcome, view_classes, view_pair, view_pairs, view_row, view_rows};
 
-use crate::classes::{StemPair, push_pair};
+use crate::classes::{StemClass, StemPair, classes_of};
+use crate::lists::push_some;
 use crate::rows::{Outcomes, WordOutcome, WordRow, outcome_of};
 use std::alloc::{AllocError, Global};
 
 /// Returns the stems of a word, if it has one in both lists.
 fn move_of<'a>(before: &Outcomes<'a>, row: &WordRow<'a>) -> Option<StemPair<'a>>
-    ensures { option_map view_pair result ≡ spec.move_of (known before.now row.now.word.now) (view_row row.now).outcome }
+    ensures { option_map view_pair result ≡ spec.move_of (known_outcome before.now row.now.word.now) (view_row row.now).outcome }
 {
     match (outcome_of(before, row.word), row.outcome) {
         (Some(WordOutcome::Stem(stem)), WordOutcome::Stem(member)) => Some(StemPair {
@@ -31,28 +29,35 @@ pub(crate) fn moves_of<'a>(
     before: &Outcomes<'a>,
     after: &[WordRow<'a>],
 ) -> Result<Vec<StemPair<'a>>, AllocError>
-    ensures { IfOk result (λ moves. view_pairs moves.items ≡ spec.moves_of (known before.now) (view_rows after.now)) }
+    ensures { IfOk result (λ moves. view_pairs moves.items ≡ spec.moves_of (known_outcome before.now) (view_rows after.now)) }
 {
     let mut moves = Vec::new(alloc);
     for row in after {
-        push_pair(&mut moves, move_of(before, row))?;
+        push_some(&mut moves, move_of(before, row))?;
     }
     Ok(moves)
 }
 
-/// Returns the moves with the lists exchanged. Returns `AllocError` if an allocation fails.
-pub(crate) fn turned<'a>(
-    alloc: Global,
-    moves: &[StemPair<'a>],
-) -> Result<Vec<StemPair<'a>>, AllocError>
-    ensures { IfOk result (λ back. view_pairs back.items ≡ spec.turned (view_pairs moves.now)) }
+/// Turns each move, as if the lists were exchanged.
+fn turn(moves: &mut [StemPair<'_>])
+    ensures { view_pairs moves.new ≡ spec.moves_back (view_pairs moves.old) }
 {
-    let mut back = Vec::new(alloc);
-    for stems in moves {
-        back.push(StemPair {
+    for stems in moves.iter_mut() {
+        *stems = StemPair {
             stem: stems.member,
             member: stems.stem,
-        })?;
+        };
     }
-    Ok(back)
+}
+
+/// Returns the classes of the second list, each with the stems that its words have in the first. Returns `AllocError` if an allocation
+/// fails.
+pub(crate) fn new_classes<'a>(
+    alloc: Global,
+    mut moves: Vec<StemPair<'a>>,
+) -> Result<Vec<StemClass<'a>>, AllocError>
+    ensures { IfOk result (λ classes. view_classes classes.items ≡ spec.new_classes (view_pairs moves.entry.items)) }
+{
+    turn(&mut moves);
+    classes_of(alloc, &moves)
 }

@@ -3,7 +3,7 @@
 ghost use Rattle.std.specs.Prelude.{◌≡◌, IfOk};
 ghost use Rattle.std.specs.Option.{option_map};
 ghost use Rattle.sbl_changes.specs.Rows.{view_outcome, view_rows, same_outcome, outcome_in};
-ghost use Rattle.sbl_changes.specs.Known.{known};
+ghost use Rattle.sbl_changes.specs.KnownOutcomes.{known_outcome};
 
 use std::alloc::{AllocError, Global};
 use std::collections::BTreeMap;
@@ -46,7 +46,7 @@ pub(crate) fn outcomes_of<'a>(
     alloc: Global,
     rows: &[WordRow<'a>],
 ) -> Result<Outcomes<'a>, AllocError>
-    ensures { IfOk result (λ outcomes. known outcomes ≡ outcome_in (view_rows rows.now)) }
+    ensures { IfOk result (λ outcomes. known_outcome outcomes ≡ outcome_in (view_rows rows.now)) }
 {
     let mut outcomes = BTreeMap::new(alloc);
     for row in rows.iter().rev() {
@@ -57,7 +57,7 @@ pub(crate) fn outcomes_of<'a>(
 
 /// Returns the outcome of a word, if it is there.
 pub(crate) fn outcome_of<'a>(outcomes: &Outcomes<'a>, word: &[char]) -> Option<WordOutcome<'a>>
-    ensures { option_map view_outcome result ≡ known outcomes.now word.now }
+    ensures { option_map view_outcome result ≡ known_outcome outcomes.now word.now }
 {
     outcomes.get(word).copied()
 }

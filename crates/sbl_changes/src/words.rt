@@ -1,21 +1,18 @@
 //! Words that are added, removed and changed.
 
-ghost use Rattle.std.specs.Prelude.{◌≡◌, ◌++◌, OnOk};
-ghost use Rattle.std.specs.List.{filter_map};
-ghost use Rattle.std.specs.Option.{option_map};
+ghost use Rattle.std.specs.Prelude.{◌≡◌, ◌++◌, OnOk, filter_map, option_map};
 ghost use Rattle.sbl_changes.specs.Changes as spec;
-ghost use Rattle.sbl_changes.specs.Changes.{view_change, view_changes};
-ghost use Rattle.sbl_changes.specs.Known.{known};
-ghost use Rattle.sbl_changes.specs.Rows.{view_row, view_rows};
 ghost use Rattle.sbl_changes.specs.Sides as sides;
+ghost use Rattle.sbl_changes.specs.Views.{known_outcome, view_change, view_changes, view_row, view_rows};
 
-use crate::change::{ChangeRow, Side, push_some};
+use crate::change::{ChangeRow, Side};
+use crate::lists::push_some;
 use crate::rows::{Outcomes, WordRow, is_same, outcome_of};
 use std::alloc::AllocError;
 
 /// Returns that the word of one list is added or removed, if it has no row in the other list.
 fn lone<'a>(side: Side, other: &Outcomes<'a>, row: &WordRow<'a>) -> Option<ChangeRow<'a>>
-    ensures { option_map view_change result ≡ sides.lone side (known other.now row.now.word.now) (view_row row.now) }
+    ensures { option_map view_change result ≡ sides.lone side (known_outcome other.now row.now.word.now) (view_row row.now) }
 {
     match (outcome_of(other, row.word), side) {
         (None, Side::First) => Some(ChangeRow::Removed(row.word)),
@@ -25,8 +22,8 @@ fn lone<'a>(side: Side, other: &Outcomes<'a>, row: &WordRow<'a>) -> Option<Chang
 }
 
 /// Returns that the word is changed, if it has a row before with another outcome.
-fn changed<'a>(before: &Outcomes<'a>, row: &WordRow<'a>) -> Option<ChangeRow<'a>>
-    ensures { option_map view_change result ≡ spec.changed (known before.now row.now.word.now) (view_row row.now) }
+fn outcome_change<'a>(before: &Outcomes<'a>, row: &WordRow<'a>) -> Option<ChangeRow<'a>>
+    ensures { option_map view_change result ≡ spec.outcome_change (known_outcome before.now row.now.word.now) (view_row row.now) }
 {
     match outcome_of(before, row.word) {
         Some(old) if !is_same(old, row.outcome) => {
@@ -48,7 +45,7 @@ pub(crate) fn push_lone<'a>(
     rows: &[WordRow<'a>],
     other: &Outcomes<'a>,
 ) -> Result<(), AllocError>
-    ensures { OnOk result (view_changes changes.new.items ≡ view_changes changes.old.items ++ filter_map (λ r. sides.lone side (known other.now r.word) r) (view_rows rows.now)) }
+    ensures { OnOk result (view_changes changes.new.items ≡ view_changes changes.old.items ++ filter_map (λ r. sides.lone side (known_outcome other.now r.word) r) (view_rows rows.now)) }
 {
     for row in rows {
         push_some(changes, lone(side, other, row))?;
@@ -62,10 +59,10 @@ pub(crate) fn push_changed<'a>(
     before: &Outcomes<'a>,
     after: &[WordRow<'a>],
 ) -> Result<(), AllocError>
-    ensures { OnOk result (view_changes changes.new.items ≡ view_changes changes.old.items ++ filter_map (λ r. spec.changed (known before.now r.word) r) (view_rows after.now)) }
+    ensures { OnOk result (view_changes changes.new.items ≡ view_changes changes.old.items ++ filter_map (λ r. spec.outcome_change (known_outcome before.now r.word) r) (view_rows after.now)) }
 {
     for row in after {
-        push_some(changes, changed(before, row))?;
+        push_some(changes, outcome_change(before, row))?;
     }
     Ok(())
 }

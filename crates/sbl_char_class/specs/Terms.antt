@@ -12,8 +12,8 @@ is_added Plus = true
 is_added Minus = false
 
 -- the class after a term: the characters of the term are added or removed, all others are unchanged
-abbrev pub behind : Additive → (ℕ → Bool) → (ℕ → Bool) → ℕ → Bool
-behind operator term class c = if term c then is_added operator else class c
+abbrev pub class_after : Additive → (ℕ → Bool) → (ℕ → Bool) → ℕ → Bool
+class_after operator term class c = if term c then is_added operator else class c
 
 -- the class with this number; it is empty if there is none
 abbrev pub class_at : List (ℕ → Bool) → ℕ → ℕ → Bool

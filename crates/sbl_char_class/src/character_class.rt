@@ -3,7 +3,7 @@
 ghost use Rattle.std.specs.Prelude.{◌≡◌, ℕ, map, nat_eq, if◌then◌else◌, IfOk, OnErr, OnOk};
 ghost use Rattle.sbl_char_class.specs.CharacterClasses.{members};
 ghost use Rattle.sbl_char_class.specs.Characters.{has};
-ghost use Rattle.sbl_char_class.specs.Terms.{behind, class_at, is_added, no_character};
+ghost use Rattle.sbl_char_class.specs.Terms.{class_after, class_at, is_added, no_character};
 
 use crate::bits::{is_set, put_bit, put_bits};
 use crate::block::Block;
@@ -91,7 +91,7 @@ impl CharacterClass {
         operator: Additive,
         characters: &[char],
     ) -> Result<CharacterClass, AllocError>
-        ensures { IfOk result (λ class. members class ≡ behind operator (has characters.now) (members self)) }
+        ensures { IfOk result (λ class. members class ≡ class_after operator (has characters.now) (members self)) }
     {
         let mut class = self;
         class.put_all(alloc, characters, is_added(operator))?;
@@ -107,7 +107,7 @@ impl CharacterClass {
         operator: Additive,
         other: &CharacterClass,
     ) -> Result<CharacterClass, AllocError>
-        ensures { IfOk result (λ class. members class ≡ behind operator (members other.now) (members self)) }
+        ensures { IfOk result (λ class. members class ≡ class_after operator (members other.now) (members self)) }
     {
         let CharacterClass {
             mut first,

@@ -31,9 +31,9 @@ made_of script word =
     else of_outcome (run_of script word default_limit)
 
 -- as a row shows it
-abbrev pub shown : Got → List ℕ
-shown (Stem text) = text
-shown (Refused name) = codes "refused " ++ name
+abbrev pub got_text : Got → List ℕ
+got_text (Stem text) = text
+got_text (Refused name) = codes "refused " ++ name
 
 -- the stem is the one that is expected; a refusal never is
 abbrev pub is_expected : List ℕ → Got → Bool
@@ -42,7 +42,7 @@ is_expected expected (Refused name) = false
 
 -- the fields of a difference's row: the number of the line, its word, the expected stem, and what came in its place
 abbrev pub fields_of : ℕ → List ℕ → List ℕ → Got → List (List ℕ)
-fields_of n word expected g = decimal n ∷ word ∷ expected ∷ shown g ∷ []
+fields_of n word expected g = decimal n ∷ word ∷ expected ∷ got_text g ∷ []
 
 -- a row where it differs, and else none
 abbrev pub row_of : ℕ → List ℕ → List ℕ → Got → List (List (List ℕ))

@@ -3,11 +3,10 @@ ghost use Rattle.std.specs.Prelude.{◌≡◌, None, Some, IfOk, IfErr, OnOk, st
 ghost use Rattle.std.specs.Str.{chars};
 ghost use Rattle.sbl_machine.specs.MachineOf.{IsLinkedMachineOf};
 ghost use Rattle.sbl_ast.specs.Source.{Source};
-ghost use Rattle.sbl_script.specs.Parsed.{source_of};
-ghost use Rattle.sbl_check.specs.Checking.{ComparesPair, IsRow, view_got};
+ghost use Rattle.sbl_script.specs.ParsedScript.{source_of};
+ghost use Rattle.sbl_check.specs.{Checking.ComparesPair, Checking.IsRow, Checking.view_got, Differences.IsChecked};
 ghost use Rattle.sbl_io.specs.Devices.{HasStopped, WritesInTime};
 ghost use Rattle.sbl_check.specs.Differences as spec;
-ghost use Rattle.sbl_check.specs.Differences.{IsChecked};
 
 use csv::ByteRecord;
 use sbl_bench::MAX_WORD_LENGTH;
@@ -61,8 +60,8 @@ impl Got {
     }
 
     /// Returns the text for a row.
-    fn shown(self, alloc: Global) -> Result<String, AllocError>
-        ensures { IfOk result (λ text. string_bytes text ≡ spec.shown (view_got self)) }
+    fn as_text(self, alloc: Global) -> Result<String, AllocError>
+        ensures { IfOk result (λ text. string_bytes text ≡ spec.got_text (view_got self)) }
     {
         match self {
             Got::Stem(stem) => Ok(stem),
@@ -89,7 +88,7 @@ fn row_of(
         return Ok(None);
     }
     let number = format!(in alloc; "{number}")?;
-    let shown = got.shown(alloc)?;
+    let shown = got.as_text(alloc)?;
     let record = ByteRecord::from_fields(
         alloc,
         &[

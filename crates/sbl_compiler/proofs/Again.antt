@@ -7,7 +7,7 @@ use Rattle.std.proofs.Math.Path.{fun_ext}
 use Rattle.std.proofs.lemmas.Bool.{eqb-true, true≢false}
 use Rattle.sbl_ast.specs.declared.tree.Additive.{Additive}
 use Rattle.sbl_ast.specs.Tree.{Argument, written_out, by_name, Term, term}
-use Rattle.sbl_char_class.specs.Terms.{behind, class_at, is_added}
+use Rattle.sbl_char_class.specs.Terms.{class_after, class_at, is_added}
 use Rattle.sbl_compiler.specs.NumberedClasses.{term_class, with_terms}
 use Rattle.sbl_compiler.specs.NumberedNames.{Names, number_of}
 use Rattle.sbl_compiler.specs.NamedAgain.{is_name_of, is_named, is_named_again}
@@ -17,7 +17,7 @@ module _ (ns : Names) (classes : List (ℕ → Bool)) where
   same_on : (ts : List Term) (a b : ℕ → Bool) (c : ℕ) → a c ≡ b c → with_terms ns classes ts a c ≡ with_terms ns classes ts b c
   same_on [] a b c h = h
   same_on (term o x ∷ ts) a b c h =
-      same_on ts (behind o (term_class ns classes x) a) (behind o (term_class ns classes x) b) c (ap (λ (y : Bool). if term_class ns classes x c then is_added o else y) h)
+      same_on ts (class_after o (term_class ns classes x) a) (class_after o (term_class ns classes x) b) c (ap (λ (y : Bool). if term_class ns classes x c then is_added o else y) h)
 
   -- a term that names the grouping of a number has its characters
   has_it : (x : Argument) (k c : ℕ) → is_name_of ns x k ≡ true → term_class ns classes x c ≡ class_at classes k c
@@ -27,25 +27,25 @@ module _ (ns : Names) (classes : List (ℕ → Bool)) where
   -- what a character of a grouping that is named behind was before does not matter
   forgotten : (ts : List Term) (k : ℕ) (a b : ℕ → Bool) (c : ℕ) → is_named ns ts k ≡ true → class_at classes k c ≡ true → with_terms ns classes ts a c ≡ with_terms ns classes ts b c
   forgotten [] k a b c n h = absurd (true≢false (sym n))
-  forgotten (term o x ∷ ts) k a b c n h = by (is_name_of ns x k) refl n (forgotten ts k (behind o (term_class ns classes x) a) (behind o (term_class ns classes x) b) c)
+  forgotten (term o x ∷ ts) k a b c n h = by (is_name_of ns x k) refl n (forgotten ts k (class_after o (term_class ns classes x) a) (class_after o (term_class ns classes x) b) c)
     where
       by : (t : Bool) → is_name_of ns x k ≡ t → (if t then true else is_named ns ts k) ≡ true
-          → (is_named ns ts k ≡ true → class_at classes k c ≡ true → with_terms ns classes ts (behind o (term_class ns classes x) a) c ≡ with_terms ns classes ts (behind o (term_class ns classes x) b) c)
+          → (is_named ns ts k ≡ true → class_at classes k c ≡ true → with_terms ns classes ts (class_after o (term_class ns classes x) a) c ≡ with_terms ns classes ts (class_after o (term_class ns classes x) b) c)
           → with_terms ns classes (term o x ∷ ts) a c ≡ with_terms ns classes (term o x ∷ ts) b c
       by true e m more =
           let there : term_class ns classes x c ≡ true = has_it x k c e ∙ h in
-          same_on ts (behind o (term_class ns classes x) a) (behind o (term_class ns classes x) b) c
+          same_on ts (class_after o (term_class ns classes x) a) (class_after o (term_class ns classes x) b) c
           (ap (λ (y : Bool). if y then is_added o else a c) there ∙ sym (ap (λ (y : Bool). if y then is_added o else b c) there))
       by false e m more = more m h
 
   passed_on : (o : Additive) (n : List ℕ) (ts : List Term) (class : ℕ → Bool) (c : ℕ) → is_named ns ts (number_of ns.groupings n) ≡ true
-      → with_terms ns classes ts class c ≡ with_terms ns classes ts (behind o (class_at classes (number_of ns.groupings n)) class) c
+      → with_terms ns classes ts class c ≡ with_terms ns classes ts (class_after o (class_at classes (number_of ns.groupings n)) class) c
   passed_on o n ts class c h = by (class_at classes (number_of ns.groupings n) c) refl
     where
       by : (t : Bool) → class_at classes (number_of ns.groupings n) c ≡ t
-          → with_terms ns classes ts class c ≡ with_terms ns classes ts (behind o (class_at classes (number_of ns.groupings n)) class) c
-      by true e = forgotten ts (number_of ns.groupings n) class (behind o (class_at classes (number_of ns.groupings n)) class) c h e
-      by false e = same_on ts class (behind o (class_at classes (number_of ns.groupings n)) class) c (sym (ap (λ (y : Bool). if y then is_added o else class c) e))
+          → with_terms ns classes ts class c ≡ with_terms ns classes ts (class_after o (class_at classes (number_of ns.groupings n)) class) c
+      by true e = forgotten ts (number_of ns.groupings n) class (class_after o (class_at classes (number_of ns.groupings n)) class) c h e
+      by false e = same_on ts class (class_after o (class_at classes (number_of ns.groupings n)) class) c (sym (ap (λ (y : Bool). if y then is_added o else class c) e))
 
   pub passed_over : (o : Additive) (x : Argument) (ts : List Term) (class : ℕ → Bool) → is_named_again ns x ts ≡ true
       → with_terms ns classes ts class ≡ with_terms ns classes (term o x ∷ ts) class

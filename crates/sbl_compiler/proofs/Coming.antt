@@ -7,13 +7,13 @@ use Rattle.sbl_ast.specs.declared.tree.Joiner.{Joiner}
 use Rattle.std.specs.Prelude.{if◌then◌else◌, nat_lt, Option, Some, None, option_map}
 use Rattle.sbl_ast.specs.declared.tree.Simple.{Simple}
 use Rattle.sbl_ast.specs.declared.tree.Simple.TheVariants as simples
-use Rattle.sbl_compiler.specs.Ahead.{found_as, search_of, search_then, search_next as search_by, simple_by, made, made_rows, made_others, made_starter, made_groups}
+use Rattle.sbl_compiler.specs.Ahead.{found_as, search_of, search_then, search_next as search_by, simple_by, made_command, made_rows, made_others, made_starter, made_groups}
 use Rattle.sbl_compiler.specs.NumberedAmongs.{Found}
 use Rattle.sbl_compiler.specs.NumberedNames.{Names}
-use Rattle.sbl_semantics.specs.Regions.{Among, among_at, mode_behind, behind, behind_rows, behind_others, behind_starter, first, first_rows, first_others, waits, waits_rows, waits_others}
+use Rattle.sbl_semantics.specs.Regions.{Among, among_at, mode_under, number_after, number_after_rows, number_after_others, number_after_starter, first, first_rows, first_others, waits, waits_rows, waits_others}
 use Rattle.sbl_compiler.specs.NumberedNumbers.{expression}
-use Rattle.sbl_program.specs.Grouped.{join}
-use Rattle.sbl_compiler.specs.Numbered.{Position, next_of, inside, closed, past, past_simple, past_rows, past_others, past_starter, past_groups, begun, region, search_next, simple, behind_prefix, behind_count, numbered, numbered_rows, numbered_others, numbered_starter, numbered_groups}
+use Rattle.sbl_program.specs.Chains.{join}
+use Rattle.sbl_compiler.specs.NumberedItems.{Position, next_of, inside, end_waiting, past, past_simple, past_rows, past_others, past_starter, past_groups, begin_region, region, search_next, simple, behind_prefix, behind_count, numbered_command, numbered_rows, numbered_others, numbered_starter, numbered_groups}
 use Rattle.sbl_program.specs.ProgramOf.{commands_of}
 use Rattle.sbl_program.specs.Program as programs
 use Rattle.sbl_ast.specs.Tree.{Command, Rows, Others, Starter, Groups, bracket, simple_, literal_, name_, non_, prefixed, counted, move_, named, splice_, setlimit_, assign_, compare_, compare_values_, among_, no_rows, row, no_others, joined, no_starter, starter, bare, group}
@@ -23,10 +23,10 @@ module _ (ns : Names) where
     -- the amongs of a command before which there are k, in front of others
     pub founds : Mode → Command → ℕ → List Found → List Found
     founds m (bracket rs) k rest = founds_rows m rs k rest
-    founds m (prefixed x c) k rest = founds (mode_behind x m) c k rest
+    founds m (prefixed x c) k rest = founds (mode_under x m) c k rest
     founds m (counted x e c) k rest = founds m c k rest
-    founds m (setlimit_ b c) k rest = founds m b k (founds m c (behind b k) rest)
-    founds m (among_ s gs) k rest = found_as ns (among_at m k gs) ∷ founds_starter m s (suc k) (founds_groups m gs (behind_starter s (suc k)) rest)
+    founds m (setlimit_ b c) k rest = founds m b k (founds m c (number_after b k) rest)
+    founds m (among_ s gs) k rest = found_as ns (among_at m k gs) ∷ founds_starter m s (suc k) (founds_groups m gs (number_after_starter s (suc k)) rest)
     founds m (literal_ q) k rest = rest
     founds m (name_ n) k rest = rest
     founds m (non_ b n) k rest = rest
@@ -40,11 +40,11 @@ module _ (ns : Names) where
 
     pub founds_rows : Mode → Rows → ℕ → List Found → List Found
     founds_rows m no_rows k rest = rest
-    founds_rows m (row c os rs) k rest = founds m c k (founds_others m os (behind c k) (founds_rows m rs (behind_others os (behind c k)) rest))
+    founds_rows m (row c os rs) k rest = founds m c k (founds_others m os (number_after c k) (founds_rows m rs (number_after_others os (number_after c k)) rest))
 
     pub founds_others : Mode → Others → ℕ → List Found → List Found
     founds_others m no_others k rest = rest
-    founds_others m (joined j c os) k rest = founds m c k (founds_others m os (behind c k) rest)
+    founds_others m (joined j c os) k rest = founds m c k (founds_others m os (number_after c k) rest)
 
     pub founds_starter : Mode → Starter → ℕ → List Found → List Found
     founds_starter m no_starter k rest = rest
@@ -52,18 +52,18 @@ module _ (ns : Names) where
 
     pub founds_groups : Mode → Groups → ℕ → List Found → List Found
     founds_groups m (bare es) k rest = rest
-    founds_groups m (group e es rs gs) k rest = founds_rows m rs k (founds_groups m gs (behind_rows rs k) rest)
+    founds_groups m (group e es rs gs) k rest = founds_rows m rs k (founds_groups m gs (number_after_rows rs k) rest)
 
   -- ---- they are no fewer with a command in front
 
   mutual
     longer : (t : Command) (m : Mode) (k b : ℕ) (rest : List Found) → b ≤ length rest → b ≤ length (founds m t k rest)
     longer (bracket rs) m k b rest l = longer_rows rs m k b rest l
-    longer (prefixed x c) m k b rest l = longer c (mode_behind x m) k b rest l
+    longer (prefixed x c) m k b rest l = longer c (mode_under x m) k b rest l
     longer (counted x e c) m k b rest l = longer c m k b rest l
-    longer (setlimit_ c d) m k b rest l = longer c m k b _ (longer d m (behind c k) b rest l)
+    longer (setlimit_ c d) m k b rest l = longer c m k b _ (longer d m (number_after c k) b rest l)
     longer (among_ s gs) m k b rest l =
-        let h = longer_starter s m (suc k) b _ (longer_groups gs m (behind_starter s (suc k)) b rest l) in
+        let h = longer_starter s m (suc k) b _ (longer_groups gs m (number_after_starter s (suc k)) b rest l) in
         omega (arith, h)
     longer (literal_ q) m k b rest l = l
     longer (name_ n) m k b rest l = l
@@ -78,11 +78,11 @@ module _ (ns : Names) where
 
     longer_rows : (rs : Rows) (m : Mode) (k b : ℕ) (rest : List Found) → b ≤ length rest → b ≤ length (founds_rows m rs k rest)
     longer_rows no_rows m k b rest l = l
-    longer_rows (row c os rs) m k b rest l = longer c m k b _ (longer_others os m (behind c k) b _ (longer_rows rs m (behind_others os (behind c k)) b rest l))
+    longer_rows (row c os rs) m k b rest l = longer c m k b _ (longer_others os m (number_after c k) b _ (longer_rows rs m (number_after_others os (number_after c k)) b rest l))
 
     longer_others : (os : Others) (m : Mode) (k b : ℕ) (rest : List Found) → b ≤ length rest → b ≤ length (founds_others m os k rest)
     longer_others no_others m k b rest l = l
-    longer_others (joined j c os) m k b rest l = longer c m k b _ (longer_others os m (behind c k) b rest l)
+    longer_others (joined j c os) m k b rest l = longer c m k b _ (longer_others os m (number_after c k) b rest l)
 
     longer_starter : (s : Starter) (m : Mode) (k b : ℕ) (rest : List Found) → b ≤ length rest → b ≤ length (founds_starter m s k rest)
     longer_starter no_starter m k b rest l = l
@@ -90,7 +90,7 @@ module _ (ns : Names) where
 
     longer_groups : (gs : Groups) (m : Mode) (k b : ℕ) (rest : List Found) → b ≤ length rest → b ≤ length (founds_groups m gs k rest)
     longer_groups (bare es) m k b rest l = l
-    longer_groups (group e es rs gs) m k b rest l = longer_rows rs m k b _ (longer_groups gs m (behind_rows rs k) b rest l)
+    longer_groups (group e es rs gs) m k b rest l = longer_rows rs m k b _ (longer_groups gs m (number_after_rows rs k) b rest l)
 
   -- ---- the next of them, if it stands in the region, is the first ahead
 
@@ -117,11 +117,11 @@ module _ (ns : Names) where
   mutual
     head_is : (t : Command) (m : Mode) (k b : ℕ) (rest : List Found) (n : Option Among) → b ≤ length rest → ahead_in b rest ≡ option_map (found_as ns) n → ahead_in b (founds m t k rest) ≡ option_map (found_as ns) (first m t k n)
     head_is (bracket rs) m k b rest n l h = head_rows rs m k b rest n l h
-    head_is (prefixed x c) m k b rest n l h = head_is c (mode_behind x m) k b rest n l h
+    head_is (prefixed x c) m k b rest n l h = head_is c (mode_under x m) k b rest n l h
     head_is (counted x e c) m k b rest n l h = head_is c m k b rest n l h
-    head_is (setlimit_ c d) m k b rest n l h = head_is c m k b _ _ (longer d m (behind c k) b rest l) (head_is d m (behind c k) b rest n l h)
+    head_is (setlimit_ c d) m k b rest n l h = head_is c m k b _ _ (longer d m (number_after c k) b rest l) (head_is d m (number_after c k) b rest n l h)
     head_is (among_ s gs) m k b rest n l h =
-        one_ahead b (found_as ns (among_at m k gs)) _ (longer_starter s m (suc k) b _ (longer_groups gs m (behind_starter s (suc k)) b rest l))
+        one_ahead b (found_as ns (among_at m k gs)) _ (longer_starter s m (suc k) b _ (longer_groups gs m (number_after_starter s (suc k)) b rest l))
     head_is (literal_ q) m k b rest n l h = h
     head_is (name_ x) m k b rest n l h = h
     head_is (non_ x y) m k b rest n l h = h
@@ -136,14 +136,14 @@ module _ (ns : Names) where
     head_rows : (rs : Rows) (m : Mode) (k b : ℕ) (rest : List Found) (n : Option Among) → b ≤ length rest → ahead_in b rest ≡ option_map (found_as ns) n → ahead_in b (founds_rows m rs k rest) ≡ option_map (found_as ns) (first_rows m rs k n)
     head_rows no_rows m k b rest n l h = h
     head_rows (row c os rs) m k b rest n l h =
-        let k1 = behind c k in
-        let k2 = behind_others os k1 in
+        let k1 = number_after c k in
+        let k2 = number_after_others os k1 in
         let l2 = longer_rows rs m k2 b rest l in
         head_is c m k b _ _ (longer_others os m k1 b _ l2) (head_others os m k1 b _ _ l2 (head_rows rs m k2 b rest n l h))
 
     head_others : (os : Others) (m : Mode) (k b : ℕ) (rest : List Found) (n : Option Among) → b ≤ length rest → ahead_in b rest ≡ option_map (found_as ns) n → ahead_in b (founds_others m os k rest) ≡ option_map (found_as ns) (first_others m os k n)
     head_others no_others m k b rest n l h = h
-    head_others (joined j c os) m k b rest n l h = head_is c m k b _ _ (longer_others os m (behind c k) b rest l) (head_others os m (behind c k) b rest n l h)
+    head_others (joined j c os) m k b rest n l h = head_is c m k b _ _ (longer_others os m (number_after c k) b rest l) (head_others os m (number_after c k) b rest n l h)
 
   -- ---- what is still to come behind a command
 
@@ -162,11 +162,11 @@ module _ (ns : Names) where
     pub coming_is : (t : Command) (m : Mode) (k : ℕ) (p : Position) (rest : List Found) → p.coming ≡ founds m t k rest → (past t p).coming ≡ rest
     coming_is (bracket rs) m k p rest e = coming_rows rs m k p rest e
     coming_is (simple_ s) m k p rest e = past_simple_coming s p ∙ e
-    coming_is (prefixed x c) m k p rest e = coming_is c (mode_behind x m) k p rest e
+    coming_is (prefixed x c) m k p rest e = coming_is c (mode_under x m) k p rest e
     coming_is (counted x n c) m k p rest e = coming_is c m k p rest e
-    coming_is (setlimit_ b c) m k p rest e = coming_is c m (behind b k) (past b p) rest (coming_is b m k p (founds m c (behind b k) rest) e)
+    coming_is (setlimit_ b c) m k p rest e = coming_is c m (number_after b k) (past b p) rest (coming_is b m k p (founds m c (number_after b k) rest) e)
     coming_is (among_ s gs) m k p rest e =
-        coming_groups gs m (behind_starter s (suc k)) (past_starter s (inside p)) rest (coming_starter s m (suc k) (inside p) _ (ap (drop 1) e))
+        coming_groups gs m (number_after_starter s (suc k)) (past_starter s (inside p)) rest (coming_starter s m (suc k) (inside p) _ (ap (drop 1) e))
     coming_is (literal_ q) m k p rest h = h
     coming_is (name_ n) m k p rest h = h
     coming_is (non_ b n) m k p rest h = h
@@ -180,11 +180,11 @@ module _ (ns : Names) where
     coming_rows : (rs : Rows) (m : Mode) (k : ℕ) (p : Position) (rest : List Found) → p.coming ≡ founds_rows m rs k rest → (past_rows rs p).coming ≡ rest
     coming_rows no_rows m k p rest e = e
     coming_rows (row c os rs) m k p rest e =
-        coming_rows rs m (behind_others os (behind c k)) (past_others os (past c p)) rest (coming_others os m (behind c k) (past c p) _ (coming_is c m k p _ e))
+        coming_rows rs m (number_after_others os (number_after c k)) (past_others os (past c p)) rest (coming_others os m (number_after c k) (past c p) _ (coming_is c m k p _ e))
 
     pub coming_others : (os : Others) (m : Mode) (k : ℕ) (p : Position) (rest : List Found) → p.coming ≡ founds_others m os k rest → (past_others os p).coming ≡ rest
     coming_others no_others m k p rest e = e
-    coming_others (joined j c os) m k p rest e = coming_others os m (behind c k) (past c p) rest (coming_is c m k p _ e)
+    coming_others (joined j c os) m k p rest e = coming_others os m (number_after c k) (past c p) rest (coming_is c m k p _ e)
 
     coming_starter : (s : Starter) (m : Mode) (k : ℕ) (p : Position) (rest : List Found) → p.coming ≡ founds_starter m s k rest → (past_starter s p).coming ≡ rest
     coming_starter no_starter m k p rest e = e
@@ -192,7 +192,7 @@ module _ (ns : Names) where
 
     coming_groups : (gs : Groups) (m : Mode) (k : ℕ) (p : Position) (rest : List Found) → p.coming ≡ founds_groups m gs k rest → (past_groups gs p).coming ≡ rest
     coming_groups (bare es) m k p rest e = e
-    coming_groups (group e es rs gs) m k p rest h = coming_groups gs m (behind_rows rs k) (past_rows rs (closed p)) rest (coming_rows rs m k (closed p) _ h)
+    coming_groups (group e es rs gs) m k p rest h = coming_groups gs m (number_after_rows rs k) (past_rows rs (end_waiting p)) rest (coming_rows rs m k (end_waiting p) _ h)
 
   -- ---- and whether a `substring` waits there
 
@@ -278,7 +278,7 @@ module _ (ns : Names) where
 
     behind_groups_is : (gs : Groups) (p : Position) → (past_groups gs p).behind ≡ p.behind
     behind_groups_is (bare es) p = refl
-    behind_groups_is (group e es rs gs) p = behind_groups_is gs (past_rows rs (closed p)) ∙ behind_rows_is rs (closed p)
+    behind_groups_is (group e es rs gs) p = behind_groups_is gs (past_rows rs (end_waiting p)) ∙ behind_rows_is rs (end_waiting p)
 
   -- ---- commands
 
@@ -328,7 +328,7 @@ module _ (ns : Names) where
     pub next : ahead_in p.behind rest ≡ option_map (found_as ns) n
 
   -- the beginning of a region
-  pub begun_at : (p q : Position) (xs rest : List Found) → p.coming ≡ xs → q.coming ≡ rest → At (begun p q) xs rest false None
+  pub begun_at : (p q : Position) (xs rest : List Found) → p.coming ≡ xs → q.coming ≡ rest → At (begin_region p q) xs rest false None
   begun_at p q xs rest e h = record {
     coming = e;
     waiting = refl;
@@ -379,26 +379,26 @@ module _ (ns : Names) where
   }
 
   region_at : (rs : Rows) (m : Mode) (k : ℕ) (p : Position) (rest : List Found) → p.coming ≡ founds_rows m rs k rest → At (region rs p) (founds_rows m rs k rest) rest false None
-  region_at rs m k p rest e = begun_at p (past_rows rs (closed p)) _ rest e (coming_rows rs m k (closed p) rest e)
+  region_at rs m k p rest e = begun_at p (past_rows rs (end_waiting p)) _ rest e (coming_rows rs m k (end_waiting p) rest e)
 
   mutual
-    pub made_is : (t : Command) (m : Mode) (k : ℕ) (w : Bool) (n : Option Among) (p : Position) (rest : List Found) → At p (founds m t k rest) rest w n → numbered ns t p ≡ made ns m k w n t
+    pub made_is : (t : Command) (m : Mode) (k : ℕ) (w : Bool) (n : Option Among) (p : Position) (rest : List Found) → At p (founds m t k rest) rest w n → numbered_command ns t p ≡ made_command ns m k w n t
     made_is (bracket rs) m k w n p rest a = ap programs.sequence (rows_is rs m k w n p rest a)
     made_is (simple_ s) m k w n p rest a = simple_is s p n (ap (ahead_in p.behind) a.coming ∙ a.next)
-    made_is (prefixed x c) m k w n p rest a = ap (behind_prefix x) (made_is c (mode_behind x m) k w n p rest a)
+    made_is (prefixed x c) m k w n p rest a = ap (behind_prefix x) (made_is c (mode_under x m) k w n p rest a)
     made_is (counted x e c) m k w n p rest a = ap (behind_count x (expression ns e)) (made_is c m k w n p rest a)
     made_is (setlimit_ b c) m k w n p rest a =
-        setlimit_are _ _ _ _ (made_is b m k w _ p _ (nearer c p m (behind b k) rest w n _ a))
-        (made_is c m (behind b k) (waits b w) n (past b p) rest (further b p m k _ rest w n a))
+        setlimit_are _ _ _ _ (made_is b m k w _ p _ (nearer c p m (number_after b k) rest w n _ a))
+        (made_is c m (number_after b k) (waits b w) n (past b p) rest (further b p m k _ rest w n a))
     made_is (among_ s gs) m k w n p rest a =
         let e = a.coming in
         let inner = ap (drop 1) e in
-        let begun' = coming_starter s m (suc k) (inside p) (founds_groups m gs (behind_starter s (suc k)) rest) inner in
+        let begun' = coming_starter s m (suc k) (inside p) (founds_groups m gs (number_after_starter s (suc k)) rest) inner in
         among_are _ _ _ _ _ _ (ap (λ xs. (next_of xs).number) e)
         (ap (λ b. commands_of (if b then [] else search_next p ∷ numbered_starter ns s (inside p))) a.waiting
         ∙ first_is w p (among_at m k gs) (numbered_starter ns s (inside p)) (ap next_of e)
         ∙ ap (search_then ns w (among_at m k gs)) (starter_is s m (suc k) (inside p) _ inner))
-        (groups_is gs m (behind_starter s (suc k)) (past_starter s (inside p)) rest begun')
+        (groups_is gs m (number_after_starter s (suc k)) (past_starter s (inside p)) rest begun')
     made_is (literal_ q) m k w n p rest a = refl
     made_is (name_ x) m k w n p rest a = refl
     made_is (non_ b x) m k w n p rest a = refl
@@ -412,8 +412,8 @@ module _ (ns : Names) where
     rows_is : (rs : Rows) (m : Mode) (k : ℕ) (w : Bool) (n : Option Among) (p : Position) (rest : List Found) → At p (founds_rows m rs k rest) rest w n → commands_of (numbered_rows ns rs p) ≡ made_rows ns m k w n rs
     rows_is no_rows m k w n p rest a = refl
     rows_is (row c os rs) m k w n p rest a =
-        let k1 = behind c k in
-        let k2 = behind_others os k1 in
+        let k1 = number_after c k in
+        let k2 = number_after_others os k1 in
         let a2 = nearer_rows rs p m k2 rest w n _ a in
         let a1 = nearer_others os p m k1 _ w _ _ a2 in
         let b1 = further c p m k _ rest w n a in
@@ -424,8 +424,8 @@ module _ (ns : Names) where
     pub others_is : (os : Others) (m : Mode) (k : ℕ) (w : Bool) (n : Option Among) (p : Position) (rest : List Found) (c c' : programs.Node) → At p (founds_others m os k rest) rest w n → c ≡ c' → numbered_others ns os p c ≡ made_others ns m k w n os c'
     others_is no_others m k w n p rest c c' a g = g
     others_is (joined j t os) m k w n p rest c c' a g =
-        let one = made_is t m k w _ p _ (nearer_others os p m (behind t k) rest w n _ a) in
-        others_is os m (behind t k) (waits t w) n (past t p) rest _ _ (further t p m k _ rest w n a) (join_are j _ _ _ _ g one)
+        let one = made_is t m k w _ p _ (nearer_others os p m (number_after t k) rest w n _ a) in
+        others_is os m (number_after t k) (waits t w) n (past t p) rest _ _ (further t p m k _ rest w n a) (join_are j _ _ _ _ g one)
 
     starter_is : (s : Starter) (m : Mode) (k : ℕ) (p : Position) (rest : List Found) → p.coming ≡ founds_starter m s k rest → commands_of (numbered_starter ns s p) ≡ made_starter ns m k s
     starter_is no_starter m k p rest e = refl
@@ -434,4 +434,4 @@ module _ (ns : Names) where
     groups_is : (gs : Groups) (m : Mode) (k : ℕ) (p : Position) (rest : List Found) → p.coming ≡ founds_groups m gs k rest → commands_of (numbered_groups ns gs p) ≡ made_groups ns m k gs
     groups_is (bare es) m k p rest e = refl
     groups_is (group x es rs gs) m k p rest e =
-        commands_are _ _ _ _ (ap programs.sequence (rows_is rs m k false None (region rs p) _ (region_at rs m k p _ e))) (groups_is gs m (behind_rows rs k) (past_rows rs (closed p)) rest (coming_rows rs m k (closed p) _ e))
+        commands_are _ _ _ _ (ap programs.sequence (rows_is rs m k false None (region rs p) _ (region_at rs m k p _ e))) (groups_is gs m (number_after_rows rs k) (past_rows rs (end_waiting p)) rest (coming_rows rs m k (end_waiting p) _ e))

@@ -4,9 +4,9 @@ use Rattle.sbl_program.specs.declared.node.Candidate.{Candidate}
 use Rattle.sbl_program.specs.declared.node.Node.TheVariants.{Search}
 use Rattle.sbl_program.specs.declared.node.Node.TheFolds.{fold_out-Node}
 use Rattle.sbl_program.specs.declared.node.Node.TheViews.{the_lemmas}
-use Rattle.sbl_program.specs.declared.found.Found.{Found}
-use Rattle.sbl_program.specs.Listed.{Listed}
-use Rattle.sbl_compiler.specs.Numbered.{next_of}
+use Rattle.sbl_program.specs.declared.among.Found.{Found}
+use Rattle.sbl_program.specs.AmongStrings.{Listed}
+use Rattle.sbl_compiler.specs.NumberedItems.{next_of}
 use Rattle.sbl_program.specs.FoundView.{strings_at}
 use Rattle.sbl_compiler.specs.NumberedView.{view_found}
 use Rattle.sbl_program.specs.Program as programs

@@ -3,7 +3,7 @@ use Rattle.std.proofs.Common.{◌≡◌, ℕ, List, [], option_map, refl, sym, a
 use Rattle.std.specs.Prelude.{slice_get}
 use Rattle.sbl_compiler.specs.Ahead.{routines_in}
 use Rattle.sbl_semantics.specs.Items.{known_in, class_of, classes_behind, body_named}
-use Rattle.sbl_compiler.specs.Numbered.{numbered_items, plan_in, plan_with}
+use Rattle.sbl_compiler.specs.NumberedItems.{numbered_items, plan_in, plan_with}
 use Rattle.sbl_compiler.specs.NumberedNames.{Names, names_behind, no_names, number_of}
 use Rattle.sbl_compiler.specs.NumberedClasses.{numbered_classes}
 use Rattle.sbl_program.specs.Program as programs

@@ -5,10 +5,10 @@ use Rattle.sbl_ast.specs.Order.{ItemInMode}
 use Rattle.sbl_ast.specs.declared.mode.Mode.{Mode}
 use Rattle.std.specs.Prelude.{◌-◌, None}
 use Rattle.sbl_compiler.specs.Ahead.{found_as, routine_made, routine_in, routines_in}
-use Rattle.sbl_compiler.specs.NumberedAmongs.{Found, found_of, found, found_rows, found_others, found_starter, found_groups, found_plain, found_behind}
+use Rattle.sbl_compiler.specs.NumberedAmongs.{Found, found_of, found_command, found_rows, found_others, found_starter, found_groups, found_plain, found_behind}
 use Rattle.sbl_compiler.specs.NumberedNames.{Names}
-use Rattle.sbl_semantics.specs.Regions.{among_at, mode_behind, behind, behind_rows, behind_others, behind_starter, behind_groups, waits}
-use Rattle.sbl_compiler.specs.Numbered.{Position, closed, past, past_body, past_plain, body_begun, routine_of, with_routine, routines_behind}
+use Rattle.sbl_semantics.specs.Regions.{among_at, mode_under, number_after, number_after_rows, number_after_others, number_after_starter, number_after_groups, waits}
+use Rattle.sbl_compiler.specs.NumberedItems.{Position, end_waiting, past, past_body, past_plain, begin_body, routine_of, with_routine, routines_behind}
 use Rattle.sbl_program.specs.Program as programs
 use Rattle.sbl_ast.specs.Tree.{Command, Rows, Others, Starter, Groups, Plain, declaration, escapes, macro, routine, grouping, bracket, simple_, literal_, name_, non_, prefixed, counted, move_, named, splice_, setlimit_, assign_, compare_, compare_values_, among_, no_rows, row, no_others, joined, no_starter, starter, bare, group}
 use Rattle.sbl_compiler.proofs.Coming.{founds, founds_rows, founds_others, founds_starter, founds_groups, coming_is, coming_others, begun_at, nearer_others, further, made_is, others_is}
@@ -27,13 +27,13 @@ module _ (ns : Names) where
   more a k n e = omega (arith, e)
 
   mutual
-    len_is : (t : Command) (m : Mode) (a k : ℕ) (xs : List Found) → length xs ≡ a + k → length (found ns a m t xs) ≡ a + behind t k
+    len_is : (t : Command) (m : Mode) (a k : ℕ) (xs : List Found) → length xs ≡ a + k → length (found_command ns a m t xs) ≡ a + number_after t k
     len_is (bracket rs) m a k xs l = len_rows rs m a k xs l
-    len_is (prefixed x c) m a k xs l = len_is c (mode_behind x m) a k xs l
+    len_is (prefixed x c) m a k xs l = len_is c (mode_under x m) a k xs l
     len_is (counted x e c) m a k xs l = len_is c m a k xs l
-    len_is (setlimit_ b c) m a k xs l = len_is c m a (behind b k) (found ns a m b xs) (len_is b m a k xs l)
+    len_is (setlimit_ b c) m a k xs l = len_is c m a (number_after b k) (found_command ns a m b xs) (len_is b m a k xs l)
     len_is (among_ s gs) m a k xs l =
-        len_groups gs m a (behind_starter s (suc k)) _ (len_starter s m a (suc k) (xs ++ (found_of ns a m gs xs ∷ [])) (last_len xs (found_of ns a m gs xs) ∙ more a k (length xs) l))
+        len_groups gs m a (number_after_starter s (suc k)) _ (len_starter s m a (suc k) (xs ++ (found_of ns a m gs xs ∷ [])) (last_len xs (found_of ns a m gs xs) ∙ more a k (length xs) l))
     len_is (literal_ q) m a k xs l = l
     len_is (name_ n) m a k xs l = l
     len_is (non_ b n) m a k xs l = l
@@ -45,21 +45,21 @@ module _ (ns : Names) where
     len_is (compare_values_ e o f) m a k xs l = l
     len_is (simple_ s) m a k xs l = l
 
-    len_rows : (rs : Rows) (m : Mode) (a k : ℕ) (xs : List Found) → length xs ≡ a + k → length (found_rows ns a m rs xs) ≡ a + behind_rows rs k
+    len_rows : (rs : Rows) (m : Mode) (a k : ℕ) (xs : List Found) → length xs ≡ a + k → length (found_rows ns a m rs xs) ≡ a + number_after_rows rs k
     len_rows no_rows m a k xs l = l
-    len_rows (row c os rs) m a k xs l = len_rows rs m a (behind_others os (behind c k)) _ (len_others os m a (behind c k) _ (len_is c m a k xs l))
+    len_rows (row c os rs) m a k xs l = len_rows rs m a (number_after_others os (number_after c k)) _ (len_others os m a (number_after c k) _ (len_is c m a k xs l))
 
-    len_others : (os : Others) (m : Mode) (a k : ℕ) (xs : List Found) → length xs ≡ a + k → length (found_others ns a m os xs) ≡ a + behind_others os k
+    len_others : (os : Others) (m : Mode) (a k : ℕ) (xs : List Found) → length xs ≡ a + k → length (found_others ns a m os xs) ≡ a + number_after_others os k
     len_others no_others m a k xs l = l
-    len_others (joined j c os) m a k xs l = len_others os m a (behind c k) _ (len_is c m a k xs l)
+    len_others (joined j c os) m a k xs l = len_others os m a (number_after c k) _ (len_is c m a k xs l)
 
-    len_starter : (s : Starter) (m : Mode) (a k : ℕ) (xs : List Found) → length xs ≡ a + k → length (found_starter ns a m s xs) ≡ a + behind_starter s k
+    len_starter : (s : Starter) (m : Mode) (a k : ℕ) (xs : List Found) → length xs ≡ a + k → length (found_starter ns a m s xs) ≡ a + number_after_starter s k
     len_starter no_starter m a k xs l = l
     len_starter (starter rs) m a k xs l = len_rows rs m a k xs l
 
-    len_groups : (gs : Groups) (m : Mode) (a k : ℕ) (xs : List Found) → length xs ≡ a + k → length (found_groups ns a m gs xs) ≡ a + behind_groups gs k
+    len_groups : (gs : Groups) (m : Mode) (a k : ℕ) (xs : List Found) → length xs ≡ a + k → length (found_groups ns a m gs xs) ≡ a + number_after_groups gs k
     len_groups (bare es) m a k xs l = l
-    len_groups (group e es rs gs) m a k xs l = len_groups gs m a (behind_rows rs k) _ (len_rows rs m a k xs l)
+    len_groups (group e es rs gs) m a k xs l = len_groups gs m a (number_after_rows rs k) _ (len_rows rs m a k xs l)
 
   number_is : (m : Mode) (a k : ℕ) (gs : Groups) (xs : List Found) → length xs ≡ a + k → found_of ns a m gs xs ≡ found_as ns (among_at m k gs)
   number_is m a k gs xs l =
@@ -67,18 +67,18 @@ module _ (ns : Names) where
       ap (λ j. found_as ns (among_at m j gs)) e
 
   mutual
-    found_is : (t : Command) (m : Mode) (a k : ℕ) (xs rest : List Found) → length xs ≡ a + k → found ns a m t xs ++ rest ≡ xs ++ founds ns m t k rest
+    found_is : (t : Command) (m : Mode) (a k : ℕ) (xs rest : List Found) → length xs ≡ a + k → found_command ns a m t xs ++ rest ≡ xs ++ founds ns m t k rest
     found_is (bracket rs) m a k xs rest l = found_rows_is rs m a k xs rest l
-    found_is (prefixed x c) m a k xs rest l = found_is c (mode_behind x m) a k xs rest l
+    found_is (prefixed x c) m a k xs rest l = found_is c (mode_under x m) a k xs rest l
     found_is (counted x e c) m a k xs rest l = found_is c m a k xs rest l
     found_is (setlimit_ b c) m a k xs rest l =
-        found_is c m a (behind b k) (found ns a m b xs) rest (len_is b m a k xs l) ∙ found_is b m a k xs (founds ns m c (behind b k) rest) l
+        found_is c m a (number_after b k) (found_command ns a m b xs) rest (len_is b m a k xs l) ∙ found_is b m a k xs (founds ns m c (number_after b k) rest) l
     found_is (among_ s gs) m a k xs rest l =
         let f = found_of ns a m gs xs in
         let ys = xs ++ (f ∷ []) in
         let l1 = last_len xs f ∙ more a k (length xs) l in
-        let inner = founds_starter ns m s (suc k) (founds_groups ns m gs (behind_starter s (suc k)) rest) in
-        found_groups_is gs m a (behind_starter s (suc k)) (found_starter ns a m s ys) rest (len_starter s m a (suc k) ys l1)
+        let inner = founds_starter ns m s (suc k) (founds_groups ns m gs (number_after_starter s (suc k)) rest) in
+        found_groups_is gs m a (number_after_starter s (suc k)) (found_starter ns a m s ys) rest (len_starter s m a (suc k) ys l1)
         ∙ found_starter_is s m a (suc k) ys _ l1
         ∙ append_assoc xs (f ∷ []) inner
         ∙ ap (λ g. xs ++ (g ∷ inner)) (number_is m a k gs xs l)
@@ -97,14 +97,14 @@ module _ (ns : Names) where
     found_rows_is no_rows m a k xs rest l = refl
     found_rows_is (row c os rs) m a k xs rest l =
         let l1 = len_is c m a k xs l in
-        let l2 = len_others os m a (behind c k) (found ns a m c xs) l1 in
-        found_rows_is rs m a (behind_others os (behind c k)) (found_others ns a m os (found ns a m c xs)) rest l2
-        ∙ found_others_is os m a (behind c k) (found ns a m c xs) _ l1 ∙ found_is c m a k xs _ l
+        let l2 = len_others os m a (number_after c k) (found_command ns a m c xs) l1 in
+        found_rows_is rs m a (number_after_others os (number_after c k)) (found_others ns a m os (found_command ns a m c xs)) rest l2
+        ∙ found_others_is os m a (number_after c k) (found_command ns a m c xs) _ l1 ∙ found_is c m a k xs _ l
 
     found_others_is : (os : Others) (m : Mode) (a k : ℕ) (xs rest : List Found) → length xs ≡ a + k → found_others ns a m os xs ++ rest ≡ xs ++ founds_others ns m os k rest
     found_others_is no_others m a k xs rest l = refl
     found_others_is (joined j c os) m a k xs rest l =
-        found_others_is os m a (behind c k) (found ns a m c xs) rest (len_is c m a k xs l) ∙ found_is c m a k xs _ l
+        found_others_is os m a (number_after c k) (found_command ns a m c xs) rest (len_is c m a k xs l) ∙ found_is c m a k xs _ l
 
     found_starter_is : (s : Starter) (m : Mode) (a k : ℕ) (xs rest : List Found) → length xs ≡ a + k → found_starter ns a m s xs ++ rest ≡ xs ++ founds_starter ns m s k rest
     found_starter_is no_starter m a k xs rest l = refl
@@ -113,7 +113,7 @@ module _ (ns : Names) where
     found_groups_is : (gs : Groups) (m : Mode) (a k : ℕ) (xs rest : List Found) → length xs ≡ a + k → found_groups ns a m gs xs ++ rest ≡ xs ++ founds_groups ns m gs k rest
     found_groups_is (bare es) m a k xs rest l = refl
     found_groups_is (group e es rs gs) m a k xs rest l =
-        found_groups_is gs m a (behind_rows rs k) (found_rows ns a m rs xs) rest (len_rows rs m a k xs l) ∙ found_rows_is rs m a k xs _ l
+        found_groups_is gs m a (number_after_rows rs k) (found_rows ns a m rs xs) rest (len_rows rs m a k xs l) ∙ found_rows_is rs m a k xs _ l
 
   -- ---- a routine, and all
 
@@ -121,21 +121,21 @@ module _ (ns : Names) where
   routine_are c c' n n' p q = ap (λ x. routine_by x n) p ∙ ap (routine_by c') q
 
   abbrev body_founds : Mode → Command → Others → List Found → List Found
-  body_founds m c os rest = founds ns m c 0 (founds_others ns m os (behind c 0) rest)
+  body_founds m c os rest = founds ns m c 0 (founds_others ns m os (number_after c 0) rest)
 
   behind_body : (m : Mode) (c : Command) (os : Others) (p : Position) (rest : List Found) → p.coming ≡ body_founds m c os rest → (past_body c os p).coming ≡ rest
-  behind_body m c os p rest e = coming_others ns os m (behind c 0) (past c (closed p)) rest (coming_is ns c m 0 (closed p) _ e)
+  behind_body m c os p rest e = coming_others ns os m (number_after c 0) (past c (end_waiting p)) rest (coming_is ns c m 0 (end_waiting p) _ e)
 
   one_in_front : (l k r : ℕ) → l + suc k ≡ r → suc l + k ≡ r
   one_in_front l k r e = omega (arith, e)
 
   mutual
-    count_is : (t : Command) (m : Mode) (k : ℕ) (rest : List Found) → length (founds ns m t k rest) + k ≡ length rest + behind t k
+    count_is : (t : Command) (m : Mode) (k : ℕ) (rest : List Found) → length (founds ns m t k rest) + k ≡ length rest + number_after t k
     count_is (bracket rs) m k rest = count_rows rs m k rest
-    count_is (prefixed x c) m k rest = count_is c (mode_behind x m) k rest
+    count_is (prefixed x c) m k rest = count_is c (mode_under x m) k rest
     count_is (counted x e c) m k rest = count_is c m k rest
-    count_is (setlimit_ b c) m k rest = count_is b m k _ ∙ count_is c m (behind b k) rest
-    count_is (among_ s gs) m k rest = one_in_front _ k _ (count_starter s m (suc k) _ ∙ count_groups gs m (behind_starter s (suc k)) rest)
+    count_is (setlimit_ b c) m k rest = count_is b m k _ ∙ count_is c m (number_after b k) rest
+    count_is (among_ s gs) m k rest = one_in_front _ k _ (count_starter s m (suc k) _ ∙ count_groups gs m (number_after_starter s (suc k)) rest)
     count_is (literal_ q) m k rest = refl
     count_is (name_ n) m k rest = refl
     count_is (non_ b n) m k rest = refl
@@ -147,34 +147,34 @@ module _ (ns : Names) where
     count_is (compare_values_ e o f) m k rest = refl
     count_is (simple_ s) m k rest = refl
 
-    count_rows : (rs : Rows) (m : Mode) (k : ℕ) (rest : List Found) → length (founds_rows ns m rs k rest) + k ≡ length rest + behind_rows rs k
+    count_rows : (rs : Rows) (m : Mode) (k : ℕ) (rest : List Found) → length (founds_rows ns m rs k rest) + k ≡ length rest + number_after_rows rs k
     count_rows no_rows m k rest = refl
-    count_rows (row c os rs) m k rest = count_is c m k _ ∙ count_others os m (behind c k) _ ∙ count_rows rs m (behind_others os (behind c k)) rest
+    count_rows (row c os rs) m k rest = count_is c m k _ ∙ count_others os m (number_after c k) _ ∙ count_rows rs m (number_after_others os (number_after c k)) rest
 
-    count_others : (os : Others) (m : Mode) (k : ℕ) (rest : List Found) → length (founds_others ns m os k rest) + k ≡ length rest + behind_others os k
+    count_others : (os : Others) (m : Mode) (k : ℕ) (rest : List Found) → length (founds_others ns m os k rest) + k ≡ length rest + number_after_others os k
     count_others no_others m k rest = refl
-    count_others (joined j c os) m k rest = count_is c m k _ ∙ count_others os m (behind c k) rest
+    count_others (joined j c os) m k rest = count_is c m k _ ∙ count_others os m (number_after c k) rest
 
-    count_starter : (s : Starter) (m : Mode) (k : ℕ) (rest : List Found) → length (founds_starter ns m s k rest) + k ≡ length rest + behind_starter s k
+    count_starter : (s : Starter) (m : Mode) (k : ℕ) (rest : List Found) → length (founds_starter ns m s k rest) + k ≡ length rest + number_after_starter s k
     count_starter no_starter m k rest = refl
     count_starter (starter rs) m k rest = count_rows rs m k rest
 
-    count_groups : (gs : Groups) (m : Mode) (k : ℕ) (rest : List Found) → length (founds_groups ns m gs k rest) + k ≡ length rest + behind_groups gs k
+    count_groups : (gs : Groups) (m : Mode) (k : ℕ) (rest : List Found) → length (founds_groups ns m gs k rest) + k ≡ length rest + number_after_groups gs k
     count_groups (bare es) m k rest = refl
-    count_groups (group e es rs gs) m k rest = count_rows rs m k _ ∙ count_groups gs m (behind_rows rs k) rest
+    count_groups (group e es rs gs) m k rest = count_rows rs m k _ ∙ count_groups gs m (number_after_rows rs k) rest
 
   so_many : (l r n : ℕ) → l + 0 ≡ r + n → l - r ≡ n
   so_many l r n e = omega (arith, e)
 
   pub routine_is : (m : Mode) (c : Command) (os : Others) (p : Position) (rest : List Found) → p.coming ≡ body_founds m c os rest → routine_of ns c os p ≡ routine_made ns m c os
   routine_is m c os p rest e =
-      let k = behind c 0 in
+      let k = number_after c 0 in
       let b = behind_body m c os p rest e in
-      let q = body_begun c os p in
+      let q = begin_body c os p in
       let a = begun_at ns p (past_body c os p) _ rest e b in
       let body = others_is ns os m k (waits c false) None (past c q) rest _ _ (further ns c q m 0 _ rest false None a) (made_is ns c m 0 false _ q _ (nearer_others ns os q m k rest false None _ a)) in
       let counted = count_is c m 0 (founds_others ns m os k rest) ∙ count_others os m k rest in
-      routine_are _ _ _ _ body (so_many (length p.coming) _ _ (ap (λ xs. length xs + 0) e ∙ counted ∙ ap (λ xs. length xs + behind_others os k) (sym b)))
+      routine_are _ _ _ _ body (so_many (length p.coming) _ _ (ap (λ xs. length xs + 0) e ∙ counted ∙ ap (λ xs. length xs + number_after_others os k) (sym b)))
 
   abbrev plain_founds : Mode → Plain → List Found → List Found
   plain_founds m (routine n c os) rest = body_founds m c os rest
@@ -194,7 +194,7 @@ module _ (ns : Names) where
   plain_is m (routine n c os) sofar rest =
       let a = length sofar in
       let l = none_more (length sofar) in
-      found_others_is os m a (behind c 0) (found ns a m c sofar) rest (len_is c m a 0 sofar l) ∙ found_is c m a 0 sofar _ l
+      found_others_is os m a (number_after c 0) (found_command ns a m c sofar) rest (len_is c m a 0 sofar l) ∙ found_is c m a 0 sofar _ l
   plain_is m (declaration k xs) sofar rest = refl
   plain_is m (escapes a b) sofar rest = refl
   plain_is m (macro n b q) sofar rest = refl

@@ -12,7 +12,7 @@ use Rattle.sbl_semantics.specs.Items.{is_among, place_of, names_by, known_in, Gr
 use Rattle.sbl_compiler.specs.NumberedNames.{Names, naming, names_behind, number_from, number_of, is_one_of}
 use Rattle.sbl_compiler.specs.NumberedClasses.{numbered_classes, term_class, with_class, with_terms}
 use Rattle.sbl_program.specs.Program as programs
-use Rattle.sbl_char_class.specs.Terms.{behind, class_at, no_character}
+use Rattle.sbl_char_class.specs.Terms.{class_after, class_at, no_character}
 use Rattle.sbl_ast.specs.declared.mode.Mode.{Mode}
 
 -- ---- names
@@ -190,11 +190,11 @@ module _ (ns : Names) where
   terms_are ks gs rest e h [] class before c l = l
   terms_are ks gs rest e h (term Plus a ∷ ts) class before c l =
       let k = term_class ns ks a in
-      terms_are ks gs rest e h ts (behind Plus k class) _ c
+      terms_are ks gs rest e h ts (class_after Plus k class) _ c
       (added_is (k c) (class c) ∙ ap (λ b. b || k c) l ∙ ap (λ b. before || b) (term_is ks gs rest e h a c))
   terms_are ks gs rest e h (term Minus a ∷ ts) class before c l =
       let k = term_class ns ks a in
-      terms_are ks gs rest e h ts (behind Minus k class) _ c
+      terms_are ks gs rest e h ts (class_after Minus k class) _ c
       (lessened_is (k c) (class c) ∙ ap (λ b. b && not (k c)) l ∙ ap (λ b. before && not b) (term_is ks gs rest e h a c))
 
   same_more : (ks : List (ℕ → Bool)) (gs : List Grouping) (k : ℕ → Bool) (g : Grouping) → Same ks gs → ((c : ℕ) → k c ≡ g.has c) → Same (ks ++ (k ∷ [])) (gs ++ (g ∷ []))
@@ -216,7 +216,7 @@ module _ (ns : Names) where
   far_more (grouping n a ts) ks gs rest f =
       let e = f.names in
       let h = f.same in
-      let first = behind Plus (term_class ns ks a) no_character in
+      let first = class_after Plus (term_class ns ks a) no_character in
       let g : Grouping = record { name = n; has = λ c. terms_have gs ts (term_has gs a c) c } in
       record {
         same = same_more ks gs (with_terms ns ks ts first) g h

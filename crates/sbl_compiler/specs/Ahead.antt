@@ -6,14 +6,14 @@ use Rattle.sbl_ast.specs.declared.tree.Simple.{Simple}
 use Rattle.sbl_ast.specs.declared.tree.Simple.TheVariants as simples
 use Rattle.sbl_ast.specs.Tree as trees
 use Rattle.sbl_ast.specs.Tree.{bracket, simple_, literal_, name_, non_, prefixed, counted, move_, named, splice_, setlimit_, assign_, compare_, compare_values_, among_, no_rows, row, no_others, joined, no_starter, starter, bare, group, declaration, escapes, macro, routine, grouping}
-use Rattle.sbl_program.specs.Listed.{listing}
-use Rattle.sbl_program.specs.Grouped.{join}
-use Rattle.sbl_compiler.specs.Numbered.{name_alone, behind_prefix, behind_count, move, change_named, edit, change_of, relation_of}
+use Rattle.sbl_program.specs.AmongStrings.{listing}
+use Rattle.sbl_program.specs.Chains.{join}
+use Rattle.sbl_compiler.specs.NumberedItems.{name_alone, behind_prefix, behind_count, move, change_named, edit, change_of, relation_of}
 use Rattle.sbl_compiler.specs.NumberedAmongs.{Found, strings_behind, entries_behind}
 use Rattle.sbl_compiler.specs.NumberedNames.{Names, number_of}
 use Rattle.sbl_compiler.specs.NumberedNumbers.{expression, text}
 use Rattle.sbl_program.specs.Program as programs
-use Rattle.sbl_semantics.specs.Regions.{Among, among_at, behind, behind_rows, behind_others, behind_starter, first, first_rows, first_others, mode_behind, waits, waits_others}
+use Rattle.sbl_semantics.specs.Regions.{Among, among_at, number_after, number_after_rows, number_after_others, number_after_starter, first, first_rows, first_others, mode_under, waits, waits_others}
 use Rattle.sbl_ast.specs.declared.mode.Mode.{Mode}
 
 abbrev pub found_as : Names → Among → Found
@@ -45,36 +45,36 @@ simple_by ns simples.False n = programs.act programs.f
 
 module _ (ns : Names) where
   abbrev mutual
-    pub made : Mode → ℕ → Bool → Option Among → trees.Command → programs.Node
-    made m k w next (bracket rs) = programs.sequence (made_rows m k w next rs)
-    made m k w next (simple_ s) = simple_by ns s next
-    made m k w next (literal_ q) = programs.act (programs.match (programs.literal q.value))
-    made m k w next (name_ n) = name_alone ns n
-    made m k w next (non_ b n) = programs.act (programs.non (number_of ns.groupings n))
-    made m k w next (prefixed x c) = behind_prefix x (made (mode_behind x m) k w next c)
-    made m k w next (counted x e c) = behind_count x (expression ns e) (made m k w next c)
-    made m k w next (move_ x e) = programs.act (move x (expression ns e))
-    made m k w next (named x n) = programs.act (change_named ns x n)
-    made m k w next (splice_ x a) = programs.act (edit x (text ns a))
-    made m k w next (setlimit_ b c) = programs.setlimit (made m k w (first m c (behind b k) next) b) (made m (behind b k) (waits b w) next c)
-    made m k w next (assign_ n o e) = programs.act (programs.assign (number_of ns.integers n) (change_of o) (expression ns e))
-    made m k w next (compare_ n o e) = programs.act (programs.compare (programs.integer (number_of ns.integers n)) (relation_of o) (expression ns e))
-    made m k w next (compare_values_ e o f) = programs.act (programs.compare (expression ns e) (relation_of o) (expression ns f))
-    made m k w next (among_ s gs) = programs.among k (search_then ns w (among_at m k gs) (made_starter m (suc k) s)) (made_groups m (behind_starter s (suc k)) gs)
+    pub made_command : Mode → ℕ → Bool → Option Among → trees.Command → programs.Node
+    made_command m k w next (bracket rs) = programs.sequence (made_rows m k w next rs)
+    made_command m k w next (simple_ s) = simple_by ns s next
+    made_command m k w next (literal_ q) = programs.act (programs.match (programs.literal q.value))
+    made_command m k w next (name_ n) = name_alone ns n
+    made_command m k w next (non_ b n) = programs.act (programs.non (number_of ns.groupings n))
+    made_command m k w next (prefixed x c) = behind_prefix x (made_command (mode_under x m) k w next c)
+    made_command m k w next (counted x e c) = behind_count x (expression ns e) (made_command m k w next c)
+    made_command m k w next (move_ x e) = programs.act (move x (expression ns e))
+    made_command m k w next (named x n) = programs.act (change_named ns x n)
+    made_command m k w next (splice_ x a) = programs.act (edit x (text ns a))
+    made_command m k w next (setlimit_ b c) = programs.setlimit (made_command m k w (first m c (number_after b k) next) b) (made_command m (number_after b k) (waits b w) next c)
+    made_command m k w next (assign_ n o e) = programs.act (programs.assign (number_of ns.integers n) (change_of o) (expression ns e))
+    made_command m k w next (compare_ n o e) = programs.act (programs.compare (programs.integer (number_of ns.integers n)) (relation_of o) (expression ns e))
+    made_command m k w next (compare_values_ e o f) = programs.act (programs.compare (expression ns e) (relation_of o) (expression ns f))
+    made_command m k w next (among_ s gs) = programs.among k (search_then ns w (among_at m k gs) (made_starter m (suc k) s)) (made_groups m (number_after_starter s (suc k)) gs)
 
     pub made_rows : Mode → ℕ → Bool → Option Among → trees.Rows → programs.Nodes
     made_rows m k w next no_rows = programs.no_commands
     made_rows m k w next (row c os rs) =
         programs.command
-        (made_others m (behind c k) (waits c w) (first_rows m rs (behind_others os (behind c k)) next) os
-        (made m k w (first_others m os (behind c k) (first_rows m rs (behind_others os (behind c k)) next)) c))
-        (made_rows m (behind_others os (behind c k)) (waits_others os (waits c w)) next rs)
+        (made_others m (number_after c k) (waits c w) (first_rows m rs (number_after_others os (number_after c k)) next) os
+        (made_command m k w (first_others m os (number_after c k) (first_rows m rs (number_after_others os (number_after c k)) next)) c))
+        (made_rows m (number_after_others os (number_after c k)) (waits_others os (waits c w)) next rs)
 
     -- commands joined from left to right to the one so far
     pub made_others : Mode → ℕ → Bool → Option Among → trees.Others → programs.Node → programs.Node
     made_others m k w next no_others sofar = sofar
     made_others m k w next (joined j c os) sofar =
-        made_others m (behind c k) (waits c w) next os (join j sofar (made m k w (first_others m os (behind c k) next) c))
+        made_others m (number_after c k) (waits c w) next os (join j sofar (made_command m k w (first_others m os (number_after c k) next) c))
 
     pub made_starter : Mode → ℕ → trees.Starter → programs.Nodes
     made_starter m k no_starter = programs.no_commands
@@ -83,13 +83,13 @@ module _ (ns : Names) where
     pub made_groups : Mode → ℕ → trees.Groups → programs.Nodes
     made_groups m k (bare es) = programs.no_commands
     made_groups m k (group e es rs gs) =
-        programs.command (programs.sequence (made_rows m k false None rs)) (made_groups m (behind_rows rs k) gs)
+        programs.command (programs.sequence (made_rows m k false None rs)) (made_groups m (number_after_rows rs k) gs)
 
   -- a routine of this mode
   abbrev pub routine_made : Mode → trees.Command → trees.Others → programs.Routine
   routine_made m c os = record {
-    body = made_others m (behind c 0) (waits c false) None os (made m 0 false (first_others m os (behind c 0) None) c);
-    amongs = behind_others os (behind c 0);
+    body = made_others m (number_after c 0) (waits c false) None os (made_command m 0 false (first_others m os (number_after c 0) None) c);
+    amongs = number_after_others os (number_after c 0);
   }
 
 -- the routine of an item, if it has one, before others

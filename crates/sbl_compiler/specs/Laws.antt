@@ -2,7 +2,7 @@
 use Rattle.std.specs.Prelude.{◌≡◌, ℕ, false, List, [], Option, slice_get}
 use Rattle.sbl_compiler.specs.Ahead.{routines_in}
 use Rattle.sbl_semantics.specs.Items.{body_named, class_of, classes_behind}
-use Rattle.sbl_compiler.specs.Numbered.{numbered_items, routines_behind}
+use Rattle.sbl_compiler.specs.NumberedItems.{numbered_items, routines_behind}
 use Rattle.sbl_compiler.specs.NumberedAmongs.{found_behind}
 use Rattle.sbl_compiler.specs.NumberedNames.{Names, names_behind, no_names, number_of}
 use Rattle.sbl_program.specs.Program.{Routine}

@@ -3,7 +3,7 @@ pub mod NumberedNames
 pub mod NumberedClasses
 pub mod NumberedAmongs
 pub mod NumberedNumbers
-pub mod Numbered
+pub mod NumberedItems
 pub mod Ahead
 pub mod Laws
 -- what the functions inside the crate promise each other; no public contract depends on these

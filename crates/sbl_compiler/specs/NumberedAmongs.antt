@@ -6,9 +6,9 @@ use Rattle.sbl_ast.specs.Tree as trees
 use Rattle.sbl_ast.specs.Tree.{bracket, simple_, literal_, name_, non_, prefixed, counted, move_, named, splice_, setlimit_, assign_, compare_, compare_values_, among_, no_rows, row, no_others, joined, no_starter, starter, bare, group, declaration, escapes, macro, routine, grouping}
 use Rattle.sbl_ast.specs.declared.mode.Mode.{Mode}
 use Rattle.sbl_program.specs.declared.node.Candidate.{Candidate}
-use Rattle.sbl_program.specs.Listed.{Listed, listing}
+use Rattle.sbl_program.specs.AmongStrings.{Listed, listing}
 use Rattle.sbl_compiler.specs.NumberedNames.{Names, number_of}
-use Rattle.sbl_semantics.specs.Regions.{mode_behind}
+use Rattle.sbl_semantics.specs.Regions.{mode_under}
 
 pub record Found : Type 0 where
   pub number : ℕ
@@ -50,31 +50,31 @@ found_of ns first m gs sofar =
 
 abbrev mutual
   -- the amongs of a command
-  pub found : Names → ℕ → Mode → trees.Command → List Found → List Found
-  found ns first m (bracket rs) sofar = found_rows ns first m rs sofar
-  found ns first m (simple_ s) sofar = sofar
-  found ns first m (literal_ q) sofar = sofar
-  found ns first m (name_ n) sofar = sofar
-  found ns first m (non_ b n) sofar = sofar
-  found ns first m (prefixed x c) sofar = found ns first (mode_behind x m) c sofar
-  found ns first m (counted n e c) sofar = found ns first m c sofar
-  found ns first m (move_ x e) sofar = sofar
-  found ns first m (named x n) sofar = sofar
-  found ns first m (splice_ x a) sofar = sofar
-  found ns first m (setlimit_ b c) sofar = found ns first m c (found ns first m b sofar)
-  found ns first m (assign_ n o e) sofar = sofar
-  found ns first m (compare_ n o e) sofar = sofar
-  found ns first m (compare_values_ e o f) sofar = sofar
-  found ns first m (among_ s gs) sofar =
+  pub found_command : Names → ℕ → Mode → trees.Command → List Found → List Found
+  found_command ns first m (bracket rs) sofar = found_rows ns first m rs sofar
+  found_command ns first m (simple_ s) sofar = sofar
+  found_command ns first m (literal_ q) sofar = sofar
+  found_command ns first m (name_ n) sofar = sofar
+  found_command ns first m (non_ b n) sofar = sofar
+  found_command ns first m (prefixed x c) sofar = found_command ns first (mode_under x m) c sofar
+  found_command ns first m (counted n e c) sofar = found_command ns first m c sofar
+  found_command ns first m (move_ x e) sofar = sofar
+  found_command ns first m (named x n) sofar = sofar
+  found_command ns first m (splice_ x a) sofar = sofar
+  found_command ns first m (setlimit_ b c) sofar = found_command ns first m c (found_command ns first m b sofar)
+  found_command ns first m (assign_ n o e) sofar = sofar
+  found_command ns first m (compare_ n o e) sofar = sofar
+  found_command ns first m (compare_values_ e o f) sofar = sofar
+  found_command ns first m (among_ s gs) sofar =
       found_groups ns first m gs (found_starter ns first m s (sofar ++ found_of ns first m gs sofar ∷ []))
 
   pub found_rows : Names → ℕ → Mode → trees.Rows → List Found → List Found
   found_rows ns first m no_rows sofar = sofar
-  found_rows ns first m (row c os rs) sofar = found_rows ns first m rs (found_others ns first m os (found ns first m c sofar))
+  found_rows ns first m (row c os rs) sofar = found_rows ns first m rs (found_others ns first m os (found_command ns first m c sofar))
 
   pub found_others : Names → ℕ → Mode → trees.Others → List Found → List Found
   found_others ns first m no_others sofar = sofar
-  found_others ns first m (joined j c os) sofar = found_others ns first m os (found ns first m c sofar)
+  found_others ns first m (joined j c os) sofar = found_others ns first m os (found_command ns first m c sofar)
 
   pub found_starter : Names → ℕ → Mode → trees.Starter → List Found → List Found
   found_starter ns first m no_starter sofar = sofar
@@ -86,7 +86,7 @@ abbrev mutual
 
 -- the amongs of an item, and of all
 abbrev pub found_plain : Names → Mode → trees.Plain → List Found → List Found
-found_plain ns m (routine n c os) sofar = found_others ns (length sofar) m os (found ns (length sofar) m c sofar)
+found_plain ns m (routine n c os) sofar = found_others ns (length sofar) m os (found_command ns (length sofar) m c sofar)
 found_plain ns m (declaration k xs) sofar = sofar
 found_plain ns m (escapes a b) sofar = sofar
 found_plain ns m (macro n b q) sofar = sofar

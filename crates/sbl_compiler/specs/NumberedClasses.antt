@@ -4,7 +4,7 @@ use Rattle.sbl_ast.specs.Order.{ItemInMode}
 use Rattle.sbl_ast.specs.declared.tree.Additive.TheVariants.{Plus}
 use Rattle.sbl_ast.specs.Tree.{Argument, written_out, by_name, Term, term, Plain, declaration, escapes, macro, routine, grouping}
 use Rattle.sbl_char_class.specs.Characters.{has}
-use Rattle.sbl_char_class.specs.Terms.{behind, class_at, no_character}
+use Rattle.sbl_char_class.specs.Terms.{class_after, class_at, no_character}
 use Rattle.sbl_compiler.specs.NumberedNames.{Names, number_of}
 
 -- the characters of a term, given the classes of the groupings before it
@@ -14,7 +14,7 @@ term_class ns classes (by_name n) = class_at classes (number_of ns.groupings n)
 
 abbrev pub with_terms : Names → List (ℕ → Bool) → List Term → (ℕ → Bool) → ℕ → Bool
 with_terms ns classes [] class = class
-with_terms ns classes (term o a ∷ ts) class = with_terms ns classes ts (behind o (term_class ns classes a) class)
+with_terms ns classes (term o a ∷ ts) class = with_terms ns classes ts (class_after o (term_class ns classes a) class)
 
 -- the classes, and the class of an item after them; the first term is added to the empty class
 abbrev pub with_class : Names → Plain → List (ℕ → Bool) → List (ℕ → Bool)

@@ -3,7 +3,7 @@ use Rattle.std.specs.Prelude.{List, [], ◌∷◌}
 use Rattle.sbl_ast.specs.declared.tree.Constant.{Constant}
 use Rattle.sbl_ast.specs.declared.tree.Constant.TheVariants as constants
 use Rattle.sbl_ast.specs.Tree as trees
-use Rattle.sbl_program.specs.Grouped.{AddedView, ScaledView, added_all, scaled_all}
+use Rattle.sbl_program.specs.Chains.{AddedView, ScaledView, all_sums, all_products}
 use Rattle.sbl_compiler.specs.NumberedNames.{Names, number_of}
 use Rattle.sbl_program.specs.Program as programs
 
@@ -20,7 +20,7 @@ constant constants.Len = programs.len
 
 abbrev mutual
   pub expression : Names → trees.Expression → programs.Arithmetic
-  expression ns (trees.expression p ss) = added_all (sums_in ns ss) (product ns p)
+  expression ns (trees.expression p ss) = all_sums (sums_in ns ss) (product ns p)
 
   -- the terms of a sum after the first
   pub sums_in : Names → trees.Sums → List AddedView
@@ -28,7 +28,7 @@ abbrev mutual
   sums_in ns (trees.sum o p ss) = (o, product ns p) ∷ sums_in ns ss
 
   pub product : Names → trees.Product → programs.Arithmetic
-  product ns (trees.product f ss) = scaled_all (scales_in ns ss) (factor ns f)
+  product ns (trees.product f ss) = all_products (scales_in ns ss) (factor ns f)
 
   -- the factors of a product after the first
   pub scales_in : Names → trees.Scales → List ScaledView

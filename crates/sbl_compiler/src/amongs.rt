@@ -1,13 +1,13 @@
 //! Lists the amongs of a script in the order of their words `among`.
 
-ghost use Rattle.std.specs.Prelude.{◌≡◌, ◌∷◌, ◌++◌, [], ◌-◌, List, map, length, OnOk, IfOk};
+ghost use Rattle.std.specs.Prelude.{◌≡◌, ◌∷◌, ◌++◌, [], List, map, length, OnOk, IfOk};
 ghost use Rattle.sbl_ast.specs.Order.{view_in_mode};
 ghost use Rattle.sbl_ast.specs.View.{view_command, view_rows, view_row, view_others, view_among, view_groups, view_entry, view_name, view_plain};
 ghost use Rattle.sbl_ast.specs.Tree as trees;
 ghost use Rattle.sbl_compiler.specs.NumberedAmongs as spec;
 ghost use Rattle.sbl_program.specs.FoundView.{texts};
-ghost use Rattle.sbl_compiler.specs.NumberedView.{view_names, view_found};
-ghost use Rattle.sbl_semantics.specs.Regions.{mode_behind as spec_mode_behind};
+ghost use Rattle.sbl_compiler.specs.NumberedView.{Finds, view_found, view_names};
+ghost use Rattle.sbl_semantics.specs.Regions.{mode_under as spec_mode_behind};
 
 use crate::names::SymbolTable;
 use sbl_ast::{
@@ -17,7 +17,7 @@ use sbl_program::{Candidate, Found};
 use std::alloc::{AllocError, Global};
 
 // Returns a copy of a string. Returns `AllocError` if an allocation fails.
-fn copied(alloc: Global, string: &[char]) -> Result<Vec<char>, AllocError>
+fn copy_string(alloc: Global, string: &[char]) -> Result<Vec<char>, AllocError>
     ensures { IfOk result (λ v. v.items ≡ string.now) }
 {
     string.to_vec(alloc)
@@ -35,7 +35,7 @@ fn count_of(groups: &Vec<Group>, bare: &Vec<Entry>) -> usize {
 fn add_string(alloc: Global, entry: &Entry, strings: &mut Vec<Vec<char>>) -> Result<(), AllocError>
     ensures { OnOk result (texts strings.new.items ≡ spec.strings_in (view_entry entry.now ∷ []) (texts strings.old.items)) }
 {
-    strings.push(copied(alloc, &entry.string.value)?)?;
+    strings.push(copy_string(alloc, &entry.string.value)?)?;
     Ok(())
 }
 
@@ -52,20 +52,6 @@ fn add_strings(
     Ok(())
 }
 
-fn add_group_strings(
-    alloc: Global,
-    groups: &Vec<Group>,
-    strings: &mut Vec<Vec<char>>,
-) -> Result<(), AllocError>
-    ensures { OnOk result ((bare : List trees.Entry) → spec.strings_in bare (texts strings.new.items) ≡ spec.strings_behind (view_groups groups.now.items bare) (texts strings.old.items)) }
-{
-    for group in groups {
-        add_string(alloc, &group.first, strings)?;
-        add_strings(alloc, &group.others, strings)?;
-    }
-    Ok(())
-}
-
 fn strings_of(
     alloc: Global,
     groups: &Vec<Group>,
@@ -74,7 +60,10 @@ fn strings_of(
     ensures { IfOk result (λ v. texts v.items ≡ spec.strings_behind (view_groups groups.now.items (map view_entry bare.now.items)) []) }
 {
     let mut strings = Vec::with_capacity(alloc, count_of(groups, bare))?;
-    add_group_strings(alloc, groups, &mut strings)?;
+    for group in groups {
+        add_string(alloc, &group.first, &mut strings)?;
+        add_strings(alloc, &group.others, &mut strings)?;
+    }
     add_strings(alloc, bare, &mut strings)?;
     Ok(strings)
 }
@@ -163,152 +152,128 @@ fn mode_behind(prefix: Prefix, mode: Mode) -> Mode
     }
 }
 
-// Adds an among after the others, before those inside it. Returns `AllocError` if an allocation fails.
-fn add_among(
+/// The part of a script in which amongs are looked for.
+#[derive(Clone, Copy)]
+struct Finder<'a> {
     alloc: Global,
-    names: &SymbolTable,
+    names: &'a SymbolTable,
+    // The number of amongs before the routine.
     first: usize,
     mode: Mode,
-    among: &Among,
-    all: &mut Vec<Found>,
-) -> Result<(), AllocError>
-    ensures { OnOk result (map view_found all.new.items ≡ map view_found all.old.items ++ spec.found_of (view_names names.now) first mode (view_among among.now).1 (map view_found all.old.items) ∷ []) }
-{
-    let number = all.len().saturating_sub(first);
-    let strings = strings_of(alloc, &among.groups, &among.bare)?;
-    let entries = entries_of(alloc, names, &among.groups, &among.bare)?;
-    all.push(Found {
-        number,
-        mode,
-        strings,
-        entries,
-    })?;
-    Ok(())
 }
 
-// Adds the amongs of a command. Returns `AllocError` if an allocation fails.
-#[cycle(finding)]
-fn find(
-    alloc: Global,
-    names: &SymbolTable,
-    first: usize,
-    mode: Mode,
-    command: &Command,
-    all: &mut Vec<Found>,
-) -> Result<(), AllocError>
-    ensures { OnOk result (map view_found all.new.items ≡ spec.found (view_names names.now) first mode (view_command command.now) (map view_found all.old.items)) }
-{
-    match command {
-        Command::Bracket(rows) => find_rows(alloc, names, first, mode, rows, all),
-        Command::Prefixed(prefix, inner) => {
-            find(alloc, names, first, mode_behind(*prefix, mode), inner, all)
+impl<'a> Finder<'a> {
+    // Returns the finder for a command after a prefix.
+    fn behind(&self, prefix: Prefix) -> Finder<'a>
+        ensures { result ≡ record self.now { mode = spec_mode_behind prefix self.now.mode } }
+    {
+        Finder {
+            mode: mode_behind(prefix, self.mode),
+            ..*self
         }
-        Command::Counted(_, _, inner) => find(alloc, names, first, mode, inner, all),
-        Command::SetLimit(limit, inner) => {
-            find(alloc, names, first, mode, limit, all)?;
-            find(alloc, names, first, mode, inner, all)
+    }
+
+    // Adds an among after the others, before those inside it. Returns `AllocError` if an allocation fails.
+    fn add_among(&self, among: &Among, all: &mut Vec<Found>) -> Result<(), AllocError>
+        ensures { OnOk result (Finds all.old.items all.new.items (λ fs. fs ++ spec.found_of (view_names self.now.names.now) self.now.first self.now.mode (view_among among.now).1 fs ∷ [])) }
+    {
+        let number = all.len().saturating_sub(self.first);
+        let strings = strings_of(self.alloc, &among.groups, &among.bare)?;
+        let entries = entries_of(self.alloc, self.names, &among.groups, &among.bare)?;
+        all.push(Found {
+            number,
+            mode: self.mode,
+            strings,
+            entries,
+        })?;
+        Ok(())
+    }
+
+    // Adds the amongs of a command. Returns `AllocError` if an allocation fails.
+    #[cycle(finding)]
+    fn find(&self, command: &Command, all: &mut Vec<Found>) -> Result<(), AllocError>
+        ensures { OnOk result (Finds all.old.items all.new.items (spec.found_command (view_names self.now.names.now) self.now.first self.now.mode (view_command command.now))) }
+    {
+        match command {
+            Command::Bracket(rows) => self.find_rows(rows, all),
+            Command::Prefixed(prefix, inner) => self.behind(*prefix).find(inner, all),
+            Command::Counted(_, _, inner) => self.find(inner, all),
+            Command::SetLimit(limit, inner) => {
+                self.find(limit, all)?;
+                self.find(inner, all)
+            }
+            Command::Among(among) => self.find_among(among, all),
+            _ => Ok(()),
         }
-        Command::Among(among) => find_among(alloc, names, first, mode, among, all),
-        _ => Ok(()),
+    }
+
+    #[cycle(finding)]
+    fn find_rows(&self, rows: &Vec<RowOfCommands>, all: &mut Vec<Found>) -> Result<(), AllocError>
+        ensures { OnOk result (Finds all.old.items all.new.items (spec.found_rows (view_names self.now.names.now) self.now.first self.now.mode (view_rows rows.now.items))) }
+    {
+        for row in rows {
+            self.find_row(row, all)?;
+        }
+        Ok(())
+    }
+
+    #[cycle(finding)]
+    fn find_row(&self, row: &RowOfCommands, all: &mut Vec<Found>) -> Result<(), AllocError>
+        ensures { OnOk result (Finds all.old.items all.new.items (λ fs. spec.found_others (view_names self.now.names.now) self.now.first self.now.mode (view_row row.now).1 (spec.found_command (view_names self.now.names.now) self.now.first self.now.mode (view_row row.now).0 fs))) }
+    {
+        self.find(&row.first, all)?;
+        self.find_others(&row.others, all)
+    }
+
+    #[cycle(finding)]
+    fn find_others(&self, others: &Vec<Joined>, all: &mut Vec<Found>) -> Result<(), AllocError>
+        ensures { OnOk result (Finds all.old.items all.new.items (spec.found_others (view_names self.now.names.now) self.now.first self.now.mode (view_others others.now.items))) }
+    {
+        for joined in others {
+            self.find(&joined.command, all)?;
+        }
+        Ok(())
+    }
+
+    #[cycle(finding)]
+    fn find_among(&self, among: &Among, all: &mut Vec<Found>) -> Result<(), AllocError>
+        ensures { OnOk result (Finds all.old.items all.new.items (spec.found_command (view_names self.now.names.now) self.now.first self.now.mode (trees.among_ (view_among among.now).0 (view_among among.now).1))) }
+    {
+        self.add_among(among, all)?;
+        if let Some(rows) = &among.starter {
+            self.find_rows(rows, all)?;
+        }
+        self.find_groups(&among.groups, all)
+    }
+
+    #[cycle(finding)]
+    fn find_groups(&self, groups: &Vec<Group>, all: &mut Vec<Found>) -> Result<(), AllocError>
+        ensures { OnOk result ((bare : List trees.Entry) → Finds all.old.items all.new.items (spec.found_groups (view_names self.now.names.now) self.now.first self.now.mode (view_groups groups.now.items bare))) }
+    {
+        for group in groups {
+            self.find_rows(&group.rows, all)?;
+        }
+        Ok(())
     }
 }
 
-#[cycle(finding)]
-fn find_rows(
-    alloc: Global,
-    names: &SymbolTable,
-    first: usize,
-    mode: Mode,
-    rows: &Vec<RowOfCommands>,
-    all: &mut Vec<Found>,
-) -> Result<(), AllocError>
-    ensures { OnOk result (map view_found all.new.items ≡ spec.found_rows (view_names names.now) first mode (view_rows rows.now.items) (map view_found all.old.items)) }
-{
-    for row in rows {
-        find_row(alloc, names, first, mode, row, all)?;
-    }
-    Ok(())
-}
-
-#[cycle(finding)]
-fn find_row(
-    alloc: Global,
-    names: &SymbolTable,
-    first: usize,
-    mode: Mode,
-    row: &RowOfCommands,
-    all: &mut Vec<Found>,
-) -> Result<(), AllocError>
-    ensures { OnOk result (map view_found all.new.items ≡ spec.found_others (view_names names.now) first mode (view_row row.now).1 (spec.found (view_names names.now) first mode (view_row row.now).0 (map view_found all.old.items))) }
-{
-    find(alloc, names, first, mode, &row.first, all)?;
-    find_others(alloc, names, first, mode, &row.others, all)
-}
-
-#[cycle(finding)]
-fn find_others(
-    alloc: Global,
-    names: &SymbolTable,
-    first: usize,
-    mode: Mode,
-    others: &Vec<Joined>,
-    all: &mut Vec<Found>,
-) -> Result<(), AllocError>
-    ensures { OnOk result (map view_found all.new.items ≡ spec.found_others (view_names names.now) first mode (view_others others.now.items) (map view_found all.old.items)) }
-{
-    for joined in others {
-        find(alloc, names, first, mode, &joined.command, all)?;
-    }
-    Ok(())
-}
-
-#[cycle(finding)]
-fn find_among(
-    alloc: Global,
-    names: &SymbolTable,
-    first: usize,
-    mode: Mode,
-    among: &Among,
-    all: &mut Vec<Found>,
-) -> Result<(), AllocError>
-    ensures { OnOk result (map view_found all.new.items ≡ spec.found (view_names names.now) first mode (trees.among_ (view_among among.now).0 (view_among among.now).1) (map view_found all.old.items)) }
-{
-    add_among(alloc, names, first, mode, among, all)?;
-    if let Some(rows) = &among.starter {
-        find_rows(alloc, names, first, mode, rows, all)?;
-    }
-    find_groups(alloc, names, first, mode, &among.groups, all)
-}
-
-#[cycle(finding)]
-fn find_groups(
-    alloc: Global,
-    names: &SymbolTable,
-    first: usize,
-    mode: Mode,
-    groups: &Vec<Group>,
-    all: &mut Vec<Found>,
-) -> Result<(), AllocError>
-    ensures { OnOk result ((bare : List trees.Entry) → map view_found all.new.items ≡ spec.found_groups (view_names names.now) first mode (view_groups groups.now.items bare) (map view_found all.old.items)) }
-{
-    for group in groups {
-        find_rows(alloc, names, first, mode, &group.rows, all)?;
-    }
-    Ok(())
-}
-
+// Adds the amongs of an item. Returns `AllocError` if an allocation fails.
 fn find_plain(
     alloc: Global,
     names: &SymbolTable,
-    mode: Mode,
-    plain: &Plain,
+    item: &ItemInMode,
     all: &mut Vec<Found>,
 ) -> Result<(), AllocError>
-    ensures { OnOk result (map view_found all.new.items ≡ spec.found_plain (view_names names.now) mode (view_plain plain.now) (map view_found all.old.items)) }
+    ensures { OnOk result (Finds all.old.items all.new.items (spec.found_plain (view_names names.now) item.now.mode (view_plain item.now.plain.now))) }
 {
-    if let Plain::Routine { name: _, body } = plain {
-        let first = all.len();
-        find_row(alloc, names, first, mode, body, all)?;
+    if let Plain::Routine { name: _, body } = item.plain {
+        let finder = Finder {
+            alloc,
+            names,
+            first: all.len(),
+            mode: item.mode,
+        };
+        finder.find_row(body, all)?;
     }
     Ok(())
 }
@@ -323,7 +288,7 @@ pub fn amongs_of(
 {
     let mut all = Vec::new(alloc);
     for item in items {
-        find_plain(alloc, names, item.mode, item.plain, &mut all)?;
+        find_plain(alloc, names, item, &mut all)?;
     }
     Ok(all)
 }

@@ -6,11 +6,12 @@ ghost use Rattle.sbl_ast.specs.Tree.{term};
 ghost use Rattle.sbl_ast.specs.View.{view_argument, view_plain, view_term};
 ghost use Rattle.sbl_ast.specs.declared.tree.Additive.TheVariants.{Plus};
 ghost use Rattle.sbl_char_class.specs.CharacterClasses.{members};
-ghost use Rattle.sbl_char_class.specs.Terms.{behind, no_character};
+ghost use Rattle.sbl_char_class.specs.Terms.{class_after, no_character};
 ghost use Rattle.sbl_compiler.specs.NamedAgain.{is_name_of, is_named_again};
 ghost use Rattle.sbl_compiler.specs.NumberedClasses as spec;
-ghost use Rattle.sbl_compiler.specs.NumberedView.{view_names};
+ghost use Rattle.sbl_compiler.specs.NumberedView.{names_in, view_names};
 
+use crate::compiler::{Compiled, Compiler};
 use crate::names::SymbolTable;
 use sbl_ast::{Additive, Argument, ItemInMode, Plain, Term};
 use sbl_char_class::CharacterClass;
@@ -26,7 +27,7 @@ fn with_term(
     operator: Additive,
     argument: &Argument,
 ) -> Result<CharacterClass, AllocError>
-    ensures { IfOk result (λ made. members made ≡ behind operator (spec.term_class (view_names names.now) (map members classes.now) (view_argument argument.now)) (members class)) }
+    ensures { IfOk result (λ made. members made ≡ class_after operator (spec.term_class (view_names names.now) (map members classes.now) (view_argument argument.now)) (members class)) }
 {
     match argument {
         Argument::Literal(literal) => class.with(alloc, operator, literal.value.as_slice()),
@@ -120,37 +121,31 @@ fn class_of(
     Ok(class)
 }
 
-fn add_class(
-    alloc: Global,
-    names: &SymbolTable,
-    plain: &Plain,
-    classes: &mut Vec<CharacterClass>,
-) -> Result<(), AllocError>
-    ensures { OnOk result (map members classes.new.items ≡ spec.with_class (view_names names.now) (view_plain plain.now) (map members classes.old.items)) }
-{
-    if let Plain::Grouping {
-        name: _,
-        first,
-        others,
-    } = plain
+impl Compiler<'_> {
+    fn add_class(&self, plain: &Plain, classes: &mut Vec<CharacterClass>) -> Compiled<()>
+        ensures { OnOk result (map members classes.new.items ≡ spec.with_class (names_in self.now) (view_plain plain.now) (map members classes.old.items)) }
     {
-        let class = class_of(alloc, names, classes, first, others)?;
-        classes.push(class)?;
+        if let Plain::Grouping {
+            name: _,
+            first,
+            others,
+        } = plain
+        {
+            let class = class_of(self.alloc, self.names, classes, first, others)?;
+            classes.push(class)?;
+        }
+        Ok(())
     }
-    Ok(())
-}
 
-/// Returns the class of each grouping, in the order of their definitions. Returns `AllocError` if an allocation fails.
-pub fn numbered_classes(
-    alloc: Global,
-    names: &SymbolTable,
-    items: &[ItemInMode],
-) -> Result<Vec<CharacterClass>, AllocError>
-    ensures { IfOk result (λ classes. map members classes.items ≡ spec.numbered_classes (view_names names.now) (map view_in_mode items.now) []) }
-{
-    let mut classes = Vec::new(alloc);
-    for item in items {
-        add_class(alloc, names, item.plain, &mut classes)?;
+    /// Returns the class of each grouping, in the order of their definitions. Returns `AllocError` if an allocation
+    /// fails.
+    pub fn numbered_classes(&self, items: &[ItemInMode]) -> Compiled<Vec<CharacterClass>>
+        ensures { IfOk result (λ classes. map members classes.items ≡ spec.numbered_classes (names_in self.now) (map view_in_mode items.now) []) }
+    {
+        let mut classes = Vec::new(self.alloc);
+        for item in items {
+            self.add_class(item.plain, &mut classes)?;
+        }
+        Ok(classes)
     }
-    Ok(classes)
 }

@@ -3,24 +3,21 @@
 ghost use Rattle.std.specs.Prelude.{◌≡◌, List, map, OnOk, IfOk};
 ghost use Rattle.sbl_ast.specs.View.{view_argument, view_command, view_rows, view_row, view_others, view_among, view_groups, view_expression, view_literal};
 ghost use Rattle.sbl_ast.specs.Tree as trees;
-ghost use Rattle.sbl_compiler.specs.Numbered as spec;
-ghost use Rattle.sbl_program.specs.FoundView.{strings_at};
-ghost use Rattle.sbl_compiler.specs.NumberedView.{view_names, view_place};
+ghost use Rattle.sbl_compiler.specs.NumberedItems as spec;
+ghost use Rattle.sbl_compiler.specs.NumberedView.{joined_in, names_in, node_in, place_in};
 ghost use Rattle.sbl_compiler.specs.NumberedNames.{number_of as spec_number_of};
 ghost use Rattle.sbl_compiler.specs.NumberedNumbers.{expression as spec_expression, text as spec_text};
 ghost use Rattle.sbl_program.specs.Program as programs;
-ghost use Rattle.sbl_program.specs.Grouped.{joined_all};
-ghost use Rattle.sbl_program.specs.ProgramOf.{view_action, view_joined, view_node, view_number, view_text};
+ghost use Rattle.sbl_program.specs.Chains.{join_all};
+ghost use Rattle.sbl_program.specs.ProgramOf.{view_action, view_number, view_text};
 
-use crate::names::SymbolTable;
-use crate::numbers::{number_of_expression, text};
-use crate::operators::{change_of, relation_of};
-use crate::place::{CommandPosition, begun, closed, inside, left_of, past_rows};
+use crate::compiler::{Compiled, Compiler, collected, whole};
+use crate::place::{CommandPosition, begin_region, end_waiting, inside, left_of, past_rows};
 use sbl_ast::{
     Among, Argument, Assignment, Command, Comparison, Count, Expression, Group, Joined, Joiner,
     Literal, Move, Naming, Prefix, RowOfCommands, Simple, Splice,
 };
-use sbl_program::{Action, Arithmetic, Candidate, Found, Node, StringTerm};
+use sbl_program::{Action, Arithmetic, Candidate, Change, JoinedNode, Node, Relation, StringTerm};
 use std::alloc::{AllocError, Global};
 
 fn copied_entries(alloc: Global, entries: &[Candidate]) -> Result<Vec<Candidate>, AllocError>
@@ -31,142 +28,7 @@ fn copied_entries(alloc: Global, entries: &[Candidate]) -> Result<Vec<Candidate>
     Ok(copy)
 }
 
-// Returns the number of the next among in its routine.
-fn next_number(amongs: &Vec<Found>, place: CommandPosition) -> usize
-    ensures { result ≡ (spec.next_of (view_place amongs.now.items place).coming).number }
-{
-    match amongs.get(place.next) {
-        None => 0,
-        Some(found) => found.number,
-    }
-}
-
-// Returns the candidates of the next among, one for each string. Returns `AllocError` if an allocation fails.
-fn next_entries(
-    alloc: Global,
-    amongs: &Vec<Found>,
-    place: CommandPosition,
-) -> Result<Vec<Candidate>, AllocError>
-    ensures { IfOk result (λ v. v.items ≡ (spec.next_of (view_place amongs.now.items place).coming).entries) }
-{
-    match amongs.get(place.next) {
-        None => Ok(Vec::new(alloc)),
-        Some(found) => copied_entries(alloc, &found.entries),
-    }
-}
-
-// Returns the search of the next among. Returns `AllocError` if an allocation fails.
-fn search_next(
-    alloc: Global,
-    amongs: &Vec<Found>,
-    place: CommandPosition,
-) -> Result<Node, AllocError>
-    ensures { IfOk result (λ n. view_node (strings_at amongs.now.items) n ≡ spec.search_next (view_place amongs.now.items place)) }
-{
-    let entries = next_entries(alloc, amongs, place)?;
-    Ok(Node::Search {
-        among: next_number(amongs, place),
-        table: place.next,
-        entries,
-    })
-}
-
-// Returns the search for a `substring`: f if its region has no among ahead. Returns `AllocError` if an allocation
-// fails.
-fn search_ahead(
-    alloc: Global,
-    amongs: &Vec<Found>,
-    place: CommandPosition,
-) -> Result<Node, AllocError>
-    ensures { IfOk result (λ n. view_node (strings_at amongs.now.items) n ≡ spec.search_ahead (view_place amongs.now.items place)) }
-{
-    if place.behind < left_of(amongs, place) {
-        search_next(alloc, amongs, place)
-    } else {
-        Ok(Node::Act(Action::False))
-    }
-}
-
-fn simple(
-    alloc: Global,
-    amongs: &Vec<Found>,
-    word: Simple,
-    place: &mut CommandPosition,
-) -> Result<Node, AllocError>
-    ensures made { IfOk result (λ n. view_node (strings_at amongs.now.items) n ≡ spec.simple word (view_place amongs.now.items place.old)) }
-    ensures behind { OnOk result (view_place amongs.now.items place.new ≡ spec.past_simple word (view_place amongs.now.items place.old)) }
-{
-    match word {
-        Simple::LeftBracket => Ok(Node::Act(Action::LeftBracket)),
-        Simple::RightBracket => Ok(Node::Act(Action::RightBracket)),
-        Simple::Substring => {
-            let node = search_ahead(alloc, amongs, *place)?;
-            place.waits = true;
-            Ok(node)
-        }
-        Simple::Next => Ok(Node::Act(Action::Next)),
-        Simple::ToLimit => Ok(Node::Act(Action::ToLimit)),
-        Simple::AtLimit => Ok(Node::Act(Action::AtLimit)),
-        Simple::Delete => Ok(Node::Act(Action::Delete)),
-        Simple::True => Ok(Node::Act(Action::True)),
-        Simple::False => Ok(Node::Act(Action::False)),
-    }
-}
-
-// Compiles a name that is a command.
-fn name_alone(names: &SymbolTable, _amongs: &Vec<Found>, name: &str) -> Node
-    ensures { view_node (strings_at _amongs.now.items) result ≡ spec.name_alone (view_names names.now) name.now }
-{
-    if names.strings.is_one_of(name) {
-        Node::Act(Action::Match(StringTerm::Variable(names.strings.number_of(name))))
-    } else if names.booleans.is_one_of(name) {
-        Node::Act(Action::Boolean(names.booleans.number_of(name)))
-    } else if names.groupings.is_one_of(name) {
-        Node::Act(Action::Grouping(names.groupings.number_of(name)))
-    } else {
-        Node::Call(names.routines.number_of(name))
-    }
-}
-
-fn behind_prefix(
-    alloc: Global,
-    _amongs: &Vec<Found>,
-    prefix: Prefix,
-    inner: Node,
-) -> Result<Node, AllocError>
-    ensures { IfOk result (λ n. view_node (strings_at _amongs.now.items) n ≡ spec.behind_prefix prefix (view_node (strings_at _amongs.now.items) inner)) }
-{
-    let inner = Box::new(alloc, inner)?;
-    Ok(match prefix {
-        Prefix::Not => Node::Not(inner),
-        Prefix::Test => Node::Test(inner),
-        Prefix::Try => Node::Try(inner),
-        Prefix::Do => Node::Do(inner),
-        Prefix::Fail => Node::Fail(inner),
-        Prefix::Repeat => Node::Repeat(inner),
-        Prefix::GoTo => Node::Goto(inner),
-        Prefix::GoPast => Node::GoPast(inner),
-        Prefix::Backwards => Node::Backwards(inner),
-    })
-}
-
-fn behind_count(
-    alloc: Global,
-    _amongs: &Vec<Found>,
-    count: Count,
-    number: Arithmetic,
-    inner: Node,
-) -> Result<Node, AllocError>
-    ensures { IfOk result (λ n. view_node (strings_at _amongs.now.items) n ≡ spec.behind_count count (view_number number) (view_node (strings_at _amongs.now.items) inner)) }
-{
-    let inner = Box::new(alloc, inner)?;
-    Ok(match count {
-        Count::Loop => Node::Loop(number, inner),
-        Count::AtLeast => Node::AtLeast(number, inner),
-    })
-}
-
-fn moved(movement: Move, number: Arithmetic) -> Action
+fn move_action(movement: Move, number: Arithmetic) -> Action
     ensures { view_action result ≡ spec.move movement (view_number number) }
 {
     match movement {
@@ -176,18 +38,7 @@ fn moved(movement: Move, number: Arithmetic) -> Action
     }
 }
 
-fn change_named(names: &SymbolTable, naming: Naming, name: &str) -> Action
-    ensures { view_action result ≡ spec.change_named (view_names names.now) naming name.now }
-{
-    match naming {
-        Naming::SetMark => Action::SetMark(names.integers.number_of(name)),
-        Naming::Set => Action::Set(names.booleans.number_of(name)),
-        Naming::Unset => Action::Unset(names.booleans.number_of(name)),
-        Naming::Arrow => Action::Keep(names.strings.number_of(name)),
-    }
-}
-
-fn edited(edit: Splice, string: StringTerm) -> Action
+fn edit_action(edit: Splice, string: StringTerm) -> Action
     ensures { view_action result ≡ spec.edit edit (view_text string) }
 {
     match edit {
@@ -197,225 +48,24 @@ fn edited(edit: Splice, string: StringTerm) -> Action
     }
 }
 
-// Returns a command of a row that comes after the first.
-fn joined_command(_amongs: &Vec<Found>, joiner: Joiner, command: Node) -> sbl_program::JoinedNode
-    ensures { view_joined (strings_at _amongs.now.items) result ≡ (joiner, view_node (strings_at _amongs.now.items) command) }
-{
-    sbl_program::JoinedNode { joiner, command }
-}
-
-// Makes a row of the first command and those after it; the first command alone if there are no others. Returns
-// `AllocError` if an allocation fails.
-fn whole_row(
-    alloc: Global,
-    _amongs: &Vec<Found>,
-    first: Node,
-    others: Vec<sbl_program::JoinedNode>,
-) -> Result<Node, AllocError>
-    ensures { IfOk result (λ n. view_node (strings_at _amongs.now.items) n ≡ joined_all (map (view_joined (strings_at _amongs.now.items)) others.items) (view_node (strings_at _amongs.now.items) first)) }
-{
-    if others.is_empty() {
-        return Ok(first);
-    }
-    Ok(Node::Row {
-        first: Box::new(alloc, first)?,
-        others,
-    })
-}
-
-fn set_limit(
-    alloc: Global,
-    _amongs: &Vec<Found>,
-    first: Node,
-    second: Node,
-) -> Result<Node, AllocError>
-    ensures { IfOk result (λ n. view_node (strings_at _amongs.now.items) n ≡ programs.setlimit (view_node (strings_at _amongs.now.items) first) (view_node (strings_at _amongs.now.items) second)) }
-{
-    let first = Box::new(alloc, first)?;
-    let second = Box::new(alloc, second)?;
-    Ok(Node::SetLimit(first, second))
-}
-
 fn literal(alloc: Global, literal: &Literal) -> Result<Action, AllocError>
     ensures { IfOk result (λ a. view_action a ≡ programs.match (programs.literal (view_literal literal.now).value)) }
 {
     Ok(Action::Match(StringTerm::Literal(literal.value.clone()?)))
 }
 
-fn move_to(
-    alloc: Global,
-    names: &SymbolTable,
-    movement: Move,
-    number: &Expression,
-) -> Result<Action, AllocError>
-    ensures { IfOk result (λ a. view_action a ≡ spec.move movement (spec_expression (view_names names.now) (view_expression number.now))) }
+// Returns the relation that a comparison tests.
+fn relation_of(comparison: Comparison) -> Relation
+    ensures { result ≡ spec.relation_of comparison }
 {
-    Ok(moved(movement, number_of_expression(alloc, names, number)?))
-}
-
-fn edit_text(
-    alloc: Global,
-    names: &SymbolTable,
-    edit: Splice,
-    string: &Argument,
-) -> Result<Action, AllocError>
-    ensures { IfOk result (λ a. view_action a ≡ spec.edit edit (spec_text (view_names names.now) (view_argument string.now))) }
-{
-    Ok(edited(edit, text(alloc, names, string)?))
-}
-
-fn assign(
-    alloc: Global,
-    names: &SymbolTable,
-    name: &str,
-    assignment: Assignment,
-    number: &Expression,
-) -> Result<Action, AllocError>
-    ensures { IfOk result (λ a. view_action a ≡ programs.assign (spec_number_of (view_names names.now).integers name.now) (spec.change_of assignment) (spec_expression (view_names names.now) (view_expression number.now))) }
-{
-    Ok(Action::Assign(
-        names.integers.number_of(name),
-        change_of(assignment),
-        number_of_expression(alloc, names, number)?,
-    ))
-}
-
-fn compare(
-    alloc: Global,
-    names: &SymbolTable,
-    name: &str,
-    comparison: Comparison,
-    number: &Expression,
-) -> Result<Action, AllocError>
-    ensures { IfOk result (λ a. view_action a ≡ programs.compare (programs.integer (spec_number_of (view_names names.now).integers name.now)) (spec.relation_of comparison) (spec_expression (view_names names.now) (view_expression number.now))) }
-{
-    Ok(Action::Compare(
-        Arithmetic::Integer(names.integers.number_of(name)),
-        relation_of(comparison),
-        number_of_expression(alloc, names, number)?,
-    ))
-}
-
-fn compare_values(
-    alloc: Global,
-    names: &SymbolTable,
-    first: &Expression,
-    comparison: Comparison,
-    second: &Expression,
-) -> Result<Action, AllocError>
-    ensures { IfOk result (λ a. view_action a ≡ programs.compare (spec_expression (view_names names.now) (view_expression first.now)) (spec.relation_of comparison) (spec_expression (view_names names.now) (view_expression second.now))) }
-{
-    Ok(Action::Compare(
-        number_of_expression(alloc, names, first)?,
-        relation_of(comparison),
-        number_of_expression(alloc, names, second)?,
-    ))
-}
-
-/// Compiles a command, and moves `place` to the position after it. Returns `AllocError` if an allocation fails.
-#[cycle(commands)]
-fn node_of(
-    alloc: Global,
-    names: &SymbolTable,
-    amongs: &Vec<Found>,
-    command: &Command,
-    place: &mut CommandPosition,
-) -> Result<Node, AllocError>
-    ensures made { IfOk result (λ n. view_node (strings_at amongs.now.items) n ≡ spec.numbered (view_names names.now) (view_command command.now) (view_place amongs.now.items place.old)) }
-    ensures behind { OnOk result (view_place amongs.now.items place.new ≡ spec.past (view_command command.now) (view_place amongs.now.items place.old)) }
-{
-    match command {
-        Command::Bracket(rows) => Ok(Node::Sequence(rows_of(alloc, names, amongs, rows, place)?)),
-        Command::Simple(word) => simple(alloc, amongs, *word, place),
-        Command::Literal(value) => Ok(Node::Act(literal(alloc, value)?)),
-        Command::Name(name) => Ok(name_alone(names, amongs, name.as_str())),
-        Command::Non {
-            with_minus: _,
-            name,
-        } => Ok(Node::Act(Action::NonGrouping(names.groupings.number_of(name.as_str())))),
-        Command::Prefixed(prefix, inner) => {
-            let inner = node_of(alloc, names, amongs, inner, place)?;
-            behind_prefix(alloc, amongs, *prefix, inner)
-        }
-        Command::Counted(count, number, inner) => {
-            let number = number_of_expression(alloc, names, number)?;
-            let inner = node_of(alloc, names, amongs, inner, place)?;
-            behind_count(alloc, amongs, *count, number, inner)
-        }
-        Command::Move(movement, number) => Ok(Node::Act(move_to(alloc, names, *movement, number)?)),
-        Command::Named(naming, name) => Ok(Node::Act(change_named(names, *naming, name.as_str()))),
-        Command::Splice(edit, string) => Ok(Node::Act(edit_text(alloc, names, *edit, string)?)),
-        Command::SetLimit(limit, inner) => {
-            let limit = node_of(alloc, names, amongs, limit, place)?;
-            let inner = node_of(alloc, names, amongs, inner, place)?;
-            set_limit(alloc, amongs, limit, inner)
-        }
-        Command::Assign(name, assignment, number) => {
-            Ok(Node::Act(assign(alloc, names, name.as_str(), *assignment, number)?))
-        }
-        Command::Compare(name, comparison, number) => {
-            Ok(Node::Act(compare(alloc, names, name.as_str(), *comparison, number)?))
-        }
-        Command::CompareValues(first, comparison, second) => {
-            Ok(Node::Act(compare_values(alloc, names, first, *comparison, second)?))
-        }
-        Command::Among(among) => among_of(alloc, names, amongs, among, place),
+    match comparison {
+        Comparison::Same => Relation::Equal,
+        Comparison::Differs => Relation::Unequal,
+        Comparison::Less => Relation::Less,
+        Comparison::AtMost => Relation::LessOrEqual,
+        Comparison::Greater => Relation::Greater,
+        Comparison::AtLeast => Relation::GreaterOrEqual,
     }
-}
-
-#[cycle(commands)]
-fn rows_of(
-    alloc: Global,
-    names: &SymbolTable,
-    amongs: &Vec<Found>,
-    rows: &Vec<RowOfCommands>,
-    place: &mut CommandPosition,
-) -> Result<Vec<Node>, AllocError>
-    ensures made { IfOk result (λ ns. map (view_node (strings_at amongs.now.items)) ns.items ≡ spec.numbered_rows (view_names names.now) (view_rows rows.now.items) (view_place amongs.now.items place.old)) }
-    ensures behind { OnOk result (view_place amongs.now.items place.new ≡ spec.past_rows (view_rows rows.now.items) (view_place amongs.now.items place.old)) }
-{
-    let mut nodes = Vec::with_capacity(alloc, rows.len())?;
-    for row in rows {
-        let node = row_of(alloc, names, amongs, row, place)?;
-        nodes.push(node)?;
-    }
-    Ok(nodes)
-}
-
-/// Compiles a row, and moves `place` to the position after it. Returns `AllocError` if an allocation fails.
-#[cycle(commands)]
-pub fn row_of(
-    alloc: Global,
-    names: &SymbolTable,
-    amongs: &Vec<Found>,
-    row: &RowOfCommands,
-    place: &mut CommandPosition,
-) -> Result<Node, AllocError>
-    ensures made { IfOk result (λ n. view_node (strings_at amongs.now.items) n ≡ spec.numbered_others (view_names names.now) (view_row row.now).1 (spec.past (view_row row.now).0 (view_place amongs.now.items place.old)) (spec.numbered (view_names names.now) (view_row row.now).0 (view_place amongs.now.items place.old))) }
-    ensures behind { OnOk result (view_place amongs.now.items place.new ≡ spec.past_others (view_row row.now).1 (spec.past (view_row row.now).0 (view_place amongs.now.items place.old))) }
-{
-    let first = node_of(alloc, names, amongs, &row.first, place)?;
-    let others = others_of(alloc, names, amongs, &row.others, place)?;
-    whole_row(alloc, amongs, first, others)
-}
-
-#[cycle(commands)]
-fn others_of(
-    alloc: Global,
-    names: &SymbolTable,
-    amongs: &Vec<Found>,
-    others: &Vec<Joined>,
-    place: &mut CommandPosition,
-) -> Result<Vec<sbl_program::JoinedNode>, AllocError>
-    ensures made { IfOk result (λ v. map (view_joined (strings_at amongs.now.items)) v.items ≡ spec.joins_in (view_names names.now) (view_others others.now.items) (view_place amongs.now.items place.old)) }
-    ensures behind { OnOk result (view_place amongs.now.items place.new ≡ spec.past_others (view_others others.now.items) (view_place amongs.now.items place.old)) }
-{
-    let mut joins = Vec::with_capacity(alloc, others.len())?;
-    for other in others {
-        let command = node_of(alloc, names, amongs, &other.command, place)?;
-        joins.push(joined_command(amongs, other.joiner, command))?;
-    }
-    Ok(joins)
 }
 
 // Returns the number of commands before the command of the chosen group: the search and the starter. If a `substring`
@@ -428,73 +78,326 @@ fn count_before(waits: bool, among: &Among) -> usize {
     }
 }
 
-#[cycle(commands)]
-fn among_of(
-    alloc: Global,
-    names: &SymbolTable,
-    amongs: &Vec<Found>,
-    among: &Among,
-    place: &mut CommandPosition,
-) -> Result<Node, AllocError>
-    ensures made { IfOk result (λ n. view_node (strings_at amongs.now.items) n ≡ spec.numbered (view_names names.now) (trees.among_ (view_among among.now).0 (view_among among.now).1) (view_place amongs.now.items place.old)) }
-    ensures behind { OnOk result (view_place amongs.now.items place.new ≡ spec.past (trees.among_ (view_among among.now).0 (view_among among.now).1) (view_place amongs.now.items place.old)) }
-{
-    let number = next_number(amongs, *place);
-    let waits = place.waits;
-    let mut before = Vec::with_capacity(alloc, count_before(waits, among))?;
-    if !waits {
-        before.push(search_next(alloc, amongs, *place)?)?;
-    }
-    *place = inside(amongs, *place);
-    if let Some(rows) = &among.starter {
-        let nodes = region_of(alloc, names, amongs, rows, place)?;
-        if !waits {
-            before.push(Node::Sequence(nodes))?;
+impl Compiler<'_> {
+    // Returns the number of the next among in its routine.
+    fn next_number(&self, place: CommandPosition) -> usize
+        ensures { result ≡ (spec.next_of (place_in self.now place).coming).number }
+    {
+        match self.amongs.get(place.next) {
+            None => 0,
+            Some(found) => found.number,
         }
     }
-    let bodies = bodies_of(alloc, names, amongs, &among.groups, place)?;
-    place.waits = false;
-    Ok(Node::Among {
-        among: number,
-        before,
-        bodies,
-    })
-}
 
-// Compiles the rows in parentheses that are a region of their own, and moves `place` to the position after them.
-// Returns `AllocError` if an allocation fails.
-#[cycle(commands)]
-fn region_of(
-    alloc: Global,
-    names: &SymbolTable,
-    amongs: &Vec<Found>,
-    rows: &Vec<RowOfCommands>,
-    place: &mut CommandPosition,
-) -> Result<Vec<Node>, AllocError>
-    ensures made { IfOk result (λ ns. map (view_node (strings_at amongs.now.items)) ns.items ≡ spec.numbered_rows (view_names names.now) (view_rows rows.now.items) (spec.region (view_rows rows.now.items) (view_place amongs.now.items place.old))) }
-    ensures behind { OnOk result (view_place amongs.now.items place.new ≡ spec.past_rows (view_rows rows.now.items) (spec.closed (view_place amongs.now.items place.old))) }
-{
-    let behind = past_rows(amongs, rows, closed(amongs, *place));
-    let mut inner = begun(amongs, *place, behind);
-    *place = behind;
-    rows_of(alloc, names, amongs, rows, &mut inner)
-}
-
-#[cycle(commands)]
-fn bodies_of(
-    alloc: Global,
-    names: &SymbolTable,
-    amongs: &Vec<Found>,
-    groups: &Vec<Group>,
-    place: &mut CommandPosition,
-) -> Result<Vec<Node>, AllocError>
-    ensures made { IfOk result (λ ns. (bare : List trees.Entry) → map (view_node (strings_at amongs.now.items)) ns.items ≡ spec.numbered_groups (view_names names.now) (view_groups groups.now.items bare) (view_place amongs.now.items place.old)) }
-    ensures behind { OnOk result ((bare : List trees.Entry) → view_place amongs.now.items place.new ≡ spec.past_groups (view_groups groups.now.items bare) (view_place amongs.now.items place.old)) }
-{
-    let mut bodies = Vec::with_capacity(alloc, groups.len())?;
-    for group in groups {
-        let nodes = region_of(alloc, names, amongs, &group.rows, place)?;
-        bodies.push(Node::Sequence(nodes))?;
+    // Returns the candidates of the next among, one for each string. Returns `AllocError` if an allocation fails.
+    fn next_entries(&self, place: CommandPosition) -> Compiled<Vec<Candidate>>
+        ensures { IfOk result (λ v. v.items ≡ (spec.next_of (place_in self.now place).coming).entries) }
+    {
+        match self.amongs.get(place.next) {
+            None => Ok(Vec::new(self.alloc)),
+            Some(found) => copied_entries(self.alloc, &found.entries),
+        }
     }
-    Ok(bodies)
+
+    // Returns the search of the next among. Returns `AllocError` if an allocation fails.
+    fn search_next(&self, place: CommandPosition) -> Compiled<Node>
+        ensures { IfOk result (λ n. node_in self.now n ≡ spec.search_next (place_in self.now place)) }
+    {
+        let entries = self.next_entries(place)?;
+        Ok(Node::Search {
+            among: self.next_number(place),
+            table: place.next,
+            entries,
+        })
+    }
+
+    // Returns the search for a `substring`: f if its region has no among ahead. Returns `AllocError` if an allocation
+    // fails.
+    fn search_ahead(&self, place: CommandPosition) -> Compiled<Node>
+        ensures { IfOk result (λ n. node_in self.now n ≡ spec.search_ahead (place_in self.now place)) }
+    {
+        if place.behind < left_of(self.amongs, place) {
+            self.search_next(place)
+        } else {
+            Ok(Node::Act(Action::False))
+        }
+    }
+
+    fn simple(&self, word: Simple, place: &mut CommandPosition) -> Compiled<Node>
+        ensures made { IfOk result (λ n. node_in self.now n ≡ spec.simple word (place_in self.now place.old)) }
+        ensures behind { OnOk result (place_in self.now place.new ≡ spec.past_simple word (place_in self.now place.old)) }
+    {
+        match word {
+            Simple::LeftBracket => Ok(Node::Act(Action::LeftBracket)),
+            Simple::RightBracket => Ok(Node::Act(Action::RightBracket)),
+            Simple::Substring => {
+                let node = self.search_ahead(*place)?;
+                place.waits = true;
+                Ok(node)
+            }
+            Simple::Next => Ok(Node::Act(Action::Next)),
+            Simple::ToLimit => Ok(Node::Act(Action::ToLimit)),
+            Simple::AtLimit => Ok(Node::Act(Action::AtLimit)),
+            Simple::Delete => Ok(Node::Act(Action::Delete)),
+            Simple::True => Ok(Node::Act(Action::True)),
+            Simple::False => Ok(Node::Act(Action::False)),
+        }
+    }
+
+    // Compiles a name that is a command.
+    fn name_alone(&self, name: &str) -> Node
+        ensures { node_in self.now result ≡ spec.name_alone (names_in self.now) name.now }
+    {
+        if self.names.strings.is_one_of(name) {
+            Node::Act(Action::Match(StringTerm::Variable(self.names.strings.number_of(name))))
+        } else if self.names.booleans.is_one_of(name) {
+            Node::Act(Action::Boolean(self.names.booleans.number_of(name)))
+        } else if self.names.groupings.is_one_of(name) {
+            Node::Act(Action::Grouping(self.names.groupings.number_of(name)))
+        } else {
+            Node::Call(self.names.routines.number_of(name))
+        }
+    }
+
+    fn behind_prefix(&self, prefix: Prefix, inner: Node) -> Compiled<Node>
+        ensures { IfOk result (λ n. node_in self.now n ≡ spec.behind_prefix prefix (node_in self.now inner)) }
+    {
+        let inner = Box::new(self.alloc, inner)?;
+        Ok(match prefix {
+            Prefix::Not => Node::Not(inner),
+            Prefix::Test => Node::Test(inner),
+            Prefix::Try => Node::Try(inner),
+            Prefix::Do => Node::Do(inner),
+            Prefix::Fail => Node::Fail(inner),
+            Prefix::Repeat => Node::Repeat(inner),
+            Prefix::GoTo => Node::Goto(inner),
+            Prefix::GoPast => Node::GoPast(inner),
+            Prefix::Backwards => Node::Backwards(inner),
+        })
+    }
+
+    fn behind_count(&self, count: Count, number: Arithmetic, inner: Node) -> Compiled<Node>
+        ensures { IfOk result (λ n. node_in self.now n ≡ spec.behind_count count (view_number number) (node_in self.now inner)) }
+    {
+        let inner = Box::new(self.alloc, inner)?;
+        Ok(match count {
+            Count::Loop => Node::Loop(number, inner),
+            Count::AtLeast => Node::AtLeast(number, inner),
+        })
+    }
+
+    fn change_named(&self, naming: Naming, name: &str) -> Action
+        ensures { view_action result ≡ spec.change_named (names_in self.now) naming name.now }
+    {
+        match naming {
+            Naming::SetMark => Action::SetMark(self.names.integers.number_of(name)),
+            Naming::Set => Action::Set(self.names.booleans.number_of(name)),
+            Naming::Unset => Action::Unset(self.names.booleans.number_of(name)),
+            Naming::Arrow => Action::Keep(self.names.strings.number_of(name)),
+        }
+    }
+
+    // Returns a command of a row that comes after the first.
+    fn joined_command(&self, joiner: Joiner, command: Node) -> JoinedNode
+        ensures { joined_in self.now result ≡ (joiner, node_in self.now command) }
+    {
+        JoinedNode { joiner, command }
+    }
+
+    // Makes a row of the first command and those after it. Returns `AllocError` if an allocation fails.
+    fn whole_row(&self, first: Node, others: Vec<JoinedNode>) -> Compiled<Node>
+        ensures { IfOk result (λ n. node_in self.now n ≡ join_all (map (joined_in self.now) others.items) (node_in self.now first)) }
+    {
+        whole!(self.alloc; Node::Row, first, others)
+    }
+
+    fn set_limit(&self, first: Node, second: Node) -> Compiled<Node>
+        ensures { IfOk result (λ n. node_in self.now n ≡ programs.setlimit (node_in self.now first) (node_in self.now second)) }
+    {
+        let first = Box::new(self.alloc, first)?;
+        let second = Box::new(self.alloc, second)?;
+        Ok(Node::SetLimit(first, second))
+    }
+
+    fn move_to(&self, movement: Move, number: &Expression) -> Compiled<Action>
+        ensures { IfOk result (λ a. view_action a ≡ spec.move movement (spec_expression (names_in self.now) (view_expression number.now))) }
+    {
+        Ok(move_action(movement, self.number_of_expression(number)?))
+    }
+
+    fn edit_text(&self, edit: Splice, string: &Argument) -> Compiled<Action>
+        ensures { IfOk result (λ a. view_action a ≡ spec.edit edit (spec_text (names_in self.now) (view_argument string.now))) }
+    {
+        Ok(edit_action(edit, self.text(string)?))
+    }
+
+    fn assign(&self, name: &str, assignment: Assignment, number: &Expression) -> Compiled<Action>
+        ensures { IfOk result (λ a. view_action a ≡ programs.assign (spec_number_of (names_in self.now).integers name.now) (spec.change_of assignment) (spec_expression (names_in self.now) (view_expression number.now))) }
+    {
+        let change = match assignment {
+            Assignment::Equals => Change::Becomes,
+            Assignment::Plus => Change::Plus,
+            Assignment::Minus => Change::Minus,
+            Assignment::Times => Change::Times,
+            Assignment::Over => Change::Over,
+        };
+        let variable = self.names.integers.number_of(name);
+        Ok(Action::Assign(variable, change, self.number_of_expression(number)?))
+    }
+
+    fn compare(&self, name: &str, comparison: Comparison, number: &Expression) -> Compiled<Action>
+        ensures { IfOk result (λ a. view_action a ≡ programs.compare (programs.integer (spec_number_of (names_in self.now).integers name.now)) (spec.relation_of comparison) (spec_expression (names_in self.now) (view_expression number.now))) }
+    {
+        Ok(Action::Compare(
+            Arithmetic::Integer(self.names.integers.number_of(name)),
+            relation_of(comparison),
+            self.number_of_expression(number)?,
+        ))
+    }
+
+    fn compare_values(
+        &self,
+        first: &Expression,
+        comparison: Comparison,
+        second: &Expression,
+    ) -> Compiled<Action>
+        ensures { IfOk result (λ a. view_action a ≡ programs.compare (spec_expression (names_in self.now) (view_expression first.now)) (spec.relation_of comparison) (spec_expression (names_in self.now) (view_expression second.now))) }
+    {
+        Ok(Action::Compare(
+            self.number_of_expression(first)?,
+            relation_of(comparison),
+            self.number_of_expression(second)?,
+        ))
+    }
+
+    /// Compiles a command, and moves `place` to the position after it. Returns `AllocError` if an allocation fails.
+    #[cycle(commands)]
+    fn node_of(&self, command: &Command, place: &mut CommandPosition) -> Compiled<Node>
+        ensures made { IfOk result (λ n. node_in self.now n ≡ spec.numbered_command (names_in self.now) (view_command command.now) (place_in self.now place.old)) }
+        ensures behind { OnOk result (place_in self.now place.new ≡ spec.past (view_command command.now) (place_in self.now place.old)) }
+    {
+        match command {
+            Command::Bracket(rows) => Ok(Node::Sequence(self.rows_of(rows, place)?)),
+            Command::Simple(word) => self.simple(*word, place),
+            Command::Literal(value) => Ok(Node::Act(literal(self.alloc, value)?)),
+            Command::Name(name) => Ok(self.name_alone(name.as_str())),
+            Command::Non {
+                with_minus: _,
+                name,
+            } => Ok(Node::Act(Action::NonGrouping(self.names.groupings.number_of(name.as_str())))),
+            Command::Prefixed(prefix, inner) => {
+                let inner = self.node_of(inner, place)?;
+                self.behind_prefix(*prefix, inner)
+            }
+            Command::Counted(count, number, inner) => {
+                let number = self.number_of_expression(number)?;
+                let inner = self.node_of(inner, place)?;
+                self.behind_count(*count, number, inner)
+            }
+            Command::Move(movement, number) => Ok(Node::Act(self.move_to(*movement, number)?)),
+            Command::Named(naming, name) => Ok(Node::Act(self.change_named(
+                *naming,
+                name.as_str(),
+            ))),
+            Command::Splice(edit, string) => Ok(Node::Act(self.edit_text(*edit, string)?)),
+            Command::SetLimit(limit, inner) => {
+                let limit = self.node_of(limit, place)?;
+                let inner = self.node_of(inner, place)?;
+                self.set_limit(limit, inner)
+            }
+            Command::Assign(name, assignment, number) => {
+                Ok(Node::Act(self.assign(name.as_str(), *assignment, number)?))
+            }
+            Command::Compare(name, comparison, number) => {
+                Ok(Node::Act(self.compare(name.as_str(), *comparison, number)?))
+            }
+            Command::CompareValues(first, comparison, second) => {
+                Ok(Node::Act(self.compare_values(first, *comparison, second)?))
+            }
+            Command::Among(among) => self.among_of(among, place),
+        }
+    }
+
+    #[cycle(commands)]
+    fn rows_of(&self, rows: &Vec<RowOfCommands>, place: &mut CommandPosition) -> Compiled<Vec<Node>>
+        ensures made { IfOk result (λ ns. map (node_in self.now) ns.items ≡ spec.numbered_rows (names_in self.now) (view_rows rows.now.items) (place_in self.now place.old)) }
+        ensures behind { OnOk result (place_in self.now place.new ≡ spec.past_rows (view_rows rows.now.items) (place_in self.now place.old)) }
+    {
+        collected!(self.alloc; nodes: row in rows => self.row_of(row, place)?)
+    }
+
+    /// Compiles a row, and moves `place` to the position after it. Returns `AllocError` if an allocation fails.
+    #[cycle(commands)]
+    pub fn row_of(&self, row: &RowOfCommands, place: &mut CommandPosition) -> Compiled<Node>
+        ensures made { IfOk result (λ n. node_in self.now n ≡ spec.numbered_others (names_in self.now) (view_row row.now).1 (spec.past (view_row row.now).0 (place_in self.now place.old)) (spec.numbered_command (names_in self.now) (view_row row.now).0 (place_in self.now place.old))) }
+        ensures behind { OnOk result (place_in self.now place.new ≡ spec.past_others (view_row row.now).1 (spec.past (view_row row.now).0 (place_in self.now place.old))) }
+    {
+        let first = self.node_of(&row.first, place)?;
+        let others = self.others_of(&row.others, place)?;
+        self.whole_row(first, others)
+    }
+
+    #[cycle(commands)]
+    fn others_of(
+        &self,
+        others: &Vec<Joined>,
+        place: &mut CommandPosition,
+    ) -> Compiled<Vec<JoinedNode>>
+        ensures made { IfOk result (λ v. map (joined_in self.now) v.items ≡ spec.joins_in (names_in self.now) (view_others others.now.items) (place_in self.now place.old)) }
+        ensures behind { OnOk result (place_in self.now place.new ≡ spec.past_others (view_others others.now.items) (place_in self.now place.old)) }
+    {
+        collected!(self.alloc; joins: other in others => {
+            self.joined_command(other.joiner, self.node_of(&other.command, place)?)
+        })
+    }
+
+    #[cycle(commands)]
+    fn among_of(&self, among: &Among, place: &mut CommandPosition) -> Compiled<Node>
+        ensures made { IfOk result (λ n. node_in self.now n ≡ spec.numbered_command (names_in self.now) (trees.among_ (view_among among.now).0 (view_among among.now).1) (place_in self.now place.old)) }
+        ensures behind { OnOk result (place_in self.now place.new ≡ spec.past (trees.among_ (view_among among.now).0 (view_among among.now).1) (place_in self.now place.old)) }
+    {
+        let number = self.next_number(*place);
+        let waits = place.waits;
+        let mut before = Vec::with_capacity(self.alloc, count_before(waits, among))?;
+        if !waits {
+            before.push(self.search_next(*place)?)?;
+        }
+        *place = inside(self.amongs, *place);
+        if let Some(rows) = &among.starter {
+            let nodes = self.region(rows, place)?;
+            if !waits {
+                before.push(Node::Sequence(nodes))?;
+            }
+        }
+        let bodies = self.bodies_of(&among.groups, place)?;
+        place.waits = false;
+        Ok(Node::Among {
+            among: number,
+            before,
+            bodies,
+        })
+    }
+
+    // Compiles the rows in parentheses that are a region of their own, and moves `place` to the position after them.
+    // Returns `AllocError` if an allocation fails.
+    #[cycle(commands)]
+    fn region(&self, rows: &Vec<RowOfCommands>, place: &mut CommandPosition) -> Compiled<Vec<Node>>
+        ensures made { IfOk result (λ ns. map (node_in self.now) ns.items ≡ spec.numbered_rows (names_in self.now) (view_rows rows.now.items) (spec.region (view_rows rows.now.items) (place_in self.now place.old))) }
+        ensures behind { OnOk result (place_in self.now place.new ≡ spec.past_rows (view_rows rows.now.items) (spec.end_waiting (place_in self.now place.old))) }
+    {
+        let behind = past_rows(self.amongs, rows, end_waiting(self.amongs, *place));
+        let mut inner = begin_region(self.amongs, *place, behind);
+        *place = behind;
+        self.rows_of(rows, &mut inner)
+    }
+
+    #[cycle(commands)]
+    fn bodies_of(&self, groups: &Vec<Group>, place: &mut CommandPosition) -> Compiled<Vec<Node>>
+        ensures made { IfOk result (λ ns. (bare : List trees.Entry) → map (node_in self.now) ns.items ≡ spec.numbered_groups (names_in self.now) (view_groups groups.now.items bare) (place_in self.now place.old)) }
+        ensures behind { OnOk result ((bare : List trees.Entry) → place_in self.now place.new ≡ spec.past_groups (view_groups groups.now.items bare) (place_in self.now place.old)) }
+    {
+        collected!(self.alloc; bodies: group in groups => {
+            Node::Sequence(self.region(&group.rows, place)?)
+        })
+    }
 }

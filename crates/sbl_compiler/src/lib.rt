@@ -4,13 +4,13 @@
 mod amongs;
 mod classes;
 mod commands;
+mod compiler;
 pub mod laws;
 mod name_list;
 mod names;
 mod numbers;
-mod operators;
 mod place;
 mod program;
 
 pub use name_list::NameList;
-pub use program::{Made, numbered};
+pub use program::{Made, compile_items};

@@ -3,7 +3,7 @@
 ghost use Rattle.std.specs.Prelude.{◌≡◌, List, length};
 ghost use Rattle.sbl_ast.specs.View.{view_command, view_rows, view_row, view_others, view_among, view_groups};
 ghost use Rattle.sbl_ast.specs.Tree as trees;
-ghost use Rattle.sbl_compiler.specs.Numbered as spec;
+ghost use Rattle.sbl_compiler.specs.NumberedItems as spec;
 ghost use Rattle.sbl_compiler.specs.NumberedView.{view_place};
 
 use sbl_ast::{Among, Command, Group, Joined, RowOfCommands, Simple};
@@ -43,8 +43,8 @@ pub fn inside(amongs: &Vec<Found>, place: CommandPosition) -> CommandPosition
 }
 
 /// Returns the same position, at which no `substring` waits.
-pub fn closed(_amongs: &Vec<Found>, place: CommandPosition) -> CommandPosition
-    ensures { view_place _amongs.now.items result ≡ spec.closed (view_place _amongs.now.items place) }
+pub fn end_waiting(_amongs: &Vec<Found>, place: CommandPosition) -> CommandPosition
+    ensures { view_place _amongs.now.items result ≡ spec.end_waiting (view_place _amongs.now.items place) }
 {
     CommandPosition {
         waits: false,
@@ -53,12 +53,12 @@ pub fn closed(_amongs: &Vec<Found>, place: CommandPosition) -> CommandPosition
 }
 
 /// Returns the position at the beginning of a region; `behind` is the position after the region.
-pub fn begun(
+pub fn begin_region(
     amongs: &Vec<Found>,
     place: CommandPosition,
     behind: CommandPosition,
 ) -> CommandPosition
-    ensures { view_place amongs.now.items result ≡ spec.begun (view_place amongs.now.items place) (view_place amongs.now.items behind) }
+    ensures { view_place amongs.now.items result ≡ spec.begin_region (view_place amongs.now.items place) (view_place amongs.now.items behind) }
 {
     CommandPosition {
         next: place.next,
@@ -149,7 +149,7 @@ fn past_among(amongs: &Vec<Found>, among: &Among, place: CommandPosition) -> Com
     if let Some(rows) = &among.starter {
         behind = past_rows(amongs, rows, behind);
     }
-    closed(amongs, past_groups(amongs, &among.groups, behind))
+    end_waiting(amongs, past_groups(amongs, &among.groups, behind))
 }
 
 #[cycle(passing)]
@@ -158,7 +158,7 @@ fn past_groups(amongs: &Vec<Found>, groups: &Vec<Group>, place: CommandPosition)
 {
     let mut behind = place;
     for group in groups {
-        behind = past_rows(amongs, &group.rows, closed(amongs, behind));
+        behind = past_rows(amongs, &group.rows, end_waiting(amongs, behind));
     }
     behind
 }

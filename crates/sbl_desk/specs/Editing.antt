@@ -7,7 +7,7 @@ use Rattle.sbl_bench.specs.declared.fault.EditFault.TheVariants as fault
 use Rattle.sbl_print.specs.Canonical.{canonical}
 use Rattle.sbl_script.specs.Edits.{ScriptEdit}
 use Rattle.sbl_desk.specs.Desks.{State, text_in}
-use Rattle.sbl_desk.specs.History.{ToLimit, ToText, remembered}
+use Rattle.sbl_desk.specs.History.{ToLimit, ToText, remember_turn}
 use Rattle.sbl_desk.specs.Splicing.{IsTextOf}
 
 -- two benches have scripts with the same canonical text
@@ -19,7 +19,7 @@ SameText s t = canonical s.setting.script.items ≡ canonical t.setting.script.i
 pub record IsNoted (s t : Contents) (d e : State) (text : Option (List ℕ)) : Type 0 where
   pub text_is : e.text ≡ text
   pub marked : e.marked ≡ d.marked
-  pub past : (SameText s t × (e.past ≡ d.past)) ⊎ (e.past ≡ remembered d.past (ToText (text_in s d.text)))
+  pub past : (SameText s t × (e.past ≡ d.past)) ⊎ (e.past ≡ remember_turn d.past (ToText (text_in s d.text)))
 
 -- The bench makes an edit of the script, and the desk notes it with this text. After a fault the desk is unchanged.
 abbrev pub Replaces : Result (Unit {0}) EditFault → Edit → Option (List ℕ) → Contents → State → Contents → State → Type 0
@@ -37,7 +37,7 @@ ReplacesPart result what text s d t e =
 abbrev pub NotesLimit : ℕ → Contents → State → State → Type 0
 NotesLimit before t d e =
     ((t.setting.limit ≡ before) × (e ≡ d))
-    ⊎ (¬ (t.setting.limit ≡ before) × (e ≡ record d { past = remembered d.past (ToLimit before) }))
+    ⊎ (¬ (t.setting.limit ≡ before) × (e ≡ record d { past = remember_turn d.past (ToLimit before) }))
 
 -- After a request that may set the limit, the limit before is remembered if it was another one.
 abbrev pub IsLimitNoted : Contents → Contents → State → State → Type 0

@@ -20,8 +20,8 @@ abbrev pub latest : List Turn → List Turn
 latest turns = drop (length turns - max_turns) turns
 
 -- After an edit that this undoes, nothing can be redone, and the oldest edit is forgotten if there are more than 100.
-abbrev pub remembered : Past → Turn → Past
-remembered p turn = record { earlier = latest (p.earlier ++ turn ∷ []); later = [] }
+abbrev pub remember_turn : Past → Turn → Past
+remember_turn p turn = record { earlier = latest (p.earlier ++ turn ∷ []); later = [] }
 
 -- the edit of a bench that undoes or redoes
 abbrev pub edit_of : Turn → Edit

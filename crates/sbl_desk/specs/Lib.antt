@@ -11,3 +11,4 @@ pub mod Heads
 -- definitions that functions inside the crate promise each other
 pub mod FamilyReader
 pub mod HeadReader
+pub mod Blank

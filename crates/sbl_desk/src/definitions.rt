@@ -3,7 +3,7 @@ ghost use Rattle.std.specs.Prelude.{◌≡◌, IfOk, MatchOption, None, OnErr, S
 ghost use Rattle.std.specs.Option.{is_some, option_map};
 ghost use Rattle.sbl_print.specs.Canonical.{plain_text};
 ghost use Rattle.sbl_script.specs.Edits as edits;
-ghost use Rattle.sbl_script.specs.Parsed.{source_of};
+ghost use Rattle.sbl_script.specs.ParsedScript.{source_of};
 ghost use Rattle.sbl_ast.specs.View.{view_items, view_plain};
 ghost use Rattle.sbl_desk.specs.Definitions as spec;
 ghost use Rattle.sbl_desk.specs.HeadReader.{IsAfterWord, IsEndOf, head_words};

@@ -1,15 +1,15 @@
 //! A desk: what is kept beside a bench at work, so that its edits can be undone and its rows compared with those at a mark.
 ghost use Rattle.std.specs.Prelude.{◌≡◌, ◌⊎◌, ℕ, List, [], IfOk, IfSome, OnErr, OnOk, None, Some, map, string_bytes, true};
 ghost use Rattle.sbl_bench.specs.Edits.{Edits, Replace, Whole};
-ghost use Rattle.sbl_bench.specs.Kept.{contents_of};
+ghost use Rattle.sbl_bench.specs.KeptRuns.{contents_of};
 ghost use Rattle.sbl_print.specs.Canonical.{canonical};
 ghost use Rattle.sbl_desk.specs.Desks.{Redoes, Undoes, rows_now, state_of, text_in, view_marked, view_text};
 ghost use Rattle.sbl_desk.specs.Editing.{NotesLimit, Replaces, ReplacesPart};
-ghost use Rattle.sbl_desk.specs.History.{ToText, remembered};
+ghost use Rattle.sbl_desk.specs.History.{ToText, remember_turn};
 ghost use Rattle.sbl_desk.specs.Parts.{view_part};
 ghost use Rattle.sbl_desk.specs.Splicing.{Reads};
 
-use crate::history::{HistoryFault, text_of};
+use crate::history::{HistoryFault, text_of, turn};
 use crate::marks::{MarkedRow, copy_rows};
 use crate::splice::{SplicedText, splice};
 use crate::steps::{History, Step};
@@ -55,7 +55,7 @@ impl Desk {
     }
 
     /// Returns the rows at the mark, in vocabulary order.
-    pub fn marked(&self) -> &[MarkedRow]
+    pub fn marked_rows(&self) -> &[MarkedRow]
         ensures { map view_marked result.now ≡ (state_of self.now).marked }
     {
         self.marked.as_slice()
@@ -98,7 +98,7 @@ impl Desk {
     fn note(&mut self, bench: &Bench, before: Before, text: Option<Vec<u8>>)
         ensures text { (state_of self.new).text ≡ view_text text }
         ensures marked { (state_of self.new).marked ≡ (state_of self.old).marked }
-        ensures past { ((canonical (contents_of bench.now).setting.script.items ≡ string_bytes before.canonical) × ((state_of self.new).past ≡ (state_of self.old).past)) ⊎ ((state_of self.new).past ≡ remembered (state_of self.old).past (ToText before.text.items)) }
+        ensures past { ((canonical (contents_of bench.now).setting.script.items ≡ string_bytes before.canonical) × ((state_of self.new).past ≡ (state_of self.old).past)) ⊎ ((state_of self.new).past ≡ remember_turn (state_of self.old).past (ToText before.text.items)) }
     {
         self.text = text;
         if has_canonical(self.alloc, bench, before.canonical.as_str()) {
@@ -158,7 +158,9 @@ impl Desk {
     pub fn undo(&mut self, bench: &mut Bench) -> Result<(), HistoryFault>
         ensures { Undoes result (contents_of bench.old) (state_of self.old) (contents_of bench.new) (state_of self.new) }
     {
-        self.history.undo(self.alloc, bench, &mut self.text)
+        let text = &mut self.text;
+        let past = &mut self.history;
+        turn(self.alloc, bench, text, &mut past.earlier, &mut past.later)
     }
 
     /// Redoes the edit that was undone last.
@@ -169,7 +171,9 @@ impl Desk {
     pub fn redo(&mut self, bench: &mut Bench) -> Result<(), HistoryFault>
         ensures { Redoes result (contents_of bench.old) (state_of self.old) (contents_of bench.new) (state_of self.new) }
     {
-        self.history.redo(self.alloc, bench, &mut self.text)
+        let text = &mut self.text;
+        let past = &mut self.history;
+        turn(self.alloc, bench, text, &mut past.later, &mut past.earlier)
     }
 
     /// Returns the text of the script in force: the bytes that it was read from, with the typed parts put into them, or its

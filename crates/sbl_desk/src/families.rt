@@ -1,19 +1,17 @@
 //! Families: lists of words that belong together, and the report of how far their stems agree with that.
-ghost use Rattle.std.specs.Prelude.{◌≡◌, ◌++◌, ◌∷◌, [], ℕ, IfOk, List, OnOk, map};
-ghost use Rattle.std.specs.Str.{chars};
+ghost use Rattle.std.specs.Prelude.{◌≡◌, ◌++◌, ◌∷◌, [], ℕ, IfOk, List, OnOk, chars};
 ghost use Rattle.csv.specs.Records.{fields_of, partial_of};
-ghost use Rattle.sbl_bench.specs.Kept.{contents_of};
-ghost use Rattle.sbl_changes.specs.Families.{view_result, view_results, view_words};
+ghost use Rattle.sbl_bench.specs.KeptRuns.{contents_of};
+ghost use Rattle.sbl_changes.specs.Families.{view_result, view_words};
 ghost use Rattle.sbl_changes.specs.Rows.{texts_of};
-ghost use Rattle.sbl_io.specs.Records.{record_line, records_text};
 ghost use Rattle.sbl_desk.specs.Families as spec;
 ghost use Rattle.sbl_desk.specs.FamilyReader.{families_read, read_by, read_on, with_word, words_read};
 
-use crate::reports::{named_rows, push_stems};
+use crate::records::{Record, lines_of, push_named};
+use crate::reports::named_rows;
 use csv::ByteRecord;
 use sbl_bench::Bench;
 use sbl_changes::{FamilyRow, families};
-use sbl_io::{push_line, push_text};
 use std::alloc::{AllocError, Global};
 
 /// The families that are being read: those of the lines before, the words of the current line, and the current word.
@@ -115,72 +113,37 @@ fn lists_of(alloc: Global, families: &[Vec<Vec<char>>]) -> Result<Vec<Vec<&[char
     Ok(lists)
 }
 
-/// Appends a number to a record, as one field of decimal digits. Returns `AllocError` if an allocation fails.
-fn push_number(alloc: Global, csv_record: &mut ByteRecord, number: u128) -> Result<(), AllocError>
+/// Appends a number to a record, as one field of decimal digits that the allocator of the text has room for. Returns `AllocError`
+/// if an allocation fails.
+fn push_number(text: &String, csv_record: &mut ByteRecord, number: u128) -> Result<(), AllocError>
     requires { partial_of csv_record.old ≡ [] }
     ensures fields { OnOk result (fields_of csv_record.new ≡ fields_of csv_record.old ++ spec.number_field number) }
     ensures partial { OnOk result (partial_of csv_record.new ≡ []) }
 {
-    let digits = format!(in alloc; "{number}")?;
+    let digits = format!(in *text.allocator(); "{number}")?;
     csv_record.push_field(digits.as_bytes())
 }
 
-/// Appends the fields of a result to an empty record. Returns `AllocError` if an allocation fails.
-fn fill_result(
-    alloc: Global,
-    text: &mut String,
-    csv_record: &mut ByteRecord,
-    row: &FamilyRow<'_>,
-) -> Result<(), AllocError>
-    requires empty { fields_of csv_record.old ≡ [] }
-    requires whole { partial_of csv_record.old ≡ [] }
-    ensures { OnOk result (fields_of csv_record.new ≡ spec.result_fields (view_result row.now)) }
-{
-    match row {
-        FamilyRow::Under { word, stems } => {
-            csv_record.push_field(b"under")?;
-            push_text(text, csv_record, word)?;
-            push_stems(text, csv_record, stems.as_slice())
-        }
-        FamilyRow::Over { stem, words } => {
-            csv_record.push_field(b"over")?;
-            push_text(text, csv_record, stem)?;
-            push_stems(text, csv_record, words.as_slice())
-        }
-        FamilyRow::Pairs {
-            within,
-            apart,
-            across,
-            joined,
-        } => {
-            csv_record.push_field(b"pairs")?;
-            push_number(alloc, csv_record, *within)?;
-            push_number(alloc, csv_record, *apart)?;
-            push_number(alloc, csv_record, *across)?;
-            push_number(alloc, csv_record, *joined)
+impl Record for FamilyRow<'_> {
+    ghost fields = { λ row. spec.result_fields (view_result row) };
+
+    fn fill(&self, text: &mut String, csv_record: &mut ByteRecord) -> Result<(), AllocError> {
+        match self {
+            FamilyRow::Under { word, stems } => {
+                push_named(text, csv_record, "under", word, stems)
+            }
+            FamilyRow::Over(class) => {
+                push_named(text, csv_record, "over", class.stem, &class.members)
+            }
+            FamilyRow::Pairs(pairs) => {
+                csv_record.push_field(b"pairs")?;
+                push_number(text, csv_record, pairs.within)?;
+                push_number(text, csv_record, pairs.apart)?;
+                push_number(text, csv_record, pairs.across)?;
+                push_number(text, csv_record, pairs.joined)
+            }
         }
     }
-}
-
-/// Appends the line of a result. Returns `AllocError` if an allocation fails.
-fn push_result(alloc: Global, out: &mut Vec<u8>, row: &FamilyRow<'_>) -> Result<(), AllocError>
-    ensures { OnOk result (out.new.items ≡ out.old.items ++ record_line (spec.result_fields (view_result row.now))) }
-{
-    let mut text = String::new(alloc);
-    let mut csv_record = ByteRecord::new(alloc);
-    fill_result(alloc, &mut text, &mut csv_record, row)?;
-    push_line(alloc, out, &csv_record)
-}
-
-/// Returns the lines of results. Returns `AllocError` if an allocation fails.
-fn result_lines(alloc: Global, found: &[FamilyRow<'_>]) -> Result<Vec<u8>, AllocError>
-    ensures { IfOk result (λ text. text.items ≡ records_text (map spec.result_fields (view_results found.now))) }
-{
-    let mut out = Vec::new(alloc);
-    for row in found {
-        push_result(alloc, &mut out, row)?;
-    }
-    Ok(out)
 }
 
 /// Returns the report of lists of words over the rows of a bench. Returns `AllocError` if an allocation fails.
@@ -190,7 +153,7 @@ fn lists_text(alloc: Global, bench: &Bench, lists: &[Vec<&[char]>]) -> Result<Ve
     let rows = bench.rows()?;
     let named = named_rows(alloc, &rows)?;
     let found = families(alloc, &named, lists)?;
-    result_lines(alloc, &found)
+    lines_of(alloc, &found)
 }
 
 /// Returns the report of the families of a text over the rows of a bench: a family for each line, with spaces, tabs or commas

@@ -1,9 +1,9 @@
 //! The edits that can be undone and redone.
 ghost use Rattle.std.specs.Prelude.{◌≡◌, ◌≤◌, ◌<◌, ◌+◌, ◌-◌, ◌++◌, ◌∷◌, [], Some, drop, length, map, IfOk, OnOk, OnErr, vec_len, vec_capacity};
 ghost use Rattle.sbl_bench.specs.Edits.{Edits};
-ghost use Rattle.sbl_bench.specs.Kept.{contents_of};
+ghost use Rattle.sbl_bench.specs.KeptRuns.{contents_of};
 ghost use Rattle.sbl_desk.specs.Desks.{Turns, back, past_of, text_after, text_in, view_step, view_text};
-ghost use Rattle.sbl_desk.specs.History.{ToLimit, ToText, edit_of, latest, remembered};
+ghost use Rattle.sbl_desk.specs.History.{ToLimit, ToText, edit_of, latest, remember_turn};
 
 use crate::steps::{History, Step};
 use sbl_bench::{Bench, EditFault};
@@ -34,44 +34,10 @@ impl History {
 
     /// Remembers the step that undoes an edit. Forgets the edits that were undone, and the oldest one if there are 100.
     pub(crate) fn remember(&mut self, step: Step)
-        ensures { past_of self.new ≡ remembered (past_of self.old) (view_step step) }
+        ensures { past_of self.new ≡ remember_turn (past_of self.old) (view_step step) }
     {
         self.later.clear();
         push_latest(&mut self.earlier, step);
-    }
-
-    /// Undoes the latest edit.
-    ///
-    /// # Errors
-    ///
-    /// Returns `Nothing` if there is none, and `Edit` with the fault of the bench. Then nothing changes but, maybe, the count
-    /// of runs.
-    pub(crate) fn undo(
-        &mut self,
-        alloc: Global,
-        bench: &mut Bench,
-        text: &mut Option<Vec<u8>>,
-    ) -> Result<(), HistoryFault>
-        ensures { Turns result (contents_of bench.old) (contents_of bench.new) (view_text text.old) (view_text text.new) (past_of self.old).earlier (past_of self.old).later (past_of self.new).earlier (past_of self.new).later }
-    {
-        turn(alloc, bench, text, &mut self.earlier, &mut self.later)
-    }
-
-    /// Redoes the edit that was undone last.
-    ///
-    /// # Errors
-    ///
-    /// Returns `Nothing` if there is none, and `Edit` with the fault of the bench. Then nothing changes but, maybe, the count
-    /// of runs.
-    pub(crate) fn redo(
-        &mut self,
-        alloc: Global,
-        bench: &mut Bench,
-        text: &mut Option<Vec<u8>>,
-    ) -> Result<(), HistoryFault>
-        ensures { Turns result (contents_of bench.old) (contents_of bench.new) (view_text text.old) (view_text text.new) (past_of self.old).later (past_of self.old).earlier (past_of self.new).later (past_of self.new).earlier }
-    {
-        turn(alloc, bench, text, &mut self.later, &mut self.earlier)
     }
 }
 
@@ -101,7 +67,12 @@ fn push_latest(steps: &mut Vec<Step>, step: Step)
 }
 
 /// Makes the last of the steps `from`, and appends the step that takes it back to `to`.
-fn turn(
+///
+/// # Errors
+///
+/// Returns `Nothing` if there is none, and `Edit` with the fault of the bench. Then nothing changes but, maybe, the count
+/// of runs.
+pub(crate) fn turn(
     alloc: Global,
     bench: &mut Bench,
     text: &mut Option<Vec<u8>>,

@@ -6,6 +6,7 @@ mod desk;
 mod families;
 mod history;
 mod marks;
+mod records;
 mod reports;
 mod splice;
 mod steps;

@@ -1,12 +1,11 @@
 //! The reports of work: what differs from the mark, figures, and the largest classes.
 ghost use Rattle.std.specs.Prelude.{◌≡◌, ◌++◌, ◌∷◌, [], IfOk, OnOk, codes, map};
-ghost use Rattle.std.specs.Str.{encode_utf8_all};
 ghost use Rattle.csv.specs.Records.{fields_of, partial_of};
-ghost use Rattle.sbl_bench.specs.Kept.{contents_of};
+ghost use Rattle.sbl_bench.specs.KeptRuns.{contents_of};
 ghost use Rattle.sbl_bench.specs.Rows.{view_row};
-ghost use Rattle.sbl_changes.specs.Changes.{view_change, view_changes};
-ghost use Rattle.sbl_changes.specs.Classes.{view_class as view_stem_class, view_classes as view_stem_classes};
-ghost use Rattle.sbl_changes.specs.Rows.{texts_of, view_outcome, view_rows};
+ghost use Rattle.sbl_changes.specs.Changes.{view_change};
+ghost use Rattle.sbl_changes.specs.Classes.{view_class as view_stem_class};
+ghost use Rattle.sbl_changes.specs.Rows.{view_outcome, view_rows};
 ghost use Rattle.sbl_semantics.specs.Outcome.{outcome_of};
 ghost use Rattle.sbl_io.specs.Records.{record_line, records_text};
 ghost use Rattle.sbl_desk.specs.Desks.{rows_now, state_of, view_marked};
@@ -14,6 +13,7 @@ ghost use Rattle.sbl_desk.specs.Reports as spec;
 
 use crate::desk::Desk;
 use crate::marks::MarkedRow;
+use crate::records::{Record, lines_of, push_named, push_stem};
 use csv::ByteRecord;
 use sbl_bench::{Bench, Row};
 use sbl_changes::{
@@ -64,22 +64,6 @@ fn named_marks(alloc: Global, rows: &[MarkedRow]) -> Result<Vec<WordRow<'_>>, Al
     Ok(named)
 }
 
-/// Appends stems to a record, each as one field. Returns `AllocError` if an allocation fails.
-pub(crate) fn push_stems(
-    text: &mut String,
-    csv_record: &mut ByteRecord,
-    stems: &[&[char]],
-) -> Result<(), AllocError>
-    requires { partial_of csv_record.old ≡ [] }
-    ensures fields { OnOk result (fields_of csv_record.new ≡ fields_of csv_record.old ++ map encode_utf8_all (texts_of stems.now)) }
-    ensures partial { OnOk result (partial_of csv_record.new ≡ []) }
-{
-    for stem in stems {
-        push_text(text, csv_record, stem)?;
-    }
-    Ok(())
-}
-
 /// Appends an outcome to a record, as two fields. Returns `AllocError` if an allocation fails.
 fn push_outcome(
     text: &mut String,
@@ -102,72 +86,41 @@ fn push_outcome(
     }
 }
 
-/// Appends the fields of a change to an empty record. Returns `AllocError` if an allocation fails.
-fn fill_change(
-    text: &mut String,
-    csv_record: &mut ByteRecord,
-    change: &ChangeRow<'_>,
-) -> Result<(), AllocError>
-    requires empty { fields_of csv_record.old ≡ [] }
-    requires whole { partial_of csv_record.old ≡ [] }
-    ensures { OnOk result (fields_of csv_record.new ≡ spec.change_fields (view_change change.now)) }
-{
-    match change {
-        ChangeRow::Added(word) => {
-            csv_record.push_field(b"added")?;
-            push_text(text, csv_record, word)
-        }
-        ChangeRow::Removed(word) => {
-            csv_record.push_field(b"removed")?;
-            push_text(text, csv_record, word)
-        }
-        ChangeRow::Changed {
-            word,
-            before,
-            after,
-        } => {
-            csv_record.push_field(b"changed")?;
-            push_text(text, csv_record, word)?;
-            push_outcome(text, csv_record, *before)?;
-            push_outcome(text, csv_record, *after)
-        }
-        ChangeRow::Split { stem, into } => {
-            csv_record.push_field(b"split")?;
-            push_text(text, csv_record, stem)?;
-            push_stems(text, csv_record, into.as_slice())
-        }
-        ChangeRow::Merged { stem, from } => {
-            csv_record.push_field(b"merged")?;
-            push_text(text, csv_record, stem)?;
-            push_stems(text, csv_record, from.as_slice())
-        }
-        ChangeRow::Renamed { from, to } => {
-            csv_record.push_field(b"renamed")?;
-            push_text(text, csv_record, from)?;
-            push_text(text, csv_record, to)
+impl Record for ChangeRow<'_> {
+    ghost fields = { λ change. spec.change_fields (view_change change) };
+
+    fn fill(&self, text: &mut String, csv_record: &mut ByteRecord) -> Result<(), AllocError> {
+        match self {
+            ChangeRow::Added(word) => push_named(text, csv_record, "added", word, &[]),
+            ChangeRow::Removed(word) => push_named(text, csv_record, "removed", word, &[]),
+            ChangeRow::Changed {
+                word,
+                before,
+                after,
+            } => {
+                push_named(text, csv_record, "changed", word, &[])?;
+                push_outcome(text, csv_record, *before)?;
+                push_outcome(text, csv_record, *after)
+            }
+            ChangeRow::Split(class) => {
+                push_named(text, csv_record, "split", class.stem, &class.members)
+            }
+            ChangeRow::Merged(class) => {
+                push_named(text, csv_record, "merged", class.stem, &class.members)
+            }
+            ChangeRow::Renamed { from, to } => {
+                push_named(text, csv_record, "renamed", from, &[*to])
+            }
         }
     }
 }
 
-/// Appends the line of a change. Returns `AllocError` if an allocation fails.
-fn push_change(alloc: Global, out: &mut Vec<u8>, change: &ChangeRow<'_>) -> Result<(), AllocError>
-    ensures { OnOk result (out.new.items ≡ out.old.items ++ record_line (spec.change_fields (view_change change.now))) }
-{
-    let mut text = String::new(alloc);
-    let mut csv_record = ByteRecord::new(alloc);
-    fill_change(&mut text, &mut csv_record, change)?;
-    push_line(alloc, out, &csv_record)
-}
+impl Record for StemClass<'_> {
+    ghost fields = { λ class. spec.class_fields (view_stem_class class) };
 
-/// Returns the lines of changes. Returns `AllocError` if an allocation fails.
-fn change_lines(alloc: Global, found: &[ChangeRow<'_>]) -> Result<Vec<u8>, AllocError>
-    ensures { IfOk result (λ text. text.items ≡ records_text (map spec.change_fields (view_changes found.now))) }
-{
-    let mut out = Vec::new(alloc);
-    for change in found {
-        push_change(alloc, &mut out, change)?;
+    fn fill(&self, text: &mut String, csv_record: &mut ByteRecord) -> Result<(), AllocError> {
+        push_stem(text, csv_record, self.stem, &self.members)
     }
-    Ok(out)
 }
 
 /// Returns the report of what differs from the mark: a row for each change between the rows at the mark and those of the bench.
@@ -179,10 +132,10 @@ pub fn changes_text(alloc: Global, desk: &Desk, bench: &Bench) -> Result<Vec<u8>
     ensures { IfOk result (λ text. text.items ≡ spec.changes_text (state_of desk.now) (contents_of bench.now)) }
 {
     let rows = bench.rows()?;
-    let before = named_marks(alloc, desk.marked())?;
+    let before = named_marks(alloc, desk.marked_rows())?;
     let after = named_rows(alloc, &rows)?;
     let found = changes(alloc, &before, &after)?;
-    change_lines(alloc, &found)
+    lines_of(alloc, &found)
 }
 
 /// Appends the line of a figure. Returns `AllocError` if an allocation fails.
@@ -236,28 +189,6 @@ pub fn stats_text(alloc: Global, bench: &Bench) -> Result<Vec<u8>, AllocError>
     Ok(out)
 }
 
-/// Appends the line of a class: its stem, and its words. Returns `AllocError` if an allocation fails.
-fn push_class(alloc: Global, out: &mut Vec<u8>, class: &StemClass<'_>) -> Result<(), AllocError>
-    ensures { OnOk result (out.new.items ≡ out.old.items ++ record_line (spec.class_fields (view_stem_class class.now))) }
-{
-    let mut text = String::new(alloc);
-    let mut csv_record = ByteRecord::new(alloc);
-    push_text(&mut text, &mut csv_record, class.stem)?;
-    push_stems(&mut text, &mut csv_record, class.members.as_slice())?;
-    push_line(alloc, out, &csv_record)
-}
-
-/// Returns the lines of classes. Returns `AllocError` if an allocation fails.
-fn class_lines(alloc: Global, classes: &[StemClass<'_>]) -> Result<Vec<u8>, AllocError>
-    ensures { IfOk result (λ text. text.items ≡ records_text (map spec.class_fields (view_stem_classes classes.now))) }
-{
-    let mut out = Vec::new(alloc);
-    for class in classes {
-        push_class(alloc, &mut out, class)?;
-    }
-    Ok(out)
-}
-
 /// Returns the report of the largest classes, at most `number` of them: the largest first, those of one size by stem.
 ///
 /// # Errors
@@ -269,5 +200,5 @@ pub fn largest_text(alloc: Global, bench: &Bench, number: usize) -> Result<Vec<u
     let rows = bench.rows()?;
     let named = named_rows(alloc, &rows)?;
     let classes = largest_classes(alloc, &named, number)?;
-    class_lines(alloc, &classes)
+    lines_of(alloc, &classes)
 }

@@ -3,7 +3,7 @@
 
 mod block_faults;
 mod characters;
-mod declared;
+mod declarations;
 mod encodings;
 mod lines;
 mod near;

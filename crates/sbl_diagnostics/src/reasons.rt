@@ -30,14 +30,16 @@ pub(crate) fn reason(fault: ScriptFault) -> &'static str {
             "begins nothing of the language. In a literal it would be a character"
         }
         ScriptFault::UnclosedString { .. } => {
-            "the literal that begins here has no closing quote. Look for a missing quote before it, too"
+            "the literal that begins here has no closing quote. Look for a missing quote before \
+             it, too"
         }
         ScriptFault::UnclosedComment { .. } => "the comment that begins here has no */",
         ScriptFault::UnknownEscape { .. } => {
             "no stringdef before this defines the name that is inserted here"
         }
         ScriptFault::BadCode { .. } => {
-            "this is no code of a character: hex needs 1 to 6 digits of 0-9 and A-F, decimal needs digits. Or the macro has more than 64 characters"
+            "this is no code of a character: hex needs 1 to 6 digits of 0-9 and A-F, decimal needs \
+             digits. Or the macro has more than 64 characters"
         }
         ScriptFault::NumberTooLarge { .. } => "a number may be 2147483647 at most",
         ScriptFault::Syntax { .. } => "cannot follow what is before it",
@@ -52,13 +54,15 @@ pub(crate) fn reason(fault: ScriptFault) -> &'static str {
             "is declared, but not defined before it is used: add its define"
         }
         ScriptFault::WrongMode { .. } => {
-            "is defined in another mode than it is used in: write backwards before it, or move it into or out of backwardmode"
+            "is defined in another mode than it is used in: write backwards before it, or move it \
+             into or out of backwardmode"
         }
         ScriptFault::Substring { .. } => {
             "a substring here has no among after it in its routine or parentheses"
         }
         ScriptFault::Starter { .. } => {
-            "an among here has commands before its first string, but its substring is elsewhere: put them before the among"
+            "an among here has commands before its first string, but its substring is elsewhere: \
+             put them before the among"
         }
         ScriptFault::RepeatedString { .. } => "is in this among twice: take one of the two away",
         ScriptFault::EmptyAmong { .. } => "this among has no string",

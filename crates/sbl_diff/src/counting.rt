@@ -1,9 +1,7 @@
 //! Counts the amongs of a part of a routine.
 
 ghost use Rattle.std.specs.Prelude.{◌≡◌, IfOk};
-ghost use Rattle.sbl_semantics.specs.Regions.{behind};
-ghost use Rattle.sbl_ast.specs.Tree.{among_};
-ghost use Rattle.sbl_ast.specs.View.{view_among};
+ghost use Rattle.sbl_diff.specs.Numbers.{after_among};
 
 use sbl_amongs::among_count;
 use sbl_ast::Among;
@@ -13,7 +11,7 @@ use std::alloc::AllocError;
 /// `AllocError` if there are 2^64 - 1 or more.
 #[tactic(auto, using(crate::proofs::Behind::among_behind))]
 pub(crate) fn past_among(among: &Among, before: u64) -> Result<u64, AllocError>
-    ensures { IfOk result (λ after. after ≡ behind (among_ (view_among among.now).0 (view_among among.now).1) before) }
+    ensures { IfOk result (λ after. after ≡ after_among among.now before) }
 {
     let Some(count) = among_count(among) else {
         return Err(AllocError);

@@ -1,16 +1,16 @@
 //! The items in which two scripts differ.
 
-ghost use Rattle.std.specs.Prelude.{◌≡◌, ◌∷◌, ◌++◌, [], if◌then◌else◌, IfOk, map, string_bytes};
+ghost use Rattle.std.specs.Prelude.{◌≡◌, ◌∷◌, ◌++◌, List, [], if◌then◌else◌, IfOk, Option, map, string_bytes};
 ghost use Rattle.sbl_ast.specs.View.{view_item, view_plain};
-ghost use Rattle.sbl_machine.specs.Differs as spec;
-ghost use Rattle.sbl_semantics.specs.Touched.{Among, Grouping, item_of};
+ghost use Rattle.sbl_semantics.specs.Differs as spec;
+ghost use Rattle.sbl_semantics.specs.TouchedItems.{Among, Grouping, Item', item_of};
 ghost use Rattle.sbl_diff.specs.ItemsIn.{items_in};
 ghost use Rattle.sbl_diff.specs.Numbers.{numbers_of};
 
 use crate::commands::differ_bodies;
 use crate::same::{same_argument, same_base, same_literal, same_names, same_terms};
 use sbl_ast::{Plain, ScriptItem, copy_name};
-use sbl_machine::Item;
+use sbl_semantics::Item;
 use std::alloc::{AllocError, Global};
 
 /// Returns no item if two items without a body and without terms are the same, and `None` if they differ.
@@ -93,32 +93,32 @@ fn differ_plain(alloc: Global, one: &Plain, other: &Plain) -> Result<Option<Vec<
             Ok(no_item_when(alloc, *left == *other_left && *right == *other_right))
         }
         Plain::StringDef { name, base, value } => {
-            let Plain::StringDef {
+            if let Plain::StringDef {
                 name: other_name,
                 base: other_base,
                 value: other_value,
             } = other
-            else {
-                return Ok(None);
-            };
-            let same = name.as_str() == other_name.as_str()
-                && same_base(base, other_base)
-                && same_literal(value, other_value);
-            Ok(no_item_when(alloc, same))
+            {
+                let same = name.as_str() == other_name.as_str()
+                    && same_base(base, other_base)
+                    && same_literal(value, other_value);
+                Ok(no_item_when(alloc, same))
+            } else {
+                Ok(None)
+            }
         }
         Plain::Routine { name, body } => {
-            let Plain::Routine {
+            if let Plain::Routine {
                 name: other_name,
                 body: other_body,
             } = other
-            else {
-                return Ok(None);
-            };
-            if name.as_str() != other_name.as_str() {
-                return Ok(None);
+            {
+                if name.as_str() == other_name.as_str() {
+                    let numbers = differ_bodies(alloc, body, other_body)?;
+                    return Ok(Some(items_by(alloc, name, numbers)?));
+                }
             }
-            let numbers = differ_bodies(alloc, body, other_body)?;
-            Ok(Some(items_by(alloc, name, numbers)?))
+            Ok(None)
         }
         Plain::Grouping {
             name,
@@ -142,64 +142,55 @@ fn differ_plain(alloc: Global, one: &Plain, other: &Plain) -> Result<Option<Vec<
     }
 }
 
-#[tactic(auto, using(crate::proofs::Joins::join_nothing, crate::proofs::Joins::join_left))]
-fn differ_plains(
-    alloc: Global,
-    one: &Vec<Plain>,
-    other: &Vec<Plain>,
-) -> Result<Option<Vec<Item>>, AllocError>
-    ensures { IfOk result (λ r. items_in r ≡ spec.differ_plains (map view_plain one.now.items) (map view_plain other.now.items)) }
-{
-    let mut items = Vec::new(alloc);
-    let mut others = other.as_slice();
-    for first in one {
-        let [second, rest @ ..] = others else {
-            return Ok(None);
-        };
-        let Some(more) = differ_plain(alloc, first, second)? else {
-            return Ok(None);
-        };
-        items = items_then(items, more)?;
-        others = rest;
-    }
-    match others {
-        [] => Ok(Some(items)),
-        [_second, _rest @ ..] => Ok(None),
+/// An item of a script, or of a `backwardmode`.
+trait Differ: Sized {
+    /// The items in which two of them differ.
+    ghost differs: { Self → Self → Option (List Item') };
+
+    /// Returns the items in which two of them differ, and `None` if more differs than bodies of routines and terms of
+    /// groupings.
+    fn differ(&self, alloc: Global, other: &Self) -> Result<Option<Vec<Item>>, AllocError>
+        ensures { IfOk result (λ r. items_in r ≡ differs self.now other.now) };
+}
+
+impl Differ for Plain {
+    ghost differs = { λ x y. spec.differ_plain (view_plain x) (view_plain y) };
+
+    fn differ(&self, alloc: Global, other: &Plain) -> Result<Option<Vec<Item>>, AllocError> {
+        differ_plain(alloc, self, other)
     }
 }
 
-fn differ_item(
-    alloc: Global,
-    one: &ScriptItem,
-    other: &ScriptItem,
-) -> Result<Option<Vec<Item>>, AllocError>
-    ensures { IfOk result (λ r. items_in r ≡ spec.differ_item (view_item one.now) (view_item other.now)) }
-{
-    match one {
-        ScriptItem::Plain(plain) => {
-            let ScriptItem::Plain(other_plain) = other else {
-                return Ok(None);
-            };
-            differ_plain(alloc, plain, other_plain)
-        }
-        ScriptItem::BackwardMode(plains) => {
-            let ScriptItem::BackwardMode(other_plains) = other else {
-                return Ok(None);
-            };
-            differ_plains(alloc, plains, other_plains)
+impl Differ for ScriptItem {
+    ghost differs = { λ x y. spec.differ_item (view_item x) (view_item y) };
+
+    #[tactic(auto, using(crate::proofs::Joins::each_viewed))]
+    fn differ(&self, alloc: Global, other: &ScriptItem) -> Result<Option<Vec<Item>>, AllocError> {
+        match self {
+            ScriptItem::Plain(plain) => {
+                let ScriptItem::Plain(other_plain) = other else {
+                    return Ok(None);
+                };
+                plain.differ(alloc, other_plain)
+            }
+            ScriptItem::BackwardMode(plains) => {
+                let ScriptItem::BackwardMode(other_plains) = other else {
+                    return Ok(None);
+                };
+                differ_each(alloc, plains, other_plains)
+            }
         }
     }
 }
 
-/// Returns the items in which two lists of items differ, and `None` if more differs than bodies of routines and terms of
-/// groupings.
+// The items in which two lists differ.
 #[tactic(auto, using(crate::proofs::Joins::join_nothing, crate::proofs::Joins::join_left))]
-pub(crate) fn differ_items(
+fn differ_each<T: Differ>(
     alloc: Global,
-    one: &[ScriptItem],
-    other: &[ScriptItem],
+    one: &[T],
+    other: &[T],
 ) -> Result<Option<Vec<Item>>, AllocError>
-    ensures { IfOk result (λ r. items_in r ≡ spec.differ_items (map view_item one.now) (map view_item other.now)) }
+    ensures { IfOk result (λ r. items_in r ≡ spec.differ_each T.differs one.now other.now) }
 {
     let mut items = Vec::new(alloc);
     let mut others = other;
@@ -207,7 +198,7 @@ pub(crate) fn differ_items(
         let [second, rest @ ..] = others else {
             return Ok(None);
         };
-        let Some(more) = differ_item(alloc, first, second)? else {
+        let Some(more) = first.differ(alloc, second)? else {
             return Ok(None);
         };
         items = items_then(items, more)?;
@@ -217,4 +208,17 @@ pub(crate) fn differ_items(
         [] => Ok(Some(items)),
         [_second, _rest @ ..] => Ok(None),
     }
+}
+
+/// Returns the items in which two lists of items differ, and `None` if more differs than bodies of routines and terms of
+/// groupings.
+#[tactic(auto, using(crate::proofs::Joins::each_viewed))]
+pub(crate) fn differ_items(
+    alloc: Global,
+    one: &[ScriptItem],
+    other: &[ScriptItem],
+) -> Result<Option<Vec<Item>>, AllocError>
+    ensures { IfOk result (λ r. items_in r ≡ spec.differ_each spec.differ_item (map view_item one.now) (map view_item other.now)) }
+{
+    differ_each(alloc, one, other)
 }

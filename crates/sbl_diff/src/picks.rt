@@ -1,11 +1,9 @@
 //! The amongs in which two parts of a routine differ.
 
 ghost use Rattle.std.specs.Prelude.{◌≡◌, ◌++◌, [], ◌∷◌, suc, nat_eq, if◌then◌else◌, IfOk, IfSome, Some, None};
-ghost use Rattle.sbl_diff.specs.Numbers.{numbers_in};
-ghost use Rattle.sbl_machine.specs.Differs as spec;
-ghost use Rattle.sbl_semantics.specs.Regions.{behind};
+ghost use Rattle.sbl_diff.specs.Numbers.{after_among, numbers_in};
+ghost use Rattle.sbl_semantics.specs.Differs as spec;
 ghost use Rattle.sbl_ast.specs.Counts.{count_in_among};
-ghost use Rattle.sbl_ast.specs.Tree.{among_};
 ghost use Rattle.sbl_ast.specs.View.{view_among};
 
 use crate::counting::past_among;
@@ -71,7 +69,7 @@ pub(crate) fn pick_among(
     before: u64,
 ) -> Result<Option<Picks>, AllocError>
     ensures numbers { IfOk result (λ r. numbers_in r ≡ (if nat_eq (count_in_among (view_among one.now)) (count_in_among (view_among other.now)) then Some (suc before ∷ []) else None)) }
-    ensures after { IfOk result (λ r. IfSome r (λ p. p.after ≡ behind (among_ (view_among one.now).0 (view_among one.now).1) before)) }
+    ensures after { IfOk result (λ r. IfSome r (λ p. p.after ≡ after_among one.now before)) }
 {
     let Some(number) = before.checked_add(1) else {
         return Err(AllocError);

@@ -8,7 +8,7 @@ ghost use Rattle.std.specs.Str.{bytes_eq};
 ghost use denote.Enum.Bare.{sameb};
 ghost use Rattle.sbl_ast.specs.contracts.tree.Base as base;
 ghost use Rattle.sbl_ast.specs.View.{view_argument, view_entry, view_expression, view_factor, view_group, view_literal, view_name, view_product, view_scales, view_sums, view_term};
-ghost use Rattle.sbl_machine.specs.Same as spec;
+ghost use Rattle.sbl_semantics.specs.Same as spec;
 
 use sbl_ast::{
     Added, Argument, Base, Entry, Expression, Factor, Group, Literal, Product, Scaled, Term,

@@ -1,13 +1,13 @@
 //! The items in which two scripts differ.
 
 ghost use Rattle.std.specs.Prelude.{◌≡◌, IfOk};
-ghost use Rattle.sbl_script.specs.Parsed.{source_of};
-ghost use Rattle.sbl_machine.specs.Differs.{differs};
+ghost use Rattle.sbl_script.specs.ParsedScript.{source_of};
+ghost use Rattle.sbl_semantics.specs.Differs.{differs};
 ghost use Rattle.sbl_diff.specs.ItemsIn.{items_in};
 
 use crate::items::differ_items;
-use sbl_machine::Item;
 use sbl_script::Script;
+use sbl_semantics::Item;
 use std::alloc::{AllocError, Global};
 
 /// Returns the items in which two scripts differ, in text order: a routine's amongs by their numbers if nothing else

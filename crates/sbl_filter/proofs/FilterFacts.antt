@@ -5,11 +5,13 @@ use Rattle.std.proofs.lemmas.Bool.{eqb-true}
 use Rattle.std.proofs.lemmas.List.{map-append, nil_from_length}
 use Rattle.std.specs.Io.KnownBytes.{Appends, IsAtEnd, Keeps}
 use Rattle.std.specs.Str.{chars, is_utf8}
-use Rattle.sbl_filter.specs.Filter.{AllShort, Filters, IsFiltered, Rows, Stops, TookLine, WritesLine, filtered}
+use Rattle.sbl_filter.specs.Filter.{AllShort, Filters, IsFiltered, Rows, Stops, TookLine, WritesLine, filter_output}
 use Rattle.sbl_filter.proofs.RowFacts.{filtered-append, filtered-empty, filtered-none, filtered-one}
 use Rattle.sbl_io.proofs.Bytes.{took-kept, took-none, took-trans}
 use Rattle.sbl_io.specs.Faults.{serve_fault_of}
-use Rattle.sbl_io.specs.Held.{BeginsLong, BreaksOff, GivesLine}
+use Rattle.sbl_io.specs.Devices.{HasStopped, Tally}
+use Rattle.sbl_io.specs.HeldInput.{BeginsLong, BreaksOff, GivesLine, HasCause, fault_of, reads_bound}
+use Rattle.sbl_io.specs.declared.lines.Lines.{Lines}
 use Rattle.sbl_io.specs.declared.faults.LineFault.{LineFault}
 use Rattle.sbl_io.specs.declared.faults.LineFault.TheVariants as line
 use Rattle.sbl_io.specs.declared.faults.ServeFault.TheVariants as fault
@@ -20,7 +22,7 @@ use Rattle.sbl_sessions.proofs.BlockFacts.{all_fit-push, no_point-push}
 use Rattle.sbl_sessions.proofs.LoadFacts.{all_text-push, script_unread}
 use Rattle.sbl_sessions.specs.Block.{point}
 use Rattle.sbl_sessions.specs.Faults.{left_by_load}
-use Rattle.sbl_sessions.specs.Loaded.{ReadsScript, TookSource}
+use Rattle.sbl_sessions.specs.Loading.{HasReason, ReadsScript, TookSource}
 use Rattle.sbl_sessions.specs.declared.faults.LoadFault.{LoadFault}
 use Rattle.sbl_sessions.specs.declared.faults.LoadFault.TheVariants.{Input, Open, Script}
 use Rattle.sbl_bench.specs.Contents.{Contents}
@@ -43,8 +45,8 @@ rows-none s a h = record {
 module _ {s : Source} {a b h k : Option (List ℕ)} {lines : List (List ℕ)} (so : Rows s a b h k lines) where
   pub rows-push : (c m : Option (List ℕ)) (l : List ℕ) → TookLine b c l → WritesLine s l k m (Ok tt) → Rows s a c h m (lines ++ l ∷ [])
   rows-push c m l next writes =
-      let whole : filtered s (map chars (lines ++ l ∷ [])) ≡ filtered s (map chars lines) ++ filtered s (chars l ∷ []) =
-      ap (filtered s) (map-append chars lines (l ∷ [])) ∙ filtered-append s (map chars lines) (chars l ∷ []) in
+      let whole : filter_output s (map chars (lines ++ l ∷ [])) ≡ filter_output s (map chars lines) ++ filter_output s (chars l ∷ []) =
+      ap (filter_output s) (map-append chars lines (l ∷ [])) ∙ filtered-append s (map chars lines) (chars l ∷ []) in
       record {
         words =
             (((no_point-push lines l so.words.0.0.0 next.0, all_fit-push lines l so.words.0.0.1 next.1), all_text-push lines l so.words.0.1 writes.0), all_short-push lines l so.words.1 writes.1);
@@ -106,7 +108,7 @@ module _ (s : Source) (l : List ℕ) (h : Option (List ℕ)) {characters : List 
 
   module _ (k : Option (List ℕ)) (row : List ℕ) (some : characters ≢ []) (short : length characters ≤ 255)
       (is : row ≡ record_line (row_fields (row_of (under s default_limit) (chars l)))) where
-    one : row ≡ filtered s (chars l ∷ [])
+    one : row ≡ filter_output s (chars l ∷ [])
     one = is ∙ sym (filtered-one s (chars l) (λ empty. some (items ∙ empty)))
 
     short_line : length (chars l) ≤ 255
@@ -165,3 +167,27 @@ filtered-words old between new external h k s (Ok u) source so = (s, so.0, (betw
 filtered-words old between new external h k s (Err (Script f)) source so = absurd so.4.2
 filtered-words old between new external h k s (Err (Open f)) source so = inr (s, between, source, so)
 filtered-words old between new external h k s (Err (Input f)) source so = inr (s, between, source, so)
+
+-- ---- why the words end with a fault
+
+-- what is the cause of a fault since some line is its cause since an earlier one, if the reader did not fail in between
+pub cause-before : {R : Type 0} (tally : R → Tally) (first last next : Lines R) → (tally last.reader).failures ≡ (tally first.reader).failures
+    → reads_bound tally last ≡ reads_bound tally first → HasCause tally last next → HasCause tally first next
+cause-before tally first last next read bound (inl less) = inl (subst (λ (n : ℕ). n < (tally next.reader).failures) read less)
+cause-before tally first last next read bound (inr (inl most)) = inr (inl (subst (λ (n : ℕ). n ≤ (tally next.reader).reads) bound most))
+cause-before tally first last next read bound (inr (inr tries)) = inr (inr tries)
+
+pub reason-before : {R : Type 0} (tally : R → Tally) (first last next : Lines R) (f : LineFault)
+    → (f ≡ line.Read → HasCause tally last next ⊎ (fault_of last ≡ Some f)) → (tally last.reader).failures ≡ (tally first.reader).failures
+    → reads_bound tally last ≡ reads_bound tally first → fault_of last ≡ fault_of first → HasReason tally first next (Input (serve_fault_of f))
+reason-before tally first last next line.Read why read bound same = λ _. by (why refl)
+  where
+    by : HasCause tally last next ⊎ (fault_of last ≡ Some line.Read) → HasCause tally first next ⊎ (fault_of first ≡ Some line.Read)
+    by (inl cause) = inl (cause-before tally first last next read bound cause)
+    by (inr is) = inr (sym same ∙ is)
+reason-before tally first last next line.TooLong why read bound same = λ is. cc is
+
+pub stopped-before : {W : Type 0} (tally : W → Tally) (first last next : W) → (tally last).failures ≡ (tally first).failures
+    → HasStopped tally last next → HasStopped tally first next
+stopped-before tally first last next written (inl less) = inl (subst (λ (n : ℕ). n < (tally next).failures) written less)
+stopped-before tally first last next written (inr tries) = inr tries

@@ -9,19 +9,19 @@ use Rattle.std.specs.List.{filter}
 use Rattle.std.specs.Option.{option_or}
 use Rattle.std.specs.Prelude.{⊤}
 use Rattle.std.specs.Str.{bytes_eq, chars}
-use Rattle.sbl_bench.specs.Contents.{Contents, is_full, opened, opening_fault, word_fault}
+use Rattle.sbl_bench.specs.Contents.{Contents, is_full, opening_contents, opening_fault, word_fault}
 use Rattle.sbl_bench.specs.Rows.{rows_of}
 use Rattle.sbl_bench.specs.Setting.{under}
 use Rattle.sbl_bench.specs.Vocabulary.{is_skipped, is_word, with_all, with_word}
 use Rattle.sbl_bench.specs.declared.fault.EditFault.{EditFault}
 use Rattle.sbl_bench.specs.declared.fault.EditFault.TheVariants as edit
-use Rattle.sbl_filter.specs.Filter.{filtered, is_filled}
+use Rattle.sbl_filter.specs.Filter.{filter_output, is_filled}
 use Rattle.sbl_filter.specs.Laws.{NoRepeats, PartsMakeWhole, SameInput, SameWithoutRepeats, StemsAreFiltered}
 use Rattle.sbl_filter.proofs.RowFacts.{filtered-append}
 use Rattle.sbl_semantics.specs.Limit.{default_limit}
 use Rattle.sbl_io.specs.Records.{records_text}
 use Rattle.sbl_ast.specs.Source.{Source}
-use Rattle.sbl_sessions.specs.Loaded.{IsInput, IsLoaded}
+use Rattle.sbl_sessions.specs.Loading.{IsInput, IsLoaded}
 use Rattle.sbl_sessions.specs.OneLoading.{IsToldByBytes, LoadingIsOne}
 use Rattle.sbl_sessions.specs.Rows.{row_fields, stems_text}
 use Rattle.sbl_sessions.specs.declared.faults.LoadFault.{LoadFault}
@@ -52,7 +52,7 @@ abbrev text_of : Source → List (List ℕ) → List ℕ
 text_of s words = records_text (map row_fields (rows_of (under s default_limit) words))
 
 pub stems-filtered : StemsAreFiltered
-unfolding stems_text filtered
+unfolding stems_text filter_output
 stems-filtered s words = ap (text_of s) (sym (filled-all [] words refl))
 
 -- ---- words without repeats
@@ -91,7 +91,7 @@ all-filled words ((c ∷ w) ∷ ws) apart single =
     ∙ append_assoc words ((c ∷ w) ∷ []) (filter is_filled ws)
 
 pub same-without-repeats : SameWithoutRepeats
-unfolding stems_text filtered
+unfolding stems_text filter_output
 same-without-repeats s words single = ap (text_of s) (sym (all-filled [] words (apart-none words) single))
 
 -- ---- one input
@@ -124,8 +124,8 @@ module _ (one : LoadingIsOne) (bytes external : List ℕ) (a b : Option (List �
   clash : (f : EditFault) → IsToldByBytes (Err (Open f)) → IsLoaded (Some bytes) b external same (Err (Open f)) → ⊥
   clash f told so = let is : Ok c ≡ Err (Open f) = one bytes external a b (Ok c) (Err (Open f)) tt told loaded so in cc is
 
-  opens : (s : Source) (lines : List (List ℕ)) → IsInput (Some bytes) b external s lines → (o : Option EditFault) → opening_fault [] (map chars lines) ≡ o → c ≡ opened s (map chars lines)
-  opens s lines input None e = ap the (one bytes external a b (Ok c) (Ok (opened s (map chars lines))) tt tt loaded (s, lines, input, e, refl))
+  opens : (s : Source) (lines : List (List ℕ)) → IsInput (Some bytes) b external s lines → (o : Option EditFault) → opening_fault [] (map chars lines) ≡ o → c ≡ opening_contents s (map chars lines)
+  opens s lines input None e = ap the (one bytes external a b (Ok c) (Ok (opening_contents s (map chars lines))) tt tt loaded (s, lines, input, e, refl))
     where
       the : Result Contents LoadFault → Contents
       the (Ok x) = x

@@ -6,11 +6,11 @@ use Rattle.std.proofs.lemmas.Slice.Eq.{bytes_eq-Decides}
 use Rattle.std.specs.Io.KnownBytes.{IsAtEnd}
 use Rattle.std.specs.Str.{bytes_eq, chars, is_utf8}
 use Rattle.sbl_bench.specs.declared.fault.EditFault.TheVariants as edit
-use Rattle.sbl_filter.specs.Filter.{AllShort, Filters, IsFiltered, Rows, Stops, TookLine, filtered}
+use Rattle.sbl_filter.specs.Filter.{AllShort, Filters, IsFiltered, Rows, Stops, TookLine, filter_output}
 use Rattle.sbl_filter.specs.Laws.{FilteringIsOne, IsToldByBytes}
 use Rattle.sbl_filter.proofs.RowFacts.{filtered-append, filtered-none}
 use Rattle.sbl_io.proofs.Bytes.{none_of, stand_lines}
-use Rattle.sbl_io.specs.Held.{BeginsLong, StandFirst, Took}
+use Rattle.sbl_io.specs.HeldInput.{BeginsLong, StandFirst, Took}
 use Rattle.sbl_io.specs.LinesOf.{lines_of, max_line}
 use Rattle.sbl_io.specs.declared.faults.ServeFault.TheVariants as fault
 use Rattle.sbl_script.specs.OneReading.{FaultIsOne, ScriptIsOne, ScriptOrFault}
@@ -18,7 +18,7 @@ use Rattle.sbl_ast.specs.Source.{Source}
 use Rattle.sbl_script.specs.Reading.{IsFaultOf, IsScriptOf}
 use Rattle.sbl_sessions.proofs.InputFacts.{AtEnd, AtLong, AtNoText, AtPoint, LinesEnd, end-end, end-long, end-point, lines_end}
 use Rattle.sbl_sessions.specs.Block.{BlockLines, Breaks, made_text, point}
-use Rattle.sbl_sessions.specs.Loaded.{TookFault, TookSource, WordLines}
+use Rattle.sbl_sessions.specs.Loading.{TookFault, TookSource, WordLines}
 use Rattle.sbl_sessions.specs.declared.faults.LoadFault.{LoadFault}
 use Rattle.sbl_sessions.specs.declared.faults.LoadFault.TheVariants.{Input, Open, Script}
 use Rattle.sbl_text.specs.declared.fault.ScriptFault.{ScriptFault}
@@ -50,7 +50,7 @@ ending (line ∷ lines) = if bytes_eq line point then Ok tt else goes (judged li
 
 abbrev text : Source → List (List ℕ) → List ℕ
 text s [] = []
-text s (line ∷ lines) = if bytes_eq line point then [] else shows (judged line) (filtered s (chars line ∷ []) ++ text s lines)
+text s (line ∷ lines) = if bytes_eq line point then [] else shows (judged line) (filter_output s (chars line ∷ []) ++ text s lines)
 
 no_point : (line : List ℕ) → line ≢ point → bytes_eq line point ≡ false
 no_point line other = by (bytes_eq line point) refl
@@ -98,13 +98,13 @@ ending-after (line ∷ lines) rest good =
     let step : ending (line ∷ lines ++ rest) ≡ ending (lines ++ rest) = rw (first.0, first.1) refl in
     step ∙ ending-after lines rest (good-rest line lines good)
 
-text-after : (s : Source) (lines rest : List (List ℕ)) → Good lines → text s (lines ++ rest) ≡ filtered s (map chars lines) ++ text s rest
+text-after : (s : Source) (lines rest : List (List ℕ)) → Good lines → text s (lines ++ rest) ≡ filter_output s (map chars lines) ++ text s rest
 text-after s [] rest good = ap (λ (t : List ℕ). t ++ text s rest) (sym (filtered-none s))
 text-after s (line ∷ lines) rest good =
     let first = good-first line lines good in
-    let row = filtered s (chars line ∷ []) in
+    let row = filter_output s (chars line ∷ []) in
     let step : text s (line ∷ lines ++ rest) ≡ row ++ text s (lines ++ rest) = rw (first.0, first.1) refl in
-    step ∙ ap (λ (t : List ℕ). row ++ t) (text-after s lines rest (good-rest line lines good)) ∙ sym (append_assoc row (filtered s (map chars lines)) (text s rest))
+    step ∙ ap (λ (t : List ℕ). row ++ t) (text-after s lines rest (good-rest line lines good)) ∙ sym (append_assoc row (filter_output s (map chars lines)) (text s rest))
     ∙ ap (λ (t : List ℕ). t ++ text s rest) (sym (filtered-append s (chars line ∷ []) (map chars lines)))
 
 -- these lines, and then a line with this fault
@@ -115,10 +115,10 @@ module _ (s : Source) (x : List ℕ) (lines rest : List (List ℕ)) (line : List
       let at : ending (line ∷ rest) ≡ Err f = rw (no_point line other, bad) refl in
       ap ending are ∙ ending-after lines (line ∷ rest) good ∙ at
 
-  stop-text : text s (lines_of x) ≡ filtered s (map chars lines)
+  stop-text : text s (lines_of x) ≡ filter_output s (map chars lines)
   stop-text =
       let at : text s (line ∷ rest) ≡ [] = rw (no_point line other, bad) refl in
-      ap (text s) are ∙ text-after s lines (line ∷ rest) good ∙ ap (λ (t : List ℕ). filtered s (map chars lines) ++ t) at ∙ append-nil (filtered s (map chars lines))
+      ap (text s) are ∙ text-after s lines (line ∷ rest) good ∙ ap (λ (t : List ℕ). filter_output s (map chars lines) ++ t) at ∙ append-nil (filter_output s (map chars lines))
 
 -- ---- what a filter of the words gives
 
@@ -134,7 +134,7 @@ all-given s x h k None so = by so.1.1
 all-given s x h k (Some y) so = by so.1.1
   where
     rows : List ℕ
-    rows = filtered s (map chars so.0)
+    rows = filter_output s (map chars so.0)
 
     given : (rest : List (List ℕ)) → lines_of x ≡ so.0 ++ rest → ending rest ≡ Ok tt → text s rest ≡ [] → Gives s x h k (Ok tt)
     given rest are ends none = (

@@ -8,29 +8,29 @@ use Rattle.std.specs.List.{filter}
 use Rattle.std.specs.Str.{IsUtf8, chars, encode_utf8_all}
 use Rattle.sbl_bench.specs.Rows.{Row, row_of, rows_of}
 use Rattle.sbl_bench.specs.Setting.{under}
-use Rattle.sbl_filter.specs.Filter.{filtered, is_filled}
+use Rattle.sbl_filter.specs.Filter.{filter_output, is_filled}
 use Rattle.sbl_semantics.specs.Limit.{default_limit}
 use Rattle.sbl_semantics.specs.Outcome.{Outcome', run_of}
 use Rattle.sbl_io.specs.Records.{record_line, records_text}
 use Rattle.sbl_ast.specs.Source.{Source}
 use Rattle.sbl_sessions.specs.Rows.{outcome_fields, row_fields}
 
-pub filtered-none : (s : Source) → filtered s [] ≡ []
-unfolding filtered
+pub filtered-none : (s : Source) → filter_output s [] ≡ []
+unfolding filter_output
 filtered-none s = refl
 
 -- an empty word has no row
-pub filtered-empty : (s : Source) (word : List ℕ) → word ≡ [] → filtered s (word ∷ []) ≡ []
-unfolding filtered
+pub filtered-empty : (s : Source) (word : List ℕ) → word ≡ [] → filter_output s (word ∷ []) ≡ []
+unfolding filter_output
 filtered-empty s word e = rw e refl
 
-pub filtered-one : (s : Source) (word : List ℕ) → word ≢ [] → filtered s (word ∷ []) ≡ record_line (row_fields (row_of (under s default_limit) word))
-unfolding filtered
+pub filtered-one : (s : Source) (word : List ℕ) → word ≢ [] → filter_output s (word ∷ []) ≡ record_line (row_fields (row_of (under s default_limit) word))
+unfolding filter_output
 filtered-one s [] some = absurd (some refl)
 filtered-one s (c ∷ word) some = append-nil (record_line (row_fields (row_of (under s default_limit) (c ∷ word))))
 
-pub filtered-append : (s : Source) (a b : List (List ℕ)) → filtered s (a ++ b) ≡ filtered s a ++ filtered s b
-unfolding filtered
+pub filtered-append : (s : Source) (a b : List (List ℕ)) → filter_output s (a ++ b) ≡ filter_output s a ++ filter_output s b
+unfolding filter_output
 filtered-append s a b =
     let u = under s default_limit in
     let x = filter is_filled a in

@@ -1,11 +1,11 @@
 -- Laws of the rows that a filter writes.
 use Rattle.std.specs.Prelude.{◌≡◌, ◌++◌, ◌&&◌, ℕ, false, List, [], ◌∷◌, Option, Some, Result, Ok, Err, ⊤}
-use Rattle.sbl_bench.specs.Contents.{Contents, opened}
+use Rattle.sbl_bench.specs.Contents.{Contents, opening_contents}
 use Rattle.sbl_bench.specs.Vocabulary.{is_word, vocabulary}
-use Rattle.sbl_filter.specs.Filter.{IsFiltered, filtered, is_filled}
+use Rattle.sbl_filter.specs.Filter.{IsFiltered, filter_output, is_filled}
 use Rattle.sbl_io.specs.declared.faults.ServeFault.TheVariants as fault
 use Rattle.sbl_ast.specs.Source.{Source}
-use Rattle.sbl_sessions.specs.Loaded.{IsLoaded}
+use Rattle.sbl_sessions.specs.Loading.{IsLoaded}
 use Rattle.sbl_sessions.specs.Rows.{stems_text}
 use Rattle.sbl_sessions.specs.declared.faults.LoadFault.{LoadFault}
 use Rattle.sbl_sessions.specs.declared.faults.LoadFault.TheVariants.{Input, Script}
@@ -18,22 +18,22 @@ NoRepeats (w ∷ ws) = ((is_filled w && is_word w ws) ≡ false) × NoRepeats ws
 
 -- the rows of a list of words are those of its first part and then those of the rest
 abbrev pub PartsMakeWhole : Type 0
-PartsMakeWhole = (s : Source) (first rest : List (List ℕ)) → filtered s (first ++ rest) ≡ filtered s first ++ filtered s rest
+PartsMakeWhole = (s : Source) (first rest : List (List ℕ)) → filter_output s (first ++ rest) ≡ filter_output s first ++ filter_output s rest
 
 -- the rows that `stem` writes for some words are those that a filter writes for their vocabulary
 abbrev pub StemsAreFiltered : Type 0
-StemsAreFiltered = (s : Source) (words : List (List ℕ)) → stems_text (opened s words) ≡ filtered s (vocabulary words)
+StemsAreFiltered = (s : Source) (words : List (List ℕ)) → stems_text (opening_contents s words) ≡ filter_output s (vocabulary words)
 
 -- without repeats both write the same
 abbrev pub SameWithoutRepeats : Type 0
-SameWithoutRepeats = (s : Source) (words : List (List ℕ)) → NoRepeats words → filtered s words ≡ stems_text (opened s words)
+SameWithoutRepeats = (s : Source) (words : List (List ℕ)) → NoRepeats words → filter_output s words ≡ stems_text (opening_contents s words)
 
 -- If an input has a bench, and a filter writes all rows of the same input, both are of one script and one list of words.
 abbrev pub SameInput : Type 0
 SameInput =
     (bytes external : List ℕ) (a b : Option (List ℕ)) (c : Contents) (text : List ℕ) → IsLoaded (Some bytes) a external (λ c. c) (Ok c)
     → IsFiltered (Some bytes) b external (Some []) (Some text) (Ok tt)
-    → (s : Source) × (words : List (List ℕ)) × (c ≡ opened s words) × (text ≡ filtered s words)
+    → (s : Source) × (words : List (List ℕ)) × (c ≡ opening_contents s words) × (text ≡ filter_output s words)
 
 -- the bytes alone determine the result: the reader and the writer did not stop, and no allocation failed
 abbrev pub IsToldByBytes : Result (Unit {0}) LoadFault → Type 0

@@ -5,13 +5,13 @@ ghost use Rattle.sbl_filter.specs.Filter.{Filters, IsFiltered, WritesLine};
 ghost use Rattle.sbl_filter.specs.LineWriter.{IsBetweenLines};
 ghost use Rattle.sbl_io.specs.Devices.{HasStopped, WritesInTime};
 ghost use Rattle.sbl_io.specs.Faults.{serve_fault_of};
-ghost use Rattle.sbl_io.specs.Held.{KeepsTime, fault_of, input_of, reads_bound};
+ghost use Rattle.sbl_io.specs.HeldInput.{KeepsTime, fault_of, input_of, reads_bound};
 ghost use Rattle.sbl_io.specs.declared.faults.LineFault.{LineFault};
 ghost use Rattle.sbl_machine.specs.MachineOf.{IsLinkedMachineOf};
 ghost use Rattle.sbl_ast.specs.Source.{Source};
-ghost use Rattle.sbl_script.specs.Parsed.{source_of};
+ghost use Rattle.sbl_script.specs.ParsedScript.{source_of};
 ghost use Rattle.sbl_sessions.specs.Faults.{left_by_load};
-ghost use Rattle.sbl_sessions.specs.Loaded.{HasReason};
+ghost use Rattle.sbl_sessions.specs.Loading.{HasReason};
 
 use crate::rows::{RowWriter, row_text};
 use sbl_bench::{EditFault, MAX_WORD_LENGTH};

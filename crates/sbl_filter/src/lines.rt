@@ -1,10 +1,9 @@
 //! The text of records, one line at a time.
-ghost use Rattle.std.specs.Prelude.{◌≡◌, IfOk, OnOk};
-ghost use Rattle.csv.specs.Records.{fields_of};
+ghost use Rattle.std.specs.Prelude.{◌≡◌, ◌∷◌, [], IfOk, OnOk};
 ghost use Rattle.sbl_filter.specs.LineWriter.{IsBetweenLines};
 ghost use Rattle.sbl_io.specs.Records as texts;
 
-use csv::{ByteRecord, Writer, WriterBuilder};
+use csv::{Writer, WriterBuilder};
 use std::alloc::{AllocError, Global};
 
 /// A writer of lines keeps at most this many bytes before its next line.
@@ -19,25 +18,28 @@ pub(crate) fn line_writer(alloc: Global) -> Writer<Vec<u8>>
         .from_writer(Vec::new(alloc))
 }
 
-/// Returns the text of one record: its fields, quoted if `csv` quotes them, and a line feed. Returns `AllocError` if an
+/// Returns the text of a row: a word and the fields of its outcome, quoted if `csv` quotes them, and a line feed. Returns `AllocError` if an
 /// allocation fails.
 ///
 /// A writer of `csv` has a buffer that takes longer to make than a line. So it makes many lines.
 #[inline(never)]
-pub(crate) fn next_line(
+pub(crate) fn next_line<'f>(
     alloc: Global,
     lines: &mut Writer<Vec<u8>>,
-    csv_record: &ByteRecord,
+    word: &'f [u8],
+    kind: &'f [u8],
+    text: &'f [u8],
 ) -> Result<Vec<u8>, AllocError>
     requires { IsBetweenLines lines.old }
-    ensures line { IfOk result (λ text. text.items ≡ texts.record_line (fields_of csv_record.now)) }
+    ensures line { IfOk result (λ line. line.items ≡ texts.record_line (word.now ∷ kind.now ∷ text.now ∷ [])) }
     ensures between { OnOk result (IsBetweenLines lines.new) }
 {
     if MOST < lines.get_ref().len() {
         *lines = line_writer(alloc);
     }
     let before = lines.get_ref().len();
-    if lines.write_byte_record(csv_record).is_err() || lines.flush().is_err() {
+    let written = lines.write_fields(&[word, kind, text]);
+    if written.is_err() || lines.flush().is_err() {
         return Err(AllocError);
     }
     Vec::from_slice(alloc, &lines.get_ref()[before..])

@@ -1,21 +1,20 @@
 //! The row of one word.
-ghost use Rattle.std.specs.Prelude.{◌≡◌, ◌≤◌, ◌∷◌, [], length, IfOk, OnOk};
+ghost use Rattle.std.specs.Prelude.{◌≡◌, ◌≤◌, length, IfOk, OnOk};
 ghost use Rattle.std.specs.Str.{chars};
-ghost use Rattle.csv.specs.Records.{fields_of, partial_of};
 ghost use Rattle.sbl_bench.specs.Rows.{row_of};
 ghost use Rattle.sbl_bench.specs.Setting.{under};
 ghost use Rattle.sbl_semantics.specs.Limit.{default_limit, max_word_length};
 ghost use Rattle.sbl_machine.specs.MachineOf.{IsLinkedMachineOf};
-ghost use Rattle.sbl_semantics.specs.Outcome.{outcome_of};
 ghost use Rattle.sbl_io.specs.Records as texts;
 ghost use Rattle.sbl_ast.specs.Source.{Source};
 ghost use Rattle.sbl_filter.specs.LineWriter.{IsBetweenLines};
-ghost use Rattle.sbl_sessions.specs.Rows.{outcome_fields, row_fields};
+ghost use Rattle.sbl_sessions.specs.Rows.{row_fields};
 
 use crate::lines::{line_writer, next_line};
-use csv::{ByteRecord, Writer};
-use sbl_io::set_text;
-use sbl_machine::{DEFAULT_LIMIT, Machine, Meter, Outcome, Table, Traced};
+use csv::Writer;
+use sbl_io::TextBuffer;
+use sbl_machine::{DEFAULT_LIMIT, Machine, Meter, Table};
+use sbl_sessions::outcome_fields;
 use std::alloc::{AllocError, Global};
 
 /// What makes the text of one row after another. It keeps its buffers from row to row. The run of a word and the text of its row
@@ -24,9 +23,8 @@ use std::alloc::{AllocError, Global};
 pub(crate) struct RowWriter {
     /// The writer of the lines.
     pub(crate) lines: Writer<Vec<u8>>,
-    // Buffers for the fields of a row, and for the text of one of them.
-    csv_record: ByteRecord,
-    text: String,
+    // A buffer for the stem of a row.
+    stem: TextBuffer,
 }
 
 impl RowWriter {
@@ -36,34 +34,7 @@ impl RowWriter {
     {
         RowWriter {
             lines: line_writer(alloc),
-            csv_record: ByteRecord::new(alloc),
-            text: String::new(alloc),
-        }
-    }
-}
-
-/// Appends the fields of the row of a word with this outcome to an empty record. `text` is a buffer. Returns `AllocError` if an
-/// allocation fails.
-fn fill_record(
-    word: &str,
-    outcome: &Outcome,
-    text: &mut String,
-    csv_record: &mut ByteRecord,
-) -> Result<(), AllocError>
-    requires empty { fields_of csv_record.old ≡ [] }
-    requires whole { partial_of csv_record.old ≡ [] }
-    ensures { OnOk result (fields_of csv_record.new ≡ word.now ∷ outcome_fields (outcome_of outcome.now)) }
-{
-    csv_record.push_field(word.as_bytes())?;
-    match outcome {
-        Outcome::Stem(stem) => {
-            set_text(text, stem)?;
-            csv_record.push_field(b"stem")?;
-            csv_record.push_field(text.as_bytes())
-        }
-        Outcome::Refused(fault) => {
-            csv_record.push_field(b"refused")?;
-            csv_record.push_field(fault.name().as_bytes())
+            stem: TextBuffer::new(alloc),
         }
     }
 }
@@ -88,8 +59,7 @@ pub(crate) fn row_text(
     let Ok(traced) = machine.trace(alloc, meter, characters, DEFAULT_LIMIT) else {
         return Err(AllocError);
     };
-    let Traced { outcome, .. } = traced;
-    rows.csv_record.clear();
-    fill_record(word, &outcome, &mut rows.text, &mut rows.csv_record)?;
-    next_line(alloc, &mut rows.lines, &rows.csv_record)
+    meter.reuse(traced.touches);
+    let (kind, text) = outcome_fields(&mut rows.stem, &traced.outcome)?;
+    next_line(alloc, &mut rows.lines, word.as_bytes(), kind, text)
 }

@@ -16,15 +16,15 @@ use Rattle.sbl_semantics.specs.declared.limits.Limits.{Limits}
 use Rattle.sbl_program.specs.declared.node.Node.TheFolds.{fold_out-Node}
 use Rattle.sbl_program.specs.declared.node.Node.TheViews.{the_lemmas}
 use Rattle.sbl_interpreter.specs.Halts.{fault_of}
-use Rattle.sbl_interpreter.specs.Kept.{Follows, Halts, Tried}
-use Rattle.sbl_program.specs.Listed.{Listed}
+use Rattle.sbl_interpreter.specs.Endings.{Follows, Halts, Tried}
+use Rattle.sbl_program.specs.AmongStrings.{Listed}
 use Rattle.sbl_semantics.specs.Fitting.{first}
 use Rattle.sbl_semantics.specs.Moves.{next}
 use Rattle.sbl_interpreter.specs.Arithmetic.{value}
-use Rattle.sbl_semantics.specs.Numbers.{given}
+use Rattle.sbl_semantics.specs.Numbers.{continue_with}
 use Rattle.sbl_program.specs.ProgramOf.{view_action, view_node, view_nodes, view_number}
 use Rattle.sbl_program.specs.Program as programs
-use Rattle.sbl_semantics.specs.Control.{paid, turns, times, count_of, seeks, found, backwards_from, backwards_end, leave, back_in, enter, limits, limited, limit_here, limit_back}
+use Rattle.sbl_semantics.specs.Control.{pay_first, turns, times, count_of, seeks, end_search, backwards_from, backwards_end, leave, back_in, enter, limits, restore_limit, limit_here, limit_back}
 use Rattle.sbl_interpreter.specs.Run.{runs_paid, calls, runs, all_run, group_runs, nth_runs, body_does}
 use Rattle.sbl_semantics.specs.Choices.{choice}
 use Rattle.sbl_interpreter.specs.Search.{search_all, tries, try_one}
@@ -88,15 +88,15 @@ goto_does T p levels inner m s = ap (λ c. runs_paid p levels c m s) (view_goto 
 pub gopast_does : (T : ℕ → Listed) (p : programs.Program) (levels : ℕ) (inner : Box Node Global) (m : Mode) (s : State) → runs_paid p levels (view_node T (GoPast inner)) m s ≡ seeks (suc s.steps) true (runs p levels (view_node T inner.value)) m s
 gopast_does T p levels inner m s = ap (λ c. runs_paid p levels c m s) (view_gopast T inner)
 
-pub setlimit_does : (T : ℕ → Listed) (p : programs.Program) (levels : ℕ) (a b : Box Node Global) (m : Mode) (s : State) → runs_paid p levels (view_node T (SetLimit a b)) m s ≡ after (runs p levels (view_node T a.value) m s) (λ t. then_on (put_back m (saved_cursor s) (limit_here m t)) (λ u. limited m (limits s) (runs p levels (view_node T b.value) m u))) (Signals false)
+pub setlimit_does : (T : ℕ → Listed) (p : programs.Program) (levels : ℕ) (a b : Box Node Global) (m : Mode) (s : State) → runs_paid p levels (view_node T (SetLimit a b)) m s ≡ after (runs p levels (view_node T a.value) m s) (λ t. then_on (put_back m (saved_cursor s) (limit_here m t)) (λ u. restore_limit m (limits s) (runs p levels (view_node T b.value) m u))) (Signals false)
 setlimit_does T p levels a b m s = ap (λ c. runs_paid p levels c m s) (view_setlimit T a b)
 
-pub limited_signals : (m : Mode) (from : Limits) (e : Ending) (b : Bool) (t : State) → e ≡ Signals b t → limited m from e ≡ Signals b (limit_back m from t)
-limited_signals m from e true t p = ap (limited m from) p
-limited_signals m from e false t p = ap (limited m from) p
+pub limited_signals : (m : Mode) (from : Limits) (e : Ending) (b : Bool) (t : State) → e ≡ Signals b t → restore_limit m from e ≡ Signals b (limit_back m from t)
+limited_signals m from e true t p = ap (restore_limit m from) p
+limited_signals m from e false t p = ap (restore_limit m from) p
 
-pub limited_halts : (m : Mode) (from : Limits) (halt : Halt) (new : State) (e : Ending) → Follows (Err halt) new e → Follows (Err halt) new (limited m from e)
-limited_halts m from halt new e h = passed (fault_of halt) new e (limited m from) (λ fault. refl) h
+pub limited_halts : (m : Mode) (from : Limits) (halt : Halt) (new : State) (e : Ending) → Follows (Err halt) new e → Follows (Err halt) new (restore_limit m from e)
+limited_halts m from halt new e h = passed (fault_of halt) new e (restore_limit m from) (λ fault. refl) h
 
 pub one_time : (l : ℕ) (c : Doing) (m : Mode) (s new : State) (w : Ending) → 0 < l → c m s ≡ Signals true new → times l c m s ≡ w → times (l - 1) c m new ≡ w
 one_time zero c m s new w l e h = absurd (omega arith)
@@ -107,10 +107,10 @@ one_time (suc k) c m s new w l e h =
 pub repeat_does : (T : ℕ → Listed) (p : programs.Program) (levels : ℕ) (inner : Box Node Global) (m : Mode) (s : State) → runs_paid p levels (view_node T (Repeat inner)) m s ≡ turns (suc s.steps) (runs p levels (view_node T inner.value)) m s
 repeat_does T p levels inner m s = ap (λ c. runs_paid p levels c m s) (view_repeat T inner)
 
-pub loop_does : (T : ℕ → Listed) (p : programs.Program) (levels : ℕ) (n : Arithmetic) (inner : Box Node Global) (m : Mode) (s : State) → runs_paid p levels (view_node T (Loop n inner)) m s ≡ given (value (view_number n) m s) s (λ z. times (count_of z) (runs p levels (view_node T inner.value)) m s)
+pub loop_does : (T : ℕ → Listed) (p : programs.Program) (levels : ℕ) (n : Arithmetic) (inner : Box Node Global) (m : Mode) (s : State) → runs_paid p levels (view_node T (Loop n inner)) m s ≡ continue_with (value (view_number n) m s) s (λ z. times (count_of z) (runs p levels (view_node T inner.value)) m s)
 loop_does T p levels n inner m s = ap (λ c. runs_paid p levels c m s) (view_loop T n inner)
 
-pub atleast_does : (T : ℕ → Listed) (p : programs.Program) (levels : ℕ) (n : Arithmetic) (inner : Box Node Global) (m : Mode) (s : State) → runs_paid p levels (view_node T (AtLeast n inner)) m s ≡ after (given (value (view_number n) m s) s (λ z. times (count_of z) (runs p levels (view_node T inner.value)) m s)) (λ t. turns (suc t.steps) (runs p levels (view_node T inner.value)) m t) (Signals false)
+pub atleast_does : (T : ℕ → Listed) (p : programs.Program) (levels : ℕ) (n : Arithmetic) (inner : Box Node Global) (m : Mode) (s : State) → runs_paid p levels (view_node T (AtLeast n inner)) m s ≡ after (continue_with (value (view_number n) m s) s (λ z. times (count_of z) (runs p levels (view_node T inner.value)) m s)) (λ t. turns (suc t.steps) (runs p levels (view_node T inner.value)) m t) (Signals false)
 atleast_does T p levels n inner m s = ap (λ c. runs_paid p levels c m s) (view_atleast T n inner)
 
 pub search_does : (T : ℕ → Listed) (p : programs.Program) (levels k table : ℕ) (entries : Vec Candidate Global) (m : Mode) (s : State) → runs_paid p levels (view_node T (Search k table entries)) m s ≡ search_all (calls p levels) k entries.items (T table) m s
@@ -141,7 +141,7 @@ pub one_try : (n : ℕ) (past : Bool) (c : Doing) (m : Mode) (s f b new : State)
 one_try zero past c m s f b new w less l e p x h = absurd (omega arith)
 one_try (suc k) past c m s f b new w less l e p x h =
     let go = λ (b : State). after (next m b) (seeks (suc k) past c m) (Signals false) in
-    (k, omega arith, sym (ap (λ r. after r (found past m s) (λ f. then_on (put_back m (saved_cursor s) f) go)) e ∙ ap (λ r. then_on r go) p ∙ ap (λ r. after r (seeks (suc k) past c m) (Signals false)) x) ∙ h)
+    (k, omega arith, sym (ap (λ r. after r (end_search past m s) (λ f. then_on (put_back m (saved_cursor s) f) go)) e ∙ ap (λ r. then_on r go) p ∙ ap (λ r. after r (seeks (suc k) past c m) (Signals false)) x) ∙ h)
 
 pub one_more : (call : ℕ → Doing) (a : ℕ) (es : List Candidate) (m : Mode) (from : State) (rest : List ℕ) (i : ℕ) (s : State) (place : Option ℕ) → place ≡ first rest → place ≡ Some i → (js : List ℕ) × (rest ≡ i ∷ js) × (tries call a es m from rest s ≡ try_one call a (slice_get es i) m from s (tries call a es m from js))
 one_more call a es m from [] i s place p q = let e : Some i ≡ None = sym q ∙ p in absurd (let no : ⊥ = cc in no)
@@ -188,7 +188,7 @@ view_act : (T : ℕ → Listed) (a : Action) → view_node T (Act a) ≡ program
 view_act T a = first_of (search (rules, the_lemmas), search (rules, the_lemmas, fold_out-Node))
 
 -- commands of which the first holds no command
-pub act_first : (T : ℕ → Listed) (p : programs.Program) (levels : ℕ) (cs : List Node) (a : Action) (m : Mode) (s : State) → slice_get cs 0 ≡ Some (Act a) → all_run p levels (view_nodes T cs) m s ≡ after (paid (acts p.groupings (view_action a)) m s) (all_run p levels (view_nodes T (drop 1 cs)) m) (Signals false)
+pub act_first : (T : ℕ → Listed) (p : programs.Program) (levels : ℕ) (cs : List Node) (a : Action) (m : Mode) (s : State) → slice_get cs 0 ≡ Some (Act a) → all_run p levels (view_nodes T cs) m s ≡ after (pay_first (acts p.groupings (view_action a)) m s) (all_run p levels (view_nodes T (drop 1 cs)) m) (Signals false)
 act_first T p levels [] a m s e = let no : ⊥ = cc in absurd no
 act_first T p levels (x ∷ cs) a m s e =
     let same : x ≡ Act a = cc in
@@ -200,10 +200,10 @@ but_first [] = refl
 but_first (c ∷ cs) = take_all (length (c ∷ cs) - 1) cs (omega arith)
 
 -- a command that is the test of a grouping
-pub grouping_does : (T : ℕ → Listed) (p : programs.Program) (levels g : ℕ) → runs p levels (view_node T (Act (Grouping g))) ≡ paid (test_grouping true (class_at p.groupings g) g)
+pub grouping_does : (T : ℕ → Listed) (p : programs.Program) (levels g : ℕ) → runs p levels (view_node T (Act (Grouping g))) ≡ pay_first (test_grouping true (class_at p.groupings g) g)
 grouping_does T p levels g = ap (runs p levels) (view_act T (Grouping g))
 
-pub non_does : (T : ℕ → Listed) (p : programs.Program) (levels g : ℕ) → runs p levels (view_node T (Act (NonGrouping g))) ≡ paid (test_grouping false (class_at p.groupings g) g)
+pub non_does : (T : ℕ → Listed) (p : programs.Program) (levels g : ℕ) → runs p levels (view_node T (Act (NonGrouping g))) ≡ pay_first (test_grouping false (class_at p.groupings g) g)
 non_does T p levels g = ap (runs p levels) (view_act T (NonGrouping g))
 
 view_not : (T : ℕ → Listed) (inner : Box Node Global) → view_node T (Not inner) ≡ programs.not (view_node T inner.value)

@@ -1,14 +1,14 @@
--- The bits beside the touches of a run.
+-- The marks beside the touches of a run.
 use Rattle.std.proofs.Common.{◌≡◌, ℕ, zero, suc, ◌<◌, ◌≤◌, Bool, true, false, List, [], ◌∷◌, ◌++◌, length, map, Result, Ok, Err, refl, sym, ap, subst, ◌∙◌, arith}
 use Rattle.std.specs.declared.alloc.AllocError.{AllocError}
 use Rattle.std.specs.Prelude.{◌&&◌, ◌||◌, IfOk, nat_eq, if◌then◌else◌, slice_index_or, slice_set}
 use Rattle.std.specs.List.{list_any}
-use Rattle.std.proofs.lemmas.Bool.{true≢false, eqb-true, eq-eqb}
+use Rattle.std.proofs.lemmas.Bool.{true≢false, eqb-true, eq-eqb, ne_eqb}
 use Rattle.std.proofs.lemmas.List.{get_or-set_same, get_or-set_other}
 use Rattle.std.proofs.lemmas.List.Folds.{list_any-append}
 use Rattle.sbl_semantics.specs.declared.touch.Touch.{Touch}
 use Rattle.sbl_semantics.specs.declared.touch.Touch.TheVariants.{Entered, Searched, Tested}
-use Rattle.sbl_interpreter.specs.Marks.{is_set, is_set_in, AreMarked, AreAmong}
+use Rattle.sbl_interpreter.specs.Marks.{mark_at, mark_in, AreMarked}
 use Rattle.sbl_semantics.specs.Touches.{same_touch, with_touch}
 
 -- ---- lists
@@ -20,7 +20,7 @@ push_default d [] (suc j) = refl
 push_default d (x ∷ xs) zero = refl
 push_default d (x ∷ xs) (suc j) = push_default d xs j
 
-pub row_is : {V : Type 0} (f : V → List Bool) (xs : List V) (i : ℕ) (v : V) → i < length xs → v ≡ slice_index_or xs i v → f v ≡ slice_index_or (map f xs) i []
+pub row_is : {V : Type 0} (f : V → List ℕ) (xs : List V) (i : ℕ) (v : V) → i < length xs → v ≡ slice_index_or xs i v → f v ≡ slice_index_or (map f xs) i []
 row_is f [] i v l e = absurd (omega arith)
 row_is f (x ∷ xs) zero v l e = ap f e
 row_is f (x ∷ xs) (suc i) v l e = row_is f xs i v (omega arith) e
@@ -62,149 +62,146 @@ and_true a b p q = ap (λ x. x && b) p ∙ q
 and_false : (a b : Bool) → a ≡ true → b ≡ false → (a && b) ≡ false
 and_false a b p q = ap (λ x. x && b) p ∙ q
 
--- ---- a bit that is set
+-- ---- a mark that is set
 
-set_bit : (bits : List Bool) (i j : ℕ) (x : Touch) (ts : List Touch) (y : Touch) (e : Bool) → nat_eq j i ≡ e → same_touch x y ≡ e → i < length bits → is_set bits j ≡ list_any (same_touch x) ts → is_set (slice_set bits i true) j ≡ list_any (same_touch x) (ts ++ (y ∷ []))
-set_bit bits i j x ts y true h s l b =
-    ap (is_set (slice_set bits i true)) (eqb-true j i h) ∙ get_or-set_same bits i true false l ∙ sym (last_is x y ts s)
-set_bit bits i j x ts y false h s l b =
-    get_or-set_other bits i j true false (differ i j h) ∙ b ∙ sym (last_is_not x y ts s)
+set_mark : (round : ℕ) (marks : List ℕ) (i j : ℕ) (x : Touch) (ts : List Touch) (y : Touch) (e : Bool) → nat_eq j i ≡ e → same_touch x y ≡ e → i < length marks → nat_eq (mark_at marks j) round ≡ list_any (same_touch x) ts → nat_eq (mark_at (slice_set marks i round) j) round ≡ list_any (same_touch x) (ts ++ (y ∷ []))
+set_mark round marks i j x ts y true h s l b =
+    ap (λ n. nat_eq (mark_at (slice_set marks i round) n) round) (eqb-true j i h)
+    ∙ ap (λ m. nat_eq m round) (get_or-set_same marks i round 0 l)
+    ∙ eq-eqb round round refl
+    ∙ sym (last_is x y ts s)
+set_mark round marks i j x ts y false h s l b =
+    ap (λ m. nat_eq m round) (get_or-set_other marks i j round 0 (differ i j h)) ∙ b ∙ sym (last_is_not x y ts s)
 
--- bits that were grown
-pub grown_marks : (ts : List Touch) (entered more : List Bool) (searched others : List (List Bool)) (tested further : List Bool) → AreMarked ts entered searched tested → ((i : ℕ) → is_set more i ≡ is_set entered i) → ((i k : ℕ) → is_set_in others i k ≡ is_set_in searched i k) → ((g : ℕ) → is_set further g ≡ is_set tested g) → AreMarked ts more others further
-grown_marks ts entered more searched others tested further h same alike too =
-    record { routines = λ i. same i ∙ h.routines i; amongs = λ i k. alike i k ∙ h.amongs i k; groupings = λ g. too g ∙ h.groupings g }
+set_by_now : (round : ℕ) (marks : List ℕ) (i j : ℕ) (e : Bool) → nat_eq j i ≡ e → i < length marks → mark_at marks j ≤ round → mark_at (slice_set marks i round) j ≤ round
+set_by_now round marks i j true h l b =
+    let e : mark_at (slice_set marks i round) j ≡ round = ap (mark_at (slice_set marks i round)) (eqb-true j i h) ∙ get_or-set_same marks i round 0 l in
+    omega (arith, e)
+set_by_now round marks i j false h l b = omega (arith, b, get_or-set_other marks i j round 0 (differ i j h))
 
-pub entered_marks : (ts : List Touch) (entered : List Bool) (searched : List (List Bool)) (tested : List Bool) (i : ℕ) → AreMarked ts entered searched tested → i < length entered → AreMarked (ts ++ (Entered i ∷ [])) (slice_set entered i true) searched tested
-entered_marks ts entered searched tested i h l =
+-- marks that were grown
+pub grown_marks : (round : ℕ) (ts : List Touch) (entered more : List ℕ) (searched others : List (List ℕ)) (tested further : List ℕ) → AreMarked round ts entered searched tested → ((i : ℕ) → mark_at more i ≡ mark_at entered i) → ((i k : ℕ) → mark_in others i k ≡ mark_in searched i k) → ((g : ℕ) → mark_at further g ≡ mark_at tested g) → AreMarked round ts more others further
+grown_marks round ts entered more searched others tested further h same alike too =
     record {
-      routines = λ j. set_bit entered i j (Entered j) ts (Entered i) _ refl refl l (h.routines j);
-      amongs = λ j k. h.amongs j k ∙ sym (last_is_not (Searched j k) (Entered i) ts refl);
-      groupings = λ g. h.groupings g ∙ sym (last_is_not (Tested g) (Entered i) ts refl);
+      begun = h.begun;
+      routines = λ i. ap (λ m. nat_eq m round) (same i) ∙ h.routines i;
+      amongs = λ i k. ap (λ m. nat_eq m round) (alike i k) ∙ h.amongs i k;
+      groupings = λ g. ap (λ m. nat_eq m round) (too g) ∙ h.groupings g;
+      entered_by_now = λ i. omega (arith, same i, h.entered_by_now i);
+      searched_by_now = λ i k. omega (arith, alike i k, h.searched_by_now i k);
+      tested_by_now = λ g. omega (arith, too g, h.tested_by_now g);
     }
 
-pub tested_marks : (ts : List Touch) (entered : List Bool) (searched : List (List Bool)) (tested : List Bool) (g : ℕ) → AreMarked ts entered searched tested → g < length tested → AreMarked (ts ++ (Tested g ∷ [])) entered searched (slice_set tested g true)
-tested_marks ts entered searched tested g h l =
+pub entered_marks : (round : ℕ) (ts : List Touch) (entered : List ℕ) (searched : List (List ℕ)) (tested : List ℕ) (i : ℕ) → AreMarked round ts entered searched tested → i < length entered → AreMarked round (ts ++ (Entered i ∷ [])) (slice_set entered i round) searched tested
+entered_marks round ts entered searched tested i h l =
     record {
+      begun = h.begun;
+      routines = λ j. set_mark round entered i j (Entered j) ts (Entered i) _ refl refl l (h.routines j);
+      amongs = λ j k. h.amongs j k ∙ sym (last_is_not (Searched j k) (Entered i) ts refl);
+      groupings = λ g. h.groupings g ∙ sym (last_is_not (Tested g) (Entered i) ts refl);
+      entered_by_now = λ j. set_by_now round entered i j _ refl l (h.entered_by_now j);
+      searched_by_now = h.searched_by_now;
+      tested_by_now = h.tested_by_now;
+    }
+
+pub tested_marks : (round : ℕ) (ts : List Touch) (entered : List ℕ) (searched : List (List ℕ)) (tested : List ℕ) (g : ℕ) → AreMarked round ts entered searched tested → g < length tested → AreMarked round (ts ++ (Tested g ∷ [])) entered searched (slice_set tested g round)
+tested_marks round ts entered searched tested g h l =
+    record {
+      begun = h.begun;
       routines = λ j. h.routines j ∙ sym (last_is_not (Entered j) (Tested g) ts refl);
       amongs = λ j k. h.amongs j k ∙ sym (last_is_not (Searched j k) (Tested g) ts refl);
-      groupings = λ j. set_bit tested g j (Tested j) ts (Tested g) _ refl refl l (h.groupings j);
+      groupings = λ j. set_mark round tested g j (Tested j) ts (Tested g) _ refl refl l (h.groupings j);
+      entered_by_now = h.entered_by_now;
+      searched_by_now = h.searched_by_now;
+      tested_by_now = λ j. set_by_now round tested g j _ refl l (h.tested_by_now j);
     }
 
 -- the same in a row
-set_row : (rows : List (List Bool)) (i k j l : ℕ) (ts : List Touch) (e : Bool) → nat_eq j i ≡ e → i < length rows → k < length (slice_index_or rows i []) → ((j l : ℕ) → is_set_in rows j l ≡ list_any (same_touch (Searched j l)) ts) → is_set_in (slice_set rows i (slice_set (slice_index_or rows i []) k true)) j l ≡ list_any (same_touch (Searched j l)) (ts ++ (Searched i k ∷ []))
-set_row rows i k j l ts true h a b g =
-    let bits = slice_index_or rows i [] in
+set_row : (round : ℕ) (rows : List (List ℕ)) (i k j l : ℕ) (ts : List Touch) (e : Bool) → nat_eq j i ≡ e → i < length rows → k < length (slice_index_or rows i []) → ((j l : ℕ) → nat_eq (mark_in rows j l) round ≡ list_any (same_touch (Searched j l)) ts) → nat_eq (mark_in (slice_set rows i (slice_set (slice_index_or rows i []) k round)) j l) round ≡ list_any (same_touch (Searched j l)) (ts ++ (Searched i k ∷ []))
+set_row round rows i k j l ts true h a b g =
+    let marks = slice_index_or rows i [] in
     let is = eqb-true j i h in
-    ap (λ n. is_set_in (slice_set rows i (slice_set bits k true)) n l) is
-    ∙ ap (λ bs. is_set bs l) (get_or-set_same rows i (slice_set bits k true) [] a)
-    ∙ set_bit bits k l (Searched i l) ts (Searched i k) _ refl (ap (λ b. b && nat_eq l k) (eq-eqb i i refl)) b (g i l)
+    ap (λ n. nat_eq (mark_in (slice_set rows i (slice_set marks k round)) n l) round) is
+    ∙ ap (λ ms. nat_eq (mark_at ms l) round) (get_or-set_same rows i (slice_set marks k round) [] a)
+    ∙ set_mark round marks k l (Searched i l) ts (Searched i k) _ refl (ap (λ b. b && nat_eq l k) (eq-eqb i i refl)) b (g i l)
     ∙ sym (ap (λ n. list_any (same_touch (Searched n l)) (ts ++ (Searched i k ∷ []))) is)
-set_row rows i k j l ts false h a b g =
-    let bits = slice_index_or rows i [] in
-    ap (λ bs. is_set bs l) (get_or-set_other rows i j (slice_set bits k true) [] (differ i j h))
+set_row round rows i k j l ts false h a b g =
+    let marks = slice_index_or rows i [] in
+    ap (λ ms. nat_eq (mark_at ms l) round) (get_or-set_other rows i j (slice_set marks k round) [] (differ i j h))
     ∙ g j l
     ∙ sym (last_is_not (Searched j l) (Searched i k) ts (ap (λ b. b && nat_eq l k) h))
 
-pub searched_marks : (ts : List Touch) (entered : List Bool) (searched : List (List Bool)) (tested : List Bool) (i k : ℕ) → AreMarked ts entered searched tested → i < length searched → k < length (slice_index_or searched i []) → AreMarked (ts ++ (Searched i k ∷ [])) entered (slice_set searched i (slice_set (slice_index_or searched i []) k true)) tested
-searched_marks ts entered searched tested i k h a b =
+set_row_by_now : (round : ℕ) (rows : List (List ℕ)) (i k j l : ℕ) (e : Bool) → nat_eq j i ≡ e → i < length rows → k < length (slice_index_or rows i []) → ((j l : ℕ) → mark_in rows j l ≤ round) → mark_in (slice_set rows i (slice_set (slice_index_or rows i []) k round)) j l ≤ round
+set_row_by_now round rows i k j l true h a b g =
+    let marks = slice_index_or rows i [] in
+    let e : mark_in (slice_set rows i (slice_set marks k round)) j l ≡ mark_at (slice_set marks k round) l =
+    ap (λ n. mark_in (slice_set rows i (slice_set marks k round)) n l) (eqb-true j i h) ∙ ap (λ ms. mark_at ms l) (get_or-set_same rows i (slice_set marks k round) [] a) in
+    omega (arith, e, set_by_now round marks k l _ refl b (g i l))
+set_row_by_now round rows i k j l false h a b g =
+    let e = ap (λ ms. mark_at ms l) (get_or-set_other rows i j (slice_set (slice_index_or rows i []) k round) [] (differ i j h)) in
+    omega (arith, e, g j l)
+
+pub searched_marks : (round : ℕ) (ts : List Touch) (entered : List ℕ) (searched : List (List ℕ)) (tested : List ℕ) (i k : ℕ) → AreMarked round ts entered searched tested → i < length searched → k < length (slice_index_or searched i []) → AreMarked round (ts ++ (Searched i k ∷ [])) entered (slice_set searched i (slice_set (slice_index_or searched i []) k round)) tested
+searched_marks round ts entered searched tested i k h a b =
     record {
+      begun = h.begun;
       routines = λ j. h.routines j ∙ sym (last_is_not (Entered j) (Searched i k) ts refl);
-      amongs = λ j l. set_row searched i k j l ts _ refl a b h.amongs;
+      amongs = λ j l. set_row round searched i k j l ts _ refl a b h.amongs;
       groupings = λ g. h.groupings g ∙ sym (last_is_not (Tested g) (Searched i k) ts refl);
+      entered_by_now = h.entered_by_now;
+      searched_by_now = λ j l. set_row_by_now round searched i k j l _ refl a b h.searched_by_now;
+      tested_by_now = h.tested_by_now;
     }
 
--- ---- bits that are cleared
+-- ---- another round
 
-pub among : (ts : List Touch) (entered : List Bool) (searched : List (List Bool)) (tested : List Bool) → AreMarked ts entered searched tested → AreAmong ts entered searched tested
-among ts entered searched tested h =
-    record { routines = λ i p. sym (h.routines i) ∙ p; amongs = λ i k p. sym (h.amongs i k) ∙ p; groupings = λ g p. sym (h.groupings g) ∙ p }
+earlier : (mark round next : ℕ) → mark ≤ round → round < next → nat_eq mark next ≡ false
+earlier mark round next a b = ne_eqb mark next (λ e. omega (arith, e, a, b))
 
-none : (b : Bool) → (b ≡ true → false ≡ true) → b ≡ false
-none true h = sym (h refl)
-none false h = refl
-
--- no bit is set where there is no touch
-pub cleared : (entered : List Bool) (searched : List (List Bool)) (tested : List Bool) → AreAmong [] entered searched tested → AreMarked [] entered searched tested
-cleared entered searched tested h =
-    record { routines = λ i. none _ (h.routines i); amongs = λ i k. none _ (h.amongs i k); groupings = λ g. none _ (h.groupings g) }
-
--- a cleared bit is not set, past the end too
-clear_bit : (bits : List Bool) (i : ℕ) → is_set (slice_set bits i false) i ≡ false
-clear_bit [] i = refl
-clear_bit (b ∷ bits) zero = refl
-clear_bit (b ∷ bits) (suc i) = clear_bit bits i
-
-clear_row : (rows : List (List Bool)) (i k : ℕ) → is_set_in (slice_set rows i (slice_set (slice_index_or rows i []) k false)) i k ≡ false
-clear_row [] i k = refl
-clear_row (r ∷ rows) zero k = clear_bit r k
-clear_row (r ∷ rows) (suc i) k = clear_row rows i k
-
-in_row : (rows : List (List Bool)) (i : ℕ) (bits : List Bool) (k l : ℕ) → is_set_in (slice_set rows i (slice_set (slice_index_or rows i []) k false)) i l ≡ is_set (slice_set (slice_index_or rows i []) k false) l
-in_row [] i bits k l = refl
-in_row (r ∷ rows) zero bits k l = refl
-in_row (r ∷ rows) (suc i) bits k l = in_row rows i bits k l
-
-left_bit : (bits : List Bool) (i j : ℕ) (x : Touch) (ts : List Touch) (y : Touch) (e : Bool) → nat_eq j i ≡ e → same_touch x y ≡ e → (is_set bits j ≡ true → list_any (same_touch x) (ts ++ (y ∷ [])) ≡ true) → is_set (slice_set bits i false) j ≡ true → list_any (same_touch x) ts ≡ true
-left_bit bits i j x ts y true h s g p =
-    absurd (true≢false (sym p ∙ ap (is_set (slice_set bits i false)) (eqb-true j i h) ∙ clear_bit bits i))
-left_bit bits i j x ts y false h s g p =
-    sym (last_is_not x y ts s) ∙ g (sym (get_or-set_other bits i j false false (differ i j h)) ∙ p)
-
-pub left_routine : (ts : List Touch) (entered : List Bool) (searched : List (List Bool)) (tested : List Bool) (i : ℕ) → AreAmong (ts ++ (Entered i ∷ [])) entered searched tested → AreAmong ts (slice_set entered i false) searched tested
-left_routine ts entered searched tested i h =
+-- in a later round nothing is touched
+pub later_marks : (round next : ℕ) (ts : List Touch) (entered : List ℕ) (searched : List (List ℕ)) (tested : List ℕ) → AreMarked round ts entered searched tested → round < next → AreMarked next [] entered searched tested
+later_marks round next ts entered searched tested h l =
     record {
-      routines = λ j p. left_bit entered i j (Entered j) ts (Entered i) _ refl refl (h.routines j) p;
-      amongs = λ j k p. sym (last_is_not (Searched j k) (Entered i) ts refl) ∙ h.amongs j k p;
-      groupings = λ g p. sym (last_is_not (Tested g) (Entered i) ts refl) ∙ h.groupings g p;
+      begun = omega (arith, l);
+      routines = λ i. earlier _ round next (h.entered_by_now i) l;
+      amongs = λ i k. earlier _ round next (h.searched_by_now i k) l;
+      groupings = λ g. earlier _ round next (h.tested_by_now g) l;
+      entered_by_now = λ i. omega (arith, h.entered_by_now i, l);
+      searched_by_now = λ i k. omega (arith, h.searched_by_now i k, l);
+      tested_by_now = λ g. omega (arith, h.tested_by_now g, l);
     }
 
-pub left_grouping : (ts : List Touch) (entered : List Bool) (searched : List (List Bool)) (tested : List Bool) (g : ℕ) → AreAmong (ts ++ (Tested g ∷ [])) entered searched tested → AreAmong ts entered searched (slice_set tested g false)
-left_grouping ts entered searched tested g h =
+-- the first round, without marks
+pub first_marks : AreMarked 1 [] [] [] []
+first_marks =
     record {
-      routines = λ j p. sym (last_is_not (Entered j) (Tested g) ts refl) ∙ h.routines j p;
-      amongs = λ j k p. sym (last_is_not (Searched j k) (Tested g) ts refl) ∙ h.amongs j k p;
-      groupings = λ j p. left_bit tested g j (Tested j) ts (Tested g) _ refl refl (h.groupings j) p;
-    }
-
-left_row : (rows : List (List Bool)) (i k j l : ℕ) (ts : List Touch) (e : Bool) → nat_eq j i ≡ e → ((j l : ℕ) → is_set_in rows j l ≡ true → list_any (same_touch (Searched j l)) (ts ++ (Searched i k ∷ [])) ≡ true) → is_set_in (slice_set rows i (slice_set (slice_index_or rows i []) k false)) j l ≡ true → list_any (same_touch (Searched j l)) ts ≡ true
-left_row rows i k j l ts true h g p =
-    let bits = slice_index_or rows i [] in
-    let is = eqb-true j i h in
-    let q = sym (in_row rows i bits k l) ∙ sym (ap (λ n. is_set_in (slice_set rows i (slice_set bits k false)) n l) is) ∙ p in
-    ap (λ n. list_any (same_touch (Searched n l)) ts) is
-    ∙ left_bit bits k l (Searched i l) ts (Searched i k) _ refl (ap (λ b. b && nat_eq l k) (eq-eqb i i refl)) (g i l) q
-left_row rows i k j l ts false h g p =
-    let bits = slice_index_or rows i [] in
-    sym (last_is_not (Searched j l) (Searched i k) ts (ap (λ b. b && nat_eq l k) h))
-    ∙ g j l (sym (ap (λ bs. is_set bs l) (get_or-set_other rows i j (slice_set bits k false) [] (differ i j h))) ∙ p)
-
-pub left_among : (ts : List Touch) (entered : List Bool) (searched : List (List Bool)) (tested : List Bool) (i k : ℕ) → AreAmong (ts ++ (Searched i k ∷ [])) entered searched tested → AreAmong ts entered (slice_set searched i (slice_set (slice_index_or searched i []) k false)) tested
-left_among ts entered searched tested i k h =
-    record {
-      routines = λ j p. sym (last_is_not (Entered j) (Searched i k) ts refl) ∙ h.routines j p;
-      amongs = λ j l p. left_row searched i k j l ts _ refl h.amongs p;
-      groupings = λ g p. sym (last_is_not (Tested g) (Searched i k) ts refl) ∙ h.groupings g p;
+      begun = omega arith;
+      routines = λ i. refl;
+      amongs = λ i k. refl;
+      groupings = λ g. refl;
+      entered_by_now = λ i. omega arith;
+      searched_by_now = λ i k. omega arith;
+      tested_by_now = λ g. omega arith;
     }
 
 -- ---- rows that were grown
 
-pub same_row : (rows : List (List Bool)) (i : ℕ) (bits : List Bool) (j l : ℕ) (e : Bool) → nat_eq j i ≡ e → i < length rows → ((l : ℕ) → is_set bits l ≡ is_set_in rows i l) → is_set_in (slice_set rows i bits) j l ≡ is_set_in rows j l
-same_row rows i bits j l true h a g =
+pub same_row : (rows : List (List ℕ)) (i : ℕ) (marks : List ℕ) (j l : ℕ) (e : Bool) → nat_eq j i ≡ e → i < length rows → ((l : ℕ) → mark_at marks l ≡ mark_in rows i l) → mark_in (slice_set rows i marks) j l ≡ mark_in rows j l
+same_row rows i marks j l true h a g =
     let is = eqb-true j i h in
-    ap (λ n. is_set_in (slice_set rows i bits) n l) is ∙ ap (λ bs. is_set bs l) (get_or-set_same rows i bits [] a) ∙ g l ∙ sym (ap (λ n. is_set_in rows n l) is)
-same_row rows i bits j l false h a g = ap (λ bs. is_set bs l) (get_or-set_other rows i j bits [] (differ i j h))
+    ap (λ n. mark_in (slice_set rows i marks) n l) is ∙ ap (λ ms. mark_at ms l) (get_or-set_same rows i marks [] a) ∙ g l ∙ sym (ap (λ n. mark_in rows n l) is)
+same_row rows i marks j l false h a g = ap (λ ms. mark_at ms l) (get_or-set_other rows i j marks [] (differ i j h))
 
 length_set : {A : Type 0} (xs : List A) (i : ℕ) (y : A) → length (slice_set xs i y) ≡ length xs
 length_set [] i y = refl
 length_set (x ∷ xs) zero y = refl
 length_set (x ∷ xs) (suc i) y = ap suc (length_set xs i y)
 
-row_set : {V : Type 0} (f : V → List Bool) (xs : List V) (i : ℕ) (v : V) → i < length xs → slice_index_or (map f (slice_set xs i v)) i [] ≡ f v
+row_set : {V : Type 0} (f : V → List ℕ) (xs : List V) (i : ℕ) (v : V) → i < length xs → slice_index_or (map f (slice_set xs i v)) i [] ≡ f v
 row_set f [] i v l = absurd (omega arith)
 row_set f (x ∷ xs) zero v l = refl
 row_set f (x ∷ xs) (suc i) v l = row_set f xs i v (omega arith)
 
-pub bit_there : {V : Type 0} (f : V → List Bool) (r : Result (Unit {0}) AllocError) (xs : List V) (i k : ℕ) (v : V) → i < length xs → IfOk r (λ x. k < length (f v)) → IfOk r (λ x. (i < length (slice_set xs i v)) × (k < length (slice_index_or (map f (slice_set xs i v)) i [])))
-bit_there f (Ok u) xs i k v l h = (omega (arith, l, length_set xs i v), subst (λ bs. k < length bs) (sym (row_set f xs i v l)) h)
-bit_there f (Err e) xs i k v l h = tt
+pub mark_there : {V : Type 0} (f : V → List ℕ) (r : Result (Unit {0}) AllocError) (xs : List V) (i k : ℕ) (v : V) → i < length xs → IfOk r (λ x. k < length (f v)) → IfOk r (λ x. (i < length (slice_set xs i v)) × (k < length (slice_index_or (map f (slice_set xs i v)) i [])))
+mark_there f (Ok u) xs i k v l h = (omega (arith, l, length_set xs i v), subst (λ ms. k < length ms) (sym (row_set f xs i v l)) h)
+mark_there f (Err e) xs i k v l h = tt

@@ -6,8 +6,8 @@ use Rattle.std.proofs.lemmas.List.{take_more, take_all, get_or-map, length-map}
 use Rattle.std.proofs.lemmas.Option.{slice_get-map}
 use Rattle.sbl_ast.specs.declared.mode.Mode.{Mode}
 use Rattle.sbl_ast.specs.declared.mode.Mode.TheVariants.{Forward}
-use Rattle.sbl_program.specs.declared.found.Found.{Found}
-use Rattle.sbl_program.specs.Listed.{Listed, listing}
+use Rattle.sbl_program.specs.declared.among.Found.{Found}
+use Rattle.sbl_program.specs.AmongStrings.{Listed, listing}
 use Rattle.sbl_interpreter.specs.Listing.{listed_by, listed_of}
 use Rattle.sbl_program.specs.FoundView.{listing_found, strings_at, strings_or}
 

@@ -19,8 +19,8 @@ use Rattle.sbl_program.specs.declared.node.JoinedNode.{JoinedNode}
 use Rattle.sbl_program.specs.declared.node.Node.TheVariants.{Row}
 use Rattle.sbl_program.specs.declared.node.Node.TheFolds.{fold_out-Node}
 use Rattle.sbl_program.specs.declared.node.Node.TheViews.{the_lemmas}
-use Rattle.sbl_program.specs.Grouped.{AddedView, JoinedView, ScaledView, added, added_all, grouped, join, joined_all, scaled, scaled_all}
-use Rattle.sbl_program.specs.Listed.{Listed}
+use Rattle.sbl_program.specs.Chains.{AddedView, JoinedView, ScaledView, sum_or_difference, all_sums, row_node, join, join_all, product_or_quotient, all_products}
+use Rattle.sbl_program.specs.AmongStrings.{Listed}
 use Rattle.sbl_program.specs.Program as programs
 use Rattle.sbl_program.specs.ProgramOf.{view_added, view_joined, view_node, view_number, view_scaled}
 use Rattle.sbl_semantics.specs.declared.fault.RunFault.{RunFault}
@@ -35,37 +35,37 @@ use Rattle.sbl_ast.specs.declared.mode.Mode.{Mode}
 
 -- ---- sums and products
 
-sum_same : (o : Additive) (a b : programs.Arithmetic) (m : Mode) (s : State) → value (added o a b) m s ≡ with_both (value a m s) (value b m s) (sum_of o)
+sum_same : (o : Additive) (a b : programs.Arithmetic) (m : Mode) (s : State) → value (sum_or_difference o a b) m s ≡ with_both (value a m s) (value b m s) (sum_of o)
 sum_same additives.Plus a b m s = refl
 sum_same additives.Minus a b m s = refl
 
-pub sums_done : (os : List AddedView) (a : programs.Arithmetic) (m : Mode) (s : State) → value (added_all os a) m s ≡ sums_to os (value a m s) m s
+pub sums_done : (os : List AddedView) (a : programs.Arithmetic) (m : Mode) (s : State) → value (all_sums os a) m s ≡ sums_to os (value a m s) m s
 sums_done [] a m s = refl
-sums_done (o ∷ os) a m s = sums_done os (added o.0 a o.1) m s ∙ ap (λ v. sums_to os v m s) (sum_same o.0 a o.1 m s)
+sums_done (o ∷ os) a m s = sums_done os (sum_or_difference o.0 a o.1) m s ∙ ap (λ v. sums_to os v m s) (sum_same o.0 a o.1 m s)
 
 pub sums_stop : (os : List AddedView) (fault : RunFault) (m : Mode) (s : State) → sums_to os (Err fault) m s ≡ Err fault
 sums_stop [] fault m s = refl
 sums_stop (o ∷ os) fault m s = sums_stop os fault m s
 
-product_same : (o : Multiplicative) (a b : programs.Arithmetic) (m : Mode) (s : State) → value (scaled o a b) m s ≡ with_both (value a m s) (value b m s) (product_of o)
+product_same : (o : Multiplicative) (a b : programs.Arithmetic) (m : Mode) (s : State) → value (product_or_quotient o a b) m s ≡ with_both (value a m s) (value b m s) (product_of o)
 product_same multiplicatives.Times a b m s = refl
 product_same multiplicatives.Over a b m s = refl
 
-pub scales_done : (os : List ScaledView) (a : programs.Arithmetic) (m : Mode) (s : State) → value (scaled_all os a) m s ≡ scales_to os (value a m s) m s
+pub scales_done : (os : List ScaledView) (a : programs.Arithmetic) (m : Mode) (s : State) → value (all_products os a) m s ≡ scales_to os (value a m s) m s
 scales_done [] a m s = refl
-scales_done (o ∷ os) a m s = scales_done os (scaled o.0 a o.1) m s ∙ ap (λ v. scales_to os v m s) (product_same o.0 a o.1 m s)
+scales_done (o ∷ os) a m s = scales_done os (product_or_quotient o.0 a o.1) m s ∙ ap (λ v. scales_to os v m s) (product_same o.0 a o.1 m s)
 
 pub scales_stop : (os : List ScaledView) (fault : RunFault) (m : Mode) (s : State) → scales_to os (Err fault) m s ≡ Err fault
 scales_stop [] fault m s = refl
 scales_stop (o ∷ os) fault m s = scales_stop os fault m s
 
-view_sum : (first : Box Arithmetic Global) (others : Vec Addend Global) → view_number (Sum first others) ≡ added_all (map view_added others.items) (view_number first.value)
+view_sum : (first : Box Arithmetic Global) (others : Vec Addend Global) → view_number (Sum first others) ≡ all_sums (map view_added others.items) (view_number first.value)
 view_sum first others = first_of (search (rules, number_lemmas), search (rules, number_lemmas, fold_out-Arithmetic))
 
 pub sum_value : (first : Box Arithmetic Global) (others : Vec Addend Global) (m : Mode) (s : State) → value (view_number (Sum first others)) m s ≡ sums_to (map view_added others.items) (value (view_number first.value) m s) m s
 sum_value first others m s = ap (λ n. value n m s) (view_sum first others) ∙ sums_done (map view_added others.items) (view_number first.value) m s
 
-view_product : (first : Box Arithmetic Global) (others : Vec Multiplicand Global) → view_number (Product first others) ≡ scaled_all (map view_scaled others.items) (view_number first.value)
+view_product : (first : Box Arithmetic Global) (others : Vec Multiplicand Global) → view_number (Product first others) ≡ all_products (map view_scaled others.items) (view_number first.value)
 view_product first others = first_of (search (rules, number_lemmas), search (rules, number_lemmas, fold_out-Arithmetic))
 
 pub product_value : (first : Box Arithmetic Global) (others : Vec Multiplicand Global) (m : Mode) (s : State) → value (view_number (Product first others)) m s ≡ scales_to (map view_scaled others.items) (value (view_number first.value) m s) m s
@@ -128,7 +128,7 @@ module _ (p : programs.Program) (levels : ℕ) (m : Mode) where
   paid_before zero j c d os u = others_stop (saved_cursor u) os Steps u
   paid_before (suc n) j c d os u = ap (others_run p levels m (saved_cursor u) os) (join_runs j c d (record u { steps = n }))
 
-  row_acts : (os : List JoinedView) (o : JoinedView) (c : programs.Node) (s : State) → act p.groupings (calls p levels) (joined_all os (join o.0 c o.1)) m s ≡ then_on (pays (length os) s) (λ u. others_run p levels m (saved_cursor u) (o ∷ os) (runs p levels c m u))
+  row_acts : (os : List JoinedView) (o : JoinedView) (c : programs.Node) (s : State) → act p.groupings (calls p levels) (join_all os (join o.0 c o.1)) m s ≡ then_on (pays (length os) s) (λ u. others_run p levels m (saved_cursor u) (o ∷ os) (runs p levels c m u))
   row_acts [] o c s = join_runs o.0 c o.1 s
   row_acts (x ∷ os) o c s =
       let go = λ (v : State). others_run p levels m (saved_cursor v) (o ∷ (x ∷ os)) (runs p levels c m v) in
@@ -137,13 +137,13 @@ module _ (p : programs.Program) (levels : ℕ) (m : Mode) where
       ∙ sym (then_then (pays (length os) s) (λ u. pay u.steps u) go)
       ∙ ap (λ e. then_on e go) (sym (pays_last (length os) s))
 
-  grouped_acts : (c : programs.Node) (os : List JoinedView) (s : State) → act p.groupings (calls p levels) (grouped c os) m s ≡ row_runs p levels c os m s
+  grouped_acts : (c : programs.Node) (os : List JoinedView) (s : State) → act p.groupings (calls p levels) (row_node c os) m s ≡ row_runs p levels c os m s
   grouped_acts c [] s = as_it_is (runs p levels c m s)
   grouped_acts c (o ∷ os) s =
       let k : length os ≡ length (o ∷ os) - 1 = omega arith in
       row_acts os o c s ∙ ap (λ n. then_on (pays n s) (λ u. others_run p levels m (saved_cursor u) (o ∷ os) (runs p levels c m u))) k
 
-view_row : (T : ℕ → Listed) (first : Box Node Global) (others : Vec JoinedNode Global) → view_node T (Row first others) ≡ grouped (view_node T first.value) (map (view_joined T) others.items)
+view_row : (T : ℕ → Listed) (first : Box Node Global) (others : Vec JoinedNode Global) → view_node T (Row first others) ≡ row_node (view_node T first.value) (map (view_joined T) others.items)
 view_row T first others = first_of (search (rules, the_lemmas), search (rules, the_lemmas, fold_out-Node))
 
 pub row_does : (T : ℕ → Listed) (p : programs.Program) (levels : ℕ) (first : Box Node Global) (others : Vec JoinedNode Global) (m : Mode) (s : State) → runs_paid p levels (view_node T (Row first others)) m s ≡ row_runs p levels (view_node T first.value) (map (view_joined T) others.items) m s

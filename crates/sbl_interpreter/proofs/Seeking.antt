@@ -7,8 +7,8 @@ use Rattle.sbl_ast.specs.declared.mode.Mode.TheVariants.{Forward, Backward}
 use Rattle.sbl_semantics.specs.declared.fault.RunFault.TheVariants.{Cursor}
 use Rattle.sbl_interpreter.specs.Actions.{test_grouping}
 use Rattle.sbl_semantics.specs.Moves.{next, next_is, touch_grouping}
-use Rattle.sbl_semantics.specs.Control.{found, paid, seeks}
-use Rattle.sbl_semantics.specs.State.{State, Ending, Doing, Signals, Stops, after, then_on, pay, ahead, moved, at_place, saved_cursor, put_back}
+use Rattle.sbl_semantics.specs.Control.{end_search, pay_first, seeks}
+use Rattle.sbl_semantics.specs.State.{State, Ending, Doing, Signals, Stops, after, then_on, pay, ahead, move_cursor, at_place, saved_cursor, put_back}
 
 -- a test that is not met
 less_if : (a b : ℕ) (t : Bool) → nat_lt a b ≡ t → b ≤ a → t ≡ false
@@ -42,11 +42,11 @@ put_back_at : (k : ℕ) (wanted : Bool) (class : ℕ → Bool) (g : ℕ) (m : Mo
 put_back_at zero wanted class g m s new l e = let no : ⊥ = cc in absurd no
 put_back_at (suc k) wanted class g m s new l e =
     let t = touch_grouping g (record s { steps = k }) in
-    let same : t ≡ new = same_if (next_is wanted class (slice_get (ahead m t) 0)) (moved m 1 t) t new e in
+    let same : t ≡ new = same_if (next_is wanted class (slice_get (ahead m t) 0)) (move_cursor m 1 t) t new e in
     sym (ap (put_back m (saved_cursor s)) same) ∙ put_here m t l ∙ ap (Signals true) same
 
 -- after a test that signals f the cursor need not be put back
-pub put_back_after : (wanted : Bool) (class : ℕ → Bool) (g : ℕ) (m : Mode) (s new : State) → s.cursor ≤ length s.text → paid (test_grouping wanted class g) m s ≡ Signals false new → put_back m (saved_cursor s) new ≡ Signals true new
+pub put_back_after : (wanted : Bool) (class : ℕ → Bool) (g : ℕ) (m : Mode) (s new : State) → s.cursor ≤ length s.text → pay_first (test_grouping wanted class g) m s ≡ Signals false new → put_back m (saved_cursor s) new ≡ Signals true new
 put_back_after wanted class g m s new l e = put_back_at s.steps wanted class g m s new l e
 
 -- the try after which nothing is ahead
@@ -54,6 +54,6 @@ pub last_try : (n : ℕ) (past : Bool) (c : Doing) (m : Mode) (s f b new : State
 last_try n past c m s f b new w e p x h =
     let go = λ (b : State). after (next m b) (seeks n past c m) (Signals false) in
     sym h
-    ∙ ap (λ r. after r (found past m s) (λ f. then_on (put_back m (saved_cursor s) f) go)) e
+    ∙ ap (λ r. after r (end_search past m s) (λ f. then_on (put_back m (saved_cursor s) f) go)) e
     ∙ ap (λ r. then_on r go) p
     ∙ ap (λ r. after r (seeks n past c m) (Signals false)) x

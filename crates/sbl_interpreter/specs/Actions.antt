@@ -2,7 +2,7 @@
 use Rattle.std.specs.Prelude.{ℕ, Bool, true, false, List, []}
 use Rattle.sbl_interpreter.specs.Arithmetic.{characters, value, assign, compare}
 use Rattle.sbl_semantics.specs.Moves.{match, one_of, touch_grouping, next, hop, at_limit, set_mark, at_mark, to_mark, set_boolean, test_boolean}
-use Rattle.sbl_semantics.specs.Numbers.{natural, given}
+use Rattle.sbl_semantics.specs.Numbers.{natural, continue_with}
 use Rattle.sbl_program.specs.Program as programs
 use Rattle.sbl_char_class.specs.Terms.{class_at}
 use Rattle.sbl_semantics.specs.Slices.{left_bracket, right_bracket, replace, keep, insert, attach}
@@ -19,12 +19,12 @@ acts classes (programs.match t) m s = match (characters t s) m s
 acts classes (programs.grouping g) m s = test_grouping true (class_at classes g) g m s
 acts classes (programs.non g) m s = test_grouping false (class_at classes g) g m s
 acts classes programs.next m s = next m s
-acts classes (programs.hop a) m s = given (value a m s) s (λ z. hop (natural z) m s)
+acts classes (programs.hop a) m s = continue_with (value a m s) s (λ z. hop (natural z) m s)
 acts classes programs.tolimit m s = to_limit m s
 acts classes programs.atlimit m s = at_limit m s
 acts classes (programs.setmark x) m s = Signals true (set_mark x s)
-acts classes (programs.atmark a) m s = given (value a m s) s (λ z. at_mark (natural z) s)
-acts classes (programs.tomark a) m s = given (value a m s) s (λ z. to_mark (natural z) m s)
+acts classes (programs.atmark a) m s = continue_with (value a m s) s (λ z. at_mark (natural z) s)
+acts classes (programs.tomark a) m s = continue_with (value a m s) s (λ z. to_mark (natural z) m s)
 acts classes (programs.set b) m s = Signals true (set_boolean b true s)
 acts classes (programs.unset b) m s = Signals true (set_boolean b false s)
 acts classes (programs.boolean b) m s = test_boolean b s

@@ -6,7 +6,7 @@ use Rattle.sbl_program.specs.declared.action.Change.TheVariants.{Becomes, Plus, 
 use Rattle.sbl_program.specs.declared.action.Relation.{Relation}
 use Rattle.sbl_program.specs.declared.action.Relation.TheVariants.{Equal, Unequal, Less, LessOrEqual, Greater, GreaterOrEqual}
 use Rattle.sbl_program.specs.Program as programs
-use Rattle.sbl_semantics.specs.Numbers.{Value, fitted, divided, with_value, with_both, limit_value, integer_at, given}
+use Rattle.sbl_semantics.specs.Numbers.{Value, value_in_range, rounded_quotient, with_value, with_both, limit_value, integer_at, continue_with}
 use Rattle.sbl_semantics.specs.State.{State, Ending, Signals}
 use Rattle.sbl_ast.specs.declared.mode.Mode.{Mode}
 
@@ -17,27 +17,27 @@ characters (programs.variable i) s = slice_index_or s.strings i []
 
 -- the value of an expression
 abbrev pub value : programs.Arithmetic → Mode → State → Value
-value (programs.number n) m s = fitted (pos n)
+value (programs.number n) m s = value_in_range (pos n)
 value (programs.integer x) m s = Ok (integer_at x s)
-value programs.cursor m s = fitted (pos s.cursor)
+value programs.cursor m s = value_in_range (pos s.cursor)
 value programs.limit m s = limit_value m s
-value programs.len m s = fitted (pos (length s.text))
-value (programs.lenof t) m s = fitted (pos (length (characters t s)))
+value programs.len m s = value_in_range (pos (length s.text))
+value (programs.lenof t) m s = value_in_range (pos (length (characters t s)))
 value programs.maxint m s = Ok (pos 2147483647)
 value programs.minint m s = Ok (negsuc 2147483647)
-value (programs.negative a) m s = with_value (value a m s) (λ x. fitted (neg_ℤ x))
-value (programs.sum a b) m s = with_both (value a m s) (value b m s) (λ x y. fitted (x +ℤ y))
-value (programs.difference a b) m s = with_both (value a m s) (value b m s) (λ x y. fitted (x -ℤ y))
-value (programs.product a b) m s = with_both (value a m s) (value b m s) (λ x y. fitted (x *ℤ y))
-value (programs.quotient a b) m s = with_both (value a m s) (value b m s) divided
+value (programs.negative a) m s = with_value (value a m s) (λ x. value_in_range (neg_ℤ x))
+value (programs.sum a b) m s = with_both (value a m s) (value b m s) (λ x y. value_in_range (x +ℤ y))
+value (programs.difference a b) m s = with_both (value a m s) (value b m s) (λ x y. value_in_range (x -ℤ y))
+value (programs.product a b) m s = with_both (value a m s) (value b m s) (λ x y. value_in_range (x *ℤ y))
+value (programs.quotient a b) m s = with_both (value a m s) (value b m s) rounded_quotient
 
 -- the new value of an integer variable
-abbrev pub changed : Change → ℤ → ℤ → Value
-changed Becomes x y = Ok y
-changed Plus x y = fitted (x +ℤ y)
-changed Minus x y = fitted (x -ℤ y)
-changed Times x y = fitted (x *ℤ y)
-changed Over x y = divided x y
+abbrev pub changed_value : Change → ℤ → ℤ → Value
+changed_value Becomes x y = Ok y
+changed_value Plus x y = value_in_range (x +ℤ y)
+changed_value Minus x y = value_in_range (x -ℤ y)
+changed_value Times x y = value_in_range (x *ℤ y)
+changed_value Over x y = rounded_quotient x y
 
 abbrev pub holds : Relation → ℤ → ℤ → Bool
 holds Equal x y = int_eq x y
@@ -50,8 +50,8 @@ holds GreaterOrEqual x y = not (int_lt x y)
 -- `$x = AE` and similar commands: the expression first
 abbrev pub assign : ℕ → Change → programs.Arithmetic → Mode → State → Ending
 assign x change a m s =
-    given (with_value (value a m s) (changed change (integer_at x s))) s (λ z. Signals true (record s { integers = slice_set s.integers x z }))
+    continue_with (with_value (value a m s) (changed_value change (integer_at x s))) s (λ z. Signals true (record s { integers = slice_set s.integers x z }))
 
 -- a comparison of two expressions
 abbrev pub compare : programs.Arithmetic → Relation → programs.Arithmetic → Mode → State → Ending
-compare a relation b m s = given (value a m s) s (λ x. given (value b m s) s (λ y. Signals (holds relation x y) s))
+compare a relation b m s = continue_with (value a m s) s (λ x. continue_with (value b m s) s (λ y. Signals (holds relation x y) s))

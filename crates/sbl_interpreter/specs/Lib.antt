@@ -6,7 +6,7 @@ pub mod Actions
 pub mod Run
 pub mod Start
 pub mod Halts
-pub mod Kept
+pub mod Endings
 -- what the functions inside the crate promise each other; no public contract depends on these
 pub mod Rows
 pub mod Slots

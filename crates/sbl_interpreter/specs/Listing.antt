@@ -2,7 +2,7 @@
 use Rattle.std.specs.Prelude.{ℕ, List, [], Option, Some, None}
 use Rattle.sbl_ast.specs.declared.mode.Mode.{Mode}
 use Rattle.sbl_ast.specs.declared.mode.Mode.TheVariants.{Forward}
-use Rattle.sbl_program.specs.Listed.{Listed, listing}
+use Rattle.sbl_program.specs.AmongStrings.{Listed, listing}
 use Rattle.sbl_semantics.specs.Fitting.{fitting, read_all, ahead_at}
 
 -- the strings of a table, and its mode

@@ -7,11 +7,11 @@ use Rattle.sbl_ast.specs.declared.tree.Additive.{Additive}
 use Rattle.sbl_ast.specs.declared.tree.Additive.TheVariants as additives
 use Rattle.sbl_ast.specs.declared.tree.Multiplicative.{Multiplicative}
 use Rattle.sbl_ast.specs.declared.tree.Multiplicative.TheVariants as multiplicatives
-use Rattle.sbl_program.specs.Grouped.{AddedView, JoinedView, ScaledView}
+use Rattle.sbl_program.specs.Chains.{AddedView, JoinedView, ScaledView}
 use Rattle.sbl_program.specs.Program as programs
 use Rattle.sbl_ast.specs.declared.mode.Mode.{Mode}
 use Rattle.sbl_semantics.specs.declared.cursor.SavedCursor.{SavedCursor}
-use Rattle.sbl_semantics.specs.Numbers.{Value, fitted, divided, with_both}
+use Rattle.sbl_semantics.specs.Numbers.{Value, value_in_range, rounded_quotient, with_both}
 use Rattle.sbl_interpreter.specs.Arithmetic.{value}
 use Rattle.sbl_interpreter.specs.Run.{runs}
 use Rattle.sbl_semantics.specs.State.{State, Ending, Signals, Doing, after, then_on, pay, saved_cursor, put_back}
@@ -19,8 +19,8 @@ use Rattle.sbl_semantics.specs.State.{State, Ending, Signals, Doing, after, then
 -- ---- sums and products
 
 abbrev pub sum_of : Additive → ℤ → ℤ → Value
-sum_of additives.Plus x y = fitted (x +ℤ y)
-sum_of additives.Minus x y = fitted (x -ℤ y)
+sum_of additives.Plus x y = value_in_range (x +ℤ y)
+sum_of additives.Minus x y = value_in_range (x -ℤ y)
 
 -- the other terms, added to and subtracted from the value so far
 abbrev pub sums_to : List AddedView → Value → Mode → State → Value
@@ -28,8 +28,8 @@ sums_to [] v m s = v
 sums_to (o ∷ os) v m s = sums_to os (with_both v (value o.1 m s) (sum_of o.0)) m s
 
 abbrev pub product_of : Multiplicative → ℤ → ℤ → Value
-product_of multiplicatives.Times x y = fitted (x *ℤ y)
-product_of multiplicatives.Over x y = divided x y
+product_of multiplicatives.Times x y = value_in_range (x *ℤ y)
+product_of multiplicatives.Over x y = rounded_quotient x y
 
 abbrev pub scales_to : List ScaledView → Value → Mode → State → Value
 scales_to [] v m s = v

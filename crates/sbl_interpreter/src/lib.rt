@@ -1,17 +1,18 @@
 //! Runs programs: what each command does to the state of a run, what it costs, and what it touches.
 #![tactic(auto)]
 
+mod choices;
 mod halt;
 mod parts;
 mod run;
 mod slots;
 mod state;
 mod table;
-mod touched;
+mod touches;
 
 pub use halt::Halt;
 pub use run::Runner;
 pub use sbl_semantics::{Event, RunFault, Touch};
 pub use state::{MAX_WORD_LENGTH, State};
 pub use table::{TableList, Tables, tables_of};
-pub use touched::Touched;
+pub use touches::Touched;

@@ -1,17 +1,18 @@
 //! Runs commands on a state.
 
-ghost use Rattle.std.specs.Prelude.{◌≡◌, ◌+◌, ◌<◌, ◌≤◌, true, false, suc, map, IfOk, slice_get};
-ghost use Rattle.sbl_interpreter.specs.Kept.{Follows, IsSaved, Tried};
+ghost use Rattle.std.specs.Prelude.{◌≡◌, ◌+◌, ◌<◌, ◌≤◌, true, false, suc, map, IfOk};
+ghost use Rattle.sbl_interpreter.specs.Endings.{Follows, IsSaved};
 ghost use Rattle.sbl_interpreter.specs.Arithmetic.{value};
-ghost use Rattle.sbl_semantics.specs.Numbers.{given};
+ghost use Rattle.sbl_semantics.specs.Numbers.{continue_with};
 ghost use Rattle.sbl_program.specs.ProgramOf.{program_of, view_joined, view_node, view_nodes, view_number};
 ghost use Rattle.sbl_interpreter.specs.Run.{runs, runs_paid, all_run, group_runs, calls};
-ghost use Rattle.sbl_semantics.specs.Control.{backwards_end, backwards_from, limit_here, limited, limits, turns, times, count_of, seeks};
+ghost use Rattle.sbl_semantics.specs.Control.{backwards_end, backwards_from, limit_here, restore_limit, limits, turns, times, count_of, seeks};
 ghost use Rattle.sbl_ast.specs.declared.mode.Mode.TheVariants.{Backward};
 ghost use Rattle.sbl_interpreter.specs.Rows.{joined_runs, row_runs};
 ghost use Rattle.sbl_semantics.specs.Choices.{choice};
-ghost use Rattle.sbl_interpreter.specs.Search.{search_all, searched, try_one};
-ghost use Rattle.sbl_semantics.specs.State.{State as RunState, Ending, Signals, after, then_on, saved_cursor, put_back};
+ghost use Rattle.sbl_semantics.specs.State.{Signals, after, then_on, saved_cursor, put_back};
+
+mod searching;
 
 use crate::halt::Halt;
 use crate::parts::{first_action, is_settled};
@@ -19,7 +20,7 @@ use crate::state::State;
 use crate::state::numbers::count_of;
 use crate::table::Tables;
 use sbl_ast::Mode;
-use sbl_program::{Action, Arithmetic, Candidate, JoinedNode, Node, Program};
+use sbl_program::{Action, Arithmetic, JoinedNode, Node, Program};
 use sbl_semantics::SavedCursor;
 
 /// The fixed part of the interpreter. A call and `backwards` run their commands with a runner of their own.
@@ -176,7 +177,7 @@ impl<'a, T: Tables> Runner<'a, T> {
     #[cycle(run)]
     #[inline(never)]
     fn run_limited(&self, first: &Node, second: &Node, state: &mut State) -> Result<bool, Halt>
-        ensures follows { Follows result state.new (after (runs (program_of (T.listed self.now.tables.now) self.now.program.now) self.now.levels (view_node (T.listed self.now.tables.now) first.now) self.now.mode state.old) (λ t. then_on (put_back self.now.mode (saved_cursor state.old) (limit_here self.now.mode t)) (λ u. limited self.now.mode (limits state.old) (runs (program_of (T.listed self.now.tables.now) self.now.program.now) self.now.levels (view_node (T.listed self.now.tables.now) second.now) self.now.mode u))) (Signals false)) }
+        ensures follows { Follows result state.new (after (runs (program_of (T.listed self.now.tables.now) self.now.program.now) self.now.levels (view_node (T.listed self.now.tables.now) first.now) self.now.mode state.old) (λ t. then_on (put_back self.now.mode (saved_cursor state.old) (limit_here self.now.mode t)) (λ u. restore_limit self.now.mode (limits state.old) (runs (program_of (T.listed self.now.tables.now) self.now.program.now) self.now.levels (view_node (T.listed self.now.tables.now) second.now) self.now.mode u))) (Signals false)) }
         ensures no_more { IfOk result (λ _. state.new.steps ≤ state.old.steps) }
     {
         let from = state.saved_cursor();
@@ -306,7 +307,7 @@ impl<'a, T: Tables> Runner<'a, T> {
     #[cycle(run)]
     #[inline(never)]
     fn run_times(&self, count: &Arithmetic, inner: &Node, state: &mut State) -> Result<bool, Halt>
-        ensures follows { Follows result state.new (given (value (view_number count.now) self.now.mode state.old) state.old (λ z. times (count_of z) (runs (program_of (T.listed self.now.tables.now) self.now.program.now) self.now.levels (view_node (T.listed self.now.tables.now) inner.now)) self.now.mode state.old)) }
+        ensures follows { Follows result state.new (continue_with (value (view_number count.now) self.now.mode state.old) state.old (λ z. times (count_of z) (runs (program_of (T.listed self.now.tables.now) self.now.program.now) self.now.levels (view_node (T.listed self.now.tables.now) inner.now)) self.now.mode state.old)) }
         ensures no_more { IfOk result (λ _. state.new.steps ≤ state.old.steps) }
     {
         let number = state.value(self.mode, count)?;
@@ -329,7 +330,7 @@ impl<'a, T: Tables> Runner<'a, T> {
         inner: &Node,
         state: &mut State,
     ) -> Result<bool, Halt>
-        ensures follows { Follows result state.new (after (given (value (view_number count.now) self.now.mode state.old) state.old (λ z. times (count_of z) (runs (program_of (T.listed self.now.tables.now) self.now.program.now) self.now.levels (view_node (T.listed self.now.tables.now) inner.now)) self.now.mode state.old)) (λ t. turns (suc t.steps) (runs (program_of (T.listed self.now.tables.now) self.now.program.now) self.now.levels (view_node (T.listed self.now.tables.now) inner.now)) self.now.mode t) (Signals false)) }
+        ensures follows { Follows result state.new (after (continue_with (value (view_number count.now) self.now.mode state.old) state.old (λ z. times (count_of z) (runs (program_of (T.listed self.now.tables.now) self.now.program.now) self.now.levels (view_node (T.listed self.now.tables.now) inner.now)) self.now.mode state.old)) (λ t. turns (suc t.steps) (runs (program_of (T.listed self.now.tables.now) self.now.program.now) self.now.levels (view_node (T.listed self.now.tables.now) inner.now)) self.now.mode t) (Signals false)) }
         ensures no_more { IfOk result (λ _. state.new.steps ≤ state.old.steps) }
     {
         if !self.run_times(count, inner, state)? {
@@ -433,81 +434,5 @@ impl<'a, T: Tables> Runner<'a, T> {
             None => Ok(true),
             Some(body) => self.run_command(body, state),
         }
-    }
-
-    /// Searches an among, which touches it.
-    #[cycle(run)]
-    #[inline(never)]
-    fn run_search_all(
-        &self,
-        among: usize,
-        table: usize,
-        entries: &[Candidate],
-        state: &mut State,
-    ) -> Result<bool, Halt>
-        ensures follows { Follows result state.new (search_all (calls (program_of (T.listed self.now.tables.now) self.now.program.now) self.now.levels) among entries.now (T.listed self.now.tables.now table) self.now.mode state.old) }
-        ensures no_more { IfOk result (λ _. state.new.steps ≤ state.old.steps) }
-    {
-        state.touch_among(among, self.mode)?;
-        self.run_search(among, table, entries, state)
-    }
-
-    /// Tries the strings that match, the longest first.
-    #[cycle(run)]
-    #[inline(always)]
-    fn run_search(
-        &self,
-        among: usize,
-        table: usize,
-        entries: &[Candidate],
-        state: &mut State,
-    ) -> Result<bool, Halt>
-        ensures follows { Follows result state.new (searched (calls (program_of (T.listed self.now.tables.now) self.now.program.now) self.now.levels) among entries.now (T.listed self.now.tables.now table) self.now.mode state.old) }
-        ensures no_more { IfOk result (λ _. state.new.steps ≤ state.old.steps) }
-    {
-        let from = state.saved_cursor();
-        let mut place = self
-            .tables
-            .longest(table, state.text(), state.place(), state.bound(self.mode));
-        while let Some(i) = place {
-            match self.try_string(among, from, entries, i, state) {
-                Err(halt) => return Err(halt),
-                Ok(true) => return Ok(true),
-                Ok(false) => {}
-            }
-            place = self.tables.next_shorter(table, i);
-        }
-        state.take_none(among)?;
-        Ok(false)
-    }
-
-    /// Tries one string and returns whether it is taken. It is not taken if its condition signals f.
-    #[cycle(run)]
-    fn try_string(
-        &self,
-        among: usize,
-        from: SavedCursor,
-        entries: &[Candidate],
-        i: usize,
-        state: &mut State,
-    ) -> Result<bool, Halt>
-        requires { IsSaved from }
-        ensures tried { (begun : RunState) (follow : RunState → Ending) → from ≡ saved_cursor begun → Tried result state.new (try_one (calls (program_of (T.listed self.now.tables.now) self.now.program.now) self.now.levels) among (slice_get entries.now i) self.now.mode begun state.old follow) (follow state.new) }
-        ensures no_more { IfOk result (λ _. state.new.steps ≤ state.old.steps) }
-        ensures fewer { IfOk result (λ b. b ≡ false → state.new.steps < state.old.steps) }
-    {
-        let Some(entry) = entries.get(i).copied() else {
-            return Ok(true);
-        };
-        state.place_after(self.mode, from, entry.length)?;
-        if let Some(number) = entry.condition {
-            state.pay()?;
-            if !self.run_call(number, state)? {
-                return Ok(false);
-            }
-        }
-        state.place_after(self.mode, from, entry.length)?;
-        state.take_string(among, entry.length, entry.group)?;
-        Ok(true)
     }
 }

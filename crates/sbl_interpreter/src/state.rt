@@ -3,11 +3,11 @@
 ghost use Rattle.std.specs.Prelude.{◌≡◌, ℕ, ◌+◌, ◌-◌, ◌<◌, ◌≤◌, [], length, IfOk, Some, None, false};
 ghost use Rattle.sbl_semantics.specs.Fitting.{read_as};
 ghost use Rattle.sbl_semantics.specs.State.{State as RunState, pay, at_place, at_difference, to_limit, saved_cursor, put_back, step_over, place_after, ahead, room, note_event};
-ghost use Rattle.sbl_program.specs.Listed.{Listed};
+ghost use Rattle.sbl_program.specs.AmongStrings.{Listed};
 ghost use Rattle.sbl_program.specs.ProgramOf.{program_of, view_text};
 ghost use Rattle.sbl_interpreter.specs.Arithmetic.{characters};
 ghost use Rattle.sbl_semantics.specs.Events.{Event' as RunEvent, event_of, view_events, Puts};
-ghost use Rattle.sbl_interpreter.specs.Kept.{Leads, IsSaved};
+ghost use Rattle.sbl_interpreter.specs.Endings.{Leads, IsSaved};
 ghost use Rattle.sbl_interpreter.specs.Rows.{pays};
 ghost use Rattle.sbl_interpreter.specs.Start.{blank, start};
 ghost use Rattle.sbl_semantics.specs.Limit.{max_word_length};
@@ -20,12 +20,13 @@ mod seeking;
 mod slices;
 mod variables;
 
+use crate::choices::Choices;
 use crate::halt::Halt;
 use crate::slots::Slots;
 use crate::state::variables::{
     all_integers, reset_booleans, reset_integers, reset_strings, string_of,
 };
-use crate::touched::Touched;
+use crate::touches::Touched;
 use sbl_ast::Mode;
 use sbl_program::{Program, StringTerm};
 use sbl_semantics::{Event, SavedCursor};
@@ -51,20 +52,20 @@ pub struct State {
     integers: Slots<i32>,
     booleans: Slots<bool>,
     strings: Slots<Vec<char>>,
-    choices: Slots<usize>,
+    choices: Choices,
     routine: usize,
     touched: Touched,
     events: Option<Vec<Event>>,
     steps: u32,
     // The buffer for the next splice, and buffers for the choices of the next calls.
     spare: Vec<char>,
-    spares: Vec<Slots<usize>>,
+    spares: Vec<Box<Slots<usize>>>,
 }
 
 impl Model for State {
     ghost use Rattle.std.specs.Prelude.{map, pos, false};
     ghost use Rattle.sbl_semantics.specs.State.{State as RunState};
-    ghost use Rattle.sbl_interpreter.specs.Kept.{IsWithin};
+    ghost use Rattle.sbl_interpreter.specs.Endings.{IsWithin};
     ghost use Rattle.sbl_semantics.specs.Events.{view_events};
     ghost use Rattle.sbl_interpreter.specs.Slots.{text_or_empty, value_or};
 
@@ -90,7 +91,7 @@ impl State {
             integers: Slots::new(alloc),
             booleans: Slots::new(alloc),
             strings: Slots::new(alloc),
-            choices: Slots::new(alloc),
+            choices: Choices::none(),
             routine: 0,
             touched: Touched::new(alloc),
             events: None,
@@ -121,7 +122,7 @@ impl State {
         reset_integers(&mut self.integers, program.integers);
         reset_booleans(&mut self.booleans, program.booleans);
         reset_strings(&mut self.strings, program.strings);
-        self.choices.reset(0);
+        self.choices = Choices::none();
         self.routine = 0;
         self.touched.clear();
         self.events = None;

@@ -2,7 +2,7 @@
 
 ghost use Rattle.std.specs.Prelude.{◌≡◌, ◌≤◌, ◌++◌, ◌∷◌, List, ℕ, length, map, slice_get, IfOk};
 ghost use Rattle.sbl_semantics.specs.Fitting.{first};
-ghost use Rattle.sbl_program.specs.Listed.{Listed};
+ghost use Rattle.sbl_program.specs.AmongStrings.{Listed};
 ghost use Rattle.sbl_program.specs.FoundView.{listing_found};
 ghost use Rattle.sbl_interpreter.specs.Listing.{fits_at, listed_by, listed_of};
 

@@ -3,10 +3,10 @@ use Rattle.std.proofs.Common.{subst, inl, inr, ◌⊎◌, Bool, true, length-app
 use Rattle.std.specs.Prelude.{slice_range}
 use Rattle.std.proofs.Math.Seq.{drop-cons}
 use Rattle.std.specs.Io.KnownBytes.{Consumes, Keeps, prepend_known}
-use Rattle.sbl_io.specs.Held.{NoFeed, BeginsLong, GivesLine, StandFirst, TakesLine, Took, TookWhole}
+use Rattle.sbl_io.specs.HeldInput.{NoFeed, BeginsLong, GivesLine, StandFirst, TakesLine, Took, TookWhole}
 use Rattle.sbl_io.specs.declared.lines.LineEnd.{LineEnd}
 use Rattle.sbl_io.specs.declared.lines.LineEnd.TheVariants.{Feed, Input, Beyond}
-use Rattle.sbl_io.specs.LinesOf.{AreWhole, chomped, lines_of, onto_first, raw_lines}
+use Rattle.sbl_io.specs.LinesOf.{AreWhole, without_carriage_return, lines_of, onto_first, raw_lines}
 use Rattle.std.proofs.lemmas.Bool.{ne_eqb}
 use Rattle.std.proofs.lemmas.List.{append-nil, drop-drop, drop-take, map-append, take-append-drop}
 use Rattle.std.proofs.KnownBytes.{Consumes-nil, Consumes-trans, prepend_known-nil}
@@ -122,7 +122,7 @@ raw-append (b ∷ c ∷ front) rest whole = by (raw-append (c ∷ front) rest wh
         ∙ sym (ap (λ (ls : List (List ℕ)). ls ++ raw_lines rest) (raw-other b (c ∷ front) e))
 
 pub lines-append : (front rest : List ℕ) → AreWhole front → lines_of (front ++ rest) ≡ lines_of front ++ lines_of rest
-lines-append front rest whole = ap (map chomped) (raw-append front rest whole) ∙ map-append chomped (raw_lines front) (raw_lines rest)
+lines-append front rest whole = ap (map without_carriage_return) (raw-append front rest whole) ∙ map-append without_carriage_return (raw_lines front) (raw_lines rest)
 
 whole-append : (front more : List ℕ) → AreWhole front → AreWhole more → AreWhole (front ++ more)
 whole-append [] more w v = v
@@ -136,7 +136,7 @@ whole-feed (b ∷ []) = refl
 whole-feed (b ∷ c ∷ line) = whole-feed (c ∷ line)
 
 pub none_of : lines_of [] ≡ []
-none_of = ap (map chomped) no_lines
+none_of = ap (map without_carriage_return) no_lines
 
 both_none : (xs ys : List ℕ) → xs ++ ys ≡ [] → (xs ≡ []) × (ys ≡ [])
 both_none [] ys e = (refl, e)
@@ -199,7 +199,7 @@ took-kept (Some xs) (Some ys) (Some zs) ls took keeps = subst (λ (x : List ℕ)
 
 -- a line that was taken is the first of the lines
 pub gives_line : (a b : Option (List ℕ)) (line : List ℕ) (end : LineEnd) → TakesLine a b line end → NoFeed line
-    → (end ≢ Beyond) → (end ≡ Input → line ≢ []) → GivesLine a b (chomped line)
+    → (end ≢ Beyond) → (end ≡ Input → line ≢ []) → GivesLine a b (without_carriage_return line)
 gives_line None b line end takes free within some = tt
 gives_line (Some xs) None line Feed takes free within some = absurd takes
 gives_line (Some xs) None line Input takes free within some = absurd takes.0
@@ -208,14 +208,14 @@ gives_line (Some xs) (Some ys) line Feed takes free within some = record {
   front = line ++ 10 ∷ [];
   bytes_are = takes;
   whole = inl (whole-feed line);
-  lines_are = ap (map chomped) (lines-feed line [] free ∙ ap (λ (ls : List (List ℕ)). line ∷ ls) no_lines);
+  lines_are = ap (map without_carriage_return) (lines-feed line [] free ∙ ap (λ (ls : List (List ℕ)). line ∷ ls) no_lines);
 }
 gives_line (Some xs) (Some ys) [] Input takes free within some = absurd (some refl refl)
 gives_line (Some xs) (Some ys) (c ∷ line) Input takes free within some = record {
   front = c ∷ line;
   bytes_are = takes.0;
   whole = inr takes.1;
-  lines_are = ap (map chomped) (lines-last c line free);
+  lines_are = ap (map without_carriage_return) (lines-last c line free);
 }
 
 -- a line that a line feed ended is whole
@@ -246,10 +246,10 @@ begins-with (b ∷ c ∷ front) rest free some =
     let tail = begins-with (c ∷ front) rest free.1 (λ e. cc) in
     (tail.0, tail.1, rw (other, tail.2) refl)
 
-chomped-length : (line : List ℕ) → length line ≤ length (chomped line) + 1
+chomped-length : (line : List ℕ) → length line ≤ length (without_carriage_return line) + 1
 chomped-length line = by (slice_index_or line (length line - 1) 0 == 13) refl
   where
-    by : (b : Bool) → (slice_index_or line (length line - 1) 0 == 13) ≡ b → length line ≤ length (chomped line) + 1
+    by : (b : Bool) → (slice_index_or line (length line - 1) 0 == 13) ≡ b → length line ≤ length (without_carriage_return line) + 1
     by true e = rw e (rw length-take (omega arith))
     by false e = rw e (omega arith)
 
@@ -265,7 +265,7 @@ begins_long (Some xs) (Some ys) line takes free =
     let whole = begins-with front ys (no_feed_push line takes.1 free takes.2) (λ e. absurd (ends_in line takes.1 e)) in
     let long : 65537 < length front = rw (length-append, takes.0) (lit< tt) in
     let least : length front ≤ length (front ++ whole.0) = longer front whole.0 in
-    (chomped (front ++ whole.0), map chomped whole.1, ap (map chomped) (ap raw_lines takes.3 ∙ whole.2), omega (arith, chomped-length (front ++ whole.0)))
+    (without_carriage_return (front ++ whole.0), map without_carriage_return whole.1, ap (map without_carriage_return) (ap raw_lines takes.3 ∙ whole.2), omega (arith, chomped-length (front ++ whole.0)))
   where
     ends_in : (line : List ℕ) (b : ℕ) → line ++ b ∷ [] ≡ [] → ⊥
     ends_in [] b e = cc

@@ -1,2 +1,3 @@
 pub mod Bytes
 pub mod TextFacts
+pub mod Utf8

@@ -1,7 +1,7 @@
 -- definitions that public contracts depend on
 pub mod Devices
-pub mod Counted
+pub mod InnerDevice
 pub mod Faults
 pub mod LinesOf
-pub mod Held
+pub mod HeldInput
 pub mod Records

@@ -180,7 +180,7 @@ pub fn judge_write(failures: u64, bytes: &[u8], answer: io::Result<usize>) -> Re
 }
 
 impl<D> Device<D> {
-    ghost use Rattle.sbl_io.specs.Counted.{inner_of, tally_of};
+    ghost use Rattle.sbl_io.specs.InnerDevice.{inner_of, tally_of};
 
     /// Returns a device with no failures, interruptions or reads.
     pub fn new(inner: D) -> Device<D>
@@ -204,7 +204,7 @@ impl<D> Device<D> {
 }
 
 impl<D: Read> Source for Device<D> {
-    ghost use Rattle.sbl_io.specs.Counted.{inner_of, tally_of};
+    ghost use Rattle.sbl_io.specs.InnerDevice.{inner_of, tally_of};
 
     ghost left = { λ d. D.remaining (inner_of d) };
 
@@ -223,7 +223,7 @@ impl<D: Read> Source for Device<D> {
 }
 
 impl<D: Write> Sink for Device<D> {
-    ghost use Rattle.sbl_io.specs.Counted.{inner_of, tally_of};
+    ghost use Rattle.sbl_io.specs.InnerDevice.{inner_of, tally_of};
 
     ghost held = { λ d. D.contents (inner_of d) };
 

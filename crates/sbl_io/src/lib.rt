@@ -6,6 +6,7 @@ mod devices;
 mod faults;
 mod lines;
 mod records;
+mod text_buffer;
 mod text_lines;
 mod writing;
 
@@ -13,5 +14,6 @@ pub use devices::{Device, Sink, Source, Stop, judge_read, judge_write};
 pub use faults::{LineFault, ServeFault};
 pub use lines::{Lines, MAX_LINE};
 pub use records::{push_line, push_text, record_line, set_text, text_of};
+pub use text_buffer::TextBuffer;
 pub use text_lines::first_line;
 pub use writing::write_all;

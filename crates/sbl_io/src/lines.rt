@@ -1,7 +1,7 @@
 //! The lines of a reader, in buffers of fixed size.
 ghost use Rattle.std.specs.Prelude.{◌≡◌, ◌≢◌, ◌+◌, ◌≤◌, ◌<◌, ◌⊎◌, ℕ, List, Option, [], ◌∷◌, vec_len, vec_capacity, OnOk, OnErr, IfOk, IfErr, MatchOption, Some, None, Ok, Err, true, false, length, min, IsSome};
 ghost use Rattle.std.specs.Io.KnownBytes.{Consumes, IsAtEnd, Keeps};
-ghost use Rattle.sbl_io.specs.LinesOf.{chomped, max_line};
+ghost use Rattle.sbl_io.specs.LinesOf.{without_carriage_return, max_line};
 
 use crate::devices::{MAX_READS, MAX_TRIES, Source, Stop};
 use crate::faults::LineFault;
@@ -46,7 +46,7 @@ pub struct Lines<R> {
 
 impl<R: Source + Drop> Lines<R> {
     ghost use Rattle.sbl_io.specs.Devices.{IsUnused, max_reads};
-    ghost use Rattle.sbl_io.specs.Held.{fuel_of, line_of, fault_of, input_of, reads_bound, AsksInTime, BeginsLong, BreaksOff, HasCause, InTime, IsDrained, KeepsTime, StaysEnded, TakesFeeds, TakesLine, NoFeed, GivesLine};
+    ghost use Rattle.sbl_io.specs.HeldInput.{fuel_of, line_of, fault_of, input_of, reads_bound, AsksInTime, BeginsLong, BreaksOff, HasCause, InTime, IsDrained, KeepsTime, StaysEnded, TakesFeeds, TakesLine, NoFeed, GivesLine};
 
     /// Returns the lines of `reader`, which is read at most 1,099,511,627,776 times. Allocates all buffers. Returns
     /// `AllocError` if an allocation fails.
@@ -289,7 +289,7 @@ impl<R: Source + Drop> Lines<R> {
 
 /// Removes one carriage return at the end of the line.
 fn chomp(line: &mut Vec<u8>)
-    ensures items { line.new.items ≡ chomped line.old.items }
+    ensures items { line.new.items ≡ without_carriage_return line.old.items }
     ensures capacity { vec_capacity line.new ≡ vec_capacity line.old }
 {
     if line.last() == Some(&b'\r') {

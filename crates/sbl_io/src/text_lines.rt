@@ -1,7 +1,7 @@
 //! The lines of a text in memory.
 ghost use Rattle.std.specs.Prelude.{◌≡◌, ◌≤◌, ◌<◌, MatchOption, [], ◌∷◌, length, take, slice_index};
-ghost use Rattle.sbl_io.specs.Held.{NoFeed};
-ghost use Rattle.sbl_io.specs.LinesOf.{chomped, lines_of};
+ghost use Rattle.sbl_io.specs.HeldInput.{NoFeed};
+ghost use Rattle.sbl_io.specs.LinesOf.{without_carriage_return, lines_of};
 
 /// Returns the index of the first line feed, or the number of bytes if there is none.
 pub(crate) fn first_feed(bytes: &[u8]) -> usize
@@ -19,7 +19,7 @@ pub(crate) fn first_feed(bytes: &[u8]) -> usize
 
 /// Returns the line without a carriage return at its end.
 fn without_return(line: &[u8]) -> &[u8]
-    ensures { result.now ≡ chomped line.now }
+    ensures { result.now ≡ without_carriage_return line.now }
 {
     match line.split_last() {
         Some((b'\r', front)) => front,

@@ -13,8 +13,8 @@ use Rattle.sbl_ast.specs.Tree.{Argument, written_out, by_name, Term, term, Plain
 use Rattle.sbl_resolver.specs.Laws.{WellDeclaredPasses}
 use Rattle.sbl_resolver.specs.Occurrences.{occurrences_of}
 use Rattle.sbl_semantics.specs.Items.{known_in, names_by, is_among}
-use Rattle.sbl_machine.specs.BuiltFrom.{names, any_names, built_on, IsClosed, IsClosedAt, and_built, built_behind, affected, AffectedIsClosed}
-use Rattle.sbl_semantics.specs.Touched.{Item', Routine, Among, Grouping}
+use Rattle.sbl_machine.specs.BuiltFrom.{names, any_names, built_on, IsClosed, IsClosedAt, and_built, built_behind, is_affected_by, AffectedIsClosed}
+use Rattle.sbl_semantics.specs.TouchedItems.{Item', Routine, Among, Grouping}
 use Rattle.sbl_machine.proofs.GroupingNames.{IsKnown, AreKnown, names_are}
 use Rattle.sbl_machine.proofs.NamesStand.{Passing}
 use Rattle.sbl_ast.specs.Source.{Source}
@@ -192,7 +192,7 @@ module _ (items : List Item) (passing : Passing (occurrences_of items)) (g : Lis
       let added : is_among (and_built (grouping n a ts) ns) n ≡ true = ap (λ (b : Bool). is_among (if b then ns ++ n ∷ [] else ns) n) here ∙ last_among ns n in
       ap (λ l. is_among l n) is ∙ built_more rest (and_built (grouping n a ts) ns) n added
 
-  built_at : (s : Source) → (λ m. affected s (Grouping g) (Grouping m)) ≡ is_among whole → (bs rest : List ItemInMode) (m : Mode) (x : Plain) → Parts bs ((record { mode = m; plain = x }) ∷ rest) → IsClosedAt (affected s (Grouping g)) x
+  built_at : (s : Source) → (λ m. is_affected_by s (Grouping g) (Grouping m)) ≡ is_among whole → (bs rest : List ItemInMode) (m : Mode) (x : Plain) → Parts bs ((record { mode = m; plain = x }) ∷ rest) → IsClosedAt (is_affected_by s (Grouping g)) x
   built_at s e bs rest m (grouping n a ts) p =
       λ h. ap (λ f. f n) e ∙ built_item bs rest m n a ts p (sym (ap (λ f. built_on f a ts) e) ∙ h)
   built_at s e bs rest m (declaration x xs) p = tt
@@ -200,12 +200,12 @@ module _ (items : List Item) (passing : Passing (occurrences_of items)) (g : Lis
   built_at s e bs rest m (macro x b q) p = tt
   built_at s e bs rest m (routine r c os) p = tt
 
-  built_closed : (s : Source) → (λ m. affected s (Grouping g) (Grouping m)) ≡ is_among whole → (rest bs : List ItemInMode) → Parts bs rest → AllByRecursion (λ x. IsClosedAt (affected s (Grouping g)) x.plain) rest
+  built_closed : (s : Source) → (λ m. is_affected_by s (Grouping g) (Grouping m)) ≡ is_among whole → (rest bs : List ItemInMode) → Parts bs rest → AllByRecursion (λ x. IsClosedAt (is_affected_by s (Grouping g)) x.plain) rest
   built_closed s e [] bs p = tt
   built_closed s e (x ∷ rest) bs p = (built_at s e bs rest x.mode x.plain p, built_closed s e rest (bs ++ x ∷ []) (further bs x rest p))
 
 pub affected_closed : WellDeclaredPasses → AffectedIsClosed
-affected_closed passes s well (Routine n) = none_closed (affected s (Routine n)) (λ m. refl) s
-affected_closed passes s well (Among n k) = none_closed (affected s (Among n k)) (λ m. refl) s
+affected_closed passes s well (Routine n) = none_closed (is_affected_by s (Routine n)) (λ m. refl) s
+affected_closed passes s well (Among n k) = none_closed (is_affected_by s (Among n k)) (λ m. refl) s
 affected_closed passes s well (Grouping g) =
     built_closed s.items (record { each = (passes s.items s.external well).0 }) g s refl (in_order s.items) [] refl

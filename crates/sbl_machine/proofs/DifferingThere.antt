@@ -15,12 +15,12 @@ use Rattle.sbl_ast.specs.declared.mode.Mode.TheVariants.{Backward}
 use Rattle.sbl_ast.specs.declared.tree.DeclarationKind.TheVariants as kinds
 use Rattle.sbl_ast.specs.Tree.{Plain, declaration, escapes, macro, routine, grouping, Item, plain, backward}
 use Rattle.sbl_semantics.specs.Items.{is_among, known_in, names_by}
-use Rattle.sbl_semantics.specs.Regions.{behind}
+use Rattle.sbl_semantics.specs.Regions.{number_after}
 use Rattle.sbl_machine.specs.DifferLaws.{DifferingAreThere}
-use Rattle.sbl_machine.specs.Differs.{when, join, differ, differ_others, items_by, differ_plain, differ_plains, differ_item, differ_items}
+use Rattle.sbl_semantics.specs.Differs.{when, join, differ, differ_others, items_by, differ_plain, differ_plains, differ_item, differ_items}
 use Rattle.sbl_machine.specs.Marks.{has_item}
-use Rattle.sbl_machine.specs.Same.{same_argument, same_quoted, same_term}
-use Rattle.sbl_semantics.specs.Touched.{Item', Among, Grouping, Names', names_of}
+use Rattle.sbl_semantics.specs.Same.{same_argument, same_quoted, same_term}
+use Rattle.sbl_semantics.specs.TouchedItems.{Item', Among, Grouping, Names', names_of}
 use Rattle.sbl_machine.proofs.DiffersAgree.{halves, if_so, none_listed}
 use Rattle.sbl_machine.proofs.EditsAgree.{first_name, grouping_more, routine_more}
 use Rattle.sbl_machine.proofs.SameSelf.{also, name_self}
@@ -63,7 +63,7 @@ module _ (names : Names') where
   plain_there (escapes a b) (escapes c d) zs is has = none_there (nat_eq a c && nat_eq b d) zs is
   plain_there (macro m b q) (macro n c r) zs is has = none_there (bytes_eq m n && (option_eq (sameb base.the_type) b c && same_quoted q r)) zs is
   plain_there (routine m c os) (routine n d ps) zs is has =
-      let o = join (differ 0 c d) (differ_others (behind c 0) os ps) in
+      let o = join (differ 0 c d) (differ_others (number_after c 0) os ps) in
       subst There (same_Some (items_by m o) zs (if_so _ _ zs is).1) (body_there m has o)
   plain_there (grouping m a xs) (grouping n b ys) zs is has =
       let same = same_argument a b && pointwise same_term xs ys in

@@ -8,16 +8,16 @@ use Rattle.std.proofs.lemmas.Option.{none-some, same_Some}
 use Rattle.std.specs.Cmp.Lexicographic.{pointwise}
 use Rattle.sbl_ast.specs.Counts.{count_in_among}
 use Rattle.sbl_ast.specs.Tree.{Argument, Term, Command, Rows, Others, Starter, Groups, bracket, simple_, literal_, name_, non_, prefixed, counted, move_, named, splice_, setlimit_, assign_, compare_, compare_values_, among_, no_rows, row, no_others, joined, no_starter, starter, bare, group, Plain, declaration, escapes, macro, routine, grouping, Item, plain, backward}
-use Rattle.sbl_semantics.specs.Regions.{behind, behind_rows, behind_others, behind_starter, behind_groups}
+use Rattle.sbl_semantics.specs.Regions.{number_after, number_after_rows, number_after_others, number_after_starter, number_after_groups}
 use Rattle.sbl_resolver.specs.Laws.{WellDeclaredPasses}
 use Rattle.sbl_ast.specs.Source.{Source}
-use Rattle.sbl_machine.specs.Differs.{when, join, differ, differ_rows, differ_others, differ_starter, differ_groups, items_by, differ_plain, differ_plains, differ_item, differ_items, differs}
+use Rattle.sbl_semantics.specs.Differs.{when, join, differ, differ_rows, differ_others, differ_starter, differ_groups, items_by, differ_plain, differ_plains, differ_item, differ_items, differs}
 use Rattle.sbl_machine.specs.BuiltFrom.{affected_by}
 use Rattle.sbl_machine.specs.DifferLaws.{DifferingAgree, DifferingStay}
 use Rattle.sbl_machine.specs.Frame.{AgreeOutside}
 use Rattle.sbl_machine.specs.Holes.{hole, with_holes, rows_with_holes, others_with_holes, starter_with_holes, groups_with_holes, holed_plain, holed_item}
-use Rattle.sbl_machine.specs.Same.{same_argument, same_term}
-use Rattle.sbl_semantics.specs.Touched.{Item', Routine, Among, Grouping}
+use Rattle.sbl_semantics.specs.Same.{same_argument, same_term}
+use Rattle.sbl_semantics.specs.TouchedItems.{Item', Routine, Among, Grouping}
 use Rattle.sbl_machine.proofs.EditsAgree.{unmet_by_one_stay}
 use Rattle.sbl_machine.proofs.HoledPuts.{behind_is, hole_same}
 use Rattle.sbl_machine.proofs.Several.{all_affected, several_closed}
@@ -60,12 +60,12 @@ module _ (holes : ℕ → Bool) where
   All ks = list_all holes ks ≡ true
 
   abbrev Alike : ℕ → ℕ → Command → Command → Type 0
-  Alike k l c d = (with_holes holes k c ≡ with_holes holes l d) × (behind c k ≡ behind d l)
+  Alike k l c d = (with_holes holes k c ≡ with_holes holes l d) × (number_after c k ≡ number_after d l)
 
-  as_many : (s t : Starter) (gs hs : Groups) (k l : ℕ) → k ≡ l → behind (among_ s gs) k ≡ behind (among_ t hs) l → count_in_among (s, gs) ≡ count_in_among (t, hs)
+  as_many : (s t : Starter) (gs hs : Groups) (k l : ℕ) → k ≡ l → number_after (among_ s gs) k ≡ number_after (among_ t hs) l → count_in_among (s, gs) ≡ count_in_among (t, hs)
   as_many s t gs hs k l p e = let x = behind_is (among_ s gs) k in let y = behind_is (among_ t hs) l in omega (arith, x, y, p, e)
 
-  behind_same : (s t : Starter) (gs hs : Groups) (k l : ℕ) → k ≡ l → count_in_among (s, gs) ≡ count_in_among (t, hs) → behind (among_ s gs) k ≡ behind (among_ t hs) l
+  behind_same : (s t : Starter) (gs hs : Groups) (k l : ℕ) → k ≡ l → count_in_among (s, gs) ≡ count_in_among (t, hs) → number_after (among_ s gs) k ≡ number_after (among_ t hs) l
   behind_same s t gs hs k l p e = let x = behind_is (among_ s gs) k in let y = behind_is (among_ t hs) l in omega (arith, x, y, p, e)
 
   -- an among that stands for itself
@@ -75,23 +75,23 @@ module _ (holes : ℕ → Bool) where
       let n = eqb-true _ _ e in
       let at : holes (suc k) ≡ true = (both _ _ (ap (list_all holes) (same_Some (suc k ∷ []) ks is) ∙ all)).0 in
       let also : holes (suc l) ≡ true = sym (ap (λ j. holes (suc j)) p) ∙ at in (
-        ap (λ b. if b then hole s gs else among_ (starter_with_holes holes (suc k) s) (groups_with_holes holes (behind_starter s (suc k)) gs)) at
+        ap (λ b. if b then hole s gs else among_ (starter_with_holes holes (suc k) s) (groups_with_holes holes (number_after_starter s (suc k)) gs)) at
             ∙ hole_same t s hs gs n
-            ∙ sym (ap (λ b. if b then hole t hs else among_ (starter_with_holes holes (suc l) t) (groups_with_holes holes (behind_starter t (suc l)) hs)) also),
+            ∙ sym (ap (λ b. if b then hole t hs else among_ (starter_with_holes holes (suc l) t) (groups_with_holes holes (number_after_starter t (suc l)) hs)) also),
         behind_same s t gs hs k l p n,
       )
 
   -- an among in which only amongs inside it differ
   inside : (s t : Starter) (gs hs : Groups) (k l : ℕ) → k ≡ l → starter_with_holes holes (suc k) s ≡ starter_with_holes holes (suc l) t
-      → groups_with_holes holes (behind_starter s (suc k)) gs ≡ groups_with_holes holes (behind_starter t (suc l)) hs → behind (among_ s gs) k ≡ behind (among_ t hs) l → Alike k l (among_ s gs) (among_ t hs)
+      → groups_with_holes holes (number_after_starter s (suc k)) gs ≡ groups_with_holes holes (number_after_starter t (suc l)) hs → number_after (among_ s gs) k ≡ number_after (among_ t hs) l → Alike k l (among_ s gs) (among_ t hs)
   inside s t gs hs k l p a b e =
       let h = hole_same t s hs gs (as_many s t gs hs k l p e) in
       ((λ i. if holes (suc (p i)) then h i else among_ (a i) (b i)), e)
 
   among_by : (s t : Starter) (gs hs : Groups) (k l : ℕ) → k ≡ l → (ks : List ℕ) → All ks → (a b : Option (List ℕ))
-      → ((x : List ℕ) → a ≡ Some x → All x → (starter_with_holes holes (suc k) s ≡ starter_with_holes holes (suc l) t) × (behind_starter s (suc k) ≡ behind_starter t (suc l)))
-      → ((y : List ℕ) → b ≡ Some y → behind_starter s (suc k) ≡ behind_starter t (suc l) → All y
-      → (groups_with_holes holes (behind_starter s (suc k)) gs ≡ groups_with_holes holes (behind_starter t (suc l)) hs) × (behind (among_ s gs) k ≡ behind (among_ t hs) l))
+      → ((x : List ℕ) → a ≡ Some x → All x → (starter_with_holes holes (suc k) s ≡ starter_with_holes holes (suc l) t) × (number_after_starter s (suc k) ≡ number_after_starter t (suc l)))
+      → ((y : List ℕ) → b ≡ Some y → number_after_starter s (suc k) ≡ number_after_starter t (suc l) → All y
+      → (groups_with_holes holes (number_after_starter s (suc k)) gs ≡ groups_with_holes holes (number_after_starter t (suc l)) hs) × (number_after (among_ s gs) k ≡ number_after (among_ t hs) l))
       → option_or (join a b) (if nat_eq (count_in_among (s, gs)) (count_in_among (t, hs)) then Some (suc k ∷ []) else None) ≡ Some ks → Alike k l (among_ s gs) (among_ t hs)
   among_by s t gs hs k l p ks all None b first second is = itself s t gs hs k l p ks (nat_eq (count_in_among (s, gs)) (count_in_among (t, hs))) refl is all
   among_by s t gs hs k l p ks all (Some a) None first second is = itself s t gs hs k l p ks (nat_eq (count_in_among (s, gs)) (count_in_among (t, hs))) refl is all
@@ -143,7 +143,7 @@ module _ (holes : ℕ → Bool) where
         let h = halves _ _ ks is in
         let a = covered holes ks h.first h.second h.is all in
         let x = sound b d k l p h.first h.one a.0 in
-        let y = sound c e (behind b k) (behind d l) x.1 h.second h.other a.1 in
+        let y = sound c e (number_after b k) (number_after d l) x.1 h.second h.other a.1 in
         ((λ i. setlimit_ (x.0 i) (y.0 i)), y.1)
     sound (assign_ m o a) (assign_ n u b) k l p ks is all =
         let h = both _ _ (whole _ ks is) in
@@ -167,9 +167,9 @@ module _ (holes : ℕ → Bool) where
         let g = expression_is a b j.1 in
         ((λ i. compare_values_ (e i) (f i) (g i)), p)
     sound (among_ s gs) (among_ t hs) k l p ks is all =
-        among_by s t gs hs k l p ks all (differ_starter (suc k) s t) (differ_groups (behind_starter s (suc k)) gs hs)
+        among_by s t gs hs k l p ks all (differ_starter (suc k) s t) (differ_groups (number_after_starter s (suc k)) gs hs)
         (λ a x q. sound_starter s t (suc k) (suc l) (ap suc p) a x q)
-        (λ b y e q. sound_groups gs hs (behind_starter s (suc k)) (behind_starter t (suc l)) e b y q) is
+        (λ b y e q. sound_groups gs hs (number_after_starter s (suc k)) (number_after_starter t (suc l)) e b y q) is
     sound (bracket x0) (simple_ y0) k l p ks is all = absurd (none-some ks is)
     sound (bracket x0) (literal_ y0) k l p ks is all = absurd (none-some ks is)
     sound (bracket x0) (name_ y0) k l p ks is all = absurd (none-some ks is)
@@ -381,7 +381,7 @@ module _ (holes : ℕ → Bool) where
     sound (among_ x0 x1) (compare_ y0 y1 y2) k l p ks is all = absurd (none-some ks is)
     sound (among_ x0 x1) (compare_values_ y0 y1 y2) k l p ks is all = absurd (none-some ks is)
 
-    sound_rows : (rs ss : Rows) (k l : ℕ) → k ≡ l → (ks : List ℕ) → differ_rows k rs ss ≡ Some ks → All ks → (rows_with_holes holes k rs ≡ rows_with_holes holes l ss) × (behind_rows rs k ≡ behind_rows ss l)
+    sound_rows : (rs ss : Rows) (k l : ℕ) → k ≡ l → (ks : List ℕ) → differ_rows k rs ss ≡ Some ks → All ks → (rows_with_holes holes k rs ≡ rows_with_holes holes l ss) × (number_after_rows rs k ≡ number_after_rows ss l)
     sound_rows no_rows no_rows k l p ks is all = (refl, p)
     sound_rows (row c os rs) (row d ps ss) k l p ks is all =
         let h = halves _ _ ks is in
@@ -389,13 +389,13 @@ module _ (holes : ℕ → Bool) where
         let x = sound c d k l p h.first h.one a.0 in
         let j = halves _ _ h.second h.other in
         let b = covered holes h.second j.first j.second j.is a.1 in
-        let y = sound_others os ps (behind c k) (behind d l) x.1 j.first j.one b.0 in
-        let z = sound_rows rs ss (behind_others os (behind c k)) (behind_others ps (behind d l)) y.1 j.second j.other b.1 in
+        let y = sound_others os ps (number_after c k) (number_after d l) x.1 j.first j.one b.0 in
+        let z = sound_rows rs ss (number_after_others os (number_after c k)) (number_after_others ps (number_after d l)) y.1 j.second j.other b.1 in
         ((λ i. row (x.0 i) (y.0 i) (z.0 i)), z.1)
     sound_rows no_rows (row d ps ss) k l p ks is all = absurd (none-some ks is)
     sound_rows (row c os rs) no_rows k l p ks is all = absurd (none-some ks is)
 
-    sound_others : (os ps : Others) (k l : ℕ) → k ≡ l → (ks : List ℕ) → differ_others k os ps ≡ Some ks → All ks → (others_with_holes holes k os ≡ others_with_holes holes l ps) × (behind_others os k ≡ behind_others ps l)
+    sound_others : (os ps : Others) (k l : ℕ) → k ≡ l → (ks : List ℕ) → differ_others k os ps ≡ Some ks → All ks → (others_with_holes holes k os ≡ others_with_holes holes l ps) × (number_after_others os k ≡ number_after_others ps l)
     sound_others no_others no_others k l p ks is all = (refl, p)
     sound_others (joined x c os) (joined y d ps) k l p ks is all =
         let g = if_so _ _ ks is in
@@ -403,18 +403,18 @@ module _ (holes : ℕ → Bool) where
         let h = halves _ _ ks g.1 in
         let a = covered holes ks h.first h.second h.is all in
         let u = sound c d k l p h.first h.one a.0 in
-        let v = sound_others os ps (behind c k) (behind d l) u.1 h.second h.other a.1 in
+        let v = sound_others os ps (number_after c k) (number_after d l) u.1 h.second h.other a.1 in
         ((λ i. joined (e i) (u.0 i) (v.0 i)), v.1)
     sound_others no_others (joined y d ps) k l p ks is all = absurd (none-some ks is)
     sound_others (joined x c os) no_others k l p ks is all = absurd (none-some ks is)
 
-    sound_starter : (s t : Starter) (k l : ℕ) → k ≡ l → (ks : List ℕ) → differ_starter k s t ≡ Some ks → All ks → (starter_with_holes holes k s ≡ starter_with_holes holes l t) × (behind_starter s k ≡ behind_starter t l)
+    sound_starter : (s t : Starter) (k l : ℕ) → k ≡ l → (ks : List ℕ) → differ_starter k s t ≡ Some ks → All ks → (starter_with_holes holes k s ≡ starter_with_holes holes l t) × (number_after_starter s k ≡ number_after_starter t l)
     sound_starter no_starter no_starter k l p ks is all = (refl, p)
     sound_starter (starter rs) (starter ss) k l p ks is all = let h = sound_rows rs ss k l p ks is all in (ap starter h.0, h.1)
     sound_starter no_starter (starter ss) k l p ks is all = absurd (none-some ks is)
     sound_starter (starter rs) no_starter k l p ks is all = absurd (none-some ks is)
 
-    sound_groups : (gs hs : Groups) (k l : ℕ) → k ≡ l → (ks : List ℕ) → differ_groups k gs hs ≡ Some ks → All ks → (groups_with_holes holes k gs ≡ groups_with_holes holes l hs) × (behind_groups gs k ≡ behind_groups hs l)
+    sound_groups : (gs hs : Groups) (k l : ℕ) → k ≡ l → (ks : List ℕ) → differ_groups k gs hs ≡ Some ks → All ks → (groups_with_holes holes k gs ≡ groups_with_holes holes l hs) × (number_after_groups gs k ≡ number_after_groups hs l)
     sound_groups (bare es) (bare fs) k l p ks is all = (ap bare (entries_are es fs (whole _ ks is)), p)
     sound_groups (group e es rs gs) (group f fs ss hs) k l p ks is all =
         let g = if_so _ _ ks is in
@@ -424,7 +424,7 @@ module _ (holes : ℕ → Bool) where
         let h = halves _ _ ks g.1 in
         let a = covered holes ks h.first h.second h.is all in
         let x = sound_rows rs ss k l p h.first h.one a.0 in
-        let y = sound_groups gs hs (behind_rows rs k) (behind_rows ss l) x.1 h.second h.other a.1 in
+        let y = sound_groups gs hs (number_after_rows rs k) (number_after_rows ss l) x.1 h.second h.other a.1 in
         ((λ i. group (m i) (n i) (x.0 i) (y.0 i)), y.1)
     sound_groups (bare es) (group f fs ss hs) k l p ks is all = absurd (none-some ks is)
     sound_groups (group e es rs gs) (bare fs) k l p ks is all = absurd (none-some ks is)
@@ -440,7 +440,7 @@ module _ (picked : Item' → Bool) where
   numbers n (k ∷ ks) all = let h = both (picked (Among n k)) (list_all picked (map (Among n) ks)) all in rw h.0 (numbers n ks h.1)
 
   -- two bodies of one routine
-  bodies : (n : List ℕ) (c d : Command) (os ps : Others) (o : Option (List ℕ)) → join (differ 0 c d) (differ_others (behind c 0) os ps) ≡ o → Picked (items_by n o)
+  bodies : (n : List ℕ) (c d : Command) (os ps : Others) (o : Option (List ℕ)) → join (differ 0 c d) (differ_others (number_after c 0) os ps) ≡ o → Picked (items_by n o)
       → holed_plain picked (routine n c os) ≡ holed_plain picked (routine n d ps)
   bodies n c d os ps None e all = let h = (both (picked (Routine n)) true all).0 in rw h refl
   bodies n c d os ps (Some ks) e all =
@@ -448,7 +448,7 @@ module _ (picked : Item' → Bool) where
       let h = halves _ _ ks e in
       let a = covered holes ks h.first h.second h.is (numbers n ks all) in
       let x = sound holes c d 0 0 refl h.first h.one a.0 in
-      let y = sound_others holes os ps (behind c 0) (behind d 0) x.1 h.second h.other a.1 in
+      let y = sound_others holes os ps (number_after c 0) (number_after d 0) x.1 h.second h.other a.1 in
       (λ i. if picked (Routine n) then routine n (bracket no_rows) no_others else routine n (x.0 i) (y.0 i))
 
   -- two lists of terms of one grouping
@@ -481,7 +481,7 @@ module _ (picked : Item' → Bool) where
       (λ i. macro (x i) (y i) (z i))
   plain_agree (routine m c os) (routine n d ps) zs is all =
       let h = if_so _ _ zs is in
-      let o = join (differ 0 c d) (differ_others (behind c 0) os ps) in
+      let o = join (differ 0 c d) (differ_others (number_after c 0) os ps) in
       let e = same_Some (items_by m o) zs h.1 in
       bodies m c d os ps o refl (ap (list_all picked) e ∙ all) ∙ ap (λ (x : List ℕ). holed_plain picked (routine x d ps)) (name_is m n h.0)
   plain_agree (grouping m a xs) (grouping n b ys) zs is all =

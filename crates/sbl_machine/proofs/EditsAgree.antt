@@ -11,7 +11,7 @@ use Rattle.sbl_ast.specs.Counts.{count_in_among}
 use Rattle.sbl_resolver.specs.Laws.{WellDeclaredPasses}
 use Rattle.sbl_amongs.specs.Amongs.{Held, amongs_of_body, nth_held, put_in_body}
 use Rattle.sbl_semantics.specs.Items.{is_among, known_in, names_by}
-use Rattle.sbl_semantics.specs.Regions.{behind}
+use Rattle.sbl_semantics.specs.Regions.{number_after}
 use Rattle.sbl_ast.specs.Order.{ItemInMode, in_mode, in_order}
 use Rattle.sbl_ast.specs.declared.mode.Mode.TheVariants.{Backward}
 use Rattle.sbl_ast.specs.declared.tree.DeclarationKind.{DeclarationKind}
@@ -22,13 +22,13 @@ use Rattle.sbl_script.proofs.AmongDepths.{home_same}
 use Rattle.sbl_script.specs.Homes.{home_of_among, home_of_body, home_of_held, home_of_terms}
 use Rattle.sbl_script.proofs.Found.{grouping_found, routine_found, some_plain}
 use Rattle.sbl_ast.specs.Source.{Source}
-use Rattle.sbl_machine.specs.BuiltFrom.{affected, affected_by, built_from, meets, meets_one}
+use Rattle.sbl_machine.specs.BuiltFrom.{is_affected_by, affected_by, built_from, meets, meets_one}
 use Rattle.sbl_machine.specs.Frame.{AgreeOutside, AgreeingNamesStay, ClearStay, EditsAgree, NamesStay, UnmetByOneStay, UnmetStay, UntouchedStay}
 use Rattle.sbl_machine.specs.Holes.{with_holes, nothing, others_with_holes, holed_plain, holed_item}
 use Rattle.sbl_semantics.specs.Meaning.{ending}
 use Rattle.sbl_semantics.specs.Outcome.{touched_at, touches_of}
-use Rattle.sbl_semantics.specs.Touched.{Item', Routine, Among, Grouping, named, names_of, same_item}
-use Rattle.sbl_machine.specs.EditedItem.{replaced}
+use Rattle.sbl_semantics.specs.TouchedItems.{Item', Routine, Among, Grouping, item_of_touch, names_of, same_item}
+use Rattle.sbl_machine.specs.EditedItem.{edited_item}
 use Rattle.sbl_machine.specs.Marks.{EditedAreThere, has_item}
 use Rattle.sbl_machine.proofs.BuiltFrom.{affected_closed, built_more}
 use Rattle.sbl_machine.proofs.NamesStand.{flip}
@@ -94,7 +94,7 @@ module _ (picked : Item' → Bool) (p : Plain → Bool) (new old : Plain) (same 
 pub whole_same : (n : List ℕ) (b new : RowView) → holed_plain (same_item (Routine n)) (routine n new.0 new.1) ≡ holed_plain (same_item (Routine n)) (routine n b.0 b.1)
 whole_same n b new =
     let gone = λ (x : RowView). ap
-    (λ (v : Bool). if v then routine n (bracket no_rows) no_others else routine n (with_holes (λ k. same_item (Routine n) (Among n k)) 0 x.0) (others_with_holes (λ k. same_item (Routine n) (Among n k)) (behind x.0 0) x.1))
+    (λ (v : Bool). if v then routine n (bracket no_rows) no_others else routine n (with_holes (λ k. same_item (Routine n) (Among n k)) 0 x.0) (others_with_holes (λ k. same_item (Routine n) (Among n k)) (number_after x.0 0) x.1))
     (same_bytes n) in
     gone new ∙ sym (gone b)
 
@@ -105,7 +105,7 @@ among_same n k b a h at count =
     (λ i. routine n (x.first i) (x.others i))
 
 -- a grouping is changed with itself, so its terms are of no matter
-terms_same : (s : Source) (n : List ℕ) (a b : Argument) (xs ys : List Term) → holed_plain (affected s (Grouping n)) (grouping n a xs) ≡ holed_plain (affected s (Grouping n)) (grouping n b ys)
+terms_same : (s : Source) (n : List ℕ) (a b : Argument) (xs ys : List Term) → holed_plain (is_affected_by s (Grouping n)) (grouping n a xs) ≡ holed_plain (is_affected_by s (Grouping n)) (grouping n b ys)
 terms_same s n a b xs ys =
     let own : is_among (built_from n s) n ≡ true = built_more (in_order s.items) (n ∷ []) n (ap (λ (v : Bool). if v then true else false) (same_bytes n)) in
     let gone = λ (c : Argument) (zs : List Term). ap (λ (v : Bool). if v then grouping n (written_out nothing) [] else grouping n c zs) own in
@@ -140,11 +140,11 @@ among_by s t n k text b h at None there is = let never : home_of_held s.items n 
 among_by s t n k text b h at (Some g) there is = let same : home_of_among s.items n b k g ≡ h = cc in among_agree s t n k text b g h at there same
 
 terms_agree : (s t : Source) (n text : List ℕ) (a : Argument) (xs : List Term) (h : Home) → first_of (defines defined.Grouping n) s.items ≡ Some (grouping n a xs) → home_of_terms s.items n ≡ h → IsSubstituted s h text true t
-    → AgreeOutside (affected s (Grouping n)) s t
+    → AgreeOutside (is_affected_by s (Grouping n)) s t
 terms_agree s t n text a xs h at is =
-    subst (λ h. IsSubstituted s h text true t → AgreeOutside (affected s (Grouping n)) s t) is
+    subst (λ h. IsSubstituted s h text true t → AgreeOutside (is_affected_by s (Grouping n)) s t) is
     (λ (z : IsSubstituted s (home_of_terms s.items n) text true t).
-    script_agree (affected s (Grouping n)) s t (defines defined.Grouping n) (grouping n z.tree.0 z.tree.1) (grouping n a xs) (terms_same s n z.tree.0 a z.tree.1 xs) at z.items_are z.external_is)
+    script_agree (is_affected_by s (Grouping n)) s t (defines defined.Grouping n) (grouping n z.tree.0 z.tree.1) (grouping n a xs) (terms_same s n z.tree.0 a z.tree.1 xs) at z.items_are z.external_is)
 
 -- ---- what is found is in the script
 
@@ -217,7 +217,7 @@ grouping_known n is x at = items_known n kinds.Groupings (defines defined.Groupi
 -- ---- an edit, by what is found in the script
 
 abbrev Edited : Source → Source → ScriptEdit → Type 0
-Edited s t e = AgreeOutside (affected s (replaced e)) s t × (has_item (names_of s) (replaced e) ≡ true)
+Edited s t e = AgreeOutside (is_affected_by s (edited_item e)) s t × (has_item (names_of s) (edited_item e) ≡ true)
 
 edit_by : (s t : Source) (e : ScriptEdit) (text : List ℕ) (h : Home) (o : Option Plain) → first_of (changes e) s.items ≡ o → home_in s.items o e ≡ Ok h → IsSubstituted s h text true t → Edited s t e
 edit_by s t (body n) text h (Some (routine m c os)) at is z =
@@ -251,7 +251,7 @@ pub edited_are_there : EditedAreThere
 edited_are_there s t e text edited = (edit_by s t e text edited.0 (first_of (changes e) s.items) refl edited.1 edited.2).1
 
 pub names_stay : NamesStay
-names_stay s t e text edited = agree_names (affected s (replaced e)) s t (edits_agree s t e text edited)
+names_stay s t e text edited = agree_names (is_affected_by s (edited_item e)) s t (edits_agree s t e text edited)
 
 pub agreeing_names_stay : AgreeingNamesStay
 agreeing_names_stay picked s t agree = agree_names picked s t agree
@@ -261,16 +261,16 @@ unfolding touches_of
 clear_stay picked s t closed agree word limit clear =
     let names = names_of s in
     let run = ending s word limit in
-    let same = frame_on picked s t closed agree word limit (sym (clear_by_names picked names run) ∙ sym (any-mapped (named names) picked (touched_at run)) ∙ clear) in
+    let same = frame_on picked s t closed agree word limit (sym (clear_by_names picked names run) ∙ sym (any-mapped (item_of_touch names) picked (touched_at run)) ∙ clear) in
     record { alike = alike_by s t word limit (agree_names picked s t agree) same; touches = ap touched_at same }
 
 pub unmet_stay : WellDeclaredPasses → UnmetStay
 unfolding meets
-unmet_stay passes x s t well agree word limit clear = clear_stay (affected s x) s t (affected_closed passes s well x) agree word limit clear
+unmet_stay passes x s t well agree word limit clear = clear_stay (is_affected_by s x) s t (affected_closed passes s well x) agree word limit clear
 
 pub unmet_by_one_stay : WellDeclaredPasses → UnmetByOneStay
 unfolding meets_one
 unmet_by_one_stay passes xs s t well agree word limit clear = clear_stay (affected_by s xs) s t (several_closed passes s well xs) agree word limit clear
 
 pub untouched_stay : WellDeclaredPasses → UntouchedStay
-untouched_stay passes s t e text well edited word limit clear = unmet_stay passes (replaced e) s t well (edits_agree s t e text edited) word limit clear
+untouched_stay passes s t e text well edited word limit clear = unmet_stay passes (edited_item e) s t well (edits_agree s t e text edited) word limit clear

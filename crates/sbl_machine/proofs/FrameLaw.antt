@@ -10,7 +10,7 @@ use Rattle.sbl_ast.specs.Tree.{bracket, no_rows, no_others}
 use Rattle.sbl_ast.specs.declared.mode.Mode.{Mode}
 use Rattle.sbl_ast.specs.declared.mode.Mode.TheVariants.{Forward}
 use Rattle.sbl_semantics.specs.Items.{Known, known_in, class_of, classes_behind, is_among, place_of, Body, body_named}
-use Rattle.sbl_semantics.specs.Regions.{behind, behind_others}
+use Rattle.sbl_semantics.specs.Regions.{number_after, number_after_others}
 use Rattle.sbl_semantics.specs.declared.fault.RunFault.TheVariants.{Depth}
 use Rattle.sbl_semantics.specs.declared.touch.Touch.{Touch}
 use Rattle.sbl_semantics.specs.declared.touch.Touch.TheVariants.{Entered, Tested}
@@ -19,9 +19,9 @@ use Rattle.sbl_machine.specs.Frame.{AgreeOutside, RunsAlike, Frame}
 use Rattle.sbl_machine.specs.Holes.{with_holes, others_with_holes, holed_script}
 use Rattle.sbl_semantics.specs.Meaning.{row_does, body_does, calls, start, ending}
 use Rattle.sbl_semantics.specs.Outcome.{outcome_at, used_at, touched_at, run_of, used_of, touches_of}
-use Rattle.sbl_semantics.specs.Control.{paid, enter, leave}
+use Rattle.sbl_semantics.specs.Control.{pay_first, enter, leave}
 use Rattle.sbl_semantics.specs.State.{State, Ending, Signals, Stops, Doing, pay}
-use Rattle.sbl_semantics.specs.Touched.{Item', Routine, Among, Grouping, Names', named, names_of, items_of, touched_of}
+use Rattle.sbl_semantics.specs.TouchedItems.{Item', Routine, Among, Grouping, Names', item_of_touch, names_of, items_of, touched_items}
 use Rattle.sbl_machine.proofs.TouchedOrder.{any_ordered, any-mapped}
 use Rattle.sbl_machine.proofs.Touching.{with_chosen, with_grows, not_then, filled}
 use Rattle.sbl_machine.proofs.Stays.{ended, pay_same}
@@ -88,7 +88,7 @@ module _ (marked : Touch → Bool) where
 
 -- what is picked, by number
 abbrev pub marked_by : (Item' → Bool) → Names' → Touch → Bool
-marked_by picked names x = picked (named names x)
+marked_by picked names x = picked (item_of_touch names x)
 
 module _ (picked : Item' → Bool) (items : List ItemInMode) (closed : AllByRecursion (λ x. IsClosedAt picked x.plain) items) where
   abbrev ns : Known
@@ -113,21 +113,21 @@ module _ (picked : Item' → Bool) (items : List ItemInMode) (closed : AllByRecu
       at false e = fun_ext (λ c. no_class (holed_items picked items) n c (ap (λ l. is_among l n) (ap (λ known. known kinds.Groupings) (known_same picked items)) ∙ e) ∙ sym (no_class items n c e))
 
   routine_by : (i : ℕ) (n : List ℕ) (body : Body) (call call' : List ℕ → Doing) (m : Mode) (b : Bool) → picked (Routine n) ≡ b → slice_index_or (known_in items kinds.Routines) (place_of (known_in items kinds.Routines) n) [] ≡ n
-      → Alike marked (place_of (known_in items kinds.Routines) n) (paid (row_does ns class call body.mode body.first body.others))
-      (paid (row_does ns class' call' body.mode (with_holes (λ k. picked (Among n k)) 0 body.first) (others_with_holes (λ k. picked (Among n k)) (behind body.first 0) body.others)))
+      → Alike marked (place_of (known_in items kinds.Routines) n) (pay_first (row_does ns class call body.mode body.first body.others))
+      (pay_first (row_does ns class' call' body.mode (with_holes (λ k. picked (Among n k)) 0 body.first) (others_with_holes (λ k. picked (Among n k)) (number_after body.first 0) body.others)))
       → Pair marked i (body_does ns class call n (Some body) m) (body_does ns class' call' n (Some (hole_of picked b n body)) m)
   routine_by i n body call call' m true c name a =
       let j = place_of (known_in items kinds.Routines) n in
-      entered_pair marked i j (behind_others body.others (behind body.first 0)) 0 (paid (row_does ns class call body.mode body.first body.others))
-      (paid (row_does ns class' call' body.mode (bracket no_rows) no_others)) m (ap (λ x. picked (Routine x)) name ∙ c) (a.in_mode m).grown
+      entered_pair marked i j (number_after_others body.others (number_after body.first 0)) 0 (pay_first (row_does ns class call body.mode body.first body.others))
+      (pay_first (row_does ns class' call' body.mode (bracket no_rows) no_others)) m (ap (λ x. picked (Routine x)) name ∙ c) (a.in_mode m).grown
       (λ s. grown_after marked s (pay s.steps s) (Signals true) (Signals false) (same_grown marked s _ (pay_same s.steps s)) (λ t. same_grown marked t _ refl) (λ t. same_grown marked t _ refl))
   routine_by i n body call call' m false c name a =
       let j = place_of (known_in items kinds.Routines) n in
       let holes = λ (k : ℕ). picked (Among n k) in
-      let d = paid (row_does ns class call body.mode body.first body.others) in
-      let d' = paid (row_does ns class' call' body.mode (with_holes holes 0 body.first) (others_with_holes holes (behind body.first 0) body.others)) in
-      let amongs = behind_others body.others (behind body.first 0) in
-      subst (λ l. Pair marked i (called j amongs d m) (called j l d' m)) (sym (behind_others_same holes body.others (behind body.first 0) _ (behind_same holes body.first 0 0 refl)))
+      let d = pay_first (row_does ns class call body.mode body.first body.others) in
+      let d' = pay_first (row_does ns class' call' body.mode (with_holes holes 0 body.first) (others_with_holes holes (number_after body.first 0) body.others)) in
+      let amongs = number_after_others body.others (number_after body.first 0) in
+      subst (λ l. Pair marked i (called j amongs d m) (called j l d' m)) (sym (behind_others_same holes body.others (number_after body.first 0) _ (behind_same holes body.first 0 0 refl)))
       (called_pair marked i j amongs d d' m a)
 
   body_pair : (i : ℕ) (n : List ℕ) (call call' : List ℕ → Doing) (m : Mode) → ((j : ℕ) (x : List ℕ) → Alike marked j (call x) (call' x)) → (o : Option Body) → body_named items n ≡ o
@@ -214,7 +214,7 @@ pub clear_by_names : (picked : Item' → Bool) (names : Names') (e : Ending) →
 clear_by_names picked names e = ap (list_any (marked_by picked names)) (touched_ended e)
 
 pub alike_by : (s t : Source) (word : List ℕ) (limit : ℕ) → names_of t ≡ names_of s → ending t word limit ≡ ending s word limit → RunsAlike s t word limit
-unfolding run_of used_of touched_of touches_of
+unfolding run_of used_of touched_items touches_of
 alike_by s t word limit names same =
     record {
       outcome = ap outcome_at same;
@@ -223,10 +223,10 @@ alike_by s t word limit names same =
     }
 
 pub frame_holds : Frame
-unfolding touched_of touches_of
+unfolding touched_items touches_of
 frame_holds picked s t closed agree word limit clear =
     let e = ending s word limit in
     let names = names_of s in
     let untouched : dirty_at (marked_by picked names) e ≡ false =
-    sym (clear_by_names picked names e) ∙ sym (any-mapped (named names) picked (touched_at e)) ∙ sym (any_ordered picked (map (named names) (touched_at e))) ∙ clear in
+    sym (clear_by_names picked names e) ∙ sym (any-mapped (item_of_touch names) picked (touched_at e)) ∙ sym (any_ordered picked (map (item_of_touch names) (touched_at e))) ∙ clear in
     alike_by s t word limit (agree_names picked s t agree) (frame_on picked s t closed agree word limit untouched)

@@ -17,8 +17,8 @@ use Rattle.sbl_semantics.specs.declared.touch.Touch.{Touch}
 use Rattle.sbl_semantics.specs.declared.touch.Touch.TheVariants.{Searched}
 use Rattle.sbl_semantics.specs.Meaning.{prefixed_does, counted_does, joined_does, limited_does, simple_does}
 use Rattle.sbl_semantics.specs.Moves.{next}
-use Rattle.sbl_semantics.specs.Numbers.{Value, given}
-use Rattle.sbl_semantics.specs.Control.{turns, times, count_of, seeks, limits, limit_here, limit_back, backwards_from, backwards_end, chosen, paid}
+use Rattle.sbl_semantics.specs.Numbers.{Value, continue_with}
+use Rattle.sbl_semantics.specs.Control.{turns, times, count_of, seeks, limits, limit_here, limit_back, backwards_from, backwards_end, with_group, pay_first}
 use Rattle.sbl_semantics.specs.Choices.{choice}
 use Rattle.sbl_semantics.specs.State.{State, Ending, Signals, Stops, Doing, after, then_on, pay, saved_cursor, put_back}
 use Rattle.sbl_semantics.specs.Touches.{with_touch}
@@ -183,11 +183,11 @@ module _ (picked : Touch → Bool) where
 
   -- ---- what is built of doings
 
-  given_pair : (i : ℕ) (v : Value) (go go' : ℤ → State → Ending) → ((z : ℤ) → Pair i (go z) (go' z)) → Pair i (λ s. given v s (λ z. go z s)) (λ s. given v s (λ z. go' z s))
+  given_pair : (i : ℕ) (v : Value) (go go' : ℤ → State → Ending) → ((z : ℤ) → Pair i (go z) (go' z)) → Pair i (λ s. continue_with v s (λ z. go z s)) (λ s. continue_with v s (λ z. go' z s))
   given_pair i (Ok z) go go' h = h z
   given_pair i (Err fault) go go' h = same_pair i (Stops fault) (λ s. refl)
 
-  pub chosen_pair : (i : ℕ) (o : Option ℕ) (go go' : ℕ → State → Ending) → ((g : ℕ) → Pair i (go g) (go' g)) → Pair i (λ s. chosen o s (λ g. go g s)) (λ s. chosen o s (λ g. go' g s))
+  pub chosen_pair : (i : ℕ) (o : Option ℕ) (go go' : ℕ → State → Ending) → ((g : ℕ) → Pair i (go g) (go' g)) → Pair i (λ s. with_group o s (λ g. go g s)) (λ s. with_group o s (λ g. go' g s))
   chosen_pair i None go go' h = signals_pair i false
   chosen_pair i (Some g) go go' h = h g
 
@@ -209,7 +209,7 @@ module _ (picked : Touch → Bool) where
       (λ f. after_pair i (next m) (next m) _ _ _ _ (same_pair i _ (next_same m)) (λ b. seeks_pair i n past d d' m a) (λ b. signals_pair i false))
       (λ f. signals_pair i false))
 
-  pub paid_alike : (i : ℕ) (d d' : Doing) → Alike i d d' → Alike i (paid d) (paid d')
+  pub paid_alike : (i : ℕ) (d d' : Doing) → Alike i d d' → Alike i (pay_first d) (pay_first d')
   paid_alike i d d' a =
       record {
         in_mode = λ m.

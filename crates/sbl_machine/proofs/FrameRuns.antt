@@ -6,7 +6,7 @@ use Rattle.sbl_ast.specs.Tree as trees
 use Rattle.sbl_ast.specs.Tree.{bracket, simple_, literal_, name_, non_, prefixed, counted, move_, named, splice_, setlimit_, assign_, compare_, compare_values_, among_, no_rows, row, no_others, joined, no_starter, starter, bare, group, entry}
 use Rattle.sbl_ast.specs.declared.mode.Mode.{Mode}
 use Rattle.sbl_semantics.specs.Items.{Known, place_of, is_among}
-use Rattle.sbl_semantics.specs.Regions.{Among, among_at, behind, behind_rows, behind_others, behind_starter, first, first_rows, first_others, mode_behind, waits, waits_others}
+use Rattle.sbl_semantics.specs.Regions.{Among, among_at, number_after, number_after_rows, number_after_others, number_after_starter, first, first_rows, first_others, mode_under, waits, waits_others}
 use Rattle.sbl_semantics.specs.declared.touch.Touch.{Touch}
 use Rattle.sbl_semantics.specs.declared.touch.Touch.TheVariants.{Searched, Tested}
 use Rattle.sbl_machine.specs.Holes.{blank, blanks, blanks_rows, blanks_others, blanks_starter, blanks_groups, nothing, hole, with_holes, rows_with_holes, others_with_holes, starter_with_holes, groups_with_holes}
@@ -14,7 +14,7 @@ use Rattle.sbl_semantics.specs.Meaning as meaning
 use Rattle.sbl_semantics.specs.Meaning.{offers, search, tests, worth, text}
 use Rattle.sbl_semantics.specs.Moves.{match, one_of}
 use Rattle.sbl_semantics.specs.Numbers.{integer_at}
-use Rattle.sbl_semantics.specs.Control.{paid}
+use Rattle.sbl_semantics.specs.Control.{pay_first}
 use Rattle.sbl_semantics.specs.State.{State, Signals, Doing, pay}
 use Rattle.sbl_machine.proofs.Stays.{pay_same, match_same, class_same, moves_same, assigned_same, compared_same, named_same, edited_same}
 use Rattle.sbl_machine.proofs.FramePairs.{Grown, Pair, Alike, grown_after, after_pair, from_pair, if_pair, same_grown, same_pair, signals_pair, paid_alike, prefixed_pair, counted_pair, joined_alike, limited_pair, simple_pair, touched_pair, touched_spoiled, touching}
@@ -27,7 +27,7 @@ module _ (picked : Touch → Bool) (ns : Known) (class : List ℕ → ℕ → Bo
   record RowsGrown (rs : trees.Rows) : Type 0 where
     grown : (r : Mode) (k : ℕ) (w : Bool) (n : Option Among) (m : Mode) (s : State) → Grown picked s (meaning.rows_do ns class call r k w n rs m s)
 
-  paid_grown : (d : Doing) (m : Mode) → ((s : State) → Grown picked s (d m s)) → (s : State) → Grown picked s (paid d m s)
+  paid_grown : (d : Doing) (m : Mode) → ((s : State) → Grown picked s (d m s)) → (s : State) → Grown picked s (pay_first d m s)
   paid_grown d m h s = grown_after picked s (pay s.steps s) (d m) (Signals false) (same_grown picked s _ (pay_same s.steps s)) h (λ t. same_grown picked t _ refl)
 
   no_rows_grown : RowsGrown no_rows
@@ -38,7 +38,7 @@ module _ (picked : Touch → Bool) (ns : Known) (class : List ℕ → ℕ → Bo
       record {
         grown = λ r k w n m s.
             let next = first_rows r rs (suc k) n in
-            grown_after picked s (paid (meaning.act ns class call r k w next blank) m s) _ (Signals false)
+            grown_after picked s (pay_first (meaning.act ns class call r k w next blank) m s) _ (Signals false)
             (paid_grown (meaning.act ns class call r k w next blank) m
             (choosing_grown picked k w (finds call k [] r) (λ m t. Signals true t) (λ g t. Signals true t) m (finds_grown picked call calls_grown k [] r m) (λ t. same_grown picked t _ refl) (λ g t. same_grown picked t _ refl)) s)
             (λ t. h.grown r (suc k) false n m t)
@@ -113,9 +113,9 @@ module _ (picked : Touch → Bool) (ns : Known) (class class' : List ℕ → ℕ
       (finds_alike picked call call' i calls_alike k (spot k ∙ c) (offers 0 gs) r))
 
   like_among : (r : Mode) (k k' : ℕ) (st : trees.Starter) (gs : trees.Groups) (n' : Option Among) (b : Bool) → holes (suc k) ≡ b → k' ≡ k
-      → Like (Some (among_at r k gs)) (first r (if b then hole st gs else among_ (starter_with_holes holes (suc k) st) (groups_with_holes holes (behind_starter st (suc k)) gs)) k' n')
+      → Like (Some (among_at r k gs)) (first r (if b then hole st gs else among_ (starter_with_holes holes (suc k) st) (groups_with_holes holes (number_after_starter st (suc k)) gs)) k' n')
   like_among r k k' st gs n' true e p = record { search = found_spoiled r k k' gs (in_hole picked ns class' call' (grown_call' picked call call' i calls_alike) st gs) e p }
-  like_among r k k' st gs n' false e p = record { search = found_alike r k k' (behind_starter st (suc k)) gs e p }
+  like_among r k k' st gs n' false e p = record { search = found_alike r k k' (number_after_starter st (suc k)) gs e p }
 
   mutual
     first_like : (t : trees.Command) (r : Mode) (k k' : ℕ) (n n' : Option Among) → k' ≡ k → Like n n' → Like (first r t k n) (first r (with_holes holes k t) k' n')
@@ -124,12 +124,12 @@ module _ (picked : Touch → Bool) (ns : Known) (class class' : List ℕ → ℕ
     first_like (literal_ x) r k k' n n' p h = h
     first_like (name_ x) r k k' n n' p h = h
     first_like (non_ x y) r k k' n n' p h = h
-    first_like (prefixed x c) r k k' n n' p h = first_like c (mode_behind x r) k k' n n' p h
+    first_like (prefixed x c) r k k' n n' p h = first_like c (mode_under x r) k k' n n' p h
     first_like (counted x e c) r k k' n n' p h = first_like c r k k' n n' p h
     first_like (move_ x y) r k k' n n' p h = h
     first_like (named x y) r k k' n n' p h = h
     first_like (splice_ x y) r k k' n n' p h = h
-    first_like (setlimit_ b c) r k k' n n' p h = first_like b r k k' _ _ p (first_like c r (behind b k) _ n n' (behind_same holes b k k' p) h)
+    first_like (setlimit_ b c) r k k' n n' p h = first_like b r k k' _ _ p (first_like c r (number_after b k) _ n n' (behind_same holes b k k' p) h)
     first_like (assign_ x y z) r k k' n n' p h = h
     first_like (compare_ x y z) r k k' n n' p h = h
     first_like (compare_values_ x y z) r k k' n n' p h = h
@@ -139,13 +139,13 @@ module _ (picked : Touch → Bool) (ns : Known) (class class' : List ℕ → ℕ
     first_rows_like no_rows r k k' n n' p h = h
     first_rows_like (row c os rs) r k k' n n' p h =
         let p1 = behind_same holes c k k' p in
-        let p2 = behind_others_same holes os (behind c k) _ p1 in
-        first_like c r k k' _ _ p (first_others_like os r (behind c k) _ _ _ p1 (first_rows_like rs r (behind_others os (behind c k)) _ n n' p2 h))
+        let p2 = behind_others_same holes os (number_after c k) _ p1 in
+        first_like c r k k' _ _ p (first_others_like os r (number_after c k) _ _ _ p1 (first_rows_like rs r (number_after_others os (number_after c k)) _ n n' p2 h))
 
     pub first_others_like : (os : trees.Others) (r : Mode) (k k' : ℕ) (n n' : Option Among) → k' ≡ k → Like n n' → Like (first_others r os k n) (first_others r (others_with_holes holes k os) k' n')
     first_others_like no_others r k k' n n' p h = h
     first_others_like (joined j c os) r k k' n n' p h =
-        first_like c r k k' _ _ p (first_others_like os r (behind c k) _ n n' (behind_same holes c k k' p) h)
+        first_like c r k k' _ _ p (first_others_like os r (number_after c k) _ n n' (behind_same holes c k k' p) h)
 
   -- the test of a grouping
   one_of_grown : (w : Bool) (has : ℕ → Bool) (m : Mode) (s : State) → Grown picked s (one_of w has m s)
@@ -177,9 +177,9 @@ module _ (picked : Touch → Bool) (ns : Known) (class class' : List ℕ → ℕ
 
   among_alike : (r : Mode) (k : ℕ) (w : Bool) (n n' : Option Among) (st : trees.Starter) (gs : trees.Groups) (b : Bool) → holes (suc k) ≡ b
       → Alike picked i (meaning.starter_does ns class call r (suc k) st) (meaning.starter_does ns class' call' r (suc k) (starter_with_holes holes (suc k) st))
-      → ((g : ℕ) → Alike picked i (meaning.group_does ns class call r (behind_starter st (suc k)) gs g)
-      (meaning.group_does ns class' call' r (behind_starter (starter_with_holes holes (suc k) st) (suc k)) (groups_with_holes holes (behind_starter st (suc k)) gs) g))
-      → Alike picked i (does r k w n (among_ st gs)) (does' r k w n' (if b then hole st gs else among_ (starter_with_holes holes (suc k) st) (groups_with_holes holes (behind_starter st (suc k)) gs)))
+      → ((g : ℕ) → Alike picked i (meaning.group_does ns class call r (number_after_starter st (suc k)) gs g)
+      (meaning.group_does ns class' call' r (number_after_starter (starter_with_holes holes (suc k) st) (suc k)) (groups_with_holes holes (number_after_starter st (suc k)) gs) g))
+      → Alike picked i (does r k w n (among_ st gs)) (does' r k w n' (if b then hole st gs else among_ (starter_with_holes holes (suc k) st) (groups_with_holes holes (number_after_starter st (suc k)) gs)))
   among_alike r k w n n' st gs true e starts groups =
       let calls_grown = grown_call' picked call call' i calls_alike in
       let inside = in_hole picked ns class' call' calls_grown st gs in
@@ -187,18 +187,18 @@ module _ (picked : Touch → Bool) (ns : Known) (class class' : List ℕ → ℕ
         in_mode = λ m.
             hole_pair picked call call' i calls_alike k (spot k ∙ e) (offers 0 gs) (offers 0 inside) r r
             (meaning.starter_does ns class call r (suc k) st) (λ m s. Signals true s)
-            (λ g. meaning.group_does ns class call r (behind_starter st (suc k)) gs g m) (λ g. meaning.group_does ns class' call' r (suc k) inside g m) m
+            (λ g. meaning.group_does ns class call r (number_after_starter st (suc k)) gs g m) (λ g. meaning.group_does ns class' call' r (suc k) inside g m) m
             (starts.in_mode m).grown (λ s. same_grown picked s _ refl) (λ g. ((groups g).in_mode m).grown) (λ g. in_hole_grown picked ns class' call' calls_grown st gs r (suc k) g m) w;
       }
   among_alike r k w n n' st gs false e starts groups =
-      let l = behind_starter (starter_with_holes holes (suc k) st) (suc k) in
-      let inside = groups_with_holes holes (behind_starter st (suc k)) gs in
+      let l = number_after_starter (starter_with_holes holes (suc k) st) (suc k) in
+      let inside = groups_with_holes holes (number_after_starter st (suc k)) gs in
       record {
         in_mode = λ m.
             choosing_pair picked call call' i calls_alike k w (finds call k (offers 0 gs) r) (finds call' k (offers 0 inside) r)
             (meaning.starter_does ns class call r (suc k) st) (meaning.starter_does ns class' call' r (suc k) (starter_with_holes holes (suc k) st))
-            (λ g. meaning.group_does ns class call r (behind_starter st (suc k)) gs g m) (λ g. meaning.group_does ns class' call' r l inside g m) m
-            (found_alike r k k (behind_starter st (suc k)) gs e refl) starts (λ g. (groups g).in_mode m);
+            (λ g. meaning.group_does ns class call r (number_after_starter st (suc k)) gs g m) (λ g. meaning.group_does ns class' call' r l inside g m) m
+            (found_alike r k k (number_after_starter st (suc k)) gs e refl) starts (λ g. (groups g).in_mode m);
       }
 
   mutual
@@ -210,19 +210,19 @@ module _ (picked : Touch → Bool) (ns : Known) (class class' : List ℕ → ℕ
     act_alike (name_ x) r k k' w w' n n' p q h = record { in_mode = λ m. name_pair x m }
     act_alike (non_ b x) r k k' w w' n n' p q h = record { in_mode = λ m. tests_pair false x m }
     act_alike (prefixed x c) r k k' w w' n n' p q h =
-        record { in_mode = λ m. prefixed_pair picked i x _ _ (paid_alike picked i _ _ (act_alike c (mode_behind x r) k k' w w' n n' p q h)) m }
+        record { in_mode = λ m. prefixed_pair picked i x _ _ (paid_alike picked i _ _ (act_alike c (mode_under x r) k k' w w' n n' p q h)) m }
     act_alike (counted x e c) r k k' w w' n n' p q h =
-        record { in_mode = λ m. from_pair picked i (λ s. worth ns e m s) _ _ (λ v. counted_pair picked i x v (paid (does r k w n c)) (paid (does' r k' w' n' (with_holes holes k c))) (paid_alike picked i _ _ (act_alike c r k k' w w' n n' p q h)) m) }
+        record { in_mode = λ m. from_pair picked i (λ s. worth ns e m s) _ _ (λ v. counted_pair picked i x v (pay_first (does r k w n c)) (pay_first (does' r k' w' n' (with_holes holes k c))) (paid_alike picked i _ _ (act_alike c r k k' w w' n n' p q h)) m) }
     act_alike (move_ x e) r k k' w w' n n' p q h = record { in_mode = λ m. same_pair picked i _ (λ s. moves_same x (worth ns e m s) m s) }
     act_alike (named x y) r k k' w w' n n' p q h = record { in_mode = λ m. same_pair picked i _ (named_same ns x y m) }
     act_alike (splice_ x a) r k k' w w' n n' p q h = record { in_mode = λ m. same_pair picked i _ (λ s. edited_same x (text ns a s) m s) }
     act_alike (setlimit_ b c) r k k' w w' n n' p q h =
         let p1 = behind_same holes b k k' p in
-        let ahead = first_like c r (behind b k) _ n n' p1 h in
+        let ahead = first_like c r (number_after b k) _ n n' p1 h in
         record {
           in_mode = λ m.
               limited_pair picked i _ _ _ _ (paid_alike picked i _ _ (act_alike b r k k' w w' _ _ p q ahead))
-              (paid_alike picked i _ _ (act_alike c r (behind b k) _ (waits b w) _ n n' p1 (waits_same holes b k w w' q) h)) m;
+              (paid_alike picked i _ _ (act_alike c r (number_after b k) _ (waits b w) _ n n' p1 (waits_same holes b k w w' q) h)) m;
         }
     act_alike (assign_ x o e) r k k' w w' n n' p q h = record { in_mode = λ m. same_pair picked i _ (λ s. assigned_same (place_of (ns kinds.Integers) x) o (worth ns e m s) s) }
     act_alike (compare_ x o e) r k k' w w' n n' p q h = record { in_mode = λ m. same_pair picked i _ (λ s. compared_same o (Ok (integer_at (place_of (ns kinds.Integers) x) s)) (worth ns e m s) s) }
@@ -232,22 +232,22 @@ module _ (picked : Touch → Bool) (ns : Known) (class class' : List ℕ → ℕ
         subst (λ j. Alike picked i (does r k w n t) (does' r j w' n' (with_holes holes k t))) (sym p)
         (subst (λ v. Alike picked i (does r k w n t) (does' r k v n' (with_holes holes k t))) (sym q)
         (among_alike r k w n n' st gs (holes (suc k)) refl (starter_alike st r (suc k) (suc k) refl)
-        (λ g. groups_alike gs g r (behind_starter st (suc k)) _ (behind_starter_same holes st (suc k) (suc k) refl))))
+        (λ g. groups_alike gs g r (number_after_starter st (suc k)) _ (behind_starter_same holes st (suc k) (suc k) refl))))
 
     rows_alike : (rs : trees.Rows) (r : Mode) (k k' : ℕ) (w w' : Bool) (n n' : Option Among) → k' ≡ k → w' ≡ w → Like n n' → Alike picked i (meaning.rows_do ns class call r k w n rs) (meaning.rows_do ns class' call' r k' w' n' (rows_with_holes holes k rs))
     rows_alike no_rows r k k' w w' n n' p q h = record { in_mode = λ m. signals_pair picked i true }
     rows_alike (row c os rs) r k k' w w' n n' p q h =
         let p1 = behind_same holes c k k' p in
-        let p2 = behind_others_same holes os (behind c k) _ p1 in
+        let p2 = behind_others_same holes os (number_after c k) _ p1 in
         let q1 = waits_same holes c k w w' q in
-        let q2 = waits_others_same holes os (behind c k) _ _ q1 in
-        let h2 = first_rows_like rs r (behind_others os (behind c k)) _ n n' p2 h in
-        let h1 = first_others_like os r (behind c k) _ _ _ p1 h2 in
+        let q2 = waits_others_same holes os (number_after c k) _ _ q1 in
+        let h2 = first_rows_like rs r (number_after_others os (number_after c k)) _ n n' p2 h in
+        let h1 = first_others_like os r (number_after c k) _ _ _ p1 h2 in
         record {
           in_mode = λ m.
               after_pair picked i _ _ _ _ _ _
-              ((paid_alike picked i _ _ (others_alike os r (behind c k) _ (waits c w) _ _ _ _ _ p1 q1 h2 (act_alike c r k k' w w' _ _ p q h1))).in_mode m)
-              (λ s. (rows_alike rs r (behind_others os (behind c k)) _ (waits_others os (waits c w)) _ n n' p2 q2 h).in_mode m)
+              ((paid_alike picked i _ _ (others_alike os r (number_after c k) _ (waits c w) _ _ _ _ _ p1 q1 h2 (act_alike c r k k' w w' _ _ p q h1))).in_mode m)
+              (λ s. (rows_alike rs r (number_after_others os (number_after c k)) _ (waits_others os (waits c w)) _ n n' p2 q2 h).in_mode m)
               (λ s. signals_pair picked i false);
         }
 
@@ -255,8 +255,8 @@ module _ (picked : Touch → Bool) (ns : Known) (class class' : List ℕ → ℕ
     others_alike no_others r k k' w w' n n' d d' p q h a = a
     others_alike (joined j c os) r k k' w w' n n' d d' p q h a =
         let p1 = behind_same holes c k k' p in
-        let h1 = first_others_like os r (behind c k) _ n n' p1 h in
-        others_alike os r (behind c k) _ (waits c w) _ n n' _ _ p1 (waits_same holes c k w w' q) h
+        let h1 = first_others_like os r (number_after c k) _ n n' p1 h in
+        others_alike os r (number_after c k) _ (waits c w) _ n n' _ _ p1 (waits_same holes c k w w' q) h
         (joined_alike picked i j _ _ _ _ (paid_alike picked i d d' a) (paid_alike picked i _ _ (act_alike c r k k' w w' _ _ p q h1)))
 
     starter_alike : (st : trees.Starter) (r : Mode) (k k' : ℕ) → k' ≡ k → Alike picked i (meaning.starter_does ns class call r k st) (meaning.starter_does ns class' call' r k' (starter_with_holes holes k st))
@@ -266,11 +266,11 @@ module _ (picked : Touch → Bool) (ns : Known) (class class' : List ℕ → ℕ
     groups_alike : (gs : trees.Groups) (g : ℕ) (r : Mode) (k k' : ℕ) → k' ≡ k → Alike picked i (meaning.group_does ns class call r k gs g) (meaning.group_does ns class' call' r k' (groups_with_holes holes k gs) g)
     groups_alike (bare es) g r k k' p = record { in_mode = λ m. signals_pair picked i true }
     groups_alike (group e es rs gs) zero r k k' p = paid_alike picked i _ _ (rows_alike rs r k k' false false None None p refl none_like)
-    groups_alike (group e es rs gs) (suc g) r k k' p = groups_alike gs g r (behind_rows rs k) _ (behind_rows_same holes rs k k' p)
+    groups_alike (group e es rs gs) (suc g) r k k' p = groups_alike gs g r (number_after_rows rs k) _ (behind_rows_same holes rs k k' p)
 
   -- a routine's row
-  pub row_alike : (r : Mode) (c : trees.Command) (os : trees.Others) → Alike picked i (meaning.row_does ns class call r c os) (meaning.row_does ns class' call' r (with_holes holes 0 c) (others_with_holes holes (behind c 0) os))
+  pub row_alike : (r : Mode) (c : trees.Command) (os : trees.Others) → Alike picked i (meaning.row_does ns class call r c os) (meaning.row_does ns class' call' r (with_holes holes 0 c) (others_with_holes holes (number_after c 0) os))
   row_alike r c os =
       let p1 = behind_same holes c 0 0 refl in
-      let h1 = first_others_like os r (behind c 0) _ None None p1 none_like in
-      others_alike os r (behind c 0) _ (waits c false) _ None None _ _ p1 (waits_same holes c 0 false false refl) none_like (act_alike c r 0 0 false false _ _ refl refl h1)
+      let h1 = first_others_like os r (number_after c 0) _ None None p1 none_like in
+      others_alike os r (number_after c 0) _ (waits c false) _ None None _ _ p1 (waits_same holes c 0 false false refl) none_like (act_alike c r 0 0 false false _ _ refl refl h1)

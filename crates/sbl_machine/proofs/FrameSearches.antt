@@ -7,8 +7,8 @@ use Rattle.sbl_semantics.specs.Fitting.{ahead_at}
 use Rattle.sbl_ast.specs.declared.mode.Mode.{Mode}
 use Rattle.sbl_semantics.specs.declared.touch.Touch.{Touch}
 use Rattle.sbl_semantics.specs.declared.touch.Touch.TheVariants.{Searched}
-use Rattle.sbl_semantics.specs.Meaning.{Offer, offering, condition_does, takes, tried, begins}
-use Rattle.sbl_semantics.specs.Control.{chosen, paid}
+use Rattle.sbl_semantics.specs.Meaning.{Offer, offering, condition_does, takes, try_each, begins}
+use Rattle.sbl_semantics.specs.Control.{with_group, pay_first}
 use Rattle.sbl_semantics.specs.Choices.{choose, choice, touch_among}
 use Rattle.sbl_semantics.specs.Events.{Event', Finds}
 use Rattle.sbl_semantics.specs.State.{note_event, State, bound_of, Ending, Signals, Doing, after, then_on, pay, saved_cursor, put_back, place_after, step_over}
@@ -21,7 +21,7 @@ abbrev pub finds : (List ℕ → Doing) → ℕ → List Offer → Mode → Doin
 finds call k os r m s =
     let t = touch_among k m s in
     let x = ahead_at r t.text t.cursor (bound_of m t) in
-    tried call k os r m t x (suc (length x)) t
+    try_each call k os r m t x (suc (length x)) t
 
 module _ (picked : Touch → Bool) where
   -- ---- one way alone
@@ -44,7 +44,7 @@ module _ (picked : Touch → Bool) where
         h)
         (λ a. same_grown picked a _ refl)
 
-    tried_grown : (k : ℕ) (os : List Offer) (r m : Mode) (from : State) (x : List ℕ) (l : ℕ) (s : State) → Grown picked s (tried call k os r m from x l s)
+    tried_grown : (k : ℕ) (os : List Offer) (r m : Mode) (from : State) (x : List ℕ) (l : ℕ) (s : State) → Grown picked s (try_each call k os r m from x l s)
     tried_grown k os r m from x zero s = record { up = λ d. d; here = refl }
     tried_grown k os r m from x (suc l) s = take_grown k (offering r (take l x) os) m from _ (tried_grown k os r m from x l) s
 
@@ -62,24 +62,24 @@ module _ (picked : Touch → Bool) where
         let x = ahead_at r t.text t.cursor (bound_of m t) in
         (tried_grown k os r m t x (suc (length x)) t).up (with_chosen picked (Searched s.routine k) s.touched (ap (λ n. picked (Searched n k)) w.here ∙ c))
 
-  chosen_grown : (o : Option ℕ) (go : ℕ → State → Ending) → ((g : ℕ) (s : State) → Grown picked s (go g s)) → (s : State) → Grown picked s (chosen o s (λ g. go g s))
+  chosen_grown : (o : Option ℕ) (go : ℕ → State → Ending) → ((g : ℕ) (s : State) → Grown picked s (go g s)) → (s : State) → Grown picked s (with_group o s (λ g. go g s))
   chosen_grown None go h s = same_grown picked s _ refl
   chosen_grown (Some g) go h s = h g s
 
   begins_grown : (w : Bool) (d b : Doing) (m : Mode) → ((s : State) → Grown picked s (d m s)) → ((s : State) → Grown picked s (b m s)) → (s : State) → Grown picked s (begins w d b m s)
   begins_grown true d b m h k s = same_grown picked s _ refl
   begins_grown false d b m h k s =
-      grown_after picked s (paid d m s) (b m) (Signals false)
+      grown_after picked s (pay_first d m s) (b m) (Signals false)
       (grown_after picked s (pay s.steps s) (d m) (Signals false) (same_grown picked s _ (pay_same s.steps s)) h (λ t. same_grown picked t _ refl))
       k (λ t. same_grown picked t _ refl)
 
   -- an among: what is done before its choice, and what is done with it
   abbrev pub choosing : ℕ → Ending → (ℕ → State → Ending) → Ending
-  choosing k e go = after e (λ t. chosen (choice k t) t (λ g. go g t)) (Signals false)
+  choosing k e go = after e (λ t. with_group (choice k t) t (λ g. go g t)) (Signals false)
 
   pub choosing_grown : (k : ℕ) (w : Bool) (d b : Doing) (go : ℕ → State → Ending) (m : Mode) → ((s : State) → Grown picked s (d m s)) → ((s : State) → Grown picked s (b m s)) → ((g : ℕ) (s : State) → Grown picked s (go g s)) → (s : State) → Grown picked s (choosing k (begins w d b m s) go)
   choosing_grown k w d b go m h j l s =
-      grown_after picked s (begins w d b m s) (λ t. chosen (choice k t) t (λ g. go g t)) (Signals false) (begins_grown w d b m h j s) (λ t. chosen_grown (choice k t) go l t) (λ t. same_grown picked t _ refl)
+      grown_after picked s (begins w d b m s) (λ t. with_group (choice k t) t (λ g. go g t)) (Signals false) (begins_grown w d b m h j s) (λ t. chosen_grown (choice k t) go l t) (λ t. same_grown picked t _ refl)
 
   -- ---- in two ways
 
@@ -119,7 +119,7 @@ module _ (picked : Touch → Bool) where
         (λ a. h))
         (λ s. signals_pair picked i false)
 
-    tried_pair : (k : ℕ) → picked (Searched i k) ≡ false → (os : List Offer) (r m : Mode) (from : State) (x : List ℕ) (l : ℕ) → Pair picked i (tried call k os r m from x l) (tried call' k os r m from x l)
+    tried_pair : (k : ℕ) → picked (Searched i k) ≡ false → (os : List Offer) (r m : Mode) (from : State) (x : List ℕ) (l : ℕ) → Pair picked i (try_each call k os r m from x l) (try_each call' k os r m from x l)
     tried_pair k n os r m from x zero = choose_pair false k (Finds k None) None n
     tried_pair k n os r m from x (suc l) = take_pair k n (offering r (take l x) os) m from _ _ (tried_pair k n os r m from x l)
 
@@ -144,11 +144,11 @@ module _ (picked : Touch → Bool) where
         record {
           in_mode = λ m.
               searched_pair k m
-              (λ t. tried call k os r m t (ahead_at r t.text t.cursor (bound_of m t)) (suc (length (ahead_at r t.text t.cursor (bound_of m t)))) t)
-              (λ t. tried call' k os r m t (ahead_at r t.text t.cursor (bound_of m t)) (suc (length (ahead_at r t.text t.cursor (bound_of m t)))) t)
+              (λ t. try_each call k os r m t (ahead_at r t.text t.cursor (bound_of m t)) (suc (length (ahead_at r t.text t.cursor (bound_of m t)))) t)
+              (λ t. try_each call' k os r m t (ahead_at r t.text t.cursor (bound_of m t)) (suc (length (ahead_at r t.text t.cursor (bound_of m t)))) t)
               (from_pair picked i (λ s. s)
-              (λ x s. tried call k os r m x (ahead_at r x.text x.cursor (bound_of m x)) (suc (length (ahead_at r x.text x.cursor (bound_of m x)))) s)
-              (λ x s. tried call' k os r m x (ahead_at r x.text x.cursor (bound_of m x)) (suc (length (ahead_at r x.text x.cursor (bound_of m x)))) s)
+              (λ x s. try_each call k os r m x (ahead_at r x.text x.cursor (bound_of m x)) (suc (length (ahead_at r x.text x.cursor (bound_of m x)))) s)
+              (λ x s. try_each call' k os r m x (ahead_at r x.text x.cursor (bound_of m x)) (suc (length (ahead_at r x.text x.cursor (bound_of m x)))) s)
               (λ x. tried_pair k n os r m x (ahead_at r x.text x.cursor (bound_of m x)) (suc (length (ahead_at r x.text x.cursor (bound_of m x))))));
         }
 
@@ -175,15 +175,15 @@ module _ (picked : Touch → Bool) where
         (λ s. signals_pair picked i false)
 
     quiet_kept : (k : ℕ) → picked (Searched i k) ≡ true → (go go' : ℕ → State → Ending) → ((g : ℕ) (s : State) → Grown picked s (go g s)) → ((g : ℕ) (s : State) → Grown picked s (go' g s)) → (s : State) → Within picked i s → (b : Bool) → dirty picked s ≡ b
-        → Kept picked i (chosen (choice k s) s (λ g. go g s)) (chosen (choice k s) s (λ g. go' g s))
+        → Kept picked i (with_group (choice k s) s (λ g. go g s)) (with_group (choice k s) s (λ g. go' g s))
     quiet_kept k c go go' h h' s w true d =
         let g = chosen_grown (choice k s) go h s in
         let g' = chosen_grown (choice k s) go' h' s in
         record { kin = inr (g.up d, g'.up d); within = within_dirty picked i _ (here_from picked i s.routine _ w.here g.here) (g.up d) }
     quiet_kept k c go go' h h' s w false d =
-        subst (λ o. Kept picked i (chosen o s (λ g. go g s)) (chosen o s (λ g. go' g s))) (sym (w.quiet k c d)) (record { kin = inl refl; within = w })
+        subst (λ o. Kept picked i (with_group o s (λ g. go g s)) (with_group o s (λ g. go' g s))) (sym (w.quiet k c d)) (record { kin = inl refl; within = w })
 
-    quiet_pair : (k : ℕ) → picked (Searched i k) ≡ true → (go go' : ℕ → State → Ending) → ((g : ℕ) (s : State) → Grown picked s (go g s)) → ((g : ℕ) (s : State) → Grown picked s (go' g s)) → Pair picked i (λ s. chosen (choice k s) s (λ g. go g s)) (λ s. chosen (choice k s) s (λ g. go' g s))
+    quiet_pair : (k : ℕ) → picked (Searched i k) ≡ true → (go go' : ℕ → State → Ending) → ((g : ℕ) (s : State) → Grown picked s (go g s)) → ((g : ℕ) (s : State) → Grown picked s (go' g s)) → Pair picked i (λ s. with_group (choice k s) s (λ g. go g s)) (λ s. with_group (choice k s) s (λ g. go' g s))
     quiet_pair k c go go' h h' =
         record {
           grown = λ s. chosen_grown (choice k s) go h s;
@@ -194,7 +194,7 @@ module _ (picked : Touch → Bool) where
     -- where something that is picked is touched in the search, so it is behind the choice
     behind_dirty : (k : ℕ) (b : Doing) (go : ℕ → State → Ending) (m : Mode) → ((s : State) → Grown picked s (b m s)) → ((g : ℕ) (s : State) → Grown picked s (go g s)) → (e : Ending) → dirty_at picked e ≡ true → dirty_at picked (choosing k (after e (b m) (Signals false)) go) ≡ true
     behind_dirty k b go m h l e d =
-        dirty_after picked (after e (b m) (Signals false)) (λ t. chosen (choice k t) t (λ g. go g t)) (Signals false)
+        dirty_after picked (after e (b m) (Signals false)) (λ t. with_group (choice k t) t (λ g. go g t)) (Signals false)
         (dirty_after picked e (b m) (Signals false) d h (λ t. same_grown picked t _ refl)) (λ t. chosen_grown (choice k t) go l t) (λ t. same_grown picked t _ refl)
 
     -- one that is picked, with anything in it

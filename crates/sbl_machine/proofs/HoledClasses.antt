@@ -13,8 +13,8 @@ use Rattle.sbl_ast.specs.Tree.{Command, Others, Argument, written_out, by_name, 
 use Rattle.sbl_semantics.specs.Items.{Grouping, and_grouping, class_of, classes_behind, is_among, known_in, term_has, terms_have}
 use Rattle.sbl_machine.specs.BuiltFrom.{names, any_names, built_on, IsClosedAt}
 use Rattle.sbl_machine.specs.Holes.{nothing, holed_plain}
-use Rattle.sbl_semantics.specs.Touched.{Item', Routine}
-use Rattle.sbl_semantics.specs.Touched as items
+use Rattle.sbl_semantics.specs.TouchedItems.{Item', Routine}
+use Rattle.sbl_semantics.specs.TouchedItems as items
 use Rattle.sbl_machine.proofs.Groupings.{name_of, class_names}
 use Rattle.sbl_machine.proofs.HoledScripts.{holed_items}
 

@@ -5,7 +5,7 @@ use Rattle.sbl_ast.specs.Tree.{Command, Rows, Others, Starter, Groups, bracket, 
 use Rattle.sbl_ast.specs.Counts.{count_amongs, count_in_rows, count_in_others, count_in_starter, count_in_groups, count_in_among}
 use Rattle.sbl_amongs.specs.Amongs.{Held, amongs, amongs_of_body, amongs_of_rows, amongs_of_others, amongs_of_starter, amongs_of_groups, nth_held, put_among, put_in_rows, put_in_others, put_in_starter, put_in_groups}
 use Rattle.sbl_amongs.proofs.Held.{Counts, none_is_first, tree_counts, rows_count, others_count, starter_counts}
-use Rattle.sbl_semantics.specs.Regions.{behind, behind_rows, behind_others, behind_starter, behind_groups}
+use Rattle.sbl_semantics.specs.Regions.{number_after, number_after_rows, number_after_others, number_after_starter, number_after_groups}
 use Rattle.sbl_machine.specs.Holes.{blank, blanks, blanks_rows, blanks_others, blanks_starter, blanks_groups, nothing, hole, with_holes, rows_with_holes, others_with_holes, starter_with_holes, groups_with_holes}
 
 -- ---- blanks are as many as there are amongs
@@ -84,7 +84,7 @@ none_behind : (k : ℕ) → k ≡ k + 0
 none_behind k = omega arith
 
 mutual
-  pub behind_is : (t : Command) (k : ℕ) → behind t k ≡ k + count_amongs t
+  pub behind_is : (t : Command) (k : ℕ) → number_after t k ≡ k + count_amongs t
   behind_is (bracket rs) k = behind_rows_is rs k
   behind_is (simple_ x) k = none_behind k
   behind_is (literal_ x) k = none_behind k
@@ -95,31 +95,31 @@ mutual
   behind_is (move_ x y) k = none_behind k
   behind_is (named x y) k = none_behind k
   behind_is (splice_ x y) k = none_behind k
-  behind_is (setlimit_ b c) k = let x = behind_is b k in let y = behind_is c (behind b k) in omega (arith, x, y)
+  behind_is (setlimit_ b c) k = let x = behind_is b k in let y = behind_is c (number_after b k) in omega (arith, x, y)
   behind_is (assign_ x y z) k = none_behind k
   behind_is (compare_ x y z) k = none_behind k
   behind_is (compare_values_ x y z) k = none_behind k
-  behind_is (among_ s gs) k = let x = behind_starter_is s (suc k) in let y = behind_groups_is gs (behind_starter s (suc k)) in omega (arith, x, y)
+  behind_is (among_ s gs) k = let x = behind_starter_is s (suc k) in let y = behind_groups_is gs (number_after_starter s (suc k)) in omega (arith, x, y)
 
-  behind_rows_is : (rs : Rows) (k : ℕ) → behind_rows rs k ≡ k + count_in_rows rs
+  behind_rows_is : (rs : Rows) (k : ℕ) → number_after_rows rs k ≡ k + count_in_rows rs
   behind_rows_is no_rows k = none_behind k
   behind_rows_is (row c os rs) k =
       let x = behind_is c k in
-      let y = behind_others_is os (behind c k) in
-      let z = behind_rows_is rs (behind_others os (behind c k)) in
+      let y = behind_others_is os (number_after c k) in
+      let z = behind_rows_is rs (number_after_others os (number_after c k)) in
       omega (arith, x, y, z)
 
-  behind_others_is : (os : Others) (k : ℕ) → behind_others os k ≡ k + count_in_others os
+  behind_others_is : (os : Others) (k : ℕ) → number_after_others os k ≡ k + count_in_others os
   behind_others_is no_others k = none_behind k
-  behind_others_is (joined j c os) k = let x = behind_is c k in let y = behind_others_is os (behind c k) in omega (arith, x, y)
+  behind_others_is (joined j c os) k = let x = behind_is c k in let y = behind_others_is os (number_after c k) in omega (arith, x, y)
 
-  behind_starter_is : (s : Starter) (k : ℕ) → behind_starter s k ≡ k + count_in_starter s
+  behind_starter_is : (s : Starter) (k : ℕ) → number_after_starter s k ≡ k + count_in_starter s
   behind_starter_is no_starter k = none_behind k
   behind_starter_is (starter rs) k = behind_rows_is rs k
 
-  behind_groups_is : (gs : Groups) (k : ℕ) → behind_groups gs k ≡ k + count_in_groups gs
+  behind_groups_is : (gs : Groups) (k : ℕ) → number_after_groups gs k ≡ k + count_in_groups gs
   behind_groups_is (bare es) k = none_behind k
-  behind_groups_is (group e es rs gs) k = let x = behind_rows_is rs k in let y = behind_groups_is gs (behind_rows rs k) in omega (arith, x, y)
+  behind_groups_is (group e es rs gs) k = let x = behind_rows_is rs k in let y = behind_groups_is gs (number_after_rows rs k) in omega (arith, x, y)
 
 -- ---- the among that is put, with as many amongs as the one with its number
 
@@ -163,16 +163,16 @@ module _ (k : ℕ) (a : Starter × Groups) (holes : ℕ → Bool) (only : (j : �
     count : count_in_groups u ≡ count_in_groups t
 
   -- the next number behind both is the same
-  tree_next : (t u : Command) (j j' : ℕ) → count_amongs u ≡ count_amongs t → j' ≡ j → behind u j' ≡ behind t j
+  tree_next : (t u : Command) (j j' : ℕ) → count_amongs u ≡ count_amongs t → j' ≡ j → number_after u j' ≡ number_after t j
   tree_next t u j j' c p = behind_is u j' ∙ (λ i. p i + c i) ∙ sym (behind_is t j)
 
-  rows_next : (t u : Rows) (j j' : ℕ) → count_in_rows u ≡ count_in_rows t → j' ≡ j → behind_rows u j' ≡ behind_rows t j
+  rows_next : (t u : Rows) (j j' : ℕ) → count_in_rows u ≡ count_in_rows t → j' ≡ j → number_after_rows u j' ≡ number_after_rows t j
   rows_next t u j j' c p = behind_rows_is u j' ∙ (λ i. p i + c i) ∙ sym (behind_rows_is t j)
 
-  others_next : (t u : Others) (j j' : ℕ) → count_in_others u ≡ count_in_others t → j' ≡ j → behind_others u j' ≡ behind_others t j
+  others_next : (t u : Others) (j j' : ℕ) → count_in_others u ≡ count_in_others t → j' ≡ j → number_after_others u j' ≡ number_after_others t j
   others_next t u j j' c p = behind_others_is u j' ∙ (λ i. p i + c i) ∙ sym (behind_others_is t j)
 
-  starter_next : (t u : Starter) (j j' : ℕ) → count_in_starter u ≡ count_in_starter t → j' ≡ j → behind_starter u j' ≡ behind_starter t j
+  starter_next : (t u : Starter) (j j' : ℕ) → count_in_starter u ≡ count_in_starter t → j' ≡ j → number_after_starter u j' ≡ number_after_starter t j
   starter_next t u j j' c p = behind_starter_is u j' ∙ (λ i. p i + c i) ∙ sym (behind_starter_is t j)
 
   leaf : (j : ℕ) (t : Command) → ((j' : ℕ) → with_holes holes j' t ≡ t) → TreeSame j t t
@@ -180,7 +180,7 @@ module _ (k : ℕ) (a : Starter × Groups) (holes : ℕ → Bool) (only : (j : �
 
   among_put : (s : Starter) (gs : Groups) (d l j : ℕ) (rest : List Held) → l ≡ k - j → AsMany l (amongs (among_ s gs) d rest)
       → (nat_eq l 1 ≡ false → StarterSame (suc j) s (put_in_starter s (l - 1) a))
-      → (nat_eq l 1 ≡ false → GroupsSame (behind_starter s (suc j)) gs (put_in_groups gs (l - 1 - count_in_starter s) a))
+      → (nat_eq l 1 ≡ false → GroupsSame (number_after_starter s (suc j)) gs (put_in_groups gs (l - 1 - count_in_starter s) a))
       → (b : Bool) → nat_eq l 1 ≡ b → TreeSame j (among_ s gs) (if b then among_ a.0 a.1 else among_ (put_in_starter s (l - 1) a) (put_in_groups gs (l - 1 - count_in_starter s) a))
   among_put s gs d l j rest e many starts groups true is =
       let more = amongs_of_starter s d (amongs_of_groups gs d rest) in
@@ -190,10 +190,10 @@ module _ (k : ℕ) (a : Starter × Groups) (holes : ℕ → Bool) (only : (j : �
       let here : holes (suc j) ≡ true = only (suc j) ∙ search (arith, k_is) in
       record {
         same = λ j' p.
-            ap (λ (x : ℕ). if holes (suc x) then hole a.0 a.1 else among_ (starter_with_holes holes (suc x) a.0) (groups_with_holes holes (behind_starter a.0 (suc x)) a.1)) p
-            ∙ ap (λ (b : Bool). if b then hole a.0 a.1 else among_ (starter_with_holes holes (suc j) a.0) (groups_with_holes holes (behind_starter a.0 (suc j)) a.1)) here
+            ap (λ (x : ℕ). if holes (suc x) then hole a.0 a.1 else among_ (starter_with_holes holes (suc x) a.0) (groups_with_holes holes (number_after_starter a.0 (suc x)) a.1)) p
+            ∙ ap (λ (b : Bool). if b then hole a.0 a.1 else among_ (starter_with_holes holes (suc j) a.0) (groups_with_holes holes (number_after_starter a.0 (suc j)) a.1)) here
             ∙ hole_same s a.0 gs a.1 count
-            ∙ sym (ap (λ (b : Bool). if b then hole s gs else among_ (starter_with_holes holes (suc j) s) (groups_with_holes holes (behind_starter s (suc j)) gs)) here);
+            ∙ sym (ap (λ (b : Bool). if b then hole s gs else among_ (starter_with_holes holes (suc j) s) (groups_with_holes holes (number_after_starter s (suc j)) gs)) here);
         count = count;
       }
   among_put s gs d l j rest e many starts groups false is =
@@ -204,10 +204,10 @@ module _ (k : ℕ) (a : Starter × Groups) (holes : ℕ → Bool) (only : (j : �
       let away : holes (suc j) ≡ false = only (suc j) ∙ ne_eqb k (suc j) (λ f. true≢false (sym (search (arith, e, f)) ∙ is)) in
       record {
         same = λ j' p.
-            ap (λ (z : ℕ). if holes (suc z) then hole st gr else among_ (starter_with_holes holes (suc z) st) (groups_with_holes holes (behind_starter st (suc z)) gr)) p
-            ∙ ap (λ (b : Bool). if b then hole st gr else among_ (starter_with_holes holes (suc j) st) (groups_with_holes holes (behind_starter st (suc j)) gr)) away
-            ∙ (λ i. among_ (x.same (suc j) refl i) (y.same (behind_starter st (suc j)) (starter_next s st (suc j) (suc j) x.count refl) i))
-            ∙ sym (ap (λ (b : Bool). if b then hole s gs else among_ (starter_with_holes holes (suc j) s) (groups_with_holes holes (behind_starter s (suc j)) gs)) away);
+            ap (λ (z : ℕ). if holes (suc z) then hole st gr else among_ (starter_with_holes holes (suc z) st) (groups_with_holes holes (number_after_starter st (suc z)) gr)) p
+            ∙ ap (λ (b : Bool). if b then hole st gr else among_ (starter_with_holes holes (suc j) st) (groups_with_holes holes (number_after_starter st (suc j)) gr)) away
+            ∙ (λ i. among_ (x.same (suc j) refl i) (y.same (number_after_starter st (suc j)) (starter_next s st (suc j) (suc j) x.count refl) i))
+            ∙ sym (ap (λ (b : Bool). if b then hole s gs else among_ (starter_with_holes holes (suc j) s) (groups_with_holes holes (number_after_starter s (suc j)) gs)) away);
         count = λ i. 1 + (x.count i + y.count i);
       }
 
@@ -226,21 +226,21 @@ module _ (k : ℕ) (a : Starter × Groups) (holes : ℕ → Bool) (only : (j : �
     tree_put (setlimit_ b c) d l j rest e many =
         let x = tree_put b (d + 1) l j (amongs c (d + 1) rest) e many in
         let n = behind_is b j in
-        let f : l - count_amongs b ≡ k - behind b j = omega (arith, e, n) in
-        let y = tree_put c (d + 1) (l - count_amongs b) (behind b j) rest f (many_behind (count_amongs b) (λ r. amongs b (d + 1) r) (tree_counts b (d + 1)) l (amongs c (d + 1) rest) many) in
+        let f : l - count_amongs b ≡ k - number_after b j = omega (arith, e, n) in
+        let y = tree_put c (d + 1) (l - count_amongs b) (number_after b j) rest f (many_behind (count_amongs b) (λ r. amongs b (d + 1) r) (tree_counts b (d + 1)) l (amongs c (d + 1) rest) many) in
         let u = put_among b l a in
-        record { same = λ j' p. (λ i. setlimit_ (x.same j' p i) (y.same (behind u j') (tree_next b u j j' x.count p) i)); count = λ i. x.count i + y.count i }
+        record { same = λ j' p. (λ i. setlimit_ (x.same j' p i) (y.same (number_after u j') (tree_next b u j j' x.count p) i)); count = λ i. x.count i + y.count i }
     tree_put (assign_ x y z) d l j rest e many = leaf j (assign_ x y z) (λ j'. refl)
     tree_put (compare_ x y z) d l j rest e many = leaf j (compare_ x y z) (λ j'. refl)
     tree_put (compare_values_ x y z) d l j rest e many = leaf j (compare_values_ x y z) (λ j'. refl)
     tree_put (among_ s gs) d l j rest e many =
         let n = behind_starter_is s (suc j) in
         let f : l - 1 ≡ k - suc j = omega (arith, e) in
-        let g : l - 1 - count_in_starter s ≡ k - behind_starter s (suc j) = omega (arith, e, n) in
+        let g : l - 1 - count_in_starter s ≡ k - number_after_starter s (suc j) = omega (arith, e, n) in
         let more = amongs_of_starter s d (amongs_of_groups gs d rest) in
         among_put s gs d l j rest e many
         (λ ne. starter_put s d (l - 1) (suc j) (amongs_of_groups gs d rest) f (many_inside l (d, s, gs) more ne many))
-        (λ ne. groups_put gs d (l - 1 - count_in_starter s) (behind_starter s (suc j)) rest g
+        (λ ne. groups_put gs d (l - 1 - count_in_starter s) (number_after_starter s (suc j)) rest g
         (many_behind (count_in_starter s) (λ r. amongs_of_starter s d r) (starter_counts s d) (l - 1) (amongs_of_groups gs d rest) (many_inside l (d, s, gs) more ne many)))
         (nat_eq l 1) refl
 
@@ -252,21 +252,21 @@ module _ (k : ℕ) (a : Starter × Groups) (holes : ℕ → Bool) (only : (j : �
         let l1 = l - count_amongs c in
         let l2 = l - count_amongs c - count_in_others os in
         let n1 = behind_is c j in
-        let n2 = behind_others_is os (behind c j) in
-        let f1 : l1 ≡ k - behind c j = omega (arith, e, n1) in
-        let f2 : l2 ≡ k - behind_others os (behind c j) = omega (arith, e, n1, n2) in
+        let n2 = behind_others_is os (number_after c j) in
+        let f1 : l1 ≡ k - number_after c j = omega (arith, e, n1) in
+        let f2 : l2 ≡ k - number_after_others os (number_after c j) = omega (arith, e, n1, n2) in
         let m1 = many_behind (count_amongs c) (λ r. amongs c d r) (tree_counts c d) l inner many in
         let m2 = many_behind (count_in_others os) (λ r. amongs_of_others os d r) (others_count os d) l1 last m1 in
         let x = tree_put c d l j inner e many in
-        let y = others_put os d l1 (behind c j) last f1 m1 in
-        let z = rows_put rs d l2 (behind_others os (behind c j)) rest f2 m2 in
+        let y = others_put os d l1 (number_after c j) last f1 m1 in
+        let z = rows_put rs d l2 (number_after_others os (number_after c j)) rest f2 m2 in
         let u = put_among c l a in
         let v = put_in_others os l1 a in
         record {
           same = λ j' p.
               let p1 = tree_next c u j j' x.count p in
-              let p2 = others_next os v (behind c j) (behind u j') y.count p1 in
-              (λ i. row (x.same j' p i) (y.same (behind u j') p1 i) (z.same (behind_others v (behind u j')) p2 i));
+              let p2 = others_next os v (number_after c j) (number_after u j') y.count p1 in
+              (λ i. row (x.same j' p i) (y.same (number_after u j') p1 i) (z.same (number_after_others v (number_after u j')) p2 i));
           count = λ i. x.count i + (y.count i + z.count i);
         }
 
@@ -276,11 +276,11 @@ module _ (k : ℕ) (a : Starter × Groups) (holes : ℕ → Bool) (only : (j : �
         let inner = amongs_of_others os d rest in
         let l1 = l - count_amongs c in
         let n1 = behind_is c j in
-        let f1 : l1 ≡ k - behind c j = omega (arith, e, n1) in
+        let f1 : l1 ≡ k - number_after c j = omega (arith, e, n1) in
         let x = tree_put c d l j inner e many in
-        let y = others_put os d l1 (behind c j) rest f1 (many_behind (count_amongs c) (λ r. amongs c d r) (tree_counts c d) l inner many) in
+        let y = others_put os d l1 (number_after c j) rest f1 (many_behind (count_amongs c) (λ r. amongs c d r) (tree_counts c d) l inner many) in
         let u = put_among c l a in
-        record { same = λ j' p. (λ i. joined o (x.same j' p i) (y.same (behind u j') (tree_next c u j j' x.count p) i)); count = λ i. x.count i + y.count i }
+        record { same = λ j' p. (λ i. joined o (x.same j' p i) (y.same (number_after u j') (tree_next c u j j' x.count p) i)); count = λ i. x.count i + y.count i }
 
     starter_put : (s : Starter) (d l j : ℕ) (rest : List Held) → l ≡ k - j → AsMany l (amongs_of_starter s d rest) → StarterSame j s (put_in_starter s l a)
     starter_put no_starter d l j rest e many = record { same = λ j' p. refl; count = refl }
@@ -292,16 +292,16 @@ module _ (k : ℕ) (a : Starter × Groups) (holes : ℕ → Bool) (only : (j : �
         let inner = amongs_of_groups gs d rest in
         let l1 = l - count_in_rows rs in
         let n1 = behind_rows_is rs j in
-        let f1 : l1 ≡ k - behind_rows rs j = omega (arith, e, n1) in
+        let f1 : l1 ≡ k - number_after_rows rs j = omega (arith, e, n1) in
         let x = rows_put rs (d + 1 + 1) l j inner e many in
-        let y = groups_put gs d l1 (behind_rows rs j) rest f1 (many_behind (count_in_rows rs) (λ r. amongs_of_rows rs (d + 1 + 1) r) (rows_count rs (d + 1 + 1)) l inner many) in
+        let y = groups_put gs d l1 (number_after_rows rs j) rest f1 (many_behind (count_in_rows rs) (λ r. amongs_of_rows rs (d + 1 + 1) r) (rows_count rs (d + 1 + 1)) l inner many) in
         let u = put_in_rows rs l a in
-        record { same = λ j' p. (λ i. group v es (x.same j' p i) (y.same (behind_rows u j') (rows_next rs u j j' x.count p) i)); count = λ i. x.count i + y.count i }
+        record { same = λ j' p. (λ i. group v es (x.same j' p i) (y.same (number_after_rows u j') (rows_next rs u j j' x.count p) i)); count = λ i. x.count i + y.count i }
 
   -- a routine's body and that with the among put are the same, with holes
   pub record BodySame (b : Command × Others) : Type 0 where
     pub first : with_holes holes 0 (put_among b.0 k a) ≡ with_holes holes 0 b.0
-    pub others : others_with_holes holes (behind (put_among b.0 k a) 0) (put_in_others b.1 (k - count_amongs b.0) a) ≡ others_with_holes holes (behind b.0 0) b.1
+    pub others : others_with_holes holes (number_after (put_among b.0 k a) 0) (put_in_others b.1 (k - count_amongs b.0) a) ≡ others_with_holes holes (number_after b.0 0) b.1
 
   pub body_put : (b : Command × Others) (h : Held) → nth_held k (amongs_of_body b) ≡ Some h → count_in_among a ≡ count_in_among (h.1, h.2) → BodySame b
   body_put b h there count =
@@ -310,6 +310,6 @@ module _ (k : ℕ) (a : Starter × Groups) (holes : ℕ → Bool) (only : (j : �
       let many : AsMany k (amongs b.0 1 inner) = record { is = λ g at. let same : h ≡ g = cc in count ∙ ap (λ (x : Held). count_in_among (x.1, x.2)) same } in
       let x = tree_put b.0 1 k 0 inner e many in
       let n = behind_is b.0 0 in
-      let f : k - count_amongs b.0 ≡ k - behind b.0 0 = omega (arith, n) in
-      let y = others_put b.1 1 (k - count_amongs b.0) (behind b.0 0) [] f (many_behind (count_amongs b.0) (λ r. amongs b.0 1 r) (tree_counts b.0 1) k inner many) in
-      record { first = x.same 0 refl; others = y.same (behind (put_among b.0 k a) 0) (tree_next b.0 (put_among b.0 k a) 0 0 x.count refl) }
+      let f : k - count_amongs b.0 ≡ k - number_after b.0 0 = omega (arith, n) in
+      let y = others_put b.1 1 (k - count_amongs b.0) (number_after b.0 0) [] f (many_behind (count_amongs b.0) (λ r. amongs b.0 1 r) (tree_counts b.0 1) k inner many) in
+      record { first = x.same 0 refl; others = y.same (number_after (put_among b.0 k a) 0) (tree_next b.0 (put_among b.0 k a) 0 0 x.count refl) }

@@ -13,10 +13,10 @@ use Rattle.sbl_ast.specs.Tree.{Command, Others, Argument, written_out, Term, Pla
 use Rattle.sbl_ast.specs.declared.mode.Mode.{Mode}
 use Rattle.sbl_ast.specs.declared.mode.Mode.TheVariants.{Forward, Backward}
 use Rattle.sbl_semantics.specs.Items.{Known, is_among, place_of, names_by, known_in, Body, body_or, body_named}
-use Rattle.sbl_semantics.specs.Regions.{behind}
+use Rattle.sbl_semantics.specs.Regions.{number_after}
 use Rattle.sbl_machine.specs.BuiltFrom.{IsClosed, IsClosedAt}
 use Rattle.sbl_machine.specs.Holes.{nothing, with_holes, others_with_holes, holed_plain, holed_item, holed_script}
-use Rattle.sbl_semantics.specs.Touched.{Item', Routine, Among, Grouping, names_of}
+use Rattle.sbl_semantics.specs.TouchedItems.{Item', Routine, Among, Grouping, names_of}
 use Rattle.sbl_ast.specs.Source.{Source}
 
 module _ (picked : Item' → Bool) where
@@ -119,7 +119,7 @@ module _ (picked : Item' → Bool) where
   hole_of false n b = record {
     mode = b.mode;
     first = with_holes (λ k. picked (Among n k)) 0 b.first;
-    others = others_with_holes (λ k. picked (Among n k)) (behind b.first 0) b.others;
+    others = others_with_holes (λ k. picked (Among n k)) (number_after b.first 0) b.others;
   }
 
   -- the body of the routine of this name, with holes
@@ -130,7 +130,7 @@ module _ (picked : Item' → Bool) where
   body_by m n c os = record { mode = m; first = c; others = os }
 
   holed_or : (m : Mode) (r n : List ℕ) (c : Command) (os : Others) (rest : Option Body) (b : Bool)
-      → body_or m (if b then routine r (bracket no_rows) no_others else routine r (with_holes (λ k. picked (Among r k)) 0 c) (others_with_holes (λ k. picked (Among r k)) (behind c 0) os)) n rest
+      → body_or m (if b then routine r (bracket no_rows) no_others else routine r (with_holes (λ k. picked (Among r k)) 0 c) (others_with_holes (λ k. picked (Among r k)) (number_after c 0) os)) n rest
       ≡ (if bytes_eq r n then Some (hole_of b r (body_by m r c os)) else rest)
   holed_or m r n c os rest true = refl
   holed_or m r n c os rest false = refl

@@ -15,11 +15,11 @@ use Rattle.sbl_semantics.specs.declared.touch.Touch.{Touch}
 use Rattle.sbl_semantics.specs.declared.touch.Touch.TheVariants.{Entered, Searched, Tested}
 use Rattle.sbl_semantics.specs.Touches.{same_touch, with_touch}
 use Rattle.sbl_ast.specs.Source.{Source}
-use Rattle.sbl_script.specs.Spelled.{AreSpelled}
-use Rattle.sbl_machine.specs.BuiltFrom.{affected, affected_by, built_behind}
-use Rattle.sbl_machine.specs.Marking.{amongs_behind, amongs_in, groupings_behind, marked, marks_of, routines_behind, searched, searches}
+use Rattle.sbl_script.specs.SpelledScript.{AreSpelled}
+use Rattle.sbl_machine.specs.BuiltFrom.{is_affected_by, affected_by, built_behind}
+use Rattle.sbl_machine.specs.Marking.{amongs_behind, amongs_in, groupings_behind, with_names, marks_of, routines_behind, with_searches, searches}
 use Rattle.sbl_machine.specs.Marks.{AreMarksOf, has_item}
-use Rattle.sbl_semantics.specs.Touched.{Item', Routine, Among, Grouping, named, names_of}
+use Rattle.sbl_semantics.specs.TouchedItems.{Item', Routine, Among, Grouping, item_of_touch, names_of}
 use Rattle.sbl_machine.proofs.BuiltFrom.{built_back}
 use Rattle.sbl_machine.proofs.Several.{built_from_several, or_false}
 use Rattle.sbl_machine.proofs.NotEmpty.{groupings_named, routines_named}
@@ -58,12 +58,12 @@ module _ (touch : ℕ → Touch) (test : List ℕ → Bool) (t : Touch) where
   hit i [] = false
   hit i (n ∷ ns) = (test n && same_touch t (touch i)) || hit (suc i) ns
 
-  any_marked : (i : ℕ) (ns : List (List ℕ)) (ts : List Touch) → list_any (same_touch t) (marked touch test i ns ts) ≡ (hit i ns || list_any (same_touch t) ts)
+  any_marked : (i : ℕ) (ns : List (List ℕ)) (ts : List Touch) → list_any (same_touch t) (with_names touch test i ns ts) ≡ (hit i ns || list_any (same_touch t) ts)
   any_marked i [] ts = refl
   any_marked i (n ∷ ns) ts = by (test n) (λ us. any_marked (suc i) ns us)
     where
-      by : (b : Bool) → ((us : List Touch) → list_any (same_touch t) (marked touch test (suc i) ns us) ≡ (hit (suc i) ns || list_any (same_touch t) us))
-          → list_any (same_touch t) (marked touch test (suc i) ns (if b then with_touch (touch i) ts else ts)) ≡ (((b && same_touch t (touch i)) || hit (suc i) ns) || list_any (same_touch t) ts)
+      by : (b : Bool) → ((us : List Touch) → list_any (same_touch t) (with_names touch test (suc i) ns us) ≡ (hit (suc i) ns || list_any (same_touch t) us))
+          → list_any (same_touch t) (with_names touch test (suc i) ns (if b then with_touch (touch i) ts else ts)) ≡ (((b && same_touch t (touch i)) || hit (suc i) ns) || list_any (same_touch t) ts)
       by true rest =
           rest (with_touch (touch i) ts) ∙ ap (λ (b : Bool). hit (suc i) ns || b) (any_with t (touch i) ts)
           ∙ or_turned (hit (suc i) ns) (same_touch t (touch i)) (list_any (same_touch t) ts)
@@ -110,13 +110,13 @@ module _ (touch : ℕ → Touch) (test : List ℕ → Bool) (t : Touch) where
 
 -- a touch that the marks have under its number
 own_marked : (touch : ℕ → Touch) (test : List ℕ → Bool) (t : Touch) (ns : List (List ℕ)) (ts : List Touch) (j : ℕ) → ((i : ℕ) → same_touch t (touch i) ≡ nat_eq j i) → test [] ≡ false
-    → list_any (same_touch t) (marked touch test 0 ns ts) ≡ (test (slice_index_or ns j []) || list_any (same_touch t) ts)
+    → list_any (same_touch t) (with_names touch test 0 ns ts) ≡ (test (slice_index_or ns j []) || list_any (same_touch t) ts)
 own_marked touch test t ns ts j own none =
     any_marked touch test t 0 ns ts ∙ ap (λ (b : Bool). b || list_any (same_touch t) ts) (hit_at touch test t j own none 0 ns j (omega arith))
 
 -- a touch of another form
 not_marked : (touch : ℕ → Touch) (test : List ℕ → Bool) (t : Touch) (ns : List (List ℕ)) (ts : List Touch) → ((i : ℕ) → same_touch t (touch i) ≡ false)
-    → list_any (same_touch t) (marked touch test 0 ns ts) ≡ list_any (same_touch t) ts
+    → list_any (same_touch t) (with_names touch test 0 ns ts) ≡ list_any (same_touch t) ts
 not_marked touch test t ns ts off = any_marked touch test t 0 ns ts ∙ ap (λ (b : Bool). b || list_any (same_touch t) ts) (none_hit touch test t off 0 ns)
 
 -- ---- searches
@@ -126,7 +126,7 @@ and_false true = refl
 and_false false = refl
 
 -- a touch that searches nothing
-searched_not : (t : Touch) → ((i k : ℕ) → same_touch t (Searched i k) ≡ false) → (i : ℕ) (ks : List ℕ) (ts : List Touch) → list_any (same_touch t) (searched i ks ts) ≡ list_any (same_touch t) ts
+searched_not : (t : Touch) → ((i k : ℕ) → same_touch t (Searched i k) ≡ false) → (i : ℕ) (ks : List ℕ) (ts : List Touch) → list_any (same_touch t) (with_searches i ks ts) ≡ list_any (same_touch t) ts
 searched_not t off i [] ts = refl
 searched_not t off i (k ∷ ks) ts =
     searched_not t off i ks (with_touch (Searched i k) ts) ∙ any_with t (Searched i k) ts ∙ ap (λ (b : Bool). b || list_any (same_touch t) ts) (off i k)
@@ -134,7 +134,7 @@ searched_not t off i (k ∷ ks) ts =
 searches_not : (t : Touch) → ((i k : ℕ) → same_touch t (Searched i k) ≡ false) → (numbers : List ℕ → List ℕ) (i : ℕ) (ns : List (List ℕ)) (ts : List Touch)
     → list_any (same_touch t) (searches numbers i ns ts) ≡ list_any (same_touch t) ts
 searches_not t off numbers i [] ts = refl
-searches_not t off numbers i (n ∷ ns) ts = searches_not t off numbers (suc i) ns (searched i (numbers n) ts) ∙ searched_not t off i (numbers n) ts
+searches_not t off numbers i (n ∷ ns) ts = searches_not t off numbers (suc i) ns (with_searches i (numbers n) ts) ∙ searched_not t off i (numbers n) ts
 
 shifted : (a b c d : Bool) → ((a && d) || ((d && b) || c)) ≡ (((b || a) && d) || c)
 shifted true true c true = refl
@@ -153,7 +153,7 @@ module _ (numbers : List ℕ → List ℕ) (j l : ℕ) where
   abbrev has_number : List ℕ → Bool
   has_number n = list_any (nat_eq l) (numbers n)
 
-  any_searched : (i : ℕ) (ks : List ℕ) (ts : List Touch) → has_search (searched i ks ts) ≡ ((list_any (nat_eq l) ks && nat_eq j i) || has_search ts)
+  any_searched : (i : ℕ) (ks : List ℕ) (ts : List Touch) → has_search (with_searches i ks ts) ≡ ((list_any (nat_eq l) ks && nat_eq j i) || has_search ts)
   any_searched i [] ts = refl
   any_searched i (k ∷ ks) ts =
       any_searched i ks (with_touch (Searched i k) ts)
@@ -163,7 +163,7 @@ module _ (numbers : List ℕ → List ℕ) (j l : ℕ) where
   any_search : (i : ℕ) (ns : List (List ℕ)) (ts : List Touch) → has_search (searches numbers i ns ts) ≡ (hit Entered has_number (Entered j) i ns || has_search ts)
   any_search i [] ts = refl
   any_search i (n ∷ ns) ts =
-      any_search (suc i) ns (searched i (numbers n) ts)
+      any_search (suc i) ns (with_searches i (numbers n) ts)
       ∙ ap (λ (b : Bool). hit Entered has_number (Entered j) (suc i) ns || b) (any_searched i (numbers n) ts)
       ∙ or_turned (hit Entered has_number (Entered j) (suc i) ns) (has_number n && nat_eq j i) (has_search ts)
 
@@ -246,16 +246,16 @@ module _ (s : Source) (spelled : AreSpelled s.items) where
 
   -- ---- routines
 
-  routine_is : (n : List ℕ) (x : Item') → routine_passes (λ m. bytes_eq m n) x ≡ affected s x (Routine n)
+  routine_is : (n : List ℕ) (x : Item') → routine_passes (λ m. bytes_eq m n) x ≡ is_affected_by s x (Routine n)
   routine_is n (Routine m) = refl
   routine_is n (Among m k) = refl
   routine_is n (Grouping m) = refl
 
-  routines_are : (xs : List Item') (n : List ℕ) → is_among (routines_behind xs []) n ≡ list_any (λ x. affected s x (Routine n)) xs
+  routines_are : (xs : List Item') (n : List ℕ) → is_among (routines_behind xs []) n ≡ list_any (λ x. is_affected_by s x (Routine n)) xs
   routines_are xs n =
       among_any (routines_behind xs []) n ∙ any_routine (λ m. bytes_eq m n) xs [] ∙ ap (λ (p : Item' → Bool). list_any p xs) (fun_ext (routine_is n))
 
-  named_routine : (x : Item') → has_item (names_of s) x ≡ true → affected s x (Routine []) ≡ false
+  named_routine : (x : Item') → has_item (names_of s) x ≡ true → is_affected_by s x (Routine []) ≡ false
   named_routine (Routine n) there = has_name routines n (routines_named s.items spelled) there
   named_routine (Among n k) there = refl
   named_routine (Grouping n) there = refl
@@ -269,52 +269,52 @@ module _ (s : Source) (spelled : AreSpelled s.items) where
       not_then (is_among (built_behind items (n ∷ [])) []) (is_among (n ∷ []) []) (built_back items (n ∷ []) [] none)
       (ap (λ (b : Bool). if b then true else false) (has_name (known_in items kinds.Groupings) n none there))
 
-  grouping_is : (n : List ℕ) (x : Item') → grouping_passes (λ m. is_among (built_behind items (m ∷ [])) n) x ≡ affected s x (Grouping n)
+  grouping_is : (n : List ℕ) (x : Item') → grouping_passes (λ m. is_among (built_behind items (m ∷ [])) n) x ≡ is_affected_by s x (Grouping n)
   grouping_is n (Routine m) = refl
   grouping_is n (Among m k) = refl
   grouping_is n (Grouping m) = refl
 
-  groupings_are : (xs : List Item') (n : List ℕ) → is_among (built_behind items (groupings_behind xs [])) n ≡ list_any (λ x. affected s x (Grouping n)) xs
+  groupings_are : (xs : List Item') (n : List ℕ) → is_among (built_behind items (groupings_behind xs [])) n ≡ list_any (λ x. is_affected_by s x (Grouping n)) xs
   groupings_are xs n =
       built_from_several items (groupings_behind xs []) n
       ∙ any_grouping (λ m. is_among (built_behind items (m ∷ [])) n) xs []
       ∙ ap (λ (p : Item' → Bool). list_any p xs) (fun_ext (grouping_is n))
 
-  named_grouping : (x : Item') → has_item (names_of s) x ≡ true → affected s x (Grouping []) ≡ false
+  named_grouping : (x : Item') → has_item (names_of s) x ≡ true → is_affected_by s x (Grouping []) ≡ false
   named_grouping (Routine n) there = refl
   named_grouping (Among n k) there = refl
   named_grouping (Grouping n) there = built_named n there
 
   -- ---- amongs
 
-  named_among : (k : ℕ) (x : Item') → has_item (names_of s) x ≡ true → affected s x (Among [] k) ≡ false
+  named_among : (k : ℕ) (x : Item') → has_item (names_of s) x ≡ true → is_affected_by s x (Among [] k) ≡ false
   named_among k (Routine n) there = refl
   named_among k (Among n l) there = ap (λ (b : Bool). b && nat_eq l k) (has_name routines n (routines_named s.items spelled) there)
   named_among k (Grouping n) there = refl
 
   module _ (l : ℕ) where
     -- the among with number l is one of those collected so far, or of the items to come
-    any_among : (n : List ℕ) (xs : List Item') (ks : List ℕ) → list_any (nat_eq l) (amongs_behind n xs ks) ≡ (list_any (nat_eq l) ks || list_any (λ x. affected s x (Among n (suc l))) xs)
+    any_among : (n : List ℕ) (xs : List Item') (ks : List ℕ) → list_any (nat_eq l) (amongs_behind n xs ks) ≡ (list_any (nat_eq l) ks || list_any (λ x. is_affected_by s x (Among n (suc l))) xs)
     any_among n [] ks = sym (or_false (list_any (nat_eq l) ks))
     any_among n (Routine m ∷ xs) ks = any_among n xs ks
     any_among n (Grouping m ∷ xs) ks = any_among n xs ks
     any_among n (Among m zero ∷ xs) ks =
-        let rest = list_any (λ x. affected s x (Among n (suc l))) xs in
+        let rest = list_any (λ x. is_affected_by s x (Among n (suc l))) xs in
         let other : nat_eq zero (suc l) ≡ false = grind (arith, nat_tests) in
         any_among n xs ks
         ∙ ap (λ (b : Bool). list_any (nat_eq l) ks || (b || rest)) (and_false (bytes_eq m n) ∙ ap (λ (b : Bool). bytes_eq m n && b) (sym other))
     any_among n (Among m (suc k) ∷ xs) ks = by (bytes_eq m n) (λ js. any_among n xs js)
       where
-        by : (b : Bool) → ((js : List ℕ) → list_any (nat_eq l) (amongs_behind n xs js) ≡ (list_any (nat_eq l) js || list_any (λ x. affected s x (Among n (suc l))) xs))
-            → list_any (nat_eq l) (amongs_behind n xs (if b then ks ++ k ∷ [] else ks)) ≡ (list_any (nat_eq l) ks || ((b && nat_eq (suc k) (suc l)) || list_any (λ x. affected s x (Among n (suc l))) xs))
+        by : (b : Bool) → ((js : List ℕ) → list_any (nat_eq l) (amongs_behind n xs js) ≡ (list_any (nat_eq l) js || list_any (λ x. is_affected_by s x (Among n (suc l))) xs))
+            → list_any (nat_eq l) (amongs_behind n xs (if b then ks ++ k ∷ [] else ks)) ≡ (list_any (nat_eq l) ks || ((b && nat_eq (suc k) (suc l)) || list_any (λ x. is_affected_by s x (Among n (suc l))) xs))
         by true rest =
             rest (ks ++ k ∷ [])
-            ∙ ap (λ (b : Bool). b || list_any (λ x. affected s x (Among n (suc l))) xs) (list_any-append (nat_eq l) ks (k ∷ []))
-            ∙ one_more (list_any (nat_eq l) ks) (nat_eq l k) (list_any (λ x. affected s x (Among n (suc l))) xs)
-            ∙ ap (λ (b : Bool). list_any (nat_eq l) ks || (b || list_any (λ x. affected s x (Among n (suc l))) xs)) (next_same l k)
+            ∙ ap (λ (b : Bool). b || list_any (λ x. is_affected_by s x (Among n (suc l))) xs) (list_any-append (nat_eq l) ks (k ∷ []))
+            ∙ one_more (list_any (nat_eq l) ks) (nat_eq l k) (list_any (λ x. is_affected_by s x (Among n (suc l))) xs)
+            ∙ ap (λ (b : Bool). list_any (nat_eq l) ks || (b || list_any (λ x. is_affected_by s x (Among n (suc l))) xs)) (next_same l k)
         by false rest = rest ks
 
-  amongs_are : (l : ℕ) (xs : List Item') (n : List ℕ) → list_any (nat_eq l) (amongs_in xs n) ≡ list_any (λ x. affected s x (Among n (suc l))) xs
+  amongs_are : (l : ℕ) (xs : List Item') (n : List ℕ) → list_any (nat_eq l) (amongs_in xs n) ≡ list_any (λ x. is_affected_by s x (Among n (suc l))) xs
   amongs_are l xs n = any_among l n xs []
 
   -- ---- all together
@@ -324,10 +324,10 @@ module _ (s : Source) (spelled : AreSpelled s.items) where
     found = searches (amongs_in xs) 0 routines []
 
     abbrev entered : (List ℕ → Bool) → List Touch
-    entered test = marked Entered test 0 routines found
+    entered test = with_names Entered test 0 routines found
 
     abbrev tested : (List ℕ → Bool) → (List ℕ → Bool) → List Touch
-    tested test other = marked Tested test 0 groupings (entered other)
+    tested test other = with_names Tested test 0 groupings (entered other)
 
     abbrev in_routines : List ℕ → Bool
     in_routines = is_among (routines_behind xs [])
@@ -336,12 +336,12 @@ module _ (s : Source) (spelled : AreSpelled s.items) where
     in_built = is_among (built_behind items (groupings_behind xs []))
 
     no_routine : in_routines [] ≡ false
-    no_routine = routines_are xs [] ∙ none_passes (λ x. affected s x (Routine [])) (has_item (names_of s)) named_routine xs there
+    no_routine = routines_are xs [] ∙ none_passes (λ x. is_affected_by s x (Routine [])) (has_item (names_of s)) named_routine xs there
 
     no_built : in_built [] ≡ false
-    no_built = groupings_are xs [] ∙ none_passes (λ x. affected s x (Grouping [])) (has_item (names_of s)) named_grouping xs there
+    no_built = groupings_are xs [] ∙ none_passes (λ x. is_affected_by s x (Grouping [])) (has_item (names_of s)) named_grouping xs there
 
-    by_touch : (t : Touch) → list_any (same_touch t) (tested in_built in_routines) ≡ affected_by s xs (named (names_of s) t)
+    by_touch : (t : Touch) → list_any (same_touch t) (tested in_built in_routines) ≡ affected_by s xs (item_of_touch (names_of s) t)
     by_touch (Entered j) =
         let n = slice_index_or routines j [] in
         not_marked Tested in_built (Entered j) groupings (entered in_routines) (λ i. refl)
@@ -352,7 +352,7 @@ module _ (s : Source) (spelled : AreSpelled s.items) where
     by_touch (Searched j l) =
         not_marked Tested in_built (Searched j l) groupings (entered in_routines) (λ i. refl)
         ∙ not_marked Entered in_routines (Searched j l) routines found (λ i. refl)
-        ∙ own_search (amongs_in xs) j l routines (amongs_are l xs [] ∙ none_passes (λ x. affected s x (Among [] (suc l))) (has_item (names_of s)) (named_among (suc l)) xs there)
+        ∙ own_search (amongs_in xs) j l routines (amongs_are l xs [] ∙ none_passes (λ x. is_affected_by s x (Among [] (suc l))) (has_item (names_of s)) (named_among (suc l)) xs there)
         ∙ amongs_are l xs (slice_index_or routines j [])
     by_touch (Tested g) =
         let n = slice_index_or groupings g [] in

@@ -14,7 +14,7 @@ use Rattle.sbl_ast.specs.Tree.{Argument, written_out, by_name, Command, Others, 
 use Rattle.sbl_resolver.specs.declared.occurrences.Site.{Site}
 use Rattle.sbl_resolver.specs.declared.occurrences.Use.{Use}
 use Rattle.sbl_resolver.specs.declared.occurrences.Use.TheVariants as use_as
-use Rattle.sbl_resolver.specs.Occurrences.{Occurrence, Notice, put, uses, region_end, declares, defines_routine, defines_grouping, noted, noted_others, noted_terms, noted_plain, noted_items, occurrences_of, noted_name}
+use Rattle.sbl_resolver.specs.Occurrences.{Occurrence, Notice, put, uses, region_end, declares, defines_routine, defines_grouping, noted_command, noted_others, noted_terms, noted_plain, noted_items, occurrences_of, noted_name}
 use Rattle.sbl_resolver.specs.OccurrenceView.{noted_names}
 use Rattle.sbl_resolver.specs.Checks.{kind_of, defined_at, definition_of, may_be, is_some_and, is_kind, is_routine, is_grouping, is_mode, needs_definition, fault_at}
 use Rattle.sbl_resolver.specs.Laws.{EachPasses, NamesResolve, Resolves, WellDeclaredPasses}
@@ -161,7 +161,7 @@ terms_extend (term o a ∷ ts) p s = then_ (term_extends a p s) (terms_extend ts
 pub plain_after : (n : List ℕ) (c : Command) (os : Others) (p : Site) (s : List Occurrence) → Extends (put (defines_routine n) p s) (noted_plain (routine n c os) p s)
 plain_after n c os p s =
     let a = put (defines_routine n) p s in
-    let b = noted c p a in
+    let b = noted_command c p a in
     then_ (command_more c p a) (then_ (others_more os p b) (put_more region_end p (noted_others os p b)))
 
 pub grouping_after : (n : List ℕ) (a : Argument) (ts : List Term) (p : Site) (s : List Occurrence) → Extends (put (defines_grouping n) p s) (noted_plain (grouping n a ts) p s)

@@ -10,7 +10,7 @@ use Rattle.sbl_token.specs.declared.words.Word.{Word}
 use Rattle.sbl_text.specs.declared.pieces.Shape.{Shape}
 use Rattle.sbl_text.specs.declared.pieces.Shape.TheVariants as shape
 use Rattle.sbl_text.specs.Directives.{Directives, after, start}
-use Rattle.sbl_text.specs.Spaced.{IsSaid, IsSaidBy, AreSaid}
+use Rattle.sbl_text.specs.SpacedTokens.{IsSaid, IsSaidBy, AreSaid}
 use Rattle.sbl_text.specs.Tokens.{word_or_name}
 use Rattle.sbl_parser.proofs.Faults.{places_tokens}
 use Rattle.sbl_ast.proofs.Behind.{IsBefore, plain_before}
@@ -23,7 +23,7 @@ use Rattle.sbl_ast.specs.declared.mode.Mode.TheVariants.{Backward}
 use Rattle.sbl_ast.specs.declared.tree.DeclarationKind.{DeclarationKind}
 use Rattle.sbl_ast.specs.declared.tree.DeclarationKind.TheVariants as kinds
 use Rattle.sbl_semantics.specs.Items.{is_among, known_in, names_by}
-use Rattle.sbl_script.specs.Spelled.{AreSpelled}
+use Rattle.sbl_script.specs.SpelledScript.{AreSpelled}
 
 -- ---- an empty name is not said
 

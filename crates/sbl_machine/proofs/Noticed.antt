@@ -9,7 +9,7 @@ use Rattle.sbl_ast.specs.declared.tree.Simple.TheVariants as simples
 use Rattle.sbl_ast.specs.Tree.{Argument, written_out, by_name, Expression, expression, Sums, no_sums, sum, Product, product, Scales, no_scales, scale, Factor, negated, bracketed, numeral, variable, fixed, length_of, Entry, entry, Command, bracket, simple_, literal_, name_, non_, prefixed, counted, move_, named, splice_, setlimit_, assign_, compare_, compare_values_, among_, Rows, no_rows, row, Others, no_others, joined, Starter, no_starter, starter, Groups, bare, group, Term, term, routine, grouping}
 use Rattle.sbl_resolver.specs.declared.occurrences.Site.{Site}
 use Rattle.sbl_resolver.specs.declared.occurrences.Use.TheVariants as use_as
-use Rattle.sbl_resolver.specs.Occurrences.{Occurrence, Notice, put, uses, substring, among, string, backwards, region_end, declares, defines_routine, defines_grouping, amongs_in, noted_expression, noted_sums, noted_product, noted_scales, noted_factor, noted_simple, noted_prefix, site_behind, use_of, noted_condition, noted_entry, noted_entries, has_starter, is_empty, noted, noted_rows, noted_others, noted_starter, noted_groups, noted_terms, noted_plain, noted_name}
+use Rattle.sbl_resolver.specs.Occurrences.{Occurrence, Notice, put, uses, substring, among, string, backwards, region_end, declares, defines_routine, defines_grouping, amongs_in, noted_expression, noted_sums, noted_product, noted_scales, noted_factor, noted_simple, noted_prefix, site_behind, use_of, noted_condition, noted_entry, noted_entries, has_starter, is_empty, noted_command, noted_rows, noted_others, noted_starter, noted_groups, noted_terms, noted_plain, noted_name}
 use Rattle.sbl_resolver.specs.Checks.{declared_as, kind_of, defined_at, definition_of}
 use Rattle.sbl_resolver.proofs.Extends.{Extends}
 
@@ -125,7 +125,7 @@ module _ {X : Type 0} (f : Occurrence → Option X) (quiet : (n : Notice) (p : S
   entries_still (e ∷ es) o p s = entries_still es o p (noted_entry e o p s) ∙ entry_still e o p s
 
   mutual
-    command_still : (t : Command) (p : Site) (s : List Occurrence) → Still s (noted t p s)
+    command_still : (t : Command) (p : Site) (s : List Occurrence) → Still s (noted_command t p s)
     command_still (bracket rs) p s = rows_still rs p s
     command_still (simple_ x) p s = simple_still x p s
     command_still (literal_ q) p s = refl
@@ -136,7 +136,7 @@ module _ {X : Type 0} (f : Occurrence → Option X) (quiet : (n : Notice) (p : S
     command_still (move_ m e) p s = expression_still e p s
     command_still (named x n) p s = put_still (uses (use_of x) n) p s refl
     command_still (splice_ x a) p s = string_still a p s
-    command_still (setlimit_ b c) p s = command_still c p (noted b p s) ∙ command_still b p s
+    command_still (setlimit_ b c) p s = command_still c p (noted_command b p s) ∙ command_still b p s
     command_still (assign_ n o e) p s = expression_still e p (put (uses use_as.Integer n) p s) ∙ put_still (uses use_as.Integer n) p s refl
     command_still (compare_ n o e) p s = expression_still e p (put (uses use_as.Integer n) p s) ∙ put_still (uses use_as.Integer n) p s refl
     command_still (compare_values_ e o g) p s = expression_still g p (noted_expression e p s) ∙ expression_still e p s
@@ -146,11 +146,11 @@ module _ {X : Type 0} (f : Occurrence → Option X) (quiet : (n : Notice) (p : S
 
     rows_still : (rs : Rows) (p : Site) (s : List Occurrence) → Still s (noted_rows rs p s)
     rows_still no_rows p s = refl
-    rows_still (row c os rs) p s = rows_still rs p (noted_others os p (noted c p s)) ∙ others_still os p (noted c p s) ∙ command_still c p s
+    rows_still (row c os rs) p s = rows_still rs p (noted_others os p (noted_command c p s)) ∙ others_still os p (noted_command c p s) ∙ command_still c p s
 
     others_still : (os : Others) (p : Site) (s : List Occurrence) → Still s (noted_others os p s)
     others_still no_others p s = refl
-    others_still (joined j c os) p s = others_still os p (noted c p s) ∙ command_still c p s
+    others_still (joined j c os) p s = others_still os p (noted_command c p s) ∙ command_still c p s
 
     starter_still : (x : Starter) (p : Site) (s : List Occurrence) → Still s (noted_starter x p s)
     starter_still no_starter p s = refl
@@ -176,7 +176,7 @@ module _ {X : Type 0} (f : Occurrence → Option X) (quiet : (n : Notice) (p : S
   pub routine_still : (n : List ℕ) (c : Command) (os : Others) (p : Site) (s : List Occurrence) → Still (put (defines_routine n) p s) (noted_plain (routine n c os) p s)
   routine_still n c os p s =
       let a = put (defines_routine n) p s in
-      put_still region_end p (noted_others os p (noted c p a)) refl ∙ others_still os p (noted c p a) ∙ command_still c p a
+      put_still region_end p (noted_others os p (noted_command c p a)) refl ∙ others_still os p (noted_command c p a) ∙ command_still c p a
 
   pub grouping_still : (n : List ℕ) (a : Argument) (ts : List Term) (p : Site) (s : List Occurrence) → Still (put (defines_grouping n) p s) (noted_plain (grouping n a ts) p s)
   grouping_still n a ts p s = let b = put (defines_grouping n) p s in terms_still ts p (noted_name use_as.Term a p b) ∙ term_still a p b

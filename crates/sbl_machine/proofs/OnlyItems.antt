@@ -8,9 +8,9 @@ use Rattle.std.proofs.lemmas.Slice.Eq.{bytes_eq-Decides}
 use Rattle.sbl_ast.specs.Tree.{Plain, declaration, escapes, macro, routine, grouping, Item, plain, backward}
 use Rattle.sbl_ast.specs.Source.{Source}
 use Rattle.sbl_machine.specs.DifferLaws.{MoreDiffers, OnlyItemsDiffer}
-use Rattle.sbl_machine.specs.Differs.{join, differ_plain, differ_plains, differ_item, differ_items}
+use Rattle.sbl_semantics.specs.Differs.{join, differ_plain, differ_plains, differ_item, differ_items}
 use Rattle.sbl_machine.specs.Holes.{holed_plain, holed_item}
-use Rattle.sbl_semantics.specs.Touched.{Item'}
+use Rattle.sbl_semantics.specs.TouchedItems.{Item'}
 use Rattle.sbl_machine.proofs.DiffersAgree.{agree_outside}
 use Rattle.sbl_machine.proofs.DiffersSelf.{items_self}
 

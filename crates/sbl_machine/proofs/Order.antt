@@ -4,7 +4,7 @@ use Rattle.std.specs.BTreeSet.{insert_key}
 use Rattle.std.specs.declared.cmp.Ordering.{Ordering}
 use Rattle.std.specs.declared.cmp.Ordering.TheVariants.{Less, Equal, Greater}
 use Rattle.std.specs.Ordering.{match_ordering}
-use Rattle.sbl_semantics.specs.Touched.{Item', item_cmp, item_of}
+use Rattle.sbl_semantics.specs.TouchedItems.{Item', item_cmp, item_of}
 use Rattle.sbl_semantics.specs.contracts.item.ItemOrd.TheImpl.{cmp-value}
 use Rattle.sbl_semantics.specs.declared.item.Item.{Item}
 use Rattle.sbl_semantics.specs.declared.item.Item.TheVariants as code

@@ -29,7 +29,7 @@ use Rattle.sbl_ast.specs.declared.mode.Mode.{Mode}
 use Rattle.sbl_ast.specs.declared.mode.Mode.TheVariants.{Forward, Backward}
 use Rattle.sbl_semantics.specs.Fitting.{read_as, ahead_at}
 use Rattle.sbl_semantics.specs.Items.{Known, Body, place_of, is_among, known_in, class_of, classes_behind, body_named}
-use Rattle.sbl_semantics.specs.Regions.{Among, among_at, behind, behind_rows, behind_others, behind_starter, first, first_rows, first_others, mode_behind, waits, waits_others}
+use Rattle.sbl_semantics.specs.Regions.{Among, among_at, number_after, number_after_rows, number_after_others, number_after_starter, first, first_rows, first_others, mode_under, waits, waits_others}
 use Rattle.sbl_semantics.specs.declared.cursor.SavedCursor.{SavedCursor}
 use Rattle.sbl_semantics.specs.declared.limits.Limits.{Limits}
 use Rattle.sbl_semantics.specs.declared.touch.Touch.{Touch}
@@ -37,13 +37,13 @@ use Rattle.sbl_semantics.specs.declared.touch.Touch.TheVariants.{Entered, Search
 use Rattle.sbl_semantics.specs.Touches.{same_touch, with_touch}
 use Rattle.sbl_semantics.specs.Events.{Event', Enters, Leaves, Searches, Finds, Puts, with_event}
 use Rattle.sbl_semantics.specs.Moves.{match, next_is, one_of, touch_grouping, next, hop, at_mark, to_mark}
-use Rattle.sbl_semantics.specs.Numbers.{Value, given, natural, with_value, integer_at}
-use Rattle.sbl_semantics.specs.Control.{turns, times, count_of, seeks, found, limits, limited, limit_here, limit_back, backwards_from, backwards_end, chosen, back_in, enter, leave, paid}
+use Rattle.sbl_semantics.specs.Numbers.{Value, continue_with, natural, with_value, integer_at}
+use Rattle.sbl_semantics.specs.Control.{turns, times, count_of, seeks, end_search, limits, restore_limit, limit_here, limit_back, backwards_from, backwards_end, with_group, back_in, enter, leave, pay_first}
 use Rattle.sbl_semantics.specs.Choices.{choice, choose, take_none, take_string, touch_among}
-use Rattle.sbl_semantics.specs.Slices.{is_slice, replaced, replace, keep, inserted, put_in}
+use Rattle.sbl_semantics.specs.Slices.{is_slice, replace_slice, replace, keep, insert_string, put_in}
 use Rattle.sbl_semantics.specs.State.{State, Ending, Signals, Stops, Doing, bound_of, ahead, room, after, then_on, pay, at_place, at_difference, to_limit, saved_cursor, put_back, step_over, place_after, note_event}
 use Rattle.sbl_semantics.specs.Meaning as meaning
-use Rattle.sbl_semantics.specs.Meaning.{Offer, prefixed_does, counted_does, joined_does, limited_does, simple_does, moved_does, assigned_does, compared_does, named_does, edited_does, begins, takes, tried, search}
+use Rattle.sbl_semantics.specs.Meaning.{Offer, prefixed_does, counted_does, joined_does, limited_does, simple_does, moved_does, assigned_does, compared_does, named_does, edited_does, begins, takes, try_each, search}
 use Rattle.sbl_semantics.specs.Outcome.{Stem, outcome_at, touched_at, run_of, events_at, events_in, events_of}
 use Rattle.sbl_machine.specs.Why.{text_after, text_after_one, PutsGiveTheStem, touches_after, touches_after_one, is_no_test, EventsTouch}
 use Rattle.sbl_machine.proofs.WhyLaw.{events_change_nothing}
@@ -129,7 +129,7 @@ module _ (word : List ℕ) where
   if_keeps true x y h i = h
   if_keeps false x y h i = i
 
-  given_keeps : (v : Value) (s : State) (go : ℤ → Ending) → Told s → ((z : ℤ) → ToldAt (go z)) → ToldAt (given v s go)
+  given_keeps : (v : Value) (s : State) (go : ℤ → Ending) → Told s → ((z : ℤ) → ToldAt (go z)) → ToldAt (continue_with v s go)
   given_keeps (Ok z) s go h i = i z
   given_keeps (Err fault) s go h i = h
 
@@ -137,7 +137,7 @@ module _ (word : List ℕ) where
   pay_keeps zero s h = h
   pay_keeps (suc c) s h = h
 
-  paid_keeps : (d : Doing) → KeepsIn d → KeepsIn (paid d)
+  paid_keeps : (d : Doing) → KeepsIn d → KeepsIn (pay_first d)
   paid_keeps d i m s h = then_keeps (pay s.steps s) (d m) (pay_keeps s.steps s h) (i m)
 
   -- ---- the cursor at a place
@@ -223,10 +223,10 @@ module _ (word : List ℕ) where
   moved_keeps moves.ToMark v m s h = given_keeps v s _ h (λ z. to_mark_keeps (natural z) m s h)
 
   assigned_keeps : (x : ℕ) (o : Assignment) (v : Value) (s : State) → Told s → ToldAt (assigned_does x o v s)
-  assigned_keeps x o v s h = given_keeps (with_value v (meaning.altered o (integer_at x s))) s (λ z. Signals true (record s { integers = slice_set s.integers x z })) h (λ z. h)
+  assigned_keeps x o v s h = given_keeps (with_value v (meaning.assigned_value o (integer_at x s))) s (λ z. Signals true (record s { integers = slice_set s.integers x z })) h (λ z. h)
 
   compared_keeps : (o : Comparison) (v w : Value) (s : State) → Told s → ToldAt (compared_does v o w s)
-  compared_keeps o v w s h = given_keeps v s (λ x. given w s (λ y. Signals (meaning.is_so o x y) s)) h (λ x. given_keeps w s (λ y. Signals (meaning.is_so o x y) s) h (λ y. h))
+  compared_keeps o v w s h = given_keeps v s (λ x. continue_with w s (λ y. Signals (meaning.is_so o x y) s)) h (λ x. given_keeps w s (λ y. Signals (meaning.is_so o x y) s) h (λ y. h))
 
   simple_keeps : (d : Doing) → KeepsIn d → (x : Simple) → KeepsIn (simple_does d x)
   simple_keeps d i simples.Substring m s h = i m s h
@@ -252,14 +252,14 @@ module _ (word : List ℕ) where
   times_keep c i zero m s h = h
   times_keep c i (suc n) m s h = after_keeps (c m s) (times n c m) (Signals false) (i m s h) (times_keep c i n m) (signals_keep false)
 
-  found_keeps : (past : Bool) (m : Mode) (s : State) → Keeps (found past m s)
+  found_keeps : (past : Bool) (m : Mode) (s : State) → Keeps (end_search past m s)
   found_keeps true m s t h = h
   found_keeps false m s t h = back_keeps m (saved_cursor s) t h
 
   seeks_keep : (past : Bool) (c : Doing) → KeepsIn c → (n : ℕ) (m : Mode) → Keeps (seeks n past c m)
   seeks_keep past c i zero m s h = h
   seeks_keep past c i (suc n) m s h =
-      after_keeps (c m s) (found past m s) (λ f. then_on (put_back m (saved_cursor s) f) (λ b. after (next m b) (seeks n past c m) (Signals false))) (i m s h) (found_keeps past m s)
+      after_keeps (c m s) (end_search past m s) (λ f. then_on (put_back m (saved_cursor s) f) (λ b. after (next m b) (seeks n past c m) (Signals false))) (i m s h) (found_keeps past m s)
       (λ f j. then_keeps (put_back m (saved_cursor s) f) (λ b. after (next m b) (seeks n past c m) (Signals false)) (back_keeps m (saved_cursor s) f j)
       (λ b k. after_keeps (next m b) (seeks n past c m) (Signals false) (next_keeps m b k) (seeks_keep past c i n m) (signals_keep false)))
 
@@ -279,7 +279,7 @@ module _ (word : List ℕ) where
   counted_keeps : (x : Count) (v : Value) (c : Doing) → KeepsIn c → KeepsIn (counted_does x v c)
   counted_keeps counts.Loop v c i m s h = given_keeps v s _ h (λ z. times_keep c i (count_of z) m s h)
   counted_keeps counts.AtLeast v c i m s h =
-      after_keeps (given v s (λ z. times (count_of z) c m s)) (λ t. turns (suc t.steps) c m t) (Signals false) (given_keeps v s _ h (λ z. times_keep c i (count_of z) m s h))
+      after_keeps (continue_with v s (λ z. times (count_of z) c m s)) (λ t. turns (suc t.steps) c m t) (Signals false) (given_keeps v s _ h (λ z. times_keep c i (count_of z) m s h))
       (λ t j. turns_keep c i (suc t.steps) m t j) (signals_keep false)
 
   joined_keeps : (j : Joiner) (a b : Doing) → KeepsIn a → KeepsIn b → KeepsIn (joined_does j a b)
@@ -290,7 +290,7 @@ module _ (word : List ℕ) where
       after_keeps (a m s) (λ f. then_on (put_back m (saved_cursor s) f) (b m)) (Signals false) (i m s h)
       (λ f k. then_keeps (put_back m (saved_cursor s) f) (b m) (back_keeps m (saved_cursor s) f k) (j m)) (signals_keep false)
 
-  within_keeps : (m : Mode) (from : Limits) (b : Doing) → KeepsIn b → Keeps (λ u. limited m from (b m u))
+  within_keeps : (m : Mode) (from : Limits) (b : Doing) → KeepsIn b → Keeps (λ u. restore_limit m from (b m u))
   within_keeps Forward from b j s h = after_keeps (b Forward s) (λ t. Signals true (limit_back Forward from t)) (λ t. Signals false (limit_back Forward from t)) (j Forward s h) (λ t k. k) (λ t k. k)
   within_keeps Backward from b j s h = after_keeps (b Backward s) (λ t. Signals true (limit_back Backward from t)) (λ t. Signals false (limit_back Backward from t)) (j Backward s h) (λ t k. k) (λ t k. k)
 
@@ -300,15 +300,15 @@ module _ (word : List ℕ) where
 
   limited_keeps : (a b : Doing) → KeepsIn a → KeepsIn b → KeepsIn (limited_does a b)
   limited_keeps a b i j m s h =
-      let within : State → Ending = λ u. limited m (limits s) (b m u) in
+      let within : State → Ending = λ u. restore_limit m (limits s) (b m u) in
       after_keeps (a m s) (λ t. then_on (put_back m (saved_cursor s) (limit_here m t)) within) (Signals false) (i m s h)
       (λ t k. then_keeps (put_back m (saved_cursor s) (limit_here m t)) within (here_keeps m (saved_cursor s) t k) (within_keeps m (limits s) b j)) (signals_keep false)
 
   begins_keep : (waits : Bool) (d b : Doing) → KeepsIn d → KeepsIn b → KeepsIn (begins waits d b)
   begins_keep true d b i j m s h = h
-  begins_keep false d b i j m s h = after_keeps (paid d m s) (b m) (Signals false) (paid_keeps d i m s h) (j m) (signals_keep false)
+  begins_keep false d b i j m s h = after_keeps (pay_first d m s) (b m) (Signals false) (paid_keeps d i m s h) (j m) (signals_keep false)
 
-  chosen_keeps : (o : Option ℕ) (s : State) (go : ℕ → Ending) → Told s → ((g : ℕ) → ToldAt (go g)) → ToldAt (chosen o s go)
+  chosen_keeps : (o : Option ℕ) (s : State) (go : ℕ → Ending) → Told s → ((g : ℕ) → ToldAt (go g)) → ToldAt (with_group o s go)
   chosen_keeps None s go h i = h
   chosen_keeps (Some g) s go h i = i g
 
@@ -330,9 +330,9 @@ module _ (word : List ℕ) where
         (λ a j. after_keeps (meaning.condition_does call o.condition m a) taken go (condition_keeps o.condition m a j)
         (λ b k'. then_keeps (to b) end (to_keeps b k') (λ c l. tell_keeps (Finds k (Some (length o.string))) (choose k (Some o.group) c) (λ t. refl) (λ t. refl) l)) i)
 
-    tried_keeps : (k : ℕ) (os : List Offer) (r m : Mode) (from : State) (x : List ℕ) (l : ℕ) → Keeps (tried call k os r m from x l)
+    tried_keeps : (k : ℕ) (os : List Offer) (r m : Mode) (from : State) (x : List ℕ) (l : ℕ) → Keeps (try_each call k os r m from x l)
     tried_keeps k os r m from x zero s h = tell_keeps (Finds k None) (choose k None s) (λ t. refl) (λ t. refl) h
-    tried_keeps k os r m from x (suc l) s h = take_keeps k (meaning.offering r (take l x) os) m from (tried call k os r m from x l) (tried_keeps k os r m from x l) s h
+    tried_keeps k os r m from x (suc l) s h = take_keeps k (meaning.offering r (take l x) os) m from (try_each call k os r m from x l) (tried_keeps k os r m from x l) s h
 
     search_keeps : (a : Among) → KeepsIn (search call a)
     search_keeps a m s h =
@@ -363,40 +363,40 @@ module _ (word : List ℕ) where
       act_keeps (literal_ q) r i w x m s h = match_keeps q.value m s h
       act_keeps (name_ y) r i w x m s h = name_keeps y m s h
       act_keeps (non_ b y) r i w x m s h = class_keeps false (class y) m (touch_grouping (place_of (ns kinds.Groupings) y) s) (test_keeps (place_of (ns kinds.Groupings) y) s h)
-      act_keeps (prefixed y c) r i w x m s h = prefixed_keeps y (paid (does (mode_behind y r) i w x c)) (paid_keeps (does (mode_behind y r) i w x c) (act_keeps c (mode_behind y r) i w x)) m s h
-      act_keeps (counted y e c) r i w x m s h = counted_keeps y (meaning.worth ns e m s) (paid (does r i w x c)) (paid_keeps (does r i w x c) (act_keeps c r i w x)) m s h
+      act_keeps (prefixed y c) r i w x m s h = prefixed_keeps y (pay_first (does (mode_under y r) i w x c)) (paid_keeps (does (mode_under y r) i w x c) (act_keeps c (mode_under y r) i w x)) m s h
+      act_keeps (counted y e c) r i w x m s h = counted_keeps y (meaning.worth ns e m s) (pay_first (does r i w x c)) (paid_keeps (does r i w x c) (act_keeps c r i w x)) m s h
       act_keeps (move_ y e) r i w x m s h = moved_keeps y (meaning.worth ns e m s) m s h
       act_keeps (named y z) r i w x m s h = named_keeps ns y z m s h
       act_keeps (splice_ y a) r i w x m s h = edited_keeps y (meaning.text ns a s) m s h
       act_keeps (setlimit_ b c) r i w x m s h =
-          let d = does r i w (first r c (behind b i) x) b in
-          let e = does r (behind b i) (waits b w) x c in
-          limited_keeps (paid d) (paid e) (paid_keeps d (act_keeps b r i w (first r c (behind b i) x))) (paid_keeps e (act_keeps c r (behind b i) (waits b w) x)) m s h
+          let d = does r i w (first r c (number_after b i) x) b in
+          let e = does r (number_after b i) (waits b w) x c in
+          limited_keeps (pay_first d) (pay_first e) (paid_keeps d (act_keeps b r i w (first r c (number_after b i) x))) (paid_keeps e (act_keeps c r (number_after b i) (waits b w) x)) m s h
       act_keeps (assign_ y o e) r i w x m s h = assigned_keeps (place_of (ns kinds.Integers) y) o (meaning.worth ns e m s) s h
       act_keeps (compare_ y o e) r i w x m s h = compared_keeps o (Ok (integer_at (place_of (ns kinds.Integers) y) s)) (meaning.worth ns e m s) s h
       act_keeps (compare_values_ e o f) r i w x m s h = compared_keeps o (meaning.worth ns e m s) (meaning.worth ns f m s) s h
       act_keeps (among_ st gs) r i w x m s h =
           let begun = begins w (search call (among_at r i gs)) (meaning.starter_does ns class call r (suc i) st) m in
-          after_keeps (begun s) (λ t. chosen (choice i t) t (λ g. meaning.group_does ns class call r (behind_starter st (suc i)) gs g m t)) (Signals false)
+          after_keeps (begun s) (λ t. with_group (choice i t) t (λ g. meaning.group_does ns class call r (number_after_starter st (suc i)) gs g m t)) (Signals false)
           (begins_keep w (search call (among_at r i gs)) (meaning.starter_does ns class call r (suc i) st) (search_keeps call go (among_at r i gs)) (starter_keeps st r (suc i)) m s h)
-          (λ t j. chosen_keeps (choice i t) t _ j (λ g. groups_keep gs r (behind_starter st (suc i)) g m t j))
+          (λ t j. chosen_keeps (choice i t) t _ j (λ g. groups_keep gs r (number_after_starter st (suc i)) g m t j))
           (signals_keep false)
 
       rows_keep : (rs : trees.Rows) (r : Mode) (i : ℕ) (w : Bool) (x : Option Among) → KeepsIn (meaning.rows_do ns class call r i w x rs)
       rows_keep no_rows r i w x m s h = h
       rows_keep (row c os rs) r i w x m s h =
-          let x2 = first_rows r rs (behind_others os (behind c i)) x in
-          let x1 = first_others r os (behind c i) x2 in
-          let d = meaning.others_do ns class call r (behind c i) (waits c w) x2 os (does r i w x1 c) in
-          after_keeps (paid d m s) (meaning.rows_do ns class call r (behind_others os (behind c i)) (waits_others os (waits c w)) x rs m) (Signals false)
-          (paid_keeps d (others_keep os r (behind c i) (waits c w) x2 (does r i w x1 c) (act_keeps c r i w x1)) m s h)
-          (rows_keep rs r (behind_others os (behind c i)) (waits_others os (waits c w)) x m) (signals_keep false)
+          let x2 = first_rows r rs (number_after_others os (number_after c i)) x in
+          let x1 = first_others r os (number_after c i) x2 in
+          let d = meaning.others_do ns class call r (number_after c i) (waits c w) x2 os (does r i w x1 c) in
+          after_keeps (pay_first d m s) (meaning.rows_do ns class call r (number_after_others os (number_after c i)) (waits_others os (waits c w)) x rs m) (Signals false)
+          (paid_keeps d (others_keep os r (number_after c i) (waits c w) x2 (does r i w x1 c) (act_keeps c r i w x1)) m s h)
+          (rows_keep rs r (number_after_others os (number_after c i)) (waits_others os (waits c w)) x m) (signals_keep false)
 
       others_keep : (os : trees.Others) (r : Mode) (i : ℕ) (w : Bool) (x : Option Among) (d : Doing) → KeepsIn d → KeepsIn (meaning.others_do ns class call r i w x os d)
       others_keep no_others r i w x d j m s h = j m s h
       others_keep (joined y c os) r i w x d j m s h =
-          let e = does r i w (first_others r os (behind c i) x) c in
-          others_keep os r (behind c i) (waits c w) x (joined_does y (paid d) (paid e)) (joined_keeps y (paid d) (paid e) (paid_keeps d j) (paid_keeps e (act_keeps c r i w (first_others r os (behind c i) x)))) m s h
+          let e = does r i w (first_others r os (number_after c i) x) c in
+          others_keep os r (number_after c i) (waits c w) x (joined_does y (pay_first d) (pay_first e)) (joined_keeps y (pay_first d) (pay_first e) (paid_keeps d j) (paid_keeps e (act_keeps c r i w (first_others r os (number_after c i) x)))) m s h
 
       starter_keeps : (st : trees.Starter) (r : Mode) (i : ℕ) → KeepsIn (meaning.starter_does ns class call r i st)
       starter_keeps no_starter r i m s h = h
@@ -405,16 +405,16 @@ module _ (word : List ℕ) where
       groups_keep : (gs : trees.Groups) (r : Mode) (i g : ℕ) → KeepsIn (meaning.group_does ns class call r i gs g)
       groups_keep (bare es) r i g m s h = h
       groups_keep (group e es rs gs) r i zero m s h = paid_keeps (meaning.rows_do ns class call r i false None rs) (rows_keep rs r i false None) m s h
-      groups_keep (group e es rs gs) r i (suc g) m s h = groups_keep gs r (behind_rows rs i) g m s h
+      groups_keep (group e es rs gs) r i (suc g) m s h = groups_keep gs r (number_after_rows rs i) g m s h
 
     body_keeps : (x : List ℕ) (b : Option Body) → KeepsIn (meaning.body_does ns class call x b)
     body_keeps x None m s h = h
     body_keeps x (Some b) m s h =
         let d = meaning.row_does ns class call b.mode b.first b.others in
         let i = place_of (ns kinds.Routines) x in
-        let begun = enter i (behind_others b.others (behind b.first 0)) s in
-        let row = others_keep b.others b.mode (behind b.first 0) (waits b.first false) None (does b.mode 0 false (first_others b.mode b.others (behind b.first 0) None) b.first) (act_keeps b.first b.mode 0 false (first_others b.mode b.others (behind b.first 0) None)) in
-        after_keeps (paid d m begun) (λ t. Signals true (back_in s.routine s.choices true t)) (λ t. Signals false (back_in s.routine s.choices false t))
+        let begun = enter i (number_after_others b.others (number_after b.first 0)) s in
+        let row = others_keep b.others b.mode (number_after b.first 0) (waits b.first false) None (does b.mode 0 false (first_others b.mode b.others (number_after b.first 0) None) b.first) (act_keeps b.first b.mode 0 false (first_others b.mode b.others (number_after b.first 0) None)) in
+        after_keeps (pay_first d m begun) (λ t. Signals true (back_in s.routine s.choices true t)) (λ t. Signals false (back_in s.routine s.choices false t))
         (paid_keeps d row m begun (touch_keeps (Enters i) (Entered i) s (λ t. refl) (λ t. refl) refl h))
         (λ t j. tell_keeps (Leaves true) (record t { choices = s.choices; routine = s.routine }) (λ t. refl) (λ t. refl) j)
         (λ t j. tell_keeps (Leaves false) (record t { choices = s.choices; routine = s.routine }) (λ t. refl) (λ t. refl) j)

@@ -21,23 +21,23 @@ use Rattle.sbl_ast.specs.declared.tree.Splice.TheVariants as edits
 use Rattle.sbl_ast.specs.declared.tree.DeclarationKind.TheVariants as kinds
 use Rattle.sbl_ast.specs.Tree as trees
 use Rattle.sbl_ast.specs.Tree.{bracket, simple_, literal_, name_, non_, prefixed, counted, move_, named, splice_, setlimit_, assign_, compare_, compare_values_, among_, no_rows, row, no_others, joined, no_starter, starter, bare, group}
-use Rattle.sbl_compiler.specs.Ahead.{search_next, search_of, found_as, search_then, simple_by, made, made_rows, made_others, made_starter, made_groups}
+use Rattle.sbl_compiler.specs.Ahead.{search_next, search_of, found_as, search_then, simple_by, made_command, made_rows, made_others, made_starter, made_groups}
 use Rattle.sbl_semantics.specs.Items.{Known, place_of, is_among}
 use Rattle.sbl_semantics.specs.Meaning.{prefixed_does, counted_does, joined_does, limited_does, simple_does, moved_does, named_does, edited_does, assigned_does, compared_does, begins, worth}
 use Rattle.sbl_semantics.specs.Meaning as meaning
-use Rattle.sbl_interpreter.specs.Arithmetic.{characters, value, changed, holds}
+use Rattle.sbl_interpreter.specs.Arithmetic.{characters, value, changed_value, holds}
 use Rattle.sbl_semantics.specs.Moves.{one_of, touch_grouping, match, set_mark, set_boolean, test_boolean}
-use Rattle.sbl_compiler.specs.Numbered.{name_alone, behind_prefix, behind_count, move, change_named, edit, change_of, relation_of}
-use Rattle.sbl_program.specs.Grouped.{join}
+use Rattle.sbl_compiler.specs.NumberedItems.{name_alone, behind_prefix, behind_count, move, change_named, edit, change_of, relation_of}
+use Rattle.sbl_program.specs.Chains.{join}
 use Rattle.sbl_compiler.specs.NumberedNames.{Names, is_one_of, number_of}
 use Rattle.sbl_compiler.specs.NumberedNumbers.{expression, text}
-use Rattle.sbl_semantics.specs.Numbers.{Value, given, integer_at, with_value}
+use Rattle.sbl_semantics.specs.Numbers.{Value, continue_with, integer_at, with_value}
 use Rattle.sbl_program.specs.Program as programs
 use Rattle.sbl_char_class.specs.Terms.{class_at}
-use Rattle.sbl_semantics.specs.Regions.{Among, among_at, behind, behind_rows, behind_others, behind_starter, first, first_rows, first_others, mode_behind, waits, waits_others}
+use Rattle.sbl_semantics.specs.Regions.{Among, among_at, number_after, number_after_rows, number_after_others, number_after_starter, first, first_rows, first_others, mode_under, waits, waits_others}
 use Rattle.sbl_interpreter.specs.Run as run
 use Rattle.sbl_semantics.specs.Control as control
-use Rattle.sbl_semantics.specs.Control.{paid}
+use Rattle.sbl_semantics.specs.Control.{pay_first}
 use Rattle.sbl_interpreter.specs.Run.{in_turn, nth_does}
 use Rattle.sbl_semantics.specs.Choices.{choice}
 use Rattle.sbl_semantics.specs.Slices.{keep}
@@ -114,24 +114,24 @@ module _ (ns : Names) (known : Known) (agree : Agree ns known) (classes : List (
   simple_same simples.True n m s = refl
   simple_same simples.False n m s = refl
 
-  prefix_same : (x : Prefix) (c : programs.Node) (d : Doing) → run.act classes call c ≡ d → does_as (behind_prefix x c) (prefixed_does x (paid d))
-  prefix_same prefixes.Not c d h m s = ap (λ d. prefixed_does prefixes.Not (paid d) m s) h
-  prefix_same prefixes.Test c d h m s = ap (λ d. prefixed_does prefixes.Test (paid d) m s) h
-  prefix_same prefixes.Try c d h m s = ap (λ d. prefixed_does prefixes.Try (paid d) m s) h
-  prefix_same prefixes.Do c d h m s = ap (λ d. prefixed_does prefixes.Do (paid d) m s) h
-  prefix_same prefixes.Fail c d h m s = ap (λ d. prefixed_does prefixes.Fail (paid d) m s) h
-  prefix_same prefixes.Repeat c d h m s = ap (λ d. prefixed_does prefixes.Repeat (paid d) m s) h
-  prefix_same prefixes.GoTo c d h m s = ap (λ d. prefixed_does prefixes.GoTo (paid d) m s) h
-  prefix_same prefixes.GoPast c d h m s = ap (λ d. prefixed_does prefixes.GoPast (paid d) m s) h
-  prefix_same prefixes.Backwards c d h m s = ap (λ d. prefixed_does prefixes.Backwards (paid d) m s) h
+  prefix_same : (x : Prefix) (c : programs.Node) (d : Doing) → run.act classes call c ≡ d → does_as (behind_prefix x c) (prefixed_does x (pay_first d))
+  prefix_same prefixes.Not c d h m s = ap (λ d. prefixed_does prefixes.Not (pay_first d) m s) h
+  prefix_same prefixes.Test c d h m s = ap (λ d. prefixed_does prefixes.Test (pay_first d) m s) h
+  prefix_same prefixes.Try c d h m s = ap (λ d. prefixed_does prefixes.Try (pay_first d) m s) h
+  prefix_same prefixes.Do c d h m s = ap (λ d. prefixed_does prefixes.Do (pay_first d) m s) h
+  prefix_same prefixes.Fail c d h m s = ap (λ d. prefixed_does prefixes.Fail (pay_first d) m s) h
+  prefix_same prefixes.Repeat c d h m s = ap (λ d. prefixed_does prefixes.Repeat (pay_first d) m s) h
+  prefix_same prefixes.GoTo c d h m s = ap (λ d. prefixed_does prefixes.GoTo (pay_first d) m s) h
+  prefix_same prefixes.GoPast c d h m s = ap (λ d. prefixed_does prefixes.GoPast (pay_first d) m s) h
+  prefix_same prefixes.Backwards c d h m s = ap (λ d. prefixed_does prefixes.Backwards (pay_first d) m s) h
 
-  count_same : (x : Count) (e : programs.Arithmetic) (v : Value) (c : programs.Node) (d : Doing) (m : Mode) (s : State) → value e m s ≡ v → run.act classes call c ≡ d → run.act classes call (behind_count x e c) m s ≡ counted_does x v (paid d) m s
-  count_same counts.Loop e v c d m s h k = ap (λ v. counted_does counts.Loop v (paid (run.act classes call c)) m s) h ∙ ap (λ d. counted_does counts.Loop v (paid d) m s) k
-  count_same counts.AtLeast e v c d m s h k = ap (λ v. counted_does counts.AtLeast v (paid (run.act classes call c)) m s) h ∙ ap (λ d. counted_does counts.AtLeast v (paid d) m s) k
+  count_same : (x : Count) (e : programs.Arithmetic) (v : Value) (c : programs.Node) (d : Doing) (m : Mode) (s : State) → value e m s ≡ v → run.act classes call c ≡ d → run.act classes call (behind_count x e c) m s ≡ counted_does x v (pay_first d) m s
+  count_same counts.Loop e v c d m s h k = ap (λ v. counted_does counts.Loop v (pay_first (run.act classes call c)) m s) h ∙ ap (λ d. counted_does counts.Loop v (pay_first d) m s) k
+  count_same counts.AtLeast e v c d m s h k = ap (λ v. counted_does counts.AtLeast v (pay_first (run.act classes call c)) m s) h ∙ ap (λ d. counted_does counts.AtLeast v (pay_first d) m s) k
 
-  join_same : (j : Joiner) (x y : programs.Node) (d e : Doing) → run.act classes call x ≡ d → run.act classes call y ≡ e → does_as (join j x y) (joined_does j (paid d) (paid e))
-  join_same Or x y d e h k m s = ap (λ d. joined_does Or (paid d) (paid (run.act classes call y)) m s) h ∙ ap (λ e. joined_does Or (paid d) (paid e) m s) k
-  join_same And x y d e h k m s = ap (λ d. joined_does And (paid d) (paid (run.act classes call y)) m s) h ∙ ap (λ e. joined_does And (paid d) (paid e) m s) k
+  join_same : (j : Joiner) (x y : programs.Node) (d e : Doing) → run.act classes call x ≡ d → run.act classes call y ≡ e → does_as (join j x y) (joined_does j (pay_first d) (pay_first e))
+  join_same Or x y d e h k m s = ap (λ d. joined_does Or (pay_first d) (pay_first (run.act classes call y)) m s) h ∙ ap (λ e. joined_does Or (pay_first d) (pay_first e) m s) k
+  join_same And x y d e h k m s = ap (λ d. joined_does And (pay_first d) (pay_first (run.act classes call y)) m s) h ∙ ap (λ e. joined_does And (pay_first d) (pay_first e) m s) k
 
   move_same : (x : Move) (e : programs.Arithmetic) (v : Value) (m : Mode) (s : State) → value e m s ≡ v → run.act classes call (programs.act (move x e)) m s ≡ moved_does x v m s
   move_same moves.Hop e v m s h = ap (λ v. moved_does moves.Hop v m s) h
@@ -151,16 +151,16 @@ module _ (ns : Names) (known : Known) (agree : Agree ns known) (classes : List (
   edit_same edits.Attach t cs m s h = ap (λ cs. edited_does edits.Attach cs m s) h
 
   abbrev assigning : ℕ → (ℤ → ℤ → Value) → Value → State → Ending
-  assigning x f v s = given (with_value v (f (integer_at x s))) s (λ z. Signals true (record s { integers = slice_set s.integers x z }))
+  assigning x f v s = continue_with (with_value v (f (integer_at x s))) s (λ z. Signals true (record s { integers = slice_set s.integers x z }))
 
   assign_same : (n : List ℕ) (o : Assignment) (e : trees.Expression) → does_as (programs.act (programs.assign (number_of ns.integers n) (change_of o) (expression ns e))) (λ m s. assigned_does (place_of (known kinds.Integers) n) o (worth known e m s) s)
   assign_same n o e m s =
-      ap (λ x. assigning x (changed (change_of o)) (value (expression ns e) m s) s) (integer_of n)
+      ap (λ x. assigning x (changed_value (change_of o)) (value (expression ns e) m s) s) (integer_of n)
       ∙ ap (λ f. assigning (place_of (known kinds.Integers) n) f (value (expression ns e) m s) s) (changed_same o)
-      ∙ ap (λ v. assigning (place_of (known kinds.Integers) n) (meaning.altered o) v s) (worth_same ns known agree e m s)
+      ∙ ap (λ v. assigning (place_of (known kinds.Integers) n) (meaning.assigned_value o) v s) (worth_same ns known agree e m s)
 
   abbrev comparing : Value → (ℤ → ℤ → Bool) → Value → State → Ending
-  comparing v f w s = given v s (λ x. given w s (λ y. Signals (f x y) s))
+  comparing v f w s = continue_with v s (λ x. continue_with w s (λ y. Signals (f x y) s))
 
   compare_same : (a b : programs.Arithmetic) (o : Comparison) (v w : Value) (m : Mode) (s : State) → value a m s ≡ v → value b m s ≡ w → run.act classes call (programs.act (programs.compare a (relation_of o) b)) m s ≡ compared_does v o w s
   compare_same a b o v w m s h k =
@@ -171,71 +171,71 @@ module _ (ns : Names) (known : Known) (agree : Agree ns known) (classes : List (
   before_same : (w : Bool) (a : Among) (cs : programs.Nodes) (d : Doing) (m : Mode) (s : State) → in_turn classes call cs m ≡ d m → in_turn classes call (search_then ns w a cs) m s ≡ begins w (meaning.search call' a) d m s
   before_same true a cs d m s h = refl
   before_same false a cs d m s h =
-      ap (λ e. after (paid e m s) (in_turn classes call cs m) (Signals false)) (same (search_of (found_as ns a)) (meaning.search call' a) (search_is a))
-      ∙ ap (λ f. after (paid (meaning.search call' a) m s) f (Signals false)) h
+      ap (λ e. after (pay_first e m s) (in_turn classes call cs m) (Signals false)) (same (search_of (found_as ns a)) (meaning.search call' a) (search_is a))
+      ∙ ap (λ f. after (pay_first (meaning.search call' a) m s) f (Signals false)) h
 
   abbrev does : Mode → ℕ → Bool → Option Among → trees.Command → Doing
   does r k w n t = meaning.act known class call' r k w n t
 
   mutual
-    pub sound : (t : trees.Command) (r : Mode) (k : ℕ) (w : Bool) (n : Option Among) → does_as (made ns r k w n t) (does r k w n t)
+    pub sound : (t : trees.Command) (r : Mode) (k : ℕ) (w : Bool) (n : Option Among) → does_as (made_command ns r k w n t) (does r k w n t)
     sound (bracket rs) r k w n m s = rows_sound rs r k w n m s
     sound (simple_ x) r k w n m s = simple_same x n m s
     sound (literal_ q) r k w n m s = refl
     sound (name_ x) r k w n m s = name_same x m s
     sound (non_ b x) r k w n m s = grouping_same false x m s
-    sound (prefixed x c) r k w n m s = prefix_same x (made ns (mode_behind x r) k w n c) (does (mode_behind x r) k w n c) (fun_ext (λ m. fun_ext (λ s. sound c (mode_behind x r) k w n m s))) m s
-    sound (counted x e c) r k w n m s = count_same x (expression ns e) _ (made ns r k w n c) (does r k w n c) m s (worth_same ns known agree e m s) (fun_ext (λ m. fun_ext (λ s. sound c r k w n m s)))
+    sound (prefixed x c) r k w n m s = prefix_same x (made_command ns (mode_under x r) k w n c) (does (mode_under x r) k w n c) (fun_ext (λ m. fun_ext (λ s. sound c (mode_under x r) k w n m s))) m s
+    sound (counted x e c) r k w n m s = count_same x (expression ns e) _ (made_command ns r k w n c) (does r k w n c) m s (worth_same ns known agree e m s) (fun_ext (λ m. fun_ext (λ s. sound c r k w n m s)))
     sound (move_ x e) r k w n m s = move_same x (expression ns e) _ m s (worth_same ns known agree e m s)
     sound (named x y) r k w n m s = naming_same x y m s
     sound (splice_ x a) r k w n m s = edit_same x (text ns a) _ m s (text_same ns known agree a s)
     sound (setlimit_ b c) r k w n m s =
-        let n' = first r c (behind b k) n in
-        ap (λ d. limited_does (paid d) (paid (run.act classes call (made ns r (behind b k) (waits b w) n c))) m s) (fun_ext (λ m. fun_ext (λ s. sound b r k w n' m s)))
-        ∙ ap (λ d. limited_does (paid (does r k w n' b)) (paid d) m s) (fun_ext (λ m. fun_ext (λ s. sound c r (behind b k) (waits b w) n m s)))
+        let n' = first r c (number_after b k) n in
+        ap (λ d. limited_does (pay_first d) (pay_first (run.act classes call (made_command ns r (number_after b k) (waits b w) n c))) m s) (fun_ext (λ m. fun_ext (λ s. sound b r k w n' m s)))
+        ∙ ap (λ d. limited_does (pay_first (does r k w n' b)) (pay_first d) m s) (fun_ext (λ m. fun_ext (λ s. sound c r (number_after b k) (waits b w) n m s)))
     sound (assign_ x o e) r k w n m s = assign_same x o e m s
     sound (compare_ x o e) r k w n m s = compare_same (programs.integer (number_of ns.integers x)) (expression ns e) o _ _ m s (ap (λ i. Ok (integer_at i s)) (integer_of x)) (worth_same ns known agree e m s)
     sound (compare_values_ e o f) r k w n m s = compare_same (expression ns e) (expression ns f) o _ _ m s (worth_same ns known agree e m s) (worth_same ns known agree f m s)
     sound (among_ st gs) r k w n m s =
-        let k' = behind_starter st (suc k) in
+        let k' = number_after_starter st (suc k) in
         let bodies = made_groups ns r k' gs in
-        let on_t = λ (t : State). control.chosen (choice k t) t (λ g. nth_does classes call bodies g m t) in
+        let on_t = λ (t : State). control.with_group (choice k t) t (λ g. nth_does classes call bodies g m t) in
         ap (λ e. after e on_t (Signals false)) (before_same w (among_at r k gs) (made_starter ns r (suc k) st) (meaning.starter_does known class call' r (suc k) st) m s (fun_ext (λ t. starter_sound st r (suc k) m t)))
-        ∙ ap (λ f. after (begins w (meaning.search call' (among_at r k gs)) (meaning.starter_does known class call' r (suc k) st) m s) (λ t. control.chosen (choice k t) t (λ g. f g t)) (Signals false)) (fun_ext (λ g. fun_ext (λ t. groups_sound gs r k' g m t)))
+        ∙ ap (λ f. after (begins w (meaning.search call' (among_at r k gs)) (meaning.starter_does known class call' r (suc k) st) m s) (λ t. control.with_group (choice k t) t (λ g. f g t)) (Signals false)) (fun_ext (λ g. fun_ext (λ t. groups_sound gs r k' g m t)))
 
     rows_sound : (rs : trees.Rows) (r : Mode) (k : ℕ) (w : Bool) (n : Option Among) (m : Mode) (s : State) → in_turn classes call (made_rows ns r k w n rs) m s ≡ meaning.rows_do known class call' r k w n rs m s
     rows_sound no_rows r k w n m s = refl
     rows_sound (row c os rs) r k w n m s =
-        let k1 = behind c k in
-        let k2 = behind_others os k1 in
+        let k1 = number_after c k in
+        let k2 = number_after_others os k1 in
         let n2 = first_rows r rs k2 n in
         let n1 = first_others r os k1 n2 in
         let rest = made_rows ns r k2 (waits_others os (waits c w)) n rs in
-        ap (λ d. after (paid d m s) (in_turn classes call rest m) (Signals false))
-        (others_sound os r k1 (waits c w) n2 (made ns r k w n1 c) (does r k w n1 c) (fun_ext (λ m. fun_ext (λ s. sound c r k w n1 m s))))
-        ∙ ap (λ f. after (paid (meaning.others_do known class call' r k1 (waits c w) n2 os (does r k w n1 c)) m s) f (Signals false))
+        ap (λ d. after (pay_first d m s) (in_turn classes call rest m) (Signals false))
+        (others_sound os r k1 (waits c w) n2 (made_command ns r k w n1 c) (does r k w n1 c) (fun_ext (λ m. fun_ext (λ s. sound c r k w n1 m s))))
+        ∙ ap (λ f. after (pay_first (meaning.others_do known class call' r k1 (waits c w) n2 os (does r k w n1 c)) m s) f (Signals false))
         (fun_ext (λ t. rows_sound rs r k2 (waits_others os (waits c w)) n m t))
 
     pub others_sound : (os : trees.Others) (r : Mode) (k : ℕ) (w : Bool) (n : Option Among) (x : programs.Node) (d : Doing) → run.act classes call x ≡ d → run.act classes call (made_others ns r k w n os x) ≡ meaning.others_do known class call' r k w n os d
     others_sound no_others r k w n x d h = h
     others_sound (joined j c os) r k w n x d h =
-        let n1 = first_others r os (behind c k) n in
-        let y = made ns r k w n1 c in
+        let n1 = first_others r os (number_after c k) n in
+        let y = made_command ns r k w n1 c in
         let e = does r k w n1 c in
-        others_sound os r (behind c k) (waits c w) n (join j x y) (joined_does j (paid d) (paid e)) (fun_ext (λ m. fun_ext (λ s. join_same j x y d e h (fun_ext (λ m. fun_ext (λ s. sound c r k w n1 m s))) m s)))
+        others_sound os r (number_after c k) (waits c w) n (join j x y) (joined_does j (pay_first d) (pay_first e)) (fun_ext (λ m. fun_ext (λ s. join_same j x y d e h (fun_ext (λ m. fun_ext (λ s. sound c r k w n1 m s))) m s)))
 
     starter_sound : (st : trees.Starter) (r : Mode) (k : ℕ) (m : Mode) (s : State) → in_turn classes call (made_starter ns r k st) m s ≡ meaning.starter_does known class call' r k st m s
     starter_sound no_starter r k m s = refl
     starter_sound (starter rs) r k m s =
-        after_same _ ∙ ap (λ d. paid d m s) (fun_ext (λ m. fun_ext (λ s. rows_sound rs r k false None m s)))
+        after_same _ ∙ ap (λ d. pay_first d m s) (fun_ext (λ m. fun_ext (λ s. rows_sound rs r k false None m s)))
 
     groups_sound : (gs : trees.Groups) (r : Mode) (k : ℕ) (g : ℕ) (m : Mode) (s : State) → nth_does classes call (made_groups ns r k gs) g m s ≡ meaning.group_does known class call' r k gs g m s
     groups_sound (bare es) r k g m s = refl
-    groups_sound (group e es rs gs) r k zero m s = ap (λ d. paid d m s) (fun_ext (λ m. fun_ext (λ s. rows_sound rs r k false None m s)))
-    groups_sound (group e es rs gs) r k (suc g) m s = groups_sound gs r (behind_rows rs k) g m s
+    groups_sound (group e es rs gs) r k zero m s = ap (λ d. pay_first d m s) (fun_ext (λ m. fun_ext (λ s. rows_sound rs r k false None m s)))
+    groups_sound (group e es rs gs) r k (suc g) m s = groups_sound gs r (number_after_rows rs k) g m s
 
   -- a routine's body
-  pub row_sound : (r : Mode) (c : trees.Command) (os : trees.Others) → run.act classes call (made_others ns r (behind c 0) (waits c false) None os (made ns r 0 false (first_others r os (behind c 0) None) c)) ≡ meaning.row_does known class call' r c os
+  pub row_sound : (r : Mode) (c : trees.Command) (os : trees.Others) → run.act classes call (made_others ns r (number_after c 0) (waits c false) None os (made_command ns r 0 false (first_others r os (number_after c 0) None) c)) ≡ meaning.row_does known class call' r c os
   row_sound r c os =
-      let n1 = first_others r os (behind c 0) None in
-      others_sound os r (behind c 0) (waits c false) None (made ns r 0 false n1 c) (does r 0 false n1 c) (fun_ext (λ m. fun_ext (λ s. sound c r 0 false n1 m s)))
+      let n1 = first_others r os (number_after c 0) None in
+      others_sound os r (number_after c 0) (waits c false) None (made_command ns r 0 false n1 c) (does r 0 false n1 c) (fun_ext (λ m. fun_ext (λ s. sound c r 0 false n1 m s)))

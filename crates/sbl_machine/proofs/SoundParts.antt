@@ -29,23 +29,23 @@ use Rattle.sbl_semantics.specs.Fitting.{below, fitting, onto, read_as, read_all,
 use Rattle.sbl_semantics.specs.Items.{Known}
 use Rattle.sbl_semantics.specs.Meaning as meaning
 use Rattle.sbl_semantics.specs.Meaning.{Offer, offer, offers}
-use Rattle.sbl_interpreter.specs.Arithmetic.{characters, value, changed, holds}
-use Rattle.sbl_compiler.specs.Numbered.{change_of, relation_of}
+use Rattle.sbl_interpreter.specs.Arithmetic.{characters, value, changed_value, holds}
+use Rattle.sbl_compiler.specs.NumberedItems.{change_of, relation_of}
 use Rattle.sbl_compiler.specs.NumberedAmongs.{strings_in, strings_behind, condition_of, entries_in, entries_behind}
-use Rattle.sbl_program.specs.Grouped.{added, added_all, scaled, scaled_all}
+use Rattle.sbl_program.specs.Chains.{sum_or_difference, all_sums, product_or_quotient, all_products}
 use Rattle.sbl_compiler.specs.NumberedNames.{Names, number_of}
 use Rattle.sbl_compiler.specs.NumberedNumbers.{text, constant, expression, sums_in, product, scales_in, factor}
-use Rattle.sbl_semantics.specs.Numbers.{Value, fitted, with_value, integer_at}
+use Rattle.sbl_semantics.specs.Numbers.{Value, value_in_range, with_value, integer_at}
 use Rattle.sbl_program.specs.Program as programs
 use Rattle.sbl_semantics.specs.Regions.{Among}
-use Rattle.sbl_interpreter.specs.Search.{bound_in, condition_does, try_one, tries, searched, search_all}
+use Rattle.sbl_interpreter.specs.Search.{bound_in, condition_does, try_one, tries, search_strings, search_all}
 use Rattle.sbl_semantics.specs.Choices.{take_string, touch_among}
 use Rattle.sbl_semantics.specs.State.{State, bound_of, Ending, Signals, Doing, after, saved_cursor, place_after, then_on, pay}
 use Rattle.sbl_compiler.proofs.SoundItems.{less_suc, placed_by}
 use Rattle.sbl_ast.specs.declared.mode.Mode.{Mode}
 use Rattle.sbl_ast.specs.declared.mode.Mode.TheVariants.{Forward, Backward}
 
-pub changed_same : (o : Assignment) → changed (change_of o) ≡ meaning.altered o
+pub changed_same : (o : Assignment) → changed_value (change_of o) ≡ meaning.assigned_value o
 changed_same assignments.Equals = refl
 changed_same assignments.Plus = refl
 changed_same assignments.Minus = refl
@@ -80,36 +80,36 @@ module _ (ns : Names) (known : Known) (agree : Agree ns known) where
   constant_same constants.Limit m s = refl
   constant_same constants.Len m s = refl
 
-  added_same : (o : Additive) (a b : programs.Arithmetic) (m : Mode) (s : State) (v w : Value) → value a m s ≡ v → value b m s ≡ w → value (added o a b) m s ≡ meaning.added known o v w
-  added_same additives.Plus a b m s v w h k = ap (λ v. meaning.added known additives.Plus v (value b m s)) h ∙ ap (λ w. meaning.added known additives.Plus v w) k
-  added_same additives.Minus a b m s v w h k = ap (λ v. meaning.added known additives.Minus v (value b m s)) h ∙ ap (λ w. meaning.added known additives.Minus v w) k
+  added_same : (o : Additive) (a b : programs.Arithmetic) (m : Mode) (s : State) (v w : Value) → value a m s ≡ v → value b m s ≡ w → value (sum_or_difference o a b) m s ≡ meaning.value_of_sum known o v w
+  added_same additives.Plus a b m s v w h k = ap (λ v. meaning.value_of_sum known additives.Plus v (value b m s)) h ∙ ap (λ w. meaning.value_of_sum known additives.Plus v w) k
+  added_same additives.Minus a b m s v w h k = ap (λ v. meaning.value_of_sum known additives.Minus v (value b m s)) h ∙ ap (λ w. meaning.value_of_sum known additives.Minus v w) k
 
-  scaled_same : (o : Multiplicative) (a b : programs.Arithmetic) (m : Mode) (s : State) (v w : Value) → value a m s ≡ v → value b m s ≡ w → value (scaled o a b) m s ≡ meaning.scaled known o v w
-  scaled_same multiplicatives.Times a b m s v w h k = ap (λ v. meaning.scaled known multiplicatives.Times v (value b m s)) h ∙ ap (λ w. meaning.scaled known multiplicatives.Times v w) k
-  scaled_same multiplicatives.Over a b m s v w h k = ap (λ v. meaning.scaled known multiplicatives.Over v (value b m s)) h ∙ ap (λ w. meaning.scaled known multiplicatives.Over v w) k
+  scaled_same : (o : Multiplicative) (a b : programs.Arithmetic) (m : Mode) (s : State) (v w : Value) → value a m s ≡ v → value b m s ≡ w → value (product_or_quotient o a b) m s ≡ meaning.value_of_product known o v w
+  scaled_same multiplicatives.Times a b m s v w h k = ap (λ v. meaning.value_of_product known multiplicatives.Times v (value b m s)) h ∙ ap (λ w. meaning.value_of_product known multiplicatives.Times v w) k
+  scaled_same multiplicatives.Over a b m s v w h k = ap (λ v. meaning.value_of_product known multiplicatives.Over v (value b m s)) h ∙ ap (λ w. meaning.value_of_product known multiplicatives.Over v w) k
 
   mutual
     pub worth_same : (e : trees.Expression) (m : Mode) (s : State) → value (expression ns e) m s ≡ meaning.worth known e m s
     worth_same (trees.expression p ss) m s = sums_same ss (product ns p) _ m s (product_same p m s)
 
-    sums_same : (ss : trees.Sums) (a : programs.Arithmetic) (v : Value) (m : Mode) (s : State) → value a m s ≡ v → value (added_all (sums_in ns ss) a) m s ≡ meaning.summed known ss v m s
+    sums_same : (ss : trees.Sums) (a : programs.Arithmetic) (v : Value) (m : Mode) (s : State) → value a m s ≡ v → value (all_sums (sums_in ns ss) a) m s ≡ meaning.value_of_sums known ss v m s
     sums_same trees.no_sums a v m s h = h
-    sums_same (trees.sum o p ss) a v m s h = sums_same ss (added o a (product ns p)) _ m s (added_same o a (product ns p) m s v _ h (product_same p m s))
+    sums_same (trees.sum o p ss) a v m s h = sums_same ss (sum_or_difference o a (product ns p)) _ m s (added_same o a (product ns p) m s v _ h (product_same p m s))
 
     product_same : (p : trees.Product) (m : Mode) (s : State) → value (product ns p) m s ≡ meaning.product_worth known p m s
     product_same (trees.product f ss) m s = scales_same ss (factor ns f) _ m s (factor_same f m s)
 
-    scales_same : (ss : trees.Scales) (a : programs.Arithmetic) (v : Value) (m : Mode) (s : State) → value a m s ≡ v → value (scaled_all (scales_in ns ss) a) m s ≡ meaning.multiplied known ss v m s
+    scales_same : (ss : trees.Scales) (a : programs.Arithmetic) (v : Value) (m : Mode) (s : State) → value a m s ≡ v → value (all_products (scales_in ns ss) a) m s ≡ meaning.value_of_products known ss v m s
     scales_same trees.no_scales a v m s h = h
-    scales_same (trees.scale o f ss) a v m s h = scales_same ss (scaled o a (factor ns f)) _ m s (scaled_same o a (factor ns f) m s v _ h (factor_same f m s))
+    scales_same (trees.scale o f ss) a v m s h = scales_same ss (product_or_quotient o a (factor ns f)) _ m s (scaled_same o a (factor ns f) m s v _ h (factor_same f m s))
 
     factor_same : (f : trees.Factor) (m : Mode) (s : State) → value (factor ns f) m s ≡ meaning.factor_worth known f m s
-    factor_same (trees.negated f) m s = ap (λ v. with_value v (λ x. fitted (neg_ℤ x))) (factor_same f m s)
+    factor_same (trees.negated f) m s = ap (λ v. with_value v (λ x. value_in_range (neg_ℤ x))) (factor_same f m s)
     factor_same (trees.bracketed e) m s = worth_same e m s
     factor_same (trees.numeral n) m s = refl
     factor_same (trees.variable n) m s = ap (λ i. Ok (integer_at i s)) (placed_by _ _ n agree.integers)
     factor_same (trees.fixed c) m s = constant_same c m s
-    factor_same (trees.length_of a) m s = ap (λ cs. fitted (pos (length cs))) (text_same a s)
+    factor_same (trees.length_of a) m s = ap (λ cs. value_in_range (pos (length cs))) (text_same a s)
 
   -- ---- searches
 
@@ -223,7 +223,7 @@ module _ (ns : Names) (known : Known) (agree : Agree ns known) where
     onto_same false i None is k os m from s next h e l = ap (λ f. f s) l
     onto_same false i (Some o) is k os m from s next h e l = absurd (true≢false (sym e))
 
-    tries_same : (k : ℕ) (os : List Offer) (r m : Mode) (from : State) (x : List ℕ) (b : ℕ) (s : State) → tries call k (map entry_by os) m from (below (as_read r os) x b) s ≡ meaning.tried call' k os r m from x b s
+    tries_same : (k : ℕ) (os : List Offer) (r m : Mode) (from : State) (x : List ℕ) (b : ℕ) (s : State) → tries call k (map entry_by os) m from (below (as_read r os) x b) s ≡ meaning.try_each call' k os r m from x b s
     tries_same k os r m from x zero s = refl
     tries_same k os r m from x (suc l) s =
         let w = take l x in
@@ -234,7 +234,7 @@ module _ (ns : Names) (known : Known) (agree : Agree ns known) where
         (ap (λ i. nat_lt i (length (as_read r os))) (sym e) ∙ offer_there r w os)
         (fun_ext (tries_same k os r m from x l))
 
-    searched_same : (a : Among) (m : Mode) (s : State) → searched call (found_as ns a).number (found_as ns a).entries (found_as ns a).strings m s ≡ meaning.searched call' a m s
+    searched_same : (a : Among) (m : Mode) (s : State) → search_strings call (found_as ns a).number (found_as ns a).entries (found_as ns a).strings m s ≡ meaning.search_among call' a m s
     unfolding fitting
     searched_same a m s =
         let os = offers 0 a.groups in

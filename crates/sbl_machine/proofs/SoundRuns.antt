@@ -5,14 +5,14 @@ use Rattle.sbl_ast.specs.Order.{ItemInMode, in_order}
 use Rattle.sbl_ast.specs.declared.tree.DeclarationKind.TheVariants as kinds
 use Rattle.sbl_semantics.specs.Items.{Known, Body, known_in, class_of, classes_behind, body_named}
 use Rattle.sbl_semantics.specs.Meaning as meaning
-use Rattle.sbl_machine.specs.Numbered.{numbered_script}
-use Rattle.sbl_compiler.specs.Numbered.{numbered_items, plan_with}
+use Rattle.sbl_machine.specs.NumberedScript.{numbered_script}
+use Rattle.sbl_compiler.specs.NumberedItems.{numbered_items, plan_with}
 use Rattle.sbl_compiler.specs.NumberedNames.{Names, names_behind, no_names, number_of}
 use Rattle.sbl_interpreter.specs.Start.{ending_of, start}
 use Rattle.sbl_program.specs.Program as programs
-use Rattle.sbl_semantics.specs.Regions.{behind, behind_others}
+use Rattle.sbl_semantics.specs.Regions.{number_after, number_after_others}
 use Rattle.sbl_interpreter.specs.Run as run
-use Rattle.sbl_semantics.specs.Control.{enter, leave, paid}
+use Rattle.sbl_semantics.specs.Control.{enter, leave, pay_first}
 use Rattle.sbl_interpreter.specs.Run.{does}
 use Rattle.sbl_semantics.specs.State.{State, Ending, Doing}
 use Rattle.sbl_machine.proofs.SoundActs.{row_sound}
@@ -59,9 +59,9 @@ module _ (items : List ItemInMode) (external : List ℕ) where
   body_same call call' n None m s h = refl
   body_same call call' n (Some b) m s h =
       let i = number_of ns.routines n in
-      let amongs = behind_others b.others (behind b.first 0) in
-      ap (λ d. leave s.routine s.choices (paid d m (enter i amongs s))) (row_sound ns known agree program.groupings class call call' (class_same items external) h b.mode b.first b.others)
-      ∙ ap (λ i. leave s.routine s.choices (paid (meaning.row_does known class call' b.mode b.first b.others) m (enter i amongs s))) (placed_by _ _ n agree.routines)
+      let amongs = number_after_others b.others (number_after b.first 0) in
+      ap (λ d. leave s.routine s.choices (pay_first d m (enter i amongs s))) (row_sound ns known agree program.groupings class call call' (class_same items external) h b.mode b.first b.others)
+      ∙ ap (λ i. leave s.routine s.choices (pay_first (meaning.row_does known class call' b.mode b.first b.others) m (enter i amongs s))) (placed_by _ _ n agree.routines)
 
   calls_same : (l : ℕ) (n : List ℕ) (m : Mode) (s : State) → run.calls program l (number_of ns.routines n) m s ≡ meaning.calls known class (body_named items) l n m s
   calls_same zero n m s = refl

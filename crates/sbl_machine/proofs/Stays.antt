@@ -18,12 +18,12 @@ use Rattle.sbl_semantics.specs.Items.{Known, place_of}
 use Rattle.sbl_semantics.specs.declared.cursor.SavedCursor.{SavedCursor}
 use Rattle.sbl_semantics.specs.declared.limits.Limits.{Limits}
 use Rattle.sbl_semantics.specs.declared.touch.Touch.{Touch}
-use Rattle.sbl_semantics.specs.Meaning.{moved_does, assigned_does, altered, compared_does, named_does, edited_does}
+use Rattle.sbl_semantics.specs.Meaning.{moved_does, assigned_does, assigned_value, compared_does, named_does, edited_does}
 use Rattle.sbl_semantics.specs.Moves.{match, next_is, one_of, next, hop, at_mark, to_mark}
-use Rattle.sbl_semantics.specs.Numbers.{Value, with_value, integer_at, natural, given}
-use Rattle.sbl_semantics.specs.Control.{found, limit_here, limit_back}
+use Rattle.sbl_semantics.specs.Numbers.{Value, with_value, integer_at, natural, continue_with}
+use Rattle.sbl_semantics.specs.Control.{end_search, limit_here, limit_back}
 use Rattle.sbl_semantics.specs.Slices.{is_slice, left_bracket, right_bracket, replace, keep, put_in, insert, attach}
-use Rattle.sbl_semantics.specs.State.{State, Ending, Signals, Stops, pay, ahead, room, moved, at_place, at_difference, to_limit, put_back, step_over}
+use Rattle.sbl_semantics.specs.State.{State, Ending, Signals, Stops, pay, ahead, room, move_cursor, at_place, at_difference, to_limit, put_back, step_over}
 
 -- the part of a state that only calls and searches change
 pub record Rest : Type 0 where
@@ -69,7 +69,7 @@ pub over_same : (m : Mode) (n : ℕ) (s : State) → Same s (step_over m n s)
 over_same Forward n s = place_same (s.cursor + n) s
 over_same Backward n s = difference_same s.cursor n s
 
-moved_same : (m : Mode) (n : ℕ) (s : State) → Same s (Signals true (moved m n s))
+moved_same : (m : Mode) (n : ℕ) (s : State) → Same s (Signals true (move_cursor m n s))
 moved_same Forward n s = refl
 moved_same Backward n s = refl
 
@@ -122,11 +122,11 @@ attach_same : (string : List ℕ) (m : Mode) (s : State) → Same s (attach stri
 attach_same string Forward s = put_in_same false string s
 attach_same string Backward s = put_in_same true string s
 
-given_same : (v : Value) (s : State) (go : ℤ → Ending) → ((z : ℤ) → Same s (go z)) → Same s (given v s go)
+given_same : (v : Value) (s : State) (go : ℤ → Ending) → ((z : ℤ) → Same s (go z)) → Same s (continue_with v s go)
 given_same (Ok z) s go h = h z
 given_same (Err fault) s go h = refl
 
-pub found_same : (past : Bool) (m : Mode) (from t : State) → Same t (found past m from t)
+pub found_same : (past : Bool) (m : Mode) (from t : State) → Same t (end_search past m from t)
 found_same true m from t = refl
 found_same false m from t = back_same m _ t
 
@@ -146,7 +146,7 @@ moves_same moves.AtMark v m s = given_same v s _ (λ z. at_mark_same (natural z)
 moves_same moves.ToMark v m s = given_same v s _ (λ z. to_mark_same (natural z) m s)
 
 pub assigned_same : (x : ℕ) (o : Assignment) (v : Value) (s : State) → Same s (assigned_does x o v s)
-assigned_same x o v s = given_same (with_value v (altered o (integer_at x s))) s _ (λ z. refl)
+assigned_same x o v s = given_same (with_value v (assigned_value o (integer_at x s))) s _ (λ z. refl)
 
 pub compared_same : (o : Comparison) (v w : Value) (s : State) → Same s (compared_does v o w s)
 compared_same o v w s = given_same v s _ (λ x. given_same w s _ (λ y. refl))

@@ -5,8 +5,8 @@ use Rattle.sbl_semantics.specs.declared.fault.RunFault.{RunFault}
 use Rattle.sbl_semantics.specs.declared.fault.RunFault.TheVariants as faults
 use Rattle.sbl_semantics.specs.declared.cursor.SavedCursor.{SavedCursor}
 use Rattle.sbl_semantics.specs.Moves.{next}
-use Rattle.sbl_semantics.specs.Numbers.{Value, given}
-use Rattle.sbl_semantics.specs.Control.{turns, times, seeks, found, paid}
+use Rattle.sbl_semantics.specs.Numbers.{Value, continue_with}
+use Rattle.sbl_semantics.specs.Control.{turns, times, seeks, end_search, pay_first}
 use Rattle.sbl_semantics.specs.State.{State, Ending, Signals, Stops, Doing, after, then_on, pay, at_place, at_difference, to_limit, room, saved_cursor, put_back, step_over, place_after}
 use Rattle.sbl_ast.specs.declared.mode.Mode.{Mode}
 use Rattle.sbl_ast.specs.declared.mode.Mode.TheVariants.{Forward, Backward}
@@ -83,9 +83,9 @@ pub if_goes : (k n : ℕ) (b : Bool) (x y x' y' : Ending) → Goes k n x x' → 
 if_goes k n true x y x' y' h i = h
 if_goes k n false x y x' y' h i = i
 
-pub given_goes : (k n : ℕ) (v v' : Value) (s : State) (go go' : ℤ → Ending) → v' ≡ v → s.steps < n → ((z : ℤ) → Goes k n (go z) (go' z)) → Goes k n (given v s go) (given v' (more k s) go')
-given_goes k n (Ok z) v' s go go' e l h = subst (λ x. Goes k n (go z) (given x (more k s) go')) (sym e) (h z)
-given_goes k n (Err fault) v' s go go' e l h = subst (λ x. Goes k n (Stops fault s) (given x (more k s) go')) (sym e) (stops_go fault k n s l)
+pub given_goes : (k n : ℕ) (v v' : Value) (s : State) (go go' : ℤ → Ending) → v' ≡ v → s.steps < n → ((z : ℤ) → Goes k n (go z) (go' z)) → Goes k n (continue_with v s go) (continue_with v' (more k s) go')
+given_goes k n (Ok z) v' s go go' e l h = subst (λ x. Goes k n (go z) (continue_with x (more k s) go')) (sym e) (h z)
+given_goes k n (Err fault) v' s go go' e l h = subst (λ x. Goes k n (Stops fault s) (continue_with x (more k s) go')) (sym e) (stops_go fault k n s l)
 
 -- ---- paying
 
@@ -99,14 +99,14 @@ pay_goes f h k n (suc p) s l =
     let e : suc (p + k) ≡ suc p + k = omega arith in
     subst (λ c. Goes k n (f (record s { steps = p })) (then_on (pay c (more k s)) f)) e (h k n (record s { steps = p }) (omega (arith, l)))
 
-pub paid_pays : (d : Doing) → ((m : Mode) → Steady (d m)) → Pays (paid d)
+pub paid_pays : (d : Doing) → ((m : Mode) → Steady (d m)) → Pays (pay_first d)
 paid_pays d h k n m s l = pay_goes (d m) (h m) k n s.steps s l
 
 pub pays_go : (d : Doing) → Pays d → (m : Mode) → Steady (d m)
 pays_go d h m k n s l = h k n m s (omega (arith, l))
 
-pub paid_go : (d : Doing) → ((m : Mode) → Steady (d m)) → (m : Mode) → Steady (paid d m)
-paid_go d h = pays_go (paid d) (paid_pays d h)
+pub paid_go : (d : Doing) → ((m : Mode) → Steady (d m)) → (m : Mode) → Steady (pay_first d m)
+paid_go d h = pays_go (pay_first d) (paid_pays d h)
 
 -- ---- the cursor at a place
 
@@ -161,11 +161,11 @@ times_go c h (suc a) m k n s l = steady_goes k n (c m s) (c m (more k s)) (times
 
 -- ---- seeking
 
-found_carries : (past : Bool) (m : Mode) (s : State) (k n j : ℕ) → j ≤ n → Carries k n j (found past m s) (found past m (more k s))
+found_carries : (past : Bool) (m : Mode) (s : State) (k n j : ℕ) → j ≤ n → Carries k n j (end_search past m s) (end_search past m (more k s))
 found_carries true m s k n j l = carries (Signals true) (signals_go true) k n j l
 found_carries false m s k n j l = carries (put_back m (saved_cursor s)) (put_back_go m (saved_cursor s)) k n j l
 
-found_low : (past : Bool) (m : Mode) (s : State) (n : ℕ) (t : State) → t.steps < n → Within n (found past m s t)
+found_low : (past : Bool) (m : Mode) (s : State) (n : ℕ) (t : State) → t.steps < n → Within n (end_search past m s t)
 found_low true m s n t l = l
 found_low false m s n t l = steady_low (put_back m (saved_cursor s)) (put_back_go m (saved_cursor s)) n t l
 
@@ -177,7 +177,7 @@ seeks_low : (past : Bool) (c : Doing) → Pays c → (m : Mode) (a n : ℕ) (s :
 seeks_low past c h m zero n s l = tt
 seeks_low past c h m (suc a) n s l =
     let back = put_back m (saved_cursor s) in
-    after_low n (c m s) (found past m s) (λ f. then_on (back f) (onward a past c m)) (pays_low c h m n s l) (found_low past m s n)
+    after_low n (c m s) (end_search past m s) (λ f. then_on (back f) (onward a past c m)) (pays_low c h m n s l) (found_low past m s n)
     (λ t i. after_low n (back t) (onward a past c m) (Signals false) (steady_low back (put_back_go m (saved_cursor s)) n t i)
     (λ u q. after_low n (next m u) (seeks a past c m) (Signals false) (steady_low (next m) (next_go m) n u q) (seeks_low past c h m a n) (λ v r. r))
     (λ u q. q))
@@ -198,7 +198,7 @@ seeks_goes past c h m k n (suc a) (suc b) s i j l =
           (record { same = λ v r. seeks_goes past c h m k n a b v (omega (arith, r, i)) (omega (arith, r, j)) (omega (arith, r, l)); low = seeks_low past c h m b k }) no;
       low = onward_low past c h m b k;
     } in
-    after_goes k n s.steps (c m s) (c m (more k s)) (found past m s) (λ f. then_on (back f) (onward a past c m)) (found past m (more k s)) (λ f. then_on (back f) (onward b past c m)) o (h k s.steps m s (omega arith))
+    after_goes k n s.steps (c m s) (c m (more k s)) (end_search past m s) (λ f. then_on (back f) (onward a past c m)) (end_search past m (more k s)) (λ f. then_on (back f) (onward b past c m)) o (h k s.steps m s (omega arith))
     (found_carries past m s k n s.steps o)
     (record {
       same = λ t p. after_goes k n s.steps (back t) (back (more k t)) (onward a past c m) (Signals false) (onward b past c m) (Signals false) o (put_back_go m (saved_cursor s) k s.steps t p) on no;

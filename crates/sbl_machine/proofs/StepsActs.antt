@@ -27,12 +27,12 @@ use Rattle.sbl_semantics.specs.Regions.{Among}
 use Rattle.sbl_semantics.specs.declared.fault.RunFault.TheVariants as faults
 use Rattle.sbl_semantics.specs.declared.limits.Limits.{Limits}
 use Rattle.sbl_semantics.specs.Meaning as meaning
-use Rattle.sbl_semantics.specs.Meaning.{Offer, prefixed_does, counted_does, joined_does, limited_does, simple_does, moved_does, assigned_does, compared_does, named_does, edited_does, begins, takes, tried, search}
+use Rattle.sbl_semantics.specs.Meaning.{Offer, prefixed_does, counted_does, joined_does, limited_does, simple_does, moved_does, assigned_does, compared_does, named_does, edited_does, begins, takes, try_each, search}
 use Rattle.sbl_semantics.specs.Moves.{match, next_is, one_of, hop, at_mark, to_mark}
-use Rattle.sbl_semantics.specs.Numbers.{Value, fitted, natural, with_value, integer_at}
-use Rattle.sbl_semantics.specs.Control.{turns, times, count_of, limits, limited, limit_here, limit_back, backwards_from, backwards_end, chosen, paid}
+use Rattle.sbl_semantics.specs.Numbers.{Value, value_in_range, natural, with_value, integer_at}
+use Rattle.sbl_semantics.specs.Control.{turns, times, count_of, limits, restore_limit, limit_here, limit_back, backwards_from, backwards_end, with_group, pay_first}
 use Rattle.sbl_semantics.specs.Choices.{take_string, touch_among}
-use Rattle.sbl_semantics.specs.Slices.{is_slice, replaced, replace, keep, inserted, put_in}
+use Rattle.sbl_semantics.specs.Slices.{is_slice, replace_slice, replace, keep, insert_string, put_in}
 use Rattle.sbl_semantics.specs.State.{State, bound_of, Ending, Signals, Stops, Doing, ahead, after, then_on, room, saved_cursor, place_after, put_back}
 use Rattle.sbl_machine.proofs.Steps.{more, Goes, Steady, Pays, signals_go, steady_goes, then_goes, if_goes, given_goes, pays_go, paid_go, at_place_go, to_limit_go, put_back_go, place_after_go, next_go, turns_goes, times_go, seeks_goes}
 use Rattle.std.proofs.Math.Path.{fun_ext}
@@ -43,13 +43,13 @@ use Rattle.sbl_ast.specs.declared.mode.Mode.TheVariants.{Forward, Backward}
 -- ---- the slice and the text
 
 pub replace_go : (cs : List ℕ) → Steady (replace cs)
-replace_go cs k n s l = if_goes k n (is_slice s) _ _ _ _ (if_goes k n (nat_le (length s.text + length cs - (s.ket - s.bra)) 1024) (Signals true (replaced cs s)) (Stops faults.TooLong s) (Signals true (replaced cs (more k s))) (Stops faults.TooLong (more k s)) (l, refl) (l, refl)) (l, refl)
+replace_go cs k n s l = if_goes k n (is_slice s) _ _ _ _ (if_goes k n (nat_le (length s.text + length cs - (s.ket - s.bra)) 1024) (Signals true (replace_slice cs s)) (Stops faults.TooLong s) (Signals true (replace_slice cs (more k s))) (Stops faults.TooLong (more k s)) (l, refl) (l, refl)) (l, refl)
 
 keep_go : (x : ℕ) → Steady (keep x)
 keep_go x k n s l = if_goes k n (is_slice s) _ _ _ _ (l, refl) (l, refl)
 
 put_in_go : (right : Bool) (cs : List ℕ) → Steady (put_in right cs)
-put_in_go right cs k n s l = if_goes k n (nat_le (s.cursor + s.beyond) (length s.text)) _ _ _ _ (if_goes k n (nat_le (length s.text + length cs) 1024) (Signals true (inserted right cs s)) (Stops faults.TooLong s) (Signals true (inserted right cs (more k s))) (Stops faults.TooLong (more k s)) (l, refl) (l, refl)) (l, refl)
+put_in_go right cs k n s l = if_goes k n (nat_le (s.cursor + s.beyond) (length s.text)) _ _ _ _ (if_goes k n (nat_le (length s.text + length cs) 1024) (Signals true (insert_string right cs s)) (Stops faults.TooLong s) (Signals true (insert_string right cs (more k s))) (Stops faults.TooLong (more k s)) (l, refl) (l, refl)) (l, refl)
 
 pub edited_go : (x : Splice) (cs : List ℕ) (m : Mode) → Steady (edited_does x cs m)
 edited_go edits.Replace cs m k n s l = replace_go cs k n s l
@@ -113,8 +113,8 @@ simple_go d h simples.False m k n s l = (l, refl)
 
 pub assigned_goes : (x : ℕ) (o : Assignment) (k n : ℕ) (s : State) (v v' : Value) → v' ≡ v → s.steps < n → Goes k n (assigned_does x o v s) (assigned_does x o v' (more k s))
 assigned_goes x o k n s v v' e l =
-    given_goes k n (with_value v (meaning.altered o (integer_at x s))) (with_value v' (meaning.altered o (integer_at x s))) s _ _
-    (ap (λ w. with_value w (meaning.altered o (integer_at x s))) e) l (λ z. (l, refl))
+    given_goes k n (with_value v (meaning.assigned_value o (integer_at x s))) (with_value v' (meaning.assigned_value o (integer_at x s))) s _ _
+    (ap (λ w. with_value w (meaning.assigned_value o (integer_at x s))) e) l (λ z. (l, refl))
 
 pub compared_goes : (o : Comparison) (k n : ℕ) (s : State) (v v' w w' : Value) → v' ≡ v → w' ≡ w → s.steps < n → Goes k n (compared_does v o w s) (compared_does v' o w' (more k s))
 compared_goes o k n s v v' w w' e f l = given_goes k n v v' s _ _ e l (λ x. given_goes k n w w' s _ _ f l (λ y. (l, refl)))
@@ -134,26 +134,26 @@ constant_more ns constants.Len m k s = refl
 module _ (ns : Known) (m : Mode) (k : ℕ) (s : State) where
   mutual
     pub worth_more : (e : trees.Expression) → meaning.worth ns e m (more k s) ≡ meaning.worth ns e m s
-    worth_more (trees.expression p ss) = ap (λ v. meaning.summed ns ss v m (more k s)) (product_more p) ∙ sums_more ss (meaning.product_worth ns p m s)
+    worth_more (trees.expression p ss) = ap (λ v. meaning.value_of_sums ns ss v m (more k s)) (product_more p) ∙ sums_more ss (meaning.product_worth ns p m s)
 
-    sums_more : (ss : trees.Sums) (v : Value) → meaning.summed ns ss v m (more k s) ≡ meaning.summed ns ss v m s
+    sums_more : (ss : trees.Sums) (v : Value) → meaning.value_of_sums ns ss v m (more k s) ≡ meaning.value_of_sums ns ss v m s
     sums_more trees.no_sums v = refl
-    sums_more (trees.sum o p ss) v = ap (λ w. meaning.summed ns ss (meaning.added ns o v w) m (more k s)) (product_more p) ∙ sums_more ss (meaning.added ns o v (meaning.product_worth ns p m s))
+    sums_more (trees.sum o p ss) v = ap (λ w. meaning.value_of_sums ns ss (meaning.value_of_sum ns o v w) m (more k s)) (product_more p) ∙ sums_more ss (meaning.value_of_sum ns o v (meaning.product_worth ns p m s))
 
     product_more : (p : trees.Product) → meaning.product_worth ns p m (more k s) ≡ meaning.product_worth ns p m s
-    product_more (trees.product f ss) = ap (λ v. meaning.multiplied ns ss v m (more k s)) (factor_more f) ∙ scales_more ss (meaning.factor_worth ns f m s)
+    product_more (trees.product f ss) = ap (λ v. meaning.value_of_products ns ss v m (more k s)) (factor_more f) ∙ scales_more ss (meaning.factor_worth ns f m s)
 
-    scales_more : (ss : trees.Scales) (v : Value) → meaning.multiplied ns ss v m (more k s) ≡ meaning.multiplied ns ss v m s
+    scales_more : (ss : trees.Scales) (v : Value) → meaning.value_of_products ns ss v m (more k s) ≡ meaning.value_of_products ns ss v m s
     scales_more trees.no_scales v = refl
-    scales_more (trees.scale o f ss) v = ap (λ w. meaning.multiplied ns ss (meaning.scaled ns o v w) m (more k s)) (factor_more f) ∙ scales_more ss (meaning.scaled ns o v (meaning.factor_worth ns f m s))
+    scales_more (trees.scale o f ss) v = ap (λ w. meaning.value_of_products ns ss (meaning.value_of_product ns o v w) m (more k s)) (factor_more f) ∙ scales_more ss (meaning.value_of_product ns o v (meaning.factor_worth ns f m s))
 
     factor_more : (f : trees.Factor) → meaning.factor_worth ns f m (more k s) ≡ meaning.factor_worth ns f m s
-    factor_more (trees.negated f) = ap (λ v. with_value v (λ x. fitted (neg_ℤ x))) (factor_more f)
+    factor_more (trees.negated f) = ap (λ v. with_value v (λ x. value_in_range (neg_ℤ x))) (factor_more f)
     factor_more (trees.bracketed e) = worth_more e
     factor_more (trees.numeral i) = refl
     factor_more (trees.variable x) = refl
     factor_more (trees.fixed c) = constant_more ns c m k s
-    factor_more (trees.length_of a) = ap (λ cs. fitted (ℤ.pos (length cs))) (text_more ns a k s)
+    factor_more (trees.length_of a) = ap (λ cs. value_in_range (ℤ.pos (length cs))) (text_more ns a k s)
 
 -- ---- commands with commands inside
 
@@ -191,7 +191,7 @@ joined_go And a b h i m k n s l =
     (λ k n f j. then_goes k n (put_back m (saved_cursor s) f) (put_back m (saved_cursor s) (more k f)) (b m) (put_back_go m (saved_cursor s) k n f j) (pays_go b i m))
     (signals_go false)
 
-limit_here_go : (m : Mode) (from : Limits) (b : Doing) → Pays b → Steady (λ u. limited m from (b m u))
+limit_here_go : (m : Mode) (from : Limits) (b : Doing) → Pays b → Steady (λ u. restore_limit m from (b m u))
 limit_here_go Forward from b i k n s l = steady_goes k n (b Forward s) (b Forward (more k s)) (λ t. Signals true (limit_back Forward from t)) (λ t. Signals false (limit_back Forward from t)) (pays_go b i Forward k n s l) (λ k n t j. (j, refl)) (λ k n t j. (j, refl))
 limit_here_go Backward from b i k n s l = steady_goes k n (b Backward s) (b Backward (more k s)) (λ t. Signals true (limit_back Backward from t)) (λ t. Signals false (limit_back Backward from t)) (pays_go b i Backward k n s l) (λ k n t j. (j, refl)) (λ k n t j. (j, refl))
 
@@ -201,16 +201,16 @@ back_here_go Backward s k n t j = put_back_go Backward (saved_cursor s) k n (lim
 
 pub limited_go : (a b : Doing) → Pays a → Pays b → (m : Mode) → Steady (limited_does a b m)
 limited_go a b h i m k n s l =
-    let within : State → Ending = λ u. limited m (limits s) (b m u) in
+    let within : State → Ending = λ u. restore_limit m (limits s) (b m u) in
     steady_goes k n (a m s) (a m (more k s)) (λ t. then_on (put_back m (saved_cursor s) (limit_here m t)) within) (Signals false) (pays_go a h m k n s l)
     (λ k n t j. then_goes k n (put_back m (saved_cursor s) (limit_here m t)) (put_back m (saved_cursor s) (limit_here m (more k t))) within (back_here_go m s k n t j) (limit_here_go m (limits s) b i))
     (signals_go false)
 
 pub begins_go : (waits : Bool) (d b : Doing) → ((m : Mode) → Steady (d m)) → ((m : Mode) → Steady (b m)) → (m : Mode) → Steady (begins waits d b m)
 begins_go true d b h i m k n s l = (l, refl)
-begins_go false d b h i m k n s l = steady_goes k n (paid d m s) (paid d m (more k s)) (b m) (Signals false) (paid_go d h m k n s l) (i m) (signals_go false)
+begins_go false d b h i m k n s l = steady_goes k n (pay_first d m s) (pay_first d m (more k s)) (b m) (Signals false) (paid_go d h m k n s l) (i m) (signals_go false)
 
-pub chosen_goes : (k n : ℕ) (o : Option ℕ) (s : State) (go go' : ℕ → Ending) → s.steps < n → ((g : ℕ) → Goes k n (go g) (go' g)) → Goes k n (chosen o s go) (chosen o (more k s) go')
+pub chosen_goes : (k n : ℕ) (o : Option ℕ) (s : State) (go go' : ℕ → Ending) → s.steps < n → ((g : ℕ) → Goes k n (go g) (go' g)) → Goes k n (with_group o s go) (with_group o (more k s) go')
 chosen_goes k n None s go go' l h = (l, refl)
 chosen_goes k n (Some g) s go go' l h = h g
 
@@ -232,23 +232,23 @@ module _ (call : List ℕ → Doing) (go : (x : List ℕ) (m : Mode) → Steady 
       (λ k n b p. then_goes k n (to b) (to (more k b)) (λ c. Signals true (take_string i (length o.string) o.group c)) (to_go k n b p) (λ k n c q. (q, refl)))
       h)
 
-  tried_go : (i : ℕ) (os : List Offer) (r m : Mode) (from : State) (x : List ℕ) (l : ℕ) → Steady (tried call i os r m from x l)
+  tried_go : (i : ℕ) (os : List Offer) (r m : Mode) (from : State) (x : List ℕ) (l : ℕ) → Steady (try_each call i os r m from x l)
   tried_go i os r m from x zero k n s j = (j, refl)
-  tried_go i os r m from x (suc l) k n s j = take_go i (meaning.offering r (take l x) os) m from (tried call i os r m from x l) (tried_go i os r m from x l) k n s j
+  tried_go i os r m from x (suc l) k n s j = take_go i (meaning.offering r (take l x) os) m from (try_each call i os r m from x l) (tried_go i os r m from x l) k n s j
 
   -- of the state in which a search began only its cursor counts
   take_same : (i : ℕ) (o : Option Offer) (m : Mode) (from : State) (k : ℕ) (next next' : State → Ending) (s : State) → next ≡ next' → takes call i o m (more k from) s next ≡ takes call i o m from s next'
   take_same i None m from k next next' s e = ap (λ f. f s) e
   take_same i (Some o) m from k next next' s e = ap (takes call i (Some o) m from s) e
 
-  tried_same : (i : ℕ) (os : List Offer) (r m : Mode) (from : State) (k : ℕ) (x : List ℕ) (l : ℕ) (s : State) → tried call i os r m (more k from) x l s ≡ tried call i os r m from x l s
+  tried_same : (i : ℕ) (os : List Offer) (r m : Mode) (from : State) (k : ℕ) (x : List ℕ) (l : ℕ) (s : State) → try_each call i os r m (more k from) x l s ≡ try_each call i os r m from x l s
   tried_same i os r m from k x zero s = refl
   tried_same i os r m from k x (suc l) s = take_same i (meaning.offering r (take l x) os) m from k _ _ s (fun_ext (tried_same i os r m from k x l))
 
-  search_goes : (a : Among) (m : Mode) (x : List ℕ) (k n : ℕ) (s : State) → s.steps < n → Goes k n (tried call a.number (meaning.offers 0 a.groups) a.mode m s x (suc (length x)) s) (tried call a.number (meaning.offers 0 a.groups) a.mode m (more k s) x (suc (length x)) (more k s))
+  search_goes : (a : Among) (m : Mode) (x : List ℕ) (k n : ℕ) (s : State) → s.steps < n → Goes k n (try_each call a.number (meaning.offers 0 a.groups) a.mode m s x (suc (length x)) s) (try_each call a.number (meaning.offers 0 a.groups) a.mode m (more k s) x (suc (length x)) (more k s))
   search_goes a m x k n s l =
       let os = meaning.offers 0 a.groups in
-      subst (Goes k n (tried call a.number os a.mode m s x (suc (length x)) s)) (sym (tried_same a.number os a.mode m s k x (suc (length x)) (more k s)))
+      subst (Goes k n (try_each call a.number os a.mode m s x (suc (length x)) s)) (sym (tried_same a.number os a.mode m s k x (suc (length x)) (more k s)))
       (tried_go a.number os a.mode m s x (suc (length x)) k n s l)
 
   pub search_go : (a : Among) (m : Mode) → Steady (search call a m)

@@ -9,9 +9,9 @@ use Rattle.std.proofs.lemmas.Option.{same_Some}
 use Rattle.std.proofs.lemmas.Slice.Eq.{bytes_eq-Decides}
 use Rattle.sbl_machine.specs.Searches.{strings_read, amongs_of, TablesDiffer, SearchesAreExact}
 use Rattle.sbl_compiler.specs.Laws.{names_in}
-use Rattle.sbl_compiler.specs.NumberedAmongs.{Found, strings_in, strings_behind, found_of, found, found_rows, found_others, found_starter, found_groups, found_plain, found_behind}
+use Rattle.sbl_compiler.specs.NumberedAmongs.{Found, strings_in, strings_behind, found_of, found_command, found_rows, found_others, found_starter, found_groups, found_plain, found_behind}
 use Rattle.sbl_compiler.specs.NumberedNames.{Names}
-use Rattle.sbl_semantics.specs.Regions.{mode_behind}
+use Rattle.sbl_semantics.specs.Regions.{mode_under}
 use Rattle.sbl_resolver.specs.Amongs.{text_of, texts_of, IsSound, EachAmong, EachAmongOfRows, EachAmongOfOthers, EachAmongOfStarter, EachAmongOfGroups, EachAmongOfPlain, EachAmongOfPlains, EachAmongOfItems, AmongsAreSound}
 use Rattle.sbl_semantics.specs.Fitting.{fitting, read_all}
 use Rattle.sbl_among_search.specs.Laws.{AllDiffer, FittingAreMatches, Matches, StandsIn}
@@ -76,18 +76,18 @@ among_differs gs m s = read_differ m (strings_behind gs []) (subst AllDiffer (sy
 
 module _ (ns : Names) (first : ℕ) where
   mutual
-    all_in : (t : trees.Command) (m : Mode) (fs : List Found) → EachAmong IsSound t → AllDo fs → AllDo (found ns first m t fs)
+    all_in : (t : trees.Command) (m : Mode) (fs : List Found) → EachAmong IsSound t → AllDo fs → AllDo (found_command ns first m t fs)
     all_in (bracket rs) m fs s a = all_in_rows rs m fs s a
     all_in (simple_ x) m fs s a = a
     all_in (literal_ q) m fs s a = a
     all_in (name_ n) m fs s a = a
     all_in (non_ b n) m fs s a = a
-    all_in (prefixed x c) m fs s a = all_in c (mode_behind x m) fs s a
+    all_in (prefixed x c) m fs s a = all_in c (mode_under x m) fs s a
     all_in (counted x e c) m fs s a = all_in c m fs s a
     all_in (move_ x e) m fs s a = a
     all_in (named x n) m fs s a = a
     all_in (splice_ x y) m fs s a = a
-    all_in (setlimit_ b c) m fs s a = all_in c m (found ns first m b fs) s.1 (all_in b m fs s.0 a)
+    all_in (setlimit_ b c) m fs s a = all_in c m (found_command ns first m b fs) s.1 (all_in b m fs s.0 a)
     all_in (assign_ n o e) m fs s a = a
     all_in (compare_ n o e) m fs s a = a
     all_in (compare_values_ e o f) m fs s a = a
@@ -97,11 +97,11 @@ module _ (ns : Names) (first : ℕ) where
 
     all_in_rows : (rs : trees.Rows) (m : Mode) (fs : List Found) → EachAmongOfRows IsSound rs → AllDo fs → AllDo (found_rows ns first m rs fs)
     all_in_rows no_rows m fs s a = a
-    all_in_rows (row c os rs) m fs s a = all_in_rows rs m (found_others ns first m os (found ns first m c fs)) s.2 (all_in_others os m (found ns first m c fs) s.1 (all_in c m fs s.0 a))
+    all_in_rows (row c os rs) m fs s a = all_in_rows rs m (found_others ns first m os (found_command ns first m c fs)) s.2 (all_in_others os m (found_command ns first m c fs) s.1 (all_in c m fs s.0 a))
 
     all_in_others : (os : trees.Others) (m : Mode) (fs : List Found) → EachAmongOfOthers IsSound os → AllDo fs → AllDo (found_others ns first m os fs)
     all_in_others no_others m fs s a = a
-    all_in_others (joined j c os) m fs s a = all_in_others os m (found ns first m c fs) s.1 (all_in c m fs s.0 a)
+    all_in_others (joined j c os) m fs s a = all_in_others os m (found_command ns first m c fs) s.1 (all_in c m fs s.0 a)
 
     all_in_starter : (st : trees.Starter) (m : Mode) (fs : List Found) → EachAmongOfStarter IsSound st → AllDo fs → AllDo (found_starter ns first m st fs)
     all_in_starter no_starter m fs s a = a
@@ -113,7 +113,7 @@ module _ (ns : Names) (first : ℕ) where
 
 all_in_plain : (ns : Names) (x : trees.Plain) (m : Mode) (fs : List Found) → EachAmongOfPlain IsSound x → AllDo fs → AllDo (found_plain ns m x fs)
 all_in_plain ns (routine n c os) m fs s a =
-    all_in_others ns (length fs) os m (found ns (length fs) m c fs) s.1 (all_in ns (length fs) c m fs s.0 a)
+    all_in_others ns (length fs) os m (found_command ns (length fs) m c fs) s.1 (all_in ns (length fs) c m fs s.0 a)
 all_in_plain ns (declaration k xs) m fs s a = a
 all_in_plain ns (escapes x y) m fs s a = a
 all_in_plain ns (macro n b q) m fs s a = a

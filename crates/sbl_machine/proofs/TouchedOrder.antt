@@ -7,7 +7,7 @@ use Rattle.std.specs.Ordering.{match_ordering, nat_cmp, ordering_then}
 use Rattle.std.specs.Cmp.Lexicographic.{slice_cmp}
 use Rattle.std.specs.BTreeSet.{insert_key}
 use Rattle.std.proofs.lemmas.Map.Lookups.{exact_bytes, exact_unsigned}
-use Rattle.sbl_semantics.specs.Touched.{Item', Routine, Among, Grouping, item_cmp, ordered}
+use Rattle.sbl_semantics.specs.TouchedItems.{Item', Routine, Among, Grouping, item_cmp, in_item_order}
 
 then_equal : (o p : Ordering) → ordering_then o p ≡ Equal → (o ≡ Equal) × (p ≡ Equal)
 then_equal Less p h = let never : Less ≡ Equal = h in absurd cc
@@ -48,9 +48,9 @@ any_inserted test (x ∷ xs) k = by (item_cmp k x) refl (any_inserted test xs k)
     by Greater h rest = rw h (ap (λ (b : Bool). test x || b) rest ∙ or_swap (test x) (test k) (list_any test xs))
 
 -- one of the items passes exactly where one of those in order does
-pub any_ordered : (test : Item' → Bool) (xs : List Item') → list_any test (ordered xs) ≡ list_any test xs
+pub any_ordered : (test : Item' → Bool) (xs : List Item') → list_any test (in_item_order xs) ≡ list_any test xs
 any_ordered test [] = refl
-any_ordered test (x ∷ xs) = any_inserted test (ordered xs) x ∙ ap (λ (b : Bool). test x || b) (any_ordered test xs)
+any_ordered test (x ∷ xs) = any_inserted test (in_item_order xs) x ∙ ap (λ (b : Bool). test x || b) (any_ordered test xs)
 
 pub any-mapped : {A B : Type 0} (f : A → B) (test : B → Bool) (xs : List A) → list_any test (map f xs) ≡ list_any (λ x. test (f x)) xs
 any-mapped f test [] = refl

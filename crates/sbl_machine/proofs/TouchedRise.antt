@@ -12,7 +12,7 @@ use Rattle.std.proofs.Math.Path.{fun_ext}
 use Rattle.std.proofs.lemmas.Cmp.{nat_cmp_total, nat_list_cmp_total, on_total, then_total}
 use Rattle.sbl_machine.specs.Frame.{TouchedRise}
 use Rattle.sbl_semantics.specs.Outcome.{touches_of}
-use Rattle.sbl_semantics.specs.Touched.{Item', Routine, Among, Grouping, item_cmp, named, ordered, names_of, touched_of}
+use Rattle.sbl_semantics.specs.TouchedItems.{Item', Routine, Among, Grouping, item_cmp, item_of_touch, in_item_order, names_of, touched_items}
 
 -- ---- the order of items is that of their kinds, then of their names, then of their numbers
 
@@ -87,11 +87,11 @@ rises_inserted (x ∷ xs) k s = by (item_cmp k x) refl (rises_inserted xs k s.1)
     by Equal e rest = rw e s
     by Greater e rest = rw e (below_inserted x k (turned x k e) xs s.0, rest)
 
-pub ordered_rises : (xs : List Item') → IsStrictlySortedBy item_cmp (ordered xs)
+pub ordered_rises : (xs : List Item') → IsStrictlySortedBy item_cmp (in_item_order xs)
 unfolding IsStrictlySortedBy
 ordered_rises [] = tt
-ordered_rises (x ∷ xs) = rises_inserted (ordered xs) x (ordered_rises xs)
+ordered_rises (x ∷ xs) = rises_inserted (in_item_order xs) x (ordered_rises xs)
 
 pub touched_rise : TouchedRise
-unfolding touched_of
-touched_rise script word limit = ordered_rises (map (named (names_of script)) (touches_of script word limit))
+unfolding touched_items
+touched_rise script word limit = ordered_rises (map (item_of_touch (names_of script)) (touches_of script word limit))

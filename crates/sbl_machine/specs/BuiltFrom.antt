@@ -1,12 +1,13 @@
 -- What is built from a grouping: the groupings that name it among their terms, or name another that is built from it.
 use Rattle.std.specs.Prelude.{◌≡◌, ℕ, Bool, true, false, ◌||◌, List, [], ◌∷◌, ◌++◌, map, if◌then◌else◌, ⊤}
-use Rattle.std.specs.List.{AllByRecursion, list_any}
+use Rattle.std.specs.List.{AllByRecursion, fold, list_any}
+use Rattle.sbl_ast.specs.declared.tree.Additive.TheVariants.{Plus}
 use Rattle.sbl_ast.specs.Order.{ItemInMode, in_order}
 use Rattle.sbl_ast.specs.Tree.{Argument, written_out, by_name, Term, term, Plain, grouping}
 use Rattle.sbl_semantics.specs.Items.{is_among}
 use Rattle.sbl_resolver.specs.Checks.{WellDeclared}
 use Rattle.sbl_semantics.specs.Outcome.{touches_of}
-use Rattle.sbl_semantics.specs.Touched.{Item', Grouping, named, names_of, same_item}
+use Rattle.sbl_semantics.specs.TouchedItems.{Item', Grouping, item_of_touch, names_of, same_item}
 use Rattle.sbl_ast.specs.Source.{Source}
 
 -- ---- terms that name a grouping
@@ -21,15 +22,11 @@ module _ (chosen : List ℕ → Bool) where
   any_names [] = false
   any_names (term o a ∷ ts) = names a || any_names ts
 
-  -- whether the first term or one of the others names a chosen grouping
-  abbrev pub built_on : Argument → List Term → Bool
-  built_on a ts = names a || any_names ts
-
 -- ---- sets of items that are closed under what is built from them
 
 -- if one of the terms of a grouping names a picked grouping, the grouping is picked
 abbrev pub IsClosedAt : (Item' → Bool) → Plain → Type 0
-IsClosedAt picked (grouping n a ts) = built_on (λ m. picked (Grouping m)) a ts ≡ true → picked (Grouping n) ≡ true
+IsClosedAt picked (grouping n a ts) = any_names (λ m. picked (Grouping m)) (term Plus a ∷ ts) ≡ true → picked (Grouping n) ≡ true
 IsClosedAt picked x = ⊤
 
 -- if a grouping is picked, so is each grouping of the script that is built from it, directly or through others
@@ -40,34 +37,40 @@ IsClosed picked s = AllByRecursion (λ x. IsClosedAt picked x.plain) (in_order s
 
 -- adds the grouping that an item defines, if one of its terms names one of ns
 abbrev pub and_built : Plain → List (List ℕ) → List (List ℕ)
-and_built (grouping n a ts) ns = if built_on (is_among ns) a ts then ns ++ n ∷ [] else ns
+and_built (grouping n a ts) ns = if any_names (is_among ns) (term Plus a ∷ ts) then ns ++ n ∷ [] else ns
 and_built x ns = ns
-
-abbrev pub built_behind : List ItemInMode → List (List ℕ) → List (List ℕ)
-built_behind [] ns = ns
-built_behind (x ∷ xs) ns = built_behind xs (and_built x.plain ns)
 
 -- the grouping with name n, and those that are built from it
 abbrev pub built_from : List ℕ → Source → List (List ℕ)
-built_from n s = built_behind (in_order s.items) (n ∷ [])
+built_from n s = fold (λ ns x. and_built x.plain ns) (n ∷ []) (in_order s.items)
 
 -- whether an edit of one item affects another: the item itself or, if it is a grouping, a grouping built from it
-abbrev pub affected : Source → Item' → Item' → Bool
-affected s (Grouping m) (Grouping n) = is_among (built_from m s) n
-affected s x y = same_item x y
+abbrev pub is_affected_by : Source → Item' → Item' → Bool
+is_affected_by s (Grouping m) (Grouping n) = is_among (built_from m s) n
+is_affected_by s x y = same_item x y
 
 -- whether a run of a script on a word, with this limit, touches something that an edit of item x affects
 unfoldable pub meets : Item' → Source → List ℕ → ℕ → Bool
-meets x script word limit = list_any (affected script x) (map (named (names_of script)) (touches_of script word limit))
-
--- whether an edit of one of these items affects another
-abbrev pub affected_by : Source → List Item' → Item' → Bool
-affected_by s xs y = list_any (λ x. affected s x y) xs
+meets x script word limit = list_any (is_affected_by script x) (map (item_of_touch (names_of script)) (touches_of script word limit))
 
 -- whether a run of a script on a word, with this limit, touches something that an edit of one of these items affects
 unfoldable pub meets_one : List Item' → Source → List ℕ → ℕ → Bool
-meets_one xs script word limit = list_any (affected_by script xs) (map (named (names_of script)) (touches_of script word limit))
+meets_one xs script word limit =
+    list_any (λ y. list_any (λ x. is_affected_by script x y) xs) (map (item_of_touch (names_of script)) (touches_of script word limit))
 
 -- in a well-declared script, the items that an item affects are closed
 abbrev pub AffectedIsClosed : Type 0
-AffectedIsClosed = (s : Source) → WellDeclared s.items s.external → (x : Item') → IsClosed (affected s x) s
+AffectedIsClosed = (s : Source) → WellDeclared s.items s.external → (x : Item') → IsClosed (is_affected_by s x) s
+
+-- ---- names for parts of these definitions, which only the functions inside the crate and proofs use
+
+-- whether the first term or one of the others names a chosen grouping
+abbrev pub built_on : (List ℕ → Bool) → Argument → List Term → Bool
+built_on chosen a ts = any_names chosen (term Plus a ∷ ts)
+
+abbrev pub built_behind : List ItemInMode → List (List ℕ) → List (List ℕ)
+built_behind xs ns = fold (λ ns x. and_built x.plain ns) ns xs
+
+-- whether an edit of one of these items affects another
+abbrev pub affected_by : Source → List Item' → Item' → Bool
+affected_by s xs y = list_any (λ x. is_affected_by s x y) xs

@@ -2,11 +2,11 @@
 use Rattle.std.specs.Prelude.{◌≡◌, ℕ, true, false, List, [], ◌∷◌, Some, None}
 use Rattle.std.specs.List.{list_all}
 use Rattle.sbl_resolver.specs.Checks.{WellDeclared}
-use Rattle.sbl_machine.specs.BuiltFrom.{IsClosed, affected, affected_by, meets, meets_one}
-use Rattle.sbl_machine.specs.Differs.{differs}
+use Rattle.sbl_machine.specs.BuiltFrom.{IsClosed, is_affected_by, affected_by, meets, meets_one}
+use Rattle.sbl_semantics.specs.Differs.{differs}
 use Rattle.sbl_machine.specs.Frame.{AgreeOutside, StaysAsItWas}
 use Rattle.sbl_machine.specs.Marks.{has_item}
-use Rattle.sbl_semantics.specs.Touched.{Item', names_of}
+use Rattle.sbl_semantics.specs.TouchedItems.{Item', names_of}
 use Rattle.sbl_ast.specs.Source.{Source}
 
 -- ---- when there is a list of differing items
@@ -49,7 +49,7 @@ DifferingStay =
 -- ---- a list of one item affects what the item affects
 
 abbrev pub OneAffects : Type 0
-OneAffects = (s : Source) (x y : Item') → affected_by s (x ∷ []) y ≡ affected s x y
+OneAffects = (s : Source) (x y : Item') → affected_by s (x ∷ []) y ≡ is_affected_by s x y
 
 abbrev pub OneMeets : Type 0
 OneMeets = (x : Item') (s : Source) (word : List ℕ) (limit : ℕ) → meets_one (x ∷ []) s word limit ≡ meets x s word limit

@@ -3,11 +3,11 @@ use Rattle.std.specs.Prelude.{◌≡◌, ℕ, Bool, false, List, map}
 use Rattle.std.specs.List.{list_any}
 use Rattle.std.specs.List.Sorted.{IsStrictlySortedBy}
 use Rattle.sbl_resolver.specs.Checks.{WellDeclared}
-use Rattle.sbl_machine.specs.BuiltFrom.{IsClosed, affected, affected_by, meets, meets_one}
+use Rattle.sbl_machine.specs.BuiltFrom.{IsClosed, is_affected_by, affected_by, meets, meets_one}
 use Rattle.sbl_machine.specs.Holes.{holed_script}
 use Rattle.sbl_semantics.specs.Outcome.{run_of, used_of, touches_of}
-use Rattle.sbl_semantics.specs.Touched.{Item', item_cmp, named, same_item, touched_of, touches, names_of}
-use Rattle.sbl_machine.specs.EditedItem.{replaced}
+use Rattle.sbl_semantics.specs.TouchedItems.{Item', item_cmp, item_of_touch, same_item, touched_items, touches, names_of}
+use Rattle.sbl_machine.specs.EditedItem.{edited_item}
 use Rattle.sbl_script.specs.Edits.{ScriptEdit, IsEdited}
 use Rattle.sbl_ast.specs.Source.{Source}
 
@@ -19,7 +19,7 @@ AgreeOutside picked s t = holed_script picked s ≡ holed_script picked t
 -- a word has the same run under two scripts: the same outcome, the same items touched, the same number of steps used
 pub record RunsAlike (s t : Source) (word : List ℕ) (limit : ℕ) : Type 0 where
   pub outcome : run_of t word limit ≡ run_of s word limit
-  pub touched : touched_of t word limit ≡ touched_of s word limit
+  pub touched : touched_items t word limit ≡ touched_items s word limit
   pub used : used_of t word limit ≡ used_of s word limit
 
 -- Two scripts agree outside the picked items, and these are closed in the first. If the run of a word under the first
@@ -27,11 +27,11 @@ pub record RunsAlike (s t : Source) (word : List ℕ) (limit : ℕ) : Type 0 whe
 abbrev pub Frame : Type 0
 Frame =
     (picked : Item' → Bool) (s t : Source) → IsClosed picked s → AgreeOutside picked s t → (word : List ℕ) (limit : ℕ) →
-    list_any picked (touched_of s word limit) ≡ false → RunsAlike s t word limit
+    list_any picked (touched_items s word limit) ≡ false → RunsAlike s t word limit
 
 -- after an edit, the script agrees with the old one outside the items that the edit affects
 abbrev pub EditsAgree : Type 0
-EditsAgree = (s t : Source) (e : ScriptEdit) (text : List ℕ) → IsEdited s e text t → AgreeOutside (affected s (replaced e)) s t
+EditsAgree = (s t : Source) (e : ScriptEdit) (text : List ℕ) → IsEdited s e text t → AgreeOutside (is_affected_by s (edited_item e)) s t
 
 abbrev pub NamesStay : Type 0
 NamesStay = (s t : Source) (e : ScriptEdit) (text : List ℕ) → IsEdited s e text t → names_of t ≡ names_of s
@@ -46,12 +46,12 @@ pub record StaysAsItWas (s t : Source) (word : List ℕ) (limit : ℕ) : Type 0 
 abbrev pub UntouchedStay : Type 0
 UntouchedStay =
     (s t : Source) (e : ScriptEdit) (text : List ℕ) → WellDeclared s.items s.external → IsEdited s e text t → (word : List ℕ) (limit : ℕ) →
-    meets (replaced e) s word limit ≡ false → StaysAsItWas s t word limit
+    meets (edited_item e) s word limit ≡ false → StaysAsItWas s t word limit
 
 -- The same for any two scripts that agree outside what an edit of item x affects.
 abbrev pub UnmetStay : Type 0
 UnmetStay =
-    (x : Item') (s t : Source) → WellDeclared s.items s.external → AgreeOutside (affected s x) s t → (word : List ℕ) (limit : ℕ) →
+    (x : Item') (s t : Source) → WellDeclared s.items s.external → AgreeOutside (is_affected_by s x) s t → (word : List ℕ) (limit : ℕ) →
     meets x s word limit ≡ false → StaysAsItWas s t word limit
 
 -- The same for any two scripts that agree outside what an edit of one of several items affects.
@@ -68,13 +68,13 @@ AgreeingNamesStay = (picked : Item' → Bool) (s t : Source) → AgreeOutside pi
 abbrev pub ClearStay : Type 0
 ClearStay =
     (picked : Item' → Bool) (s t : Source) → IsClosed picked s → AgreeOutside picked s t → (word : List ℕ) (limit : ℕ) →
-    list_any picked (map (named (names_of s)) (touches_of s word limit)) ≡ false → StaysAsItWas s t word limit
+    list_any picked (map (item_of_touch (names_of s)) (touches_of s word limit)) ≡ false → StaysAsItWas s t word limit
 
 -- a run touches an item exactly if the item is in its list of touched items
 abbrev pub TouchesAreTouched : Type 0
 TouchesAreTouched =
-    (x : Item') (script : Source) (word : List ℕ) (limit : ℕ) → list_any (same_item x) (touched_of script word limit) ≡ touches x script word limit
+    (x : Item') (script : Source) (word : List ℕ) (limit : ℕ) → list_any (same_item x) (touched_items script word limit) ≡ touches x script word limit
 
 -- this list is in strictly ascending order
 abbrev pub TouchedRise : Type 0
-TouchedRise = (script : Source) (word : List ℕ) (limit : ℕ) → IsStrictlySortedBy item_cmp (touched_of script word limit)
+TouchedRise = (script : Source) (word : List ℕ) (limit : ℕ) → IsStrictlySortedBy item_cmp (touched_items script word limit)

@@ -1,8 +1,8 @@
 -- A script with holes in place of some of its items. Of an among the hole keeps only how many amongs it holds; of a
 -- routine or a grouping, only the name.
 use Rattle.std.specs.Prelude.{ℕ, suc, Bool, [], map, None, if◌then◌else◌}
-use Rattle.sbl_semantics.specs.Touched.{Item', Routine, Among, Grouping}
-use Rattle.sbl_semantics.specs.Regions.{behind, behind_others, behind_rows, behind_starter}
+use Rattle.sbl_semantics.specs.TouchedItems.{Item', Routine, Among, Grouping}
+use Rattle.sbl_semantics.specs.Regions.{number_after, number_after_others, number_after_rows, number_after_starter}
 use Rattle.sbl_ast.specs.Source.{Source}
 use Rattle.sbl_ast.specs.Terminal.{Quoted}
 use Rattle.sbl_ast.specs.Tree as trees
@@ -52,19 +52,19 @@ module _ (picked : ℕ → Bool) where
     with_holes k (bracket rs) = bracket (rows_with_holes k rs)
     with_holes k (prefixed x c) = prefixed x (with_holes k c)
     with_holes k (counted n e c) = counted n e (with_holes k c)
-    with_holes k (setlimit_ b c) = setlimit_ (with_holes k b) (with_holes (behind b k) c)
+    with_holes k (setlimit_ b c) = setlimit_ (with_holes k b) (with_holes (number_after b k) c)
     with_holes k (among_ s gs) =
-        if picked (suc k) then hole s gs else among_ (starter_with_holes (suc k) s) (groups_with_holes (behind_starter s (suc k)) gs)
+        if picked (suc k) then hole s gs else among_ (starter_with_holes (suc k) s) (groups_with_holes (number_after_starter s (suc k)) gs)
     with_holes k c = c
 
     pub rows_with_holes : ℕ → trees.Rows → trees.Rows
     rows_with_holes k no_rows = no_rows
     rows_with_holes k (row c os rs) =
-        row (with_holes k c) (others_with_holes (behind c k) os) (rows_with_holes (behind_others os (behind c k)) rs)
+        row (with_holes k c) (others_with_holes (number_after c k) os) (rows_with_holes (number_after_others os (number_after c k)) rs)
 
     pub others_with_holes : ℕ → trees.Others → trees.Others
     others_with_holes k no_others = no_others
-    others_with_holes k (joined j c os) = joined j (with_holes k c) (others_with_holes (behind c k) os)
+    others_with_holes k (joined j c os) = joined j (with_holes k c) (others_with_holes (number_after c k) os)
 
     pub starter_with_holes : ℕ → trees.Starter → trees.Starter
     starter_with_holes k no_starter = no_starter
@@ -72,14 +72,14 @@ module _ (picked : ℕ → Bool) where
 
     pub groups_with_holes : ℕ → trees.Groups → trees.Groups
     groups_with_holes k (bare es) = bare es
-    groups_with_holes k (group e es rs gs) = group e es (rows_with_holes k rs) (groups_with_holes (behind_rows rs k) gs)
+    groups_with_holes k (group e es rs gs) = group e es (rows_with_holes k rs) (groups_with_holes (number_after_rows rs k) gs)
 
 -- a script with holes in place of the picked items
 module _ (picked : Item' → Bool) where
   abbrev pub holed_plain : Plain → Plain
   holed_plain (routine n c os) =
       if picked (Routine n) then routine n (bracket no_rows) no_others
-      else routine n (with_holes (λ k. picked (Among n k)) 0 c) (others_with_holes (λ k. picked (Among n k)) (behind c 0) os)
+      else routine n (with_holes (λ k. picked (Among n k)) 0 c) (others_with_holes (λ k. picked (Among n k)) (number_after c 0) os)
   holed_plain (grouping n a ts) = if picked (Grouping n) then grouping n (written_out nothing) [] else grouping n a ts
   holed_plain x = x
 

@@ -5,15 +5,13 @@ pub mod Why
 pub mod Holes
 pub mod Frame
 pub mod Marks
-pub mod Numbered
+pub mod NumberedScript
 pub mod MachineOf
 pub mod Sound
 pub mod EnoughSteps
 pub mod Searches
 pub mod NamesStand
 pub mod Groupings
-pub mod Same
-pub mod Differs
 pub mod DifferLaws
 -- what the functions inside the crate promise each other: nothing in these need be believed
 pub mod AmongList

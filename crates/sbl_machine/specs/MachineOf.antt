@@ -2,11 +2,11 @@
 use Rattle.std.specs.Prelude.{◌≡◌, ℕ, List, slice_get}
 use Rattle.sbl_ast.specs.declared.mode.Mode.{Mode}
 use Rattle.sbl_machine.specs.declared.machine.Machine.{Machine}
-use Rattle.sbl_semantics.specs.Touched.{names_of}
-use Rattle.sbl_program.specs.Listed.{Listed}
+use Rattle.sbl_semantics.specs.TouchedItems.{names_of}
+use Rattle.sbl_program.specs.AmongStrings.{Listed}
 use Rattle.sbl_interpreter.specs.Listing.{listed_by}
 use Rattle.sbl_among_search.specs.declared.linked.LinkedTable.{LinkedTable}
-use Rattle.sbl_machine.specs.Numbered.{numbered_script}
+use Rattle.sbl_machine.specs.NumberedScript.{numbered_script}
 use Rattle.sbl_program.specs.Program.{Program}
 use Rattle.sbl_program.specs.ProgramOf.{program_of}
 use Rattle.sbl_among_search.specs.LinkedStrings.{entries_of, mode_of}

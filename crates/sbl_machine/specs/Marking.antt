@@ -6,8 +6,10 @@ use Rattle.sbl_semantics.specs.declared.touch.Touch.{Touch}
 use Rattle.sbl_semantics.specs.declared.touch.Touch.TheVariants.{Entered, Searched, Tested}
 use Rattle.sbl_semantics.specs.Touches.{with_touch}
 use Rattle.sbl_machine.specs.AmongList.{with_number}
+use Rattle.sbl_machine.specs.declared.marks.ItemKind.{ItemKind}
+use Rattle.sbl_machine.specs.declared.marks.ItemKind.TheVariants as kinds
 use Rattle.sbl_machine.specs.BuiltFrom.{built_behind}
-use Rattle.sbl_semantics.specs.Touched.{Item', Routine, Among, Grouping, Names'}
+use Rattle.sbl_semantics.specs.TouchedItems.{Item', Routine, Among, Grouping, Names'}
 
 -- ---- the names of the routines and of the groupings among some items, and the amongs of each routine
 
@@ -48,23 +50,32 @@ amongs_in xs n = amongs_behind n xs []
 
 -- ---- touches
 
+-- the touch of the routine or the grouping with a number
+abbrev pub touch_of : ItemKind → ℕ → Touch
+touch_of kinds.Routine = Entered
+touch_of kinds.Grouping = Tested
+
 -- the touches ts, with one more for each name that passes the test; the first name has number i
-abbrev pub marked : (ℕ → Touch) → (List ℕ → Bool) → ℕ → List (List ℕ) → List Touch → List Touch
-marked touch test i [] ts = ts
-marked touch test i (n ∷ ns) ts = marked touch test (suc i) ns (if test n then with_touch (touch i) ts else ts)
+abbrev pub with_names : (ℕ → Touch) → (List ℕ → Bool) → ℕ → List (List ℕ) → List Touch → List Touch
+with_names touch test i [] ts = ts
+with_names touch test i (n ∷ ns) ts = with_names touch test (suc i) ns (if test n then with_touch (touch i) ts else ts)
 
 -- the touches ts, with those that search these amongs of routine i
-abbrev pub searched : ℕ → List ℕ → List Touch → List Touch
-searched i [] ts = ts
-searched i (k ∷ ks) ts = searched i ks (with_touch (Searched i k) ts)
+abbrev pub with_searches : ℕ → List ℕ → List Touch → List Touch
+with_searches i [] ts = ts
+with_searches i (k ∷ ks) ts = with_searches i ks (with_touch (Searched i k) ts)
 
 -- the touches ts, with those that search the amongs of each routine that have these numbers; the first routine has number i
 abbrev pub searches : (List ℕ → List ℕ) → ℕ → List (List ℕ) → List Touch → List Touch
 searches numbers i [] ts = ts
-searches numbers i (n ∷ ns) ts = searches numbers (suc i) ns (searched i (numbers n) ts)
+searches numbers i (n ∷ ns) ts = searches numbers (suc i) ns (with_searches i (numbers n) ts)
+
+-- the touches ts, with those of these amongs of each routine, of these routines and of these groupings
+abbrev pub with_marks : Names' → (List ℕ → List ℕ) → List (List ℕ) → List (List ℕ) → List Touch → List Touch
+with_marks names amongs routines groupings ts =
+    with_names (touch_of kinds.Grouping) (is_one_of groupings) 0 names.groupings
+    (with_names (touch_of kinds.Routine) (is_one_of routines) 0 names.routines (searches amongs 0 names.routines ts))
 
 -- the touches of the amongs, the routines, and the groupings with those that are built from them
 abbrev pub marks_of : Names' → List ItemInMode → List Item' → List Touch
-marks_of names items xs =
-    marked Tested (is_one_of (built_behind items (groupings_behind xs []))) 0 names.groupings
-    (marked Entered (is_one_of (routines_behind xs [])) 0 names.routines (searches (amongs_in xs) 0 names.routines []))
+marks_of names items xs = with_marks names (amongs_in xs) (routines_behind xs []) (built_behind items (groupings_behind xs [])) []

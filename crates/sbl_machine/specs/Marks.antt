@@ -7,8 +7,8 @@ use Rattle.sbl_semantics.specs.Touches.{same_touch}
 use Rattle.sbl_script.specs.Edits.{ScriptEdit, IsEdited}
 use Rattle.sbl_ast.specs.Source.{Source}
 use Rattle.sbl_machine.specs.BuiltFrom.{affected_by}
-use Rattle.sbl_semantics.specs.Touched.{Item', Routine, Among, Grouping, Names', named, names_of}
-use Rattle.sbl_machine.specs.EditedItem.{replaced}
+use Rattle.sbl_semantics.specs.TouchedItems.{Item', Routine, Among, Grouping, Names', item_of_touch, names_of}
+use Rattle.sbl_machine.specs.EditedItem.{edited_item}
 
 -- whether a script defines the routine or the grouping of an item
 abbrev pub has_item : Names' → Item' → Bool
@@ -18,8 +18,8 @@ has_item names (Grouping n) = is_among names.groupings n
 
 -- The marks of some items: a touch is one of them exactly if an edit of one of the items affects what it touches.
 abbrev pub AreMarksOf : Source → List Item' → List Touch → Type 0
-AreMarksOf s xs marks = (t : Touch) → list_any (same_touch t) marks ≡ affected_by s xs (named (names_of s) t)
+AreMarksOf s xs marks = (t : Touch) → list_any (same_touch t) marks ≡ affected_by s xs (item_of_touch (names_of s) t)
 
 -- the script defines the routine or the grouping that an edit changes
 abbrev pub EditedAreThere : Type 0
-EditedAreThere = (s t : Source) (e : ScriptEdit) (text : List ℕ) → IsEdited s e text t → has_item (names_of s) (replaced e) ≡ true
+EditedAreThere = (s t : Source) (e : ScriptEdit) (text : List ℕ) → IsEdited s e text t → has_item (names_of s) (edited_item e) ≡ true

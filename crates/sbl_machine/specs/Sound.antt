@@ -2,7 +2,7 @@
 use Rattle.std.specs.Prelude.{◌≡◌, ℕ, List}
 use Rattle.sbl_semantics.specs.Meaning.{ending}
 use Rattle.sbl_interpreter.specs.Start.{ending_of}
-use Rattle.sbl_machine.specs.Numbered.{numbered_script}
+use Rattle.sbl_machine.specs.NumberedScript.{numbered_script}
 use Rattle.sbl_ast.specs.Source.{Source}
 
 -- a run of the program of a script is a run of the script

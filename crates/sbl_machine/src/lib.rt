@@ -2,8 +2,8 @@
 #![tactic(auto)]
 
 mod among_list;
-mod built;
 mod fault;
+mod groupings_built;
 pub mod laws;
 mod limit;
 mod machine;

@@ -2,14 +2,14 @@
 
 ghost use Rattle.std.specs.Prelude.{◌≡◌, ◌<◌, ◌≤◌, ◌+◌, true, length, map, slice_index_or, [], IfOk, MatchResult, ◌↔◌, Err};
 ghost use Rattle.std.specs.List.{list_all, list_any};
-ghost use Rattle.sbl_interpreter.specs.Kept.{Follows};
+ghost use Rattle.sbl_interpreter.specs.Endings.{Follows};
 ghost use Rattle.sbl_semantics.specs.Limit.{max_word_length};
 ghost use Rattle.sbl_machine.specs.MachineOf.{IsMachineOf};
 ghost use Rattle.sbl_machine.specs.Marks.{AreMarksOf, has_item};
 ghost use Rattle.sbl_semantics.specs.Outcome.{integers_at, integers_of, outcome_at, outcome_of, run_of, touched_at, touches_of, used_at, used_of, events_at, events_in, events_of};
-ghost use Rattle.sbl_semantics.specs.Touched.{item_of, items_in, items_of, named, names_of, same_item, touched_of};
+ghost use Rattle.sbl_semantics.specs.TouchedItems.{item_of, items_in, items_of, item_of_touch, names_of, same_item, touched_items};
 ghost use Rattle.sbl_ast.specs.Source.{Source};
-ghost use Rattle.sbl_script.specs.Parsed.{source_of};
+ghost use Rattle.sbl_script.specs.ParsedScript.{source_of};
 ghost use Rattle.sbl_semantics.specs.State.{Ending};
 ghost use Rattle.sbl_semantics.specs.Events.{event_of, view_events};
 
@@ -20,7 +20,7 @@ use crate::naming::{Names, is_touched, items_touched, routine_at};
 use crate::outcome::{Ran, Traced, Why};
 use sbl_among_search::AmongSearch;
 use sbl_ast::Mode;
-use sbl_compiler::{Made, numbered};
+use sbl_compiler::{Made, compile_items};
 use sbl_interpreter::{Event, Halt, RunFault, Runner, State, TableList, Touch, Touched, tables_of};
 use sbl_program::Program;
 use sbl_script::Script;
@@ -52,7 +52,7 @@ impl<S: AmongSearch> Machine<S> {
             amongs,
             routines,
             groupings,
-        } = numbered(alloc, script.items(), script.external())?;
+        } = compile_items(alloc, script.items(), script.external())?;
         let tables = tables_of(alloc, &amongs)?;
         Ok(Machine {
             tables: TableList { tables },
@@ -82,7 +82,7 @@ impl<S: AmongSearch> Machine<S> {
     ) -> Result<Ran, RunStop>
         requires { length word.now ≤ max_word_length }
         ensures outcome { (script : Source) → IsMachineOf S S.entries S.mode self.now script → IfOk result (λ ran. outcome_of ran.outcome ≡ run_of script word.now limit) }
-        ensures touched { (script : Source) → IsMachineOf S S.entries S.mode self.now script → IfOk result (λ ran. items_in ran.touched ≡ touched_of script word.now limit) }
+        ensures touched { (script : Source) → IsMachineOf S S.entries S.mode self.now script → IfOk result (λ ran. items_in ran.touched ≡ touched_items script word.now limit) }
         ensures used { (script : Source) → IsMachineOf S S.entries S.mode self.now script → IfOk result (λ ran. ran.used ≡ used_of script word.now limit) }
         ensures counted { MatchResult result (λ _. meter.new ≡ meter.old + 1) (λ _. meter.new ≡ meter.old) }
         ensures full { (result ≡ Err RunStop.MeterFull) ↔ (meter.old ≡ u64.MAX) }
@@ -142,7 +142,7 @@ impl<S: AmongSearch> Machine<S> {
             mode: Mode::Forward,
         };
         let end = runner.run_call(self.program.external, &mut state);
-        let traced = ended(alloc, end, limit, &state)?;
+        let traced = result_of_end(alloc, end, limit, &state, Vec::new(alloc))?;
         let integers = state.integers(alloc)?;
         Ok(Why {
             outcome: traced.outcome,
@@ -171,8 +171,8 @@ impl<S: AmongSearch> Machine<S> {
     }
 
     /// Whether an item is one of those that were touched. Does not allocate.
-    pub fn touched(&self, touches: &[Touch], item: &Item) -> bool
-        ensures { (script : Source) → IsMachineOf S S.entries S.mode self.now script → result ≡ list_any (same_item (item_of item.now)) (map (named (names_of script)) touches.now) }
+    pub fn is_among_touches(&self, touches: &[Touch], item: &Item) -> bool
+        ensures { (script : Source) → IsMachineOf S S.entries S.mode self.now script → result ≡ list_any (same_item (item_of item.now)) (map (item_of_touch (names_of script)) touches.now) }
     {
         is_touched(&self.names, touches, item)
     }
@@ -184,7 +184,7 @@ impl<S: AmongSearch> Machine<S> {
     /// # Errors
     ///
     /// Returns `AllocError` if an allocation fails.
-    pub fn affected(
+    pub fn affected_touches(
         &self,
         alloc: Global,
         script: &Script,
@@ -216,14 +216,16 @@ impl<S: AmongSearch> Machine<S> {
         if meter.is_full() {
             return Err(RunStop::MeterFull);
         }
-        Ok(self.run_in(alloc, &mut meter.state, word, limit)?)
+        let spare = meter.take_spare(alloc);
+        Ok(self.run_in(alloc, &mut meter.state, spare, word, limit)?)
     }
 
-    // Runs in the state of an earlier run, or in a new state, which it then keeps.
+    // Runs in the state of an earlier run, or in a new state, which it then keeps. The touches are put into `spare`.
     fn run_in(
         &self,
         alloc: Global,
         kept: &mut Option<State>,
+        spare: Vec<Touch>,
         word: &[char],
         limit: u32,
     ) -> Result<Traced, AllocError>
@@ -233,10 +235,10 @@ impl<S: AmongSearch> Machine<S> {
         ensures used { (script : Source) → IsMachineOf S S.entries S.mode self.now script → IfOk result (λ traced. traced.used ≡ used_of script word.now limit) }
     {
         match kept {
-            Some(state) => self.ran(alloc, state, word, limit),
+            Some(state) => self.ran(alloc, state, spare, word, limit),
             None => {
                 let mut state = State::new(alloc);
-                let traced = self.ran(alloc, &mut state, word, limit)?;
+                let traced = self.ran(alloc, &mut state, spare, word, limit)?;
                 *kept = Some(state);
                 Ok(traced)
             }
@@ -248,6 +250,7 @@ impl<S: AmongSearch> Machine<S> {
         &self,
         alloc: Global,
         state: &mut State,
+        spare: Vec<Touch>,
         word: &[char],
         limit: u32,
     ) -> Result<Traced, AllocError>
@@ -264,16 +267,18 @@ impl<S: AmongSearch> Machine<S> {
             mode: Mode::Forward,
         };
         let end = runner.run_call(self.program.external, state);
-        ended(alloc, end, limit, state)
+        result_of_end(alloc, end, limit, state, spare)
     }
 }
 
-/// Returns the result of a run that ended in this way. Returns `AllocError` if it ended because an allocation failed.
-fn ended(
+/// Returns the result of a run that ended in this way, with its touches in place of those in `touches`. Returns `AllocError` if
+/// it ended because an allocation failed, or if one fails.
+fn result_of_end(
     alloc: Global,
     end: Result<bool, Halt>,
     limit: u32,
     state: &State,
+    touches: Vec<Touch>,
 ) -> Result<Traced, AllocError>
     ensures outcome { (e : Ending) → Follows end state.now e → IfOk result (λ traced. outcome_of traced.outcome ≡ outcome_at e) }
     ensures touches { (e : Ending) → Follows end state.now e → IfOk result (λ traced. traced.touches.items ≡ touched_at e) }
@@ -282,7 +287,9 @@ fn ended(
     ensures integers { (e : Ending) → Follows end state.now e → IfOk result (λ _. state.now.integers ≡ integers_at e) }
 {
     let paid = u64::from(limit.saturating_sub(state.steps()));
-    let touches = state.touches().to_vec(alloc)?;
+    let mut touches = touches;
+    touches.clear();
+    touches.extend_from_slice(state.touches())?;
     match end {
         Err(halt) => match halt.fault() {
             None => Err(AllocError),
@@ -297,7 +304,7 @@ fn ended(
             }),
         },
         Ok(_) => Ok(Traced {
-            outcome: Outcome::Stem(state.text().to_vec(alloc)?),
+            outcome: Outcome::Stem(Vec::from_slice(alloc, state.text())?),
             touches,
             used: paid,
         }),

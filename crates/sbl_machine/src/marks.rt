@@ -2,32 +2,50 @@
 
 ghost use Rattle.std.specs.Prelude.{◌≡◌, ℕ, List, [], map, OnOk, IfOk, string_bytes};
 ghost use Rattle.sbl_compiler.specs.NumberedNames.{is_one_of};
-ghost use Rattle.sbl_semantics.specs.declared.touch.Touch.TheVariants.{Entered, Searched, Tested};
+ghost use Rattle.sbl_semantics.specs.Touches.{with_touch};
 ghost use Rattle.sbl_ast.specs.Order.{in_order};
 ghost use Rattle.sbl_ast.specs.View.{view_items};
-ghost use Rattle.sbl_machine.specs.Marking.{amongs_in, and_among, and_grouping, and_routine, groupings_behind, marked, marks_of, routines_behind, searched, searches};
+ghost use Rattle.sbl_machine.specs.Marking.{amongs_in, and_among, and_grouping, and_routine, groupings_behind, with_marks, with_names, marks_of, routines_behind, touch_of, with_searches, searches};
 ghost use Rattle.sbl_machine.specs.AmongList.{numbers_of};
-ghost use Rattle.sbl_semantics.specs.Touched.{item_of};
+ghost use Rattle.sbl_semantics.specs.TouchedItems.{item_of};
 
 use crate::among_list::AmongList;
-use crate::built::built_from;
+use crate::groupings_built::built_from;
 use crate::naming::Names;
 use sbl_compiler::NameList;
 use sbl_interpreter::Touched;
 use sbl_semantics::Item;
 use std::alloc::{AllocError, Global};
 
-// Adds the touch that enters each routine that has one of these names.
-fn mark_routines(
-    routines: &[String],
+/// The items that have a number in the script, and not only in their routine.
+#[derive(Clone, Copy)]
+pub(crate) enum ItemKind {
+    Routine,
+    Grouping,
+}
+
+// Adds the touch that enters the routine, or tests the grouping, with this number.
+fn mark(kind: ItemKind, number: usize, marks: &mut Touched) -> Result<(), AllocError>
+    ensures { OnOk result (marks.new ≡ with_touch (touch_of kind number) marks.old) }
+{
+    match kind {
+        ItemKind::Routine => marks.enter(number),
+        ItemKind::Grouping => marks.test(number),
+    }
+}
+
+// Adds the touch of each of these routines or groupings that has one of these names.
+fn mark_names(
+    kind: ItemKind,
+    all: &[String],
     names: &NameList,
     marks: &mut Touched,
 ) -> Result<(), AllocError>
-    ensures { OnOk result (marks.new ≡ marked Entered (is_one_of names.now) 0 (map string_bytes routines.now) marks.old) }
+    ensures { OnOk result (marks.new ≡ with_names (touch_of kind) (is_one_of names.now) 0 (map string_bytes all.now) marks.old) }
 {
-    for (number, name) in routines.iter().enumerate() {
+    for (number, name) in all.iter().enumerate() {
         if names.is_one_of(name.as_str()) {
-            marks.enter(number)?;
+            mark(kind, number, marks)?;
         }
     }
     Ok(())
@@ -35,7 +53,7 @@ fn mark_routines(
 
 // Adds the touches that search these amongs of a routine. The numbers are counted from 0.
 fn mark_searches(routine: usize, amongs: &[usize], marks: &mut Touched) -> Result<(), AllocError>
-    ensures { OnOk result (marks.new ≡ searched routine amongs.now marks.old) }
+    ensures { OnOk result (marks.new ≡ with_searches routine amongs.now marks.old) }
 {
     for among in amongs {
         marks.search(routine, *among)?;
@@ -57,62 +75,37 @@ fn mark_amongs(
     Ok(())
 }
 
-// Adds the touch that tests each grouping that has one of these names.
-fn mark_groupings(
-    groupings: &[String],
-    names: &NameList,
-    marks: &mut Touched,
+// Adds the name of the item to the names of routines or to those of groupings.
+fn add_name(
+    alloc: Global,
+    item: &Item,
+    routines: &mut NameList,
+    groupings: &mut NameList,
 ) -> Result<(), AllocError>
-    ensures { OnOk result (marks.new ≡ marked Tested (is_one_of names.now) 0 (map string_bytes groupings.now) marks.old) }
+    ensures routines { OnOk result (routines.new ≡ and_routine (item_of item.now) routines.old) }
+    ensures groupings { OnOk result (groupings.new ≡ and_grouping (item_of item.now) groupings.old) }
 {
-    for (number, name) in groupings.iter().enumerate() {
-        if names.is_one_of(name.as_str()) {
-            marks.test(number)?;
-        }
+    match item {
+        Item::Routine(name) => routines.add(alloc, name.as_str()),
+        Item::Grouping(name) => groupings.add(alloc, name.as_str()),
+        Item::Among(_, _) => Ok(()),
+    }
+}
+
+// Adds the names of the routines and of the groupings among the items.
+fn add_names(
+    alloc: Global,
+    items: &[Item],
+    routines: &mut NameList,
+    groupings: &mut NameList,
+) -> Result<(), AllocError>
+    ensures routines { OnOk result (routines.new ≡ routines_behind (map item_of items.now) routines.old) }
+    ensures groupings { OnOk result (groupings.new ≡ groupings_behind (map item_of items.now) groupings.old) }
+{
+    for item in items {
+        add_name(alloc, item, routines, groupings)?;
     }
     Ok(())
-}
-
-// Adds the name of the item if it is a routine.
-fn add_routine(alloc: Global, item: &Item, names: &mut NameList) -> Result<(), AllocError>
-    ensures { OnOk result (names.new ≡ and_routine (item_of item.now) names.old) }
-{
-    match item {
-        Item::Routine(name) => names.add(alloc, name.as_str()),
-        Item::Among(_, _) | Item::Grouping(_) => Ok(()),
-    }
-}
-
-// Returns the names of the routines among the items.
-fn routine_names(alloc: Global, items: &[Item]) -> Result<NameList, AllocError>
-    ensures { IfOk result (λ names. names ≡ routines_behind (map item_of items.now) []) }
-{
-    let mut names = NameList::new(alloc);
-    for item in items {
-        add_routine(alloc, item, &mut names)?;
-    }
-    Ok(names)
-}
-
-// Adds the name of the item if it is a grouping.
-fn add_grouping(alloc: Global, item: &Item, names: &mut NameList) -> Result<(), AllocError>
-    ensures { OnOk result (names.new ≡ and_grouping (item_of item.now) names.old) }
-{
-    match item {
-        Item::Grouping(name) => names.add(alloc, name.as_str()),
-        Item::Routine(_) | Item::Among(_, _) => Ok(()),
-    }
-}
-
-// Returns the names of the groupings among the items.
-fn grouping_names(alloc: Global, items: &[Item]) -> Result<NameList, AllocError>
-    ensures { IfOk result (λ names. names ≡ groupings_behind (map item_of items.now) []) }
-{
-    let mut names = NameList::new(alloc);
-    for item in items {
-        add_grouping(alloc, item, &mut names)?;
-    }
-    Ok(names)
 }
 
 // Adds the number of the item, counted from 0, if it is an among.
@@ -141,6 +134,21 @@ fn amongs_in(alloc: Global, items: &[Item]) -> Result<AmongList, AllocError>
     Ok(amongs)
 }
 
+// Adds the touches of these amongs, of these routines and of these groupings.
+fn mark_all(
+    names: &Names,
+    amongs: &AmongList,
+    routines: &NameList,
+    groupings: &NameList,
+    marks: &mut Touched,
+) -> Result<(), AllocError>
+    ensures { OnOk result (marks.new ≡ with_marks names.now (numbers_of amongs.now) routines.now groupings.now marks.old) }
+{
+    mark_amongs(&names.routines, amongs, marks)?;
+    mark_names(ItemKind::Routine, &names.routines, routines, marks)?;
+    mark_names(ItemKind::Grouping, &names.groupings, groupings, marks)
+}
+
 /// Returns the touches of some items and of all groupings that are built from one of them, by number. The cost
 /// is about that of one walk over the script and one over the items.
 ///
@@ -155,10 +163,12 @@ pub fn marks_of(
 ) -> Result<Touched, AllocError>
     ensures { IfOk result (λ marks. marks ≡ marks_of names.now (in_order (view_items script.now)) (map item_of items.now)) }
 {
+    let mut routines = NameList::new(alloc);
+    let mut groupings = NameList::new(alloc);
+    add_names(alloc, items, &mut routines, &mut groupings)?;
+    let built = built_from(alloc, script, groupings)?;
+    let amongs = amongs_in(alloc, items)?;
     let mut marks = Touched::new(alloc);
-    mark_amongs(&names.routines, &amongs_in(alloc, items)?, &mut marks)?;
-    mark_routines(&names.routines, &routine_names(alloc, items)?, &mut marks)?;
-    let built = built_from(alloc, script, grouping_names(alloc, items)?)?;
-    mark_groupings(&names.groupings, &built, &mut marks)?;
+    mark_all(names, &amongs, &routines, &built, &mut marks)?;
     Ok(marks)
 }

@@ -2,7 +2,8 @@
 
 ghost use Rattle.std.specs.Prelude.{◌≡◌, ◌+◌, ◌<◌, IsTrue, false, ◌↔◌};
 
-use sbl_interpreter::State;
+use sbl_interpreter::{State, Touch};
+use std::alloc::Global;
 use std::marker::Model;
 
 /// Counts runs, and keeps the buffers of the last run for the next.
@@ -11,6 +12,8 @@ pub struct Meter {
     runs: u64,
     // The state of the last run. The next run begins in its buffers.
     pub(crate) state: Option<State>,
+    // A list of touches that was given back. The next run puts its touches into it.
+    spare: Option<Vec<Touch>>,
 }
 
 impl Model for Meter {
@@ -29,6 +32,7 @@ impl Meter {
         Meter {
             runs: 0,
             state: None,
+            spare: None,
         }
     }
 
@@ -45,6 +49,23 @@ impl Meter {
         ensures room { result ≡ false → self.now < u64.MAX }
     {
         self.count() == u64::MAX
+    }
+
+    /// Gives back a list of touches, so that the next run needs no new one. The count stays. Does not allocate.
+    pub fn reuse(&mut self, touches: Vec<Touch>)
+        ensures { self.new ≡ self.old }
+    {
+        self.spare = Some(touches);
+    }
+
+    /// Returns the list that was given back, or a new one.
+    pub(crate) fn take_spare(&mut self, alloc: Global) -> Vec<Touch>
+        ensures { self.new ≡ self.old }
+    {
+        match self.spare.take() {
+            Some(touches) => touches,
+            None => Vec::new(alloc),
+        }
     }
 
     /// Adds one to the count.

@@ -3,7 +3,7 @@
 ghost use Rattle.std.specs.Prelude.{◌≡◌, ◌<◌, IfOk, OnOk, map, string_bytes, slice_index_or, []};
 ghost use Rattle.std.specs.BTreeSet.{insert_key};
 ghost use Rattle.std.specs.List.{list_any};
-ghost use Rattle.sbl_semantics.specs.Touched.{item_cmp, item_of, items_in, items_of, named, same_item};
+ghost use Rattle.sbl_semantics.specs.TouchedItems.{item_cmp, item_of, items_in, items_of, item_of_touch, same_item};
 
 use sbl_interpreter::Touch;
 use sbl_semantics::Item;
@@ -22,7 +22,7 @@ pub struct Names {
 
 impl Model for Names {
     ghost use Rattle.std.specs.Prelude.{map, string_bytes};
-    ghost use Rattle.sbl_semantics.specs.Touched.{Names'};
+    ghost use Rattle.sbl_semantics.specs.TouchedItems.{Names'};
 
     ghost Value = { Names' };
 
@@ -48,7 +48,7 @@ pub fn routine_at(names: &Names, number: usize) -> &str
 
 // Returns the item of a touch. Returns `AllocError` if an allocation fails.
 fn item_named(alloc: Global, names: &Names, touch: Touch) -> Result<Item, AllocError>
-    ensures { IfOk result (λ item. item_of item ≡ named names.now touch) }
+    ensures { IfOk result (λ item. item_of item ≡ item_of_touch names.now touch) }
 {
     match touch {
         Touch::Entered(routine) => Ok(Item::Routine(String::from_str(
@@ -94,7 +94,7 @@ pub fn items_touched(
 
 // Whether a touch is of this item.
 fn is_touch_of(names: &Names, touch: Touch, item: &Item) -> bool
-    ensures { result ≡ same_item (item_of item.now) (named names.now touch) }
+    ensures { result ≡ same_item (item_of item.now) (item_of_touch names.now touch) }
 {
     match item {
         Item::Routine(name) => match touch {
@@ -118,7 +118,7 @@ fn is_touch_of(names: &Names, touch: Touch, item: &Item) -> bool
 
 /// Whether one of the touches is of this item.
 pub fn is_touched(names: &Names, touches: &[Touch], item: &Item) -> bool
-    ensures { result ≡ list_any (same_item (item_of item.now)) (map (named names.now) touches.now) }
+    ensures { result ≡ list_any (same_item (item_of item.now)) (map (item_of_touch names.now) touches.now) }
 {
     for touch in touches {
         if is_touch_of(names, *touch, item) {

@@ -1,8 +1,7 @@
 -- One step of the reading, from what comes first.
-use Rattle.std.proofs.Common.{◌≡◌, ℕ, ◌+◌, ◌<◌, ◌≤◌, Bool, true, false, List, [], ◌∷◌, drop, Option, Some, refl, sym, ap, subst, ◌∙◌, cond}
+use Rattle.std.proofs.Common.{◌≡◌, ℕ, ◌+◌, ◌<◌, ◌≤◌, Bool, true, false, List, [], ◌∷◌, drop, length, Option, Some, refl, sym, ap, subst, ◌∙◌, cond, arith}
 use Rattle.std.specs.Prelude.{nat_lt}
 use Rattle.std.proofs.lemmas.Bool.{lt-ltb, le-ltb}
-use Rattle.sbl_token.specs.declared.token.Token.{Token}
 use Rattle.sbl_parser.specs.declared.role.Role.TheVariants as roles
 use Rattle.sbl_parser.specs.declared.error.ReadError.{ReadError}
 use Rattle.sbl_ast.specs.declared.tree.Additive.TheVariants as additives
@@ -23,11 +22,12 @@ use Rattle.sbl_ast.specs.declared.tree.Constant.{Constant}
 use Rattle.sbl_ast.specs.Terminal.{Terminal, terminal_of, terminals_of, word_terminal, sign_terminal}
 use Rattle.sbl_parser.specs.Roles.{role_of}
 use Rattle.sbl_ast.specs.Terminal as t
-use Rattle.sbl_parser.specs.Starts.{begins_command, begins_plain, begins_item, begins_argument}
+use Rattle.sbl_parser.specs.Starts.{begins_command, begins_plain, begins_item}
 use Rattle.sbl_ast.specs.Places.{max_depth}
 use Rattle.sbl_parser.specs.Steps.{Stack, Step, goes, stuck, step, Fault, syntax, too_deep, no_operator, fault, after_step}
 use Rattle.sbl_parser.specs.Steps as s
-use Rattle.sbl_parser.specs.Gives.{Fails}
+use Rattle.sbl_parser.specs.Gives.{Fails, error_for}
+use Rattle.sbl_parser.specs.declared.error.ReadError.TheVariants as errors
 use Rattle.sbl_parser.proofs.RoleTokens.{as_terminal}
 
 abbrev Ts : Type 0
@@ -57,8 +57,25 @@ headed ts next x e is = e ∙ ap (λ (r : Ts). x ∷ r) (sym is)
 
 -- ---- the code's fault is the one found
 
-pub fails_along : (ts : List Token) (e : ReadError) (f h : Option Fault) → f ≡ h → Fails ts e h → Fails ts e f
-fails_along ts e f h same g = subst (λ (x : Option Fault). Fails ts e x) (sym same) g
+pub fails_along : (e : ReadError) (f h : Option Fault) → f ≡ h → Fails e h → Fails e f
+fails_along e f h same g = subst (λ (x : Option Fault). Fails e x) (sym same) g
+
+pub fails : (e : ReadError) (f : Option Fault) → error_for f ≡ Some e → Fails e f
+fails errors.Memory f is = tt
+fails (errors.Syntax n) f is = is
+fails (errors.TooDeep n) f is = is
+fails (errors.OutOfProfile n) f is = is
+
+pub refuses : (e : ReadError) (ts : Ts) (f : Option Fault) → e ≡ errors.Syntax (length ts) → f ≡ Some (syntax ts) → Fails e f
+refuses e ts f is found = fails e f (ap (λ (x : Option Fault). error_for x) found ∙ ap (λ (x : ReadError). Some x) (sym is))
+
+pub drowns : (e : ReadError) (ts : Ts) (f : Option Fault) → e ≡ errors.TooDeep (length ts) → f ≡ Some (too_deep ts) → Fails e f
+drowns e ts f is found = fails e f (ap (λ (x : Option Fault). error_for x) found ∙ ap (λ (x : ReadError). Some x) (sym is))
+
+-- a token is left at the end
+pub ends : (ts : Ts) (n : ℕ) → n ≡ length ts → 0 < n → error_for (fault ts []) ≡ Some (errors.Syntax n)
+ends [] n e some = absurd (omega (arith, e))
+ends (x ∷ ts) n e some = ap (λ (m : ℕ). Some (errors.Syntax m)) (sym e)
 
 -- ---- what cannot come, and what is skipped
 
@@ -392,18 +409,12 @@ refused_all (t.dollar ∷ ts) d k n0 n1 n2 n3 n4 n5 n6 n7 n8 n9 n10 n11 n12 = ab
 refused_all (t.among ∷ ts) d k n0 n1 n2 n3 n4 n5 n6 n7 n8 n9 n10 n11 n12 = absurd (n12 refl)
 refused_all (_ ∷ ts) d k n0 n1 n2 n3 n4 n5 n6 n7 n8 n9 n10 n11 n12 = refl
 
-pub refused_terms : (ts : Ts) (k : Stack) → (role_of ts ≡ roles.As → ⊥) → begins_argument (role_of ts) ≡ false → fault ts (s.definition ∷ k) ≡ Some (syntax ts)
-refused_terms [] k n e = refl
-refused_terms (t.as_ ∷ ts) k n e = absurd (n refl)
-refused_terms (t.literal q ∷ ts) k n e = absurd cc
-refused_terms (t.name m ∷ ts) k n e = absurd cc
-refused_terms (_ ∷ ts) k n e = refl
-
-pub definition_first : (ts : Ts) (k : Stack) → begins_argument (role_of ts) ≡ true → fault ts (s.definition ∷ k) ≡ fault ts (s.argument 0 ∷ s.terms ∷ k)
-definition_first [] k e = absurd cc
-definition_first (t.literal q ∷ ts) k e = refl
-definition_first (t.name m ∷ ts) k e = refl
-definition_first (_ ∷ ts) k e = absurd cc
+pub definition_terms : (ts : Ts) (k : Stack) → (role_of ts ≡ roles.As → ⊥) → fault ts (s.definition ∷ k) ≡ fault ts (s.argument 0 ∷ s.terms ∷ k)
+definition_terms [] k n = refl
+definition_terms (t.as_ ∷ ts) k n = absurd (n refl)
+definition_terms (t.literal q ∷ ts) k n = refl
+definition_terms (t.name m ∷ ts) k n = refl
+definition_terms (_ ∷ ts) k n = refl
 
 pub item_other : (ts : Ts) (k : Stack) → (role_of ts ≡ roles.BackwardMode → ⊥) → fault ts (s.item ∷ k) ≡ fault ts (s.plain ∷ k)
 item_other [] k n = refl

@@ -7,7 +7,7 @@ use Rattle.sbl_ast.specs.Terminal as t
 use Rattle.sbl_ast.specs.Terminal.{Terminal, terminal_of, terminals_of}
 use Rattle.sbl_ast.specs.Tree.{Command, bracket, simple_, literal_, name_, non_, prefixed, counted, move_, named, splice_, setlimit_, assign_, compare_, compare_values_, among_, Rows, no_rows, row, Others, no_others, joined, Starter, no_starter, starter, Groups, bare, group}
 use Rattle.sbl_ast.specs.Counts.{count_amongs, count_in_rows, count_in_others, count_in_starter, count_in_groups, count_in_among}
-use Rattle.sbl_ast.specs.Places.{AtDepth, placed_expression, placed_entry, placed_entries, placed, placed_rows, placed_others, placed_starter, placed_groups}
+use Rattle.sbl_ast.specs.Places.{AtDepth, placed_expression, placed_entry, placed_entries, placed_command, placed_rows, placed_others, placed_starter, placed_groups}
 use Rattle.sbl_ast.specs.Texts.{among, tokens_of}
 use Rattle.sbl_ast.proofs.Behind.{IsBefore, entry_before, entries_before, expression_before}
 
@@ -18,7 +18,7 @@ no_less : (part : Ps → Ps) → IsBefore part → (rest : Ps) → length rest �
 no_less part before rest = omega (arith, ap length (before [] rest), length-append (part []) rest)
 
 mutual
-  tree_few : (c : Command) (d : ℕ) (rest : Ps) → count_amongs c + length rest ≤ length (placed c d rest)
+  tree_few : (c : Command) (d : ℕ) (rest : Ps) → count_amongs c + length rest ≤ length (placed_command c d rest)
   tree_few (bracket rs) d rest = omega (arith, rows_few rs (d + 1) ((t.close_, d) ∷ rest))
   tree_few (simple_ s) d rest = omega arith
   tree_few (literal_ q) d rest = omega arith
@@ -26,11 +26,11 @@ mutual
   tree_few (non_ true n) d rest = omega arith
   tree_few (non_ false n) d rest = omega arith
   tree_few (prefixed p c) d rest = omega (arith, tree_few c (d + 1) rest)
-  tree_few (counted n e c) d rest = omega (arith, no_less (placed_expression e d) (expression_before e d) (placed c (d + 1) rest), tree_few c (d + 1) rest)
+  tree_few (counted n e c) d rest = omega (arith, no_less (placed_expression e d) (expression_before e d) (placed_command c (d + 1) rest), tree_few c (d + 1) rest)
   tree_few (move_ m e) d rest = omega (arith, no_less (placed_expression e d) (expression_before e d) rest)
   tree_few (named x n) d rest = omega arith
   tree_few (splice_ x a) d rest = omega arith
-  tree_few (setlimit_ b c) d rest = omega (arith, tree_few b (d + 1) ((t.for_, d) ∷ placed c (d + 1) rest), tree_few c (d + 1) rest)
+  tree_few (setlimit_ b c) d rest = omega (arith, tree_few b (d + 1) ((t.for_, d) ∷ placed_command c (d + 1) rest), tree_few c (d + 1) rest)
   tree_few (assign_ n o e) d rest = omega (arith, no_less (placed_expression e d) (expression_before e d) rest)
   tree_few (compare_ n o e) d rest = omega (arith, no_less (placed_expression e d) (expression_before e d) rest)
   tree_few (compare_values_ e o f) d rest = omega (arith, no_less (placed_expression e d) (expression_before e d) ((t.compares o, d) ∷ placed_expression f d ((t.close_, d) ∷ rest)), no_less (placed_expression f d) (expression_before f d) ((t.close_, d) ∷ rest))
@@ -55,4 +55,4 @@ mutual
       omega (arith, no_less (placed_entry e d) (entry_before e d) (placed_entries es d left), no_less (placed_entries es d) (entries_before es d) left, rows_few rs (d + 1 + 1) ((t.close_, d + 1) ∷ placed_groups gs d rest), groups_few gs d rest)
 
 pub among_few : (a : Starter × Groups) (d : ℕ) (ts : List Token) → tokens_of (among d) a ≡ terminals_of ts → count_in_among a ≤ length ts
-among_few a d ts is = omega (arith, tree_few (among_ a.0 a.1) d [], length-map (placed (among_ a.0 a.1) d []) (λ p. p.0), ap length is, length-map ts (λ x. terminal_of (lexeme_of x)))
+among_few a d ts is = omega (arith, tree_few (among_ a.0 a.1) d [], length-map (placed_command (among_ a.0 a.1) d []) (λ p. p.0), ap length is, length-map ts (λ x. terminal_of (lexeme_of x)))

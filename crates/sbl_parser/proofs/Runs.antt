@@ -5,7 +5,7 @@ use Rattle.sbl_ast.specs.declared.tree.Base.{Base}
 use Rattle.sbl_ast.specs.Terminal.{Terminal}
 use Rattle.sbl_ast.specs.Terminal as t
 use Rattle.sbl_ast.specs.Tree.{Argument, written_out, by_name, Expression, expression, Sums, no_sums, sum, Product, product, Scales, no_scales, scale, Factor, negated, bracketed, numeral, variable, fixed, length_of, Entry, entry, Command, bracket, simple_, literal_, name_, non_, prefixed, counted, move_, named, splice_, setlimit_, assign_, compare_, compare_values_, among_, Rows, no_rows, row, Others, no_others, joined, Starter, no_starter, starter, Groups, bare, group, Term, term, Plain, declaration, escapes, macro, routine, grouping, Item, plain, backward, argument_terminal}
-use Rattle.sbl_ast.specs.Places.{AtDepth, placed_expression, placed_sums, placed_product, placed_scales, placed_factor, placed_entry, placed_entries, placed, placed_rows, placed_others, placed_starter, placed_groups, placed_names, placed_base, placed_terms, placed_plain, placed_plains, placed_item, placed_items, places}
+use Rattle.sbl_ast.specs.Places.{AtDepth, placed_expression, placed_sums, placed_product, placed_scales, placed_factor, placed_entry, placed_entries, placed_command, placed_rows, placed_others, placed_starter, placed_groups, placed_names, placed_base, placed_terms, placed_plain, placed_plains, placed_item, placed_items, places}
 use Rattle.sbl_parser.specs.Steps.{Symbol, Stack, Step, goes, stuck, unassigned, is_optional, is_done, behind, behind_sums, behind_scales, behind_others, behind_terms, behind_plain, behind_item, or_else, step}
 use Rattle.sbl_parser.specs.Steps as s
 use Rattle.sbl_ast.specs.Texts.{Text, TreeOf, places_in}
@@ -328,7 +328,7 @@ bare_runs (x ∷ xs) d ps k h = (entry_runs x d (placed_entries xs d ((t.close_,
 
 -- ---- commands
 
-tree_calm : (c : Command) (d : ℕ) (ps : List AtDepth) → Calm (placed c d ps)
+tree_calm : (c : Command) (d : ℕ) (ps : List AtDepth) → Calm (placed_command c d ps)
 tree_calm (bracket rs) d ps = record { plus = refl; times = refl }
 tree_calm (simple_ x) d ps = record { plus = refl; times = refl }
 tree_calm (literal_ q) d ps = record { plus = refl; times = refl }
@@ -346,7 +346,7 @@ tree_calm (compare_ n o e) d ps = record { plus = refl; times = refl }
 tree_calm (compare_values_ e o f) d ps = record { plus = refl; times = refl }
 tree_calm (among_ x gs) d ps = record { plus = refl; times = refl }
 
-tree_no_or : (c : Command) (d : ℕ) (ps : List AtDepth) → first_is no_or (placed c d ps) ≡ true
+tree_no_or : (c : Command) (d : ℕ) (ps : List AtDepth) → first_is no_or (placed_command c d ps) ≡ true
 tree_no_or (bracket rs) d ps = refl
 tree_no_or (simple_ x) d ps = refl
 tree_no_or (literal_ q) d ps = refl
@@ -377,7 +377,7 @@ others_calm no_others d ps c = c
 others_calm (joined j x os) d ps c = record { plus = refl; times = refl }
 
 mutual
-  pub tree_runs : (c : Command) (d : ℕ) (ps : List AtDepth) (k : Stack) → Calm ps → Passes ps k → Passes (placed c d ps) (s.command d ∷ k)
+  pub tree_runs : (c : Command) (d : ℕ) (ps : List AtDepth) (k : Stack) → Calm ps → Passes ps k → Passes (placed_command c d ps) (s.command d ∷ k)
   tree_runs (bracket rs) d ps k c h = (
     s.rows (d + 1) ∷ s.closing d ∷ k,
     refl,
@@ -392,7 +392,7 @@ mutual
   tree_runs (counted n e x) d ps k c h = (
     s.expression d (s.command (d + 1) ∷ k),
     refl,
-    expression_runs e d (placed x (d + 1) ps) (s.command (d + 1) ∷ k) (tree_calm x (d + 1) ps) (tree_runs x (d + 1) ps k c h),
+    expression_runs e d (placed_command x (d + 1) ps) (s.command (d + 1) ∷ k) (tree_calm x (d + 1) ps) (tree_runs x (d + 1) ps k c h),
   )
   tree_runs (move_ m e) d ps k c h = (s.expression d k, refl, expression_runs e d ps k c h)
   tree_runs (named x n) d ps k c h = (s.name d ∷ k, refl, (k, refl, h))
@@ -400,7 +400,7 @@ mutual
   tree_runs (setlimit_ b x) d ps k c h = (
     s.command (d + 1) ∷ s.for_ d ∷ s.command (d + 1) ∷ k,
     refl,
-    tree_runs b (d + 1) ((t.for_, d) ∷ placed x (d + 1) ps) (s.for_ d ∷ s.command (d + 1) ∷ k) (record { plus = refl; times = refl })
+    tree_runs b (d + 1) ((t.for_, d) ∷ placed_command x (d + 1) ps) (s.for_ d ∷ s.command (d + 1) ∷ k) (record { plus = refl; times = refl })
         (s.command (d + 1) ∷ k, refl, tree_runs x (d + 1) ps k c h),
   )
   tree_runs (assign_ n o e) d ps k c h = (s.subject d ∷ k, refl, (s.operator d ∷ k, refl, (s.expression d k, refl, expression_runs e d ps k c h)))
@@ -438,7 +438,7 @@ mutual
   rows_runs no_rows d ps k c j h g = h
   rows_runs (row x os rs) d ps k c j h g =
       let more = rows_runs rs d ps k c j h g in
-      as_row d (placed x d (placed_others os d (placed_rows rs d ps))) k
+      as_row d (placed_command x d (placed_others os d (placed_rows rs d ps))) k
       (tree_runs x d (placed_others os d (placed_rows rs d ps)) (s.others d ∷ s.rows d ∷ k) (others_calm os d (placed_rows rs d ps) (rows_calm rs d ps c))
       (others_runs os d (placed_rows rs d ps) (s.rows d ∷ k) (rows_calm rs d ps c) (rows_no_or rs d ps j) more))
 

@@ -3,7 +3,7 @@ use Rattle.std.proofs.Common.{◌≡◌, ℕ, Bool, true, false, List, [], ◌�
 use Rattle.sbl_ast.specs.declared.tree.Base.{Base}
 use Rattle.sbl_ast.specs.Terminal.{Terminal, Quoted}
 use Rattle.sbl_ast.specs.Terminal as t
-use Rattle.sbl_ast.specs.Tree.{Argument, written_out, by_name, Expression, expression, Sums, no_sums, sum, Product, product, Scales, no_scales, scale, Factor, negated, bracketed, numeral, variable, fixed, length_of, Entry, entry, Command, bracket, simple_, literal_, name_, non_, prefixed, counted, move_, named, splice_, setlimit_, assign_, compare_, compare_values_, among_, Rows, no_rows, row, Others, no_others, joined, Starter, no_starter, starter, Groups, bare, group, Term, term, Plain, declaration, escapes, macro, routine, grouping, Item, plain, backward, argument_terminal, spelled_expression, spelled_sums, spelled_product, spelled_scales, spelled_factor, spelled_entry, spelled_entries, spelled, spelled_rows, spelled_others, spelled_starter, spelled_groups, spelled_names, spelled_base, spelled_terms, spelled_plain, spelled_plains, spelled_item, spelled_items, written}
+use Rattle.sbl_ast.specs.Tree.{Argument, written_out, by_name, Expression, expression, Sums, no_sums, sum, Product, product, Scales, no_scales, scale, Factor, negated, bracketed, numeral, variable, fixed, length_of, Entry, entry, Command, bracket, simple_, literal_, name_, non_, prefixed, counted, move_, named, splice_, setlimit_, assign_, compare_, compare_values_, among_, Rows, no_rows, row, Others, no_others, joined, Starter, no_starter, starter, Groups, bare, group, Term, term, Plain, declaration, escapes, macro, routine, grouping, Item, plain, backward, argument_terminal, spelled_expression, spelled_sums, spelled_product, spelled_scales, spelled_factor, spelled_entry, spelled_entries, spelled_command, spelled_rows, spelled_others, spelled_starter, spelled_groups, spelled_names, spelled_base, spelled_terms, spelled_plain, spelled_plains, spelled_item, spelled_items, script_tokens}
 
 abbrev Ts : Type 0
 Ts = List Terminal
@@ -211,7 +211,7 @@ same_entries (x ∷ xs) (y ∷ ys) a b ha hb e =
 closed : (ts : Ts) → EndsRow (t.close_ ∷ ts)
 closed ts = record { ends = calm t.close_ ts refl refl; joins_not = refl }
 
-tree_begins : (c : Command) (rest : Ts) → is_begin (sort (spelled c rest)) ≡ true
+tree_begins : (c : Command) (rest : Ts) → is_begin (sort (spelled_command c rest)) ≡ true
 tree_begins (bracket rs) rest = refl
 tree_begins (simple_ x) rest = refl
 tree_begins (literal_ q) rest = refl
@@ -229,7 +229,7 @@ tree_begins (compare_ n o e) rest = refl
 tree_begins (compare_values_ e o f) rest = refl
 tree_begins (among_ x gs) rest = refl
 
-tree_ends : (c : Command) (rest : Ts) → EndsRow (spelled c rest)
+tree_ends : (c : Command) (rest : Ts) → EndsRow (spelled_command c rest)
 tree_ends (bracket rs) rest = record { ends = record { adds_not = refl; multiplies_not = refl }; joins_not = refl }
 tree_ends (simple_ x) rest = record { ends = record { adds_not = refl; multiplies_not = refl }; joins_not = refl }
 tree_ends (literal_ q) rest = record { ends = record { adds_not = refl; multiplies_not = refl }; joins_not = refl }
@@ -270,7 +270,7 @@ bare_block : (xs ys : List Entry) (a ts : Ts) → EndsEntries (t.close_ ∷ a) �
 bare_block xs ys a ts h e = let m = same_entries xs ys (t.close_ ∷ a) (t.open_ ∷ ts) h (behind_block ts) e in let f = m.1 in cc
 
 mutual
-  same_tree : (c u : Command) (a b : Ts) → Ends a → Ends b → spelled c a ≡ spelled u b → (c ≡ u) × (a ≡ b)
+  same_tree : (c u : Command) (a b : Ts) → Ends a → Ends b → spelled_command c a ≡ spelled_command u b → (c ≡ u) × (a ≡ b)
   same_tree (bracket rs) (bracket qs) a b ha hb e =
       let m = same_rows rs qs (t.close_ ∷ a) (t.close_ ∷ b) (closed a) (closed b) refl refl (tail _ _ _ _ e) in (ap (λ (r : Rows). bracket r) m.0, tail _ _ _ _ m.1)
   same_tree (simple_ x) (simple_ y) a b ha hb e = (cc, cc)
@@ -280,7 +280,7 @@ mutual
   same_tree (non_ false n) (non_ false m) a b ha hb e = (cc, cc)
   same_tree (prefixed p c) (prefixed q u) a b ha hb e = let m = same_tree c u a b ha hb (tail _ _ _ _ e) in let heads : p ≡ q = cc in (cc, m.1)
   same_tree (counted n x c) (counted l y u) a b ha hb e =
-      let m = same_expression x y (spelled c a) (spelled u b) (tree_ends c a).ends (tree_ends u b).ends (tail _ _ _ _ e) in
+      let m = same_expression x y (spelled_command c a) (spelled_command u b) (tree_ends c a).ends (tree_ends u b).ends (tail _ _ _ _ e) in
       let r = same_tree c u a b ha hb m.1 in
       let heads : n ≡ l = cc in
       (cc, r.1)
@@ -292,7 +292,7 @@ mutual
       let words : x ≡ y = cc in
       (cc, cc)
   same_tree (setlimit_ c x) (setlimit_ u y) a b ha hb e =
-      let m = same_tree c u (t.for_ ∷ spelled x a) (t.for_ ∷ spelled y b) (calm t.for_ _ refl refl) (calm t.for_ _ refl refl) (tail _ _ _ _ e) in
+      let m = same_tree c u (t.for_ ∷ spelled_command x a) (t.for_ ∷ spelled_command y b) (calm t.for_ _ refl refl) (calm t.for_ _ refl refl) (tail _ _ _ _ e) in
       let r = same_tree x y a b ha hb (tail _ _ _ _ m.1) in
       (cc, r.1)
   same_tree (assign_ n o x) (assign_ l u y) a b ha hb e =
@@ -351,8 +351,8 @@ mutual
 
   same_rows : (rs qs : Rows) (a b : Ts) → EndsRow a → EndsRow b → Never is_begin a → Never is_begin b → spelled_rows rs a ≡ spelled_rows qs b → (rs ≡ qs) × (a ≡ b)
   same_rows no_rows no_rows a b ha hb na nb e = (refl, e)
-  same_rows no_rows (row u ps qs) a b ha hb na nb e = absurd (differ is_begin a (spelled u (spelled_others ps (spelled_rows qs b))) na (tree_begins u _) e)
-  same_rows (row c os rs) no_rows a b ha hb na nb e = absurd (differ is_begin b (spelled c (spelled_others os (spelled_rows rs a))) nb (tree_begins c _) (sym e))
+  same_rows no_rows (row u ps qs) a b ha hb na nb e = absurd (differ is_begin a (spelled_command u (spelled_others ps (spelled_rows qs b))) na (tree_begins u _) e)
+  same_rows (row c os rs) no_rows a b ha hb na nb e = absurd (differ is_begin b (spelled_command c (spelled_others os (spelled_rows rs a))) nb (tree_begins c _) (sym e))
   same_rows (row c os rs) (row u ps qs) a b ha hb na nb e =
       let ra = rows_end rs a ha in
       let rb = rows_end qs b hb in
@@ -363,8 +363,8 @@ mutual
 
   same_others : (os ps : Others) (a b : Ts) → EndsRow a → EndsRow b → spelled_others os a ≡ spelled_others ps b → (os ≡ ps) × (a ≡ b)
   same_others no_others no_others a b ha hb e = (refl, e)
-  same_others no_others (joined j u ps) a b ha hb e = absurd (differ is_joins a (t.joiner j ∷ spelled u (spelled_others ps b)) ha.joins_not refl e)
-  same_others (joined j c os) no_others a b ha hb e = absurd (differ is_joins b (t.joiner j ∷ spelled c (spelled_others os a)) hb.joins_not refl (sym e))
+  same_others no_others (joined j u ps) a b ha hb e = absurd (differ is_joins a (t.joiner j ∷ spelled_command u (spelled_others ps b)) ha.joins_not refl e)
+  same_others (joined j c os) no_others a b ha hb e = absurd (differ is_joins b (t.joiner j ∷ spelled_command c (spelled_others os a)) hb.joins_not refl (sym e))
   same_others (joined j c os) (joined i u ps) a b ha hb e =
       let m = same_tree c u (spelled_others os a) (spelled_others ps b) (others_end os a ha.ends) (others_end ps b hb.ends) (tail _ _ _ _ e) in
       let n = same_others os ps a b ha hb m.1 in
@@ -518,7 +518,7 @@ some_item (plain (grouping n p xs)) rest e = cc
 some_item (backward xs) rest e = cc
 
 -- two trees with the same tokens are one
-pub one_tree : (xs ys : List Item) → written xs ≡ written ys → xs ≡ ys
+pub one_tree : (xs ys : List Item) → script_tokens xs ≡ script_tokens ys → xs ≡ ys
 one_tree [] [] e = refl
 one_tree [] (y ∷ ys) e = absurd (some_item y _ (sym e))
 one_tree (x ∷ xs) [] e = absurd (some_item x _ e)
@@ -532,7 +532,7 @@ one_tree (x ∷ xs) (y ∷ ys) e =
 none_ends : EndsRow []
 none_ends = record { ends = record { adds_not = refl; multiplies_not = refl }; joins_not = refl }
 
-pub one_body : (c u : Command) (os ps : Others) → spelled c (spelled_others os []) ≡ spelled u (spelled_others ps []) → (c ≡ u) × (os ≡ ps)
+pub one_body : (c u : Command) (os ps : Others) → spelled_command c (spelled_others os []) ≡ spelled_command u (spelled_others ps []) → (c ≡ u) × (os ≡ ps)
 one_body c u os ps e =
     let m = same_tree c u (spelled_others os []) (spelled_others ps []) (others_end os [] none_ends.ends) (others_end ps [] none_ends.ends) e in
     (m.0, (same_others os ps [] [] none_ends none_ends m.1).0)
@@ -542,7 +542,7 @@ one_row_of_terms p q xs ys e =
     let heads : argument_terminal p ≡ argument_terminal q = cc in
     (same_argument p q heads, (same_terms xs ys [] [] refl refl (tail _ _ _ _ e)).0)
 
-pub one_among : (x y : Starter) (gs hs : Groups) → spelled (among_ x gs) [] ≡ spelled (among_ y hs) [] → (x ≡ y) × (gs ≡ hs)
+pub one_among : (x y : Starter) (gs hs : Groups) → spelled_command (among_ x gs) [] ≡ spelled_command (among_ y hs) [] → (x ≡ y) × (gs ≡ hs)
 one_among x y gs hs e = go (same_tree (among_ x gs) (among_ y hs) [] [] none_ends.ends none_ends.ends e).0 where
   go : among_ x gs ≡ among_ y hs → (x ≡ y) × (gs ≡ hs)
   go f = let a : x ≡ y = cc in let b : gs ≡ hs = cc in (a, b)

@@ -8,7 +8,7 @@ use Rattle.sbl_ast.specs.declared.tree.Assignment.TheVariants as assignments
 use Rattle.sbl_ast.specs.declared.tree.Additive.TheVariants as additives
 use Rattle.sbl_ast.specs.Terminal.{Terminal, Quoted}
 use Rattle.sbl_ast.specs.Terminal as t
-use Rattle.sbl_ast.specs.Tree.{Argument, written_out, by_name, Expression, expression, Sums, no_sums, sum, product, Scales, no_scales, scale, Factor, negated, bracketed, numeral, variable, fixed, length_of, Entry, entry, Command, bracket, simple_, literal_, name_, non_, prefixed, counted, move_, named, splice_, setlimit_, assign_, compare_, compare_values_, among_, Rows, no_rows, row, Others, no_others, joined, Starter, no_starter, starter, Groups, bare, group, Term, term, Plain, declaration, escapes, macro, routine, grouping, Item, plain, backward, argument_terminal, spelled_expression, spelled_sums, spelled_scales, spelled_factor, spelled_entry, spelled, spelled_rows, spelled_others, spelled_starter, spelled_groups, spelled_names, spelled_base, spelled_terms, spelled_plain, spelled_plains, spelled_item, spelled_items}
+use Rattle.sbl_ast.specs.Tree.{Argument, written_out, by_name, Expression, expression, Sums, no_sums, sum, product, Scales, no_scales, scale, Factor, negated, bracketed, numeral, variable, fixed, length_of, Entry, entry, Command, bracket, simple_, literal_, name_, non_, prefixed, counted, move_, named, splice_, setlimit_, assign_, compare_, compare_values_, among_, Rows, no_rows, row, Others, no_others, joined, Starter, no_starter, starter, Groups, bare, group, Term, term, Plain, declaration, escapes, macro, routine, grouping, Item, plain, backward, argument_terminal, spelled_expression, spelled_sums, spelled_scales, spelled_factor, spelled_entry, spelled_command, spelled_rows, spelled_others, spelled_starter, spelled_groups, spelled_names, spelled_base, spelled_terms, spelled_plain, spelled_plains, spelled_item, spelled_items}
 use Rattle.sbl_ast.specs.Places.{AtDepth, tokens}
 use Rattle.sbl_parser.specs.Steps.{Symbol, Stack, Step, goes, stuck, unassigned, is_optional, behind, behind_opening, behind_closing, behind_name, behind_argument, behind_for, behind_excluded, behind_subject, behind_operator, behind_comparison, behind_factor, behind_scales, behind_sums, behind_command, behind_among, behind_others, behind_starter, behind_groups, behind_entries, behind_inserts, behind_macro, behind_base, behind_literal, behind_definition, behind_terms, behind_names, behind_plain, behind_item, or_else, step}
 use Rattle.sbl_parser.specs.Steps as s
@@ -23,13 +23,13 @@ MakesOne (s.opening d) More ts = (rest : List Terminal) × (ts ≡ t.open_ ∷ r
 MakesOne (s.closing d) More ts = (rest : List Terminal) × (ts ≡ t.close_ ∷ rest) × More rest
 MakesOne (s.name d) More ts = (n : List ℕ) × (rest : List Terminal) × (ts ≡ t.name n ∷ rest) × More rest
 MakesOne (s.argument d) More ts = (a : Argument) × (rest : List Terminal) × (ts ≡ argument_terminal a ∷ rest) × More rest
-MakesOne (s.command d) More ts = (c : Command) × (rest : List Terminal) × (ts ≡ spelled c rest) × More rest
+MakesOne (s.command d) More ts = (c : Command) × (rest : List Terminal) × (ts ≡ spelled_command c rest) × More rest
 MakesOne (s.others d) More ts = (os : Others) × (rest : List Terminal) × (ts ≡ spelled_others os rest) × More rest
 MakesOne (s.rows d) More ts = (rs : Rows) × (rest : List Terminal) × (ts ≡ spelled_rows rs rest) × More rest
 MakesOne (s.for_ d) More ts = (rest : List Terminal) × (ts ≡ t.for_ ∷ rest) × More rest
-MakesOne (s.excluded d) More ts = (b : Bool) × (n : List ℕ) × (rest : List Terminal) × (t.non ∷ ts ≡ spelled (non_ b n) rest) × More rest
-MakesOne (s.subject d) More ts = (c : Command) × (rest : List Terminal) × (t.dollar ∷ ts ≡ spelled c rest) × More rest
-MakesOne (s.operator d) More ts = (f : List ℕ → Command) × (rest : List Terminal) × ((n : List ℕ) → t.dollar ∷ t.name n ∷ ts ≡ spelled (f n) rest) × More rest
+MakesOne (s.excluded d) More ts = (b : Bool) × (n : List ℕ) × (rest : List Terminal) × (t.non ∷ ts ≡ spelled_command (non_ b n) rest) × More rest
+MakesOne (s.subject d) More ts = (c : Command) × (rest : List Terminal) × (t.dollar ∷ ts ≡ spelled_command c rest) × More rest
+MakesOne (s.operator d) More ts = (f : List ℕ → Command) × (rest : List Terminal) × ((n : List ℕ) → t.dollar ∷ t.name n ∷ ts ≡ spelled_command (f n) rest) × More rest
 MakesOne (s.comparison d) More ts = (o : Comparison) × (rest : List Terminal) × (ts ≡ t.compares o ∷ rest) × More rest
 MakesOne (s.factor d) More ts = (f : Factor) × (rest : List Terminal) × (ts ≡ spelled_factor f rest) × More rest
 MakesOne (s.scales d) More ts = (ss : Scales) × (rest : List Terminal) × (ts ≡ spelled_scales ss rest) × More rest
@@ -38,7 +38,7 @@ MakesOne (s.starter d) More ts = (x : Starter) × (rest : List Terminal) × (ts 
 MakesOne (s.groups d) More ts = (gs : Groups) × (rest : List Terminal) × (ts ≡ spelled_groups gs rest) × More rest
 MakesOne (s.entries d) More ts = (f : Entry → Groups) × (rest : List Terminal) × ((x : Entry) → spelled_entry x ts ≡ spelled_groups (f x) rest) × More rest
 MakesOne (s.condition d) More ts = (c : Option (List ℕ)) × (rest : List Terminal) × ((q : Quoted) → t.literal q ∷ ts ≡ spelled_entry (entry q c) rest) × More rest
-MakesOne (s.among d) More ts = (x : Starter) × (gs : Groups) × (rest : List Terminal) × (ts ≡ spelled (among_ x gs) rest) × More rest
+MakesOne (s.among d) More ts = (x : Starter) × (gs : Groups) × (rest : List Terminal) × (ts ≡ spelled_command (among_ x gs) rest) × More rest
 MakesOne s.inserts More ts = (a : ℕ) × (b : ℕ) × (rest : List Terminal) × (ts ≡ t.inserts a b ∷ rest) × More rest
 MakesOne s.macro More ts = (n : List ℕ) × (rest : List Terminal) × (ts ≡ t.macro_name n ∷ rest) × More rest
 MakesOne s.base More ts = (b : Option Base) × (rest : List Terminal) × (ts ≡ spelled_base b rest) × More rest
@@ -168,7 +168,7 @@ command_made d (t.count n) k = λ ts m. let e = expression_made d (s.command (d 
 command_made d (t.move o) k = λ ts m. let e = expression_made d k ts m in (move_ o e.0, e.1, cons (t.move o) e.2, e.3)
 command_made d (t.naming x) k = λ ts m. (named x m.0, m.1, cons (t.naming x) m.2, m.3)
 command_made d (t.edit x) k = λ ts m. (splice_ x m.0, m.1, cons (t.edit x) m.2, m.3)
-command_made d t.set_limit k = λ ts m. (setlimit_ m.0 m.3.2.0, m.3.2.1, cons t.set_limit (m.2 ∙ ap (λ (r : Ts). spelled m.0 r) (m.3.1 ∙ cons t.for_ m.3.2.2)), m.3.2.3)
+command_made d t.set_limit k = λ ts m. (setlimit_ m.0 m.3.2.0, m.3.2.1, cons t.set_limit (m.2 ∙ ap (λ (r : Ts). spelled_command m.0 r) (m.3.1 ∙ cons t.for_ m.3.2.2)), m.3.2.3)
 command_made d t.dollar k = λ ts m. (m.0, m.1, m.2, m.3)
 command_made d t.among k = λ ts m. (
   among_ m.2.0 m.2.3.0,
@@ -189,14 +189,14 @@ among_made d t.among k = λ ts m. (
 among_made d _ k = tt
 
 others_made : (d : ℕ) (x : Terminal) (k : Stack) → Assembles (s.others d ∷ k) x (behind_others d x k)
-others_made d (t.joiner j) k = λ ts m. (joined j m.0 m.3.0, m.3.1, cons (t.joiner j) (m.2 ∙ ap (λ (r : Ts). spelled m.0 r) m.3.2), m.3.3)
+others_made d (t.joiner j) k = λ ts m. (joined j m.0 m.3.0, m.3.1, cons (t.joiner j) (m.2 ∙ ap (λ (r : Ts). spelled_command m.0 r) m.3.2), m.3.3)
 others_made d _ k = tt
 
 rows_made : (d : ℕ) (x : Terminal) (k : Stack) → Assembles (s.rows d ∷ k) x (behind (s.rows d) x k)
 rows_made d x k = go (behind_command d x (s.others d ∷ s.rows d ∷ k)) (command_made d x (s.others d ∷ s.rows d ∷ k)) where
   go : (b : Step) → Assembles (s.command d ∷ s.others d ∷ s.rows d ∷ k) x b → Assembles (s.rows d ∷ k) x b
   go (goes e next) h = λ ts m. let c = h ts m in
-      (row c.0 c.3.0 c.3.3.0, c.3.3.1, c.2 ∙ ap (λ (r : Ts). spelled c.0 r) (c.3.2 ∙ ap (λ (r : Ts). spelled_others c.3.0 r) c.3.3.2), c.3.3.3)
+      (row c.0 c.3.0 c.3.3.0, c.3.3.1, c.2 ∙ ap (λ (r : Ts). spelled_command c.0 r) (c.3.2 ∙ ap (λ (r : Ts). spelled_others c.3.0 r) c.3.3.2), c.3.3.3)
   go stuck h = tt
   go unassigned h = tt
 
@@ -244,7 +244,7 @@ definition_made : (x : Terminal) (k : Stack) → Assembles (s.definition ∷ k) 
 definition_made t.as_ k = λ ts m. (
   λ n. routine n m.0 m.3.0,
   m.3.1,
-  λ n. cons t.define (cons (t.name n) (cons t.as_ (m.2 ∙ ap (λ (r : Ts). spelled m.0 r) m.3.2))),
+  λ n. cons t.define (cons (t.name n) (cons t.as_ (m.2 ∙ ap (λ (r : Ts). spelled_command m.0 r) m.3.2))),
   m.3.3,
 )
 definition_made (t.literal q) k = λ ts m. (λ n. grouping n (written_out q) m.0, m.1, λ n. cons t.define (cons (t.name n) (cons (t.literal q) m.2)), m.3)

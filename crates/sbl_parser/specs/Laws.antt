@@ -1,7 +1,7 @@
 -- Laws of the parser.
 use Rattle.std.specs.Prelude.{◌≡◌, List}
 use Rattle.sbl_ast.specs.Terminal.{Terminal}
-use Rattle.sbl_ast.specs.Tree.{Item, written}
+use Rattle.sbl_ast.specs.Tree.{Item, script_tokens}
 use Rattle.sbl_ast.specs.Texts.{Text, TreeOf, script, tokens_of}
 use Rattle.sbl_parser.specs.Reading.{IsReadAs, IsSyntaxAt, IsTooDeepAt, IsOutOfProfileAt}
 
@@ -11,7 +11,7 @@ TreesAreOne = (w : Text) (t u : TreeOf w) → tokens_of w t ≡ tokens_of w u �
 
 -- the tokens of the tree with depths are the tokens that a script is written with
 abbrev pub PlacesAreWritten : Type 0
-PlacesAreWritten = (items : List Item) → tokens_of script items ≡ written items
+PlacesAreWritten = (items : List Item) → tokens_of script items ≡ script_tokens items
 
 -- the faults of tokens
 pub data Wrong : Type 0 where

@@ -1,7 +1,7 @@
 -- definitions that public contracts depend on
 pub mod Profile
 pub mod Reading
-pub mod Told
+pub mod FaultOffsets
 pub mod Laws
 -- what the functions inside the crate promise each other; no public contract depends on these
 pub mod Roles

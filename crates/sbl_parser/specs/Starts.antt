@@ -35,7 +35,3 @@ begins_item roles.BackwardMode = true
 begins_item _ = false
 
 -- the token is a literal or a name
-abbrev pub begins_argument : Role → Bool
-begins_argument roles.Literal = true
-begins_argument roles.Name = true
-begins_argument _ = false

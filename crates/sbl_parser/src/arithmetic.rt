@@ -1,140 +1,96 @@
-//! Parses arithmetic expressions. Each function reads from the token at index `at` and returns what it has read and the
-//! index of the token after it, or else the first fault, or `Memory` if an allocation fails.
+//! Parses arithmetic expressions. Each function returns what it has read, or else the first fault, or `Memory` if an
+//! allocation fails.
 
-ghost use Rattle.std.specs.Prelude.{◌≡◌, ◌≤◌, ◌∷◌, [], string_bytes};
-ghost use Rattle.sbl_ast.specs.Terminal.{left};
+ghost use Rattle.std.specs.Prelude.{◌≡◌, ◌≤◌, ◌∷◌, []};
 ghost use Rattle.sbl_parser.specs.Roles.{role_of};
 ghost use Rattle.sbl_parser.specs.Steps as wanted;
 ghost use Rattle.sbl_ast.specs.Places.{max_depth};
-ghost use Rattle.sbl_ast.specs.Tree.{spelled_expression, spelled_sums, spelled_product, spelled_scales, spelled_factor};
-ghost use Rattle.sbl_ast.specs.View.{view_expression, view_sums, view_product, view_scales, view_factor};
-ghost use Rattle.sbl_parser.specs.Gives.{Gives};
+ghost use Rattle.sbl_ast.specs.Tree.{spelled_expression, spelled_product, spelled_factor};
+ghost use Rattle.sbl_ast.specs.View.{view_expression, view_product, view_factor};
+ghost use Rattle.sbl_parser.specs.Gives.{ahead, Reads};
 
-use crate::error::{MAX_DEPTH, Parsed, syntax, too_deep};
-use crate::front::{behind, number, role, text};
+use crate::cursor::{Cursor, Delimiter, chain};
+use crate::error::{MAX_DEPTH, Parsed, ReadError};
 use crate::role::Role;
-use crate::tokens::{argument, close};
+use crate::tokens::argument;
 use sbl_ast::{Added, Additive, Expression, Factor, Product, Scaled};
-use sbl_text::Token;
-use std::alloc::Global;
 
 /// Parses an arithmetic expression. Parentheses or a minus in it are one level deeper than `depth`.
 #[cycle(arithmetic)]
-pub fn expression(alloc: Global, tokens: &[Token<'_>], at: usize, depth: u8) -> Parsed<Expression>
+pub fn expression(cursor: &mut Cursor<'_, '_>, depth: u8) -> Parsed<Expression>
     requires { depth ≤ max_depth }
-    ensures { Gives tokens.now at (wanted.expression depth []) (λ x. spelled_expression (view_expression x.0) (left tokens.now x.1)) (λ x. x.1) result }
+    ensures { Reads (wanted.expression depth []) (λ x. spelled_expression (view_expression x)) (ahead cursor.old) result (ahead cursor.new) }
 {
-    let (first, rest) = product(alloc, tokens, at, depth)?;
-    let (others, rest) = sums(alloc, tokens, rest, depth)?;
-    Ok((Expression { first, others }, rest))
-}
-
-/// Parses the products after the first one, if any.
-#[cycle(arithmetic)]
-fn sums(alloc: Global, tokens: &[Token<'_>], at: usize, depth: u8) -> Parsed<Vec<Added>>
-    requires { depth ≤ max_depth }
-    ensures { Gives tokens.now at (wanted.sums depth ∷ []) (λ x. spelled_sums (view_sums x.0.items) (left tokens.now x.1)) (λ x. x.1) result }
-{
-    let mut sums = Vec::new(alloc);
-    let mut rest = at;
-    while let Role::Additive(operator) = role(tokens, rest) {
-        let (product, after) = product(alloc, tokens, behind(tokens, rest), depth)?;
-        sums.push(Added { operator, product })?;
-        rest = after;
-    }
-    Ok((sums, rest))
+    let (first, others) = chain!(cursor, depth, product; Additive => Added { operator, product });
+    Ok(Expression { first, others })
 }
 
 /// Parses a product.
 #[cycle(arithmetic)]
-fn product(alloc: Global, tokens: &[Token<'_>], at: usize, depth: u8) -> Parsed<Product>
+fn product(cursor: &mut Cursor<'_, '_>, depth: u8) -> Parsed<Product>
     requires { depth ≤ max_depth }
-    ensures { Gives tokens.now at (wanted.factor depth ∷ wanted.scales depth ∷ []) (λ x. spelled_product (view_product x.0) (left tokens.now x.1)) (λ x. x.1) result }
+    ensures { Reads (wanted.factor depth ∷ wanted.scales depth ∷ []) (λ x. spelled_product (view_product x)) (ahead cursor.old) result (ahead cursor.new) }
 {
-    let (first, rest) = factor(alloc, tokens, at, depth)?;
-    let (others, rest) = scales(alloc, tokens, rest, depth)?;
-    Ok((Product { first, others }, rest))
-}
-
-/// Parses the factors after the first one, if any.
-#[cycle(arithmetic)]
-fn scales(alloc: Global, tokens: &[Token<'_>], at: usize, depth: u8) -> Parsed<Vec<Scaled>>
-    requires { depth ≤ max_depth }
-    ensures { Gives tokens.now at (wanted.scales depth ∷ []) (λ x. spelled_scales (view_scales x.0.items) (left tokens.now x.1)) (λ x. x.1) result }
-{
-    let mut scales = Vec::new(alloc);
-    let mut rest = at;
-    while let Role::Multiplicative(operator) = role(tokens, rest) {
-        let (factor, after) = factor(alloc, tokens, behind(tokens, rest), depth)?;
-        scales.push(Scaled { operator, factor })?;
-        rest = after;
-    }
-    Ok((scales, rest))
+    let (first, others) =
+        chain!(cursor, depth, factor; Multiplicative => Scaled { operator, factor });
+    Ok(Product { first, others })
 }
 
 /// Parses a factor.
 #[cycle(arithmetic)]
-fn factor(alloc: Global, tokens: &[Token<'_>], at: usize, depth: u8) -> Parsed<Factor>
+fn factor(cursor: &mut Cursor<'_, '_>, depth: u8) -> Parsed<Factor>
     requires { depth ≤ max_depth }
-    ensures { Gives tokens.now at (wanted.factor depth ∷ []) (λ x. spelled_factor (view_factor x.0) (left tokens.now x.1)) (λ x. x.1) result }
+    ensures { Reads (wanted.factor depth ∷ []) (λ x. spelled_factor (view_factor x)) (ahead cursor.old) result (ahead cursor.new) }
 {
-    match role(tokens, at) {
-        Role::Number => Ok((Factor::Number(number(tokens, at)), behind(tokens, at))),
-        Role::Name => Ok((Factor::Name(text(alloc, tokens, at)?), behind(tokens, at))),
-        Role::Constant(constant) => Ok((Factor::Constant(constant), behind(tokens, at))),
-        Role::LenOf => length_of(alloc, tokens, at, depth),
-        Role::Additive(operator) => negated(alloc, tokens, at, depth, operator),
-        Role::Open => bracketed(alloc, tokens, at, depth),
-        _ => Err(syntax(at)),
+    match cursor.role() {
+        Role::Number => Ok(Factor::Number(cursor.take_number())),
+        Role::Name => Ok(Factor::Name(cursor.take_name()?)),
+        Role::Constant(constant) => {
+            cursor.skip();
+            Ok(Factor::Constant(constant))
+        }
+        Role::LenOf => {
+            cursor.skip();
+            Ok(Factor::LenOf(argument(cursor, depth)?))
+        }
+        Role::Additive(operator) => negation(cursor, depth, operator),
+        Role::Open => bracket_factor(cursor, depth),
+        _ => Err(ReadError::Syntax(cursor.left())),
     }
 }
 
 /// Parses `- F`.
 #[cycle(arithmetic)]
-fn negated(
-    alloc: Global,
-    tokens: &[Token<'_>],
-    at: usize,
-    depth: u8,
-    operator: Additive,
-) -> Parsed<Factor>
-    requires first { role_of (left tokens.now at) ≡ Role.Additive operator }
+fn negation(cursor: &mut Cursor<'_, '_>, depth: u8, operator: Additive) -> Parsed<Factor>
+    requires first { role_of (ahead cursor.old) ≡ Role.Additive operator }
     requires shallow { depth ≤ max_depth }
-    ensures { Gives tokens.now at (wanted.factor depth ∷ []) (λ x. spelled_factor (view_factor x.0) (left tokens.now x.1)) (λ x. x.1) result }
+    ensures { Reads (wanted.factor depth ∷ []) (λ x. spelled_factor (view_factor x)) (ahead cursor.old) result (ahead cursor.new) }
 {
     match operator {
-        Additive::Plus => Err(syntax(at)),
+        Additive::Plus => Err(ReadError::Syntax(cursor.left())),
         Additive::Minus => {
             if depth >= MAX_DEPTH {
-                return Err(too_deep(at));
+                return Err(ReadError::TooDeep(cursor.left()));
             }
-            let (inner, rest) = factor(alloc, tokens, behind(tokens, at), depth + 1)?;
-            Ok((Factor::Minus(Box::new(alloc, inner)?), rest))
+            cursor.skip();
+            let inner = factor(cursor, depth + 1)?;
+            Ok(Factor::Minus(Box::new(cursor.alloc, inner)?))
         }
     }
 }
 
 /// Parses `( E )`.
 #[cycle(arithmetic)]
-fn bracketed(alloc: Global, tokens: &[Token<'_>], at: usize, depth: u8) -> Parsed<Factor>
-    requires first { role_of (left tokens.now at) ≡ Role.Open }
+fn bracket_factor(cursor: &mut Cursor<'_, '_>, depth: u8) -> Parsed<Factor>
+    requires first { role_of (ahead cursor.old) ≡ Role.Open }
     requires shallow { depth ≤ max_depth }
-    ensures { Gives tokens.now at (wanted.factor depth ∷ []) (λ x. spelled_factor (view_factor x.0) (left tokens.now x.1)) (λ x. x.1) result }
+    ensures { Reads (wanted.factor depth ∷ []) (λ x. spelled_factor (view_factor x)) (ahead cursor.old) result (ahead cursor.new) }
 {
     if depth >= MAX_DEPTH {
-        return Err(too_deep(at));
+        return Err(ReadError::TooDeep(cursor.left()));
     }
-    let (inner, rest) = expression(alloc, tokens, behind(tokens, at), depth + 1)?;
-    let rest = close(tokens, rest, depth + 1)?;
-    Ok((Factor::Bracket(Box::new(alloc, inner)?), rest))
-}
-
-/// Parses `lenof S`.
-fn length_of(alloc: Global, tokens: &[Token<'_>], at: usize, depth: u8) -> Parsed<Factor>
-    requires first { role_of (left tokens.now at) ≡ Role.LenOf }
-    requires shallow { depth ≤ max_depth }
-    ensures { Gives tokens.now at (wanted.factor depth ∷ []) (λ x. spelled_factor (view_factor x.0) (left tokens.now x.1)) (λ x. x.1) result }
-{
-    let (of, rest) = argument(alloc, tokens, behind(tokens, at), depth)?;
-    Ok((Factor::LenOf(of), rest))
+    cursor.skip();
+    let inner = expression(cursor, depth + 1)?;
+    cursor.take(Delimiter::Close, depth + 1)?;
+    Ok(Factor::Bracket(Box::new(cursor.alloc, inner)?))
 }

@@ -1,254 +1,234 @@
-//! Parses commands. Each function reads from the token at index `at` and returns what it has read and the index of the
-//! token after it, or else the first fault, or `Memory` if an allocation fails.
+//! Parses commands. Each function returns what it has read, or else the first fault, or `Memory` if an allocation fails.
 
-ghost use Rattle.std.specs.Prelude.{◌≡◌, ◌≤◌, ◌+◌, ◌∷◌, [], drop, string_bytes, OnOk};
-ghost use Rattle.sbl_ast.specs.Terminal.{left};
+ghost use Rattle.std.specs.Prelude.{◌≡◌, ◌≤◌, ◌+◌, ◌∷◌, [], OnOk};
 ghost use Rattle.sbl_parser.specs.Roles.{role_of};
 ghost use Rattle.sbl_ast.specs.Terminal as t;
 ghost use Rattle.sbl_parser.specs.Steps as wanted;
 ghost use Rattle.sbl_ast.specs.Places.{max_depth};
-ghost use Rattle.sbl_ast.specs.Tree.{among_, spelled, spelled_rows, spelled_others, spelled_starter, spelled_groups};
-ghost use Rattle.sbl_ast.specs.View.{view_among, view_command, view_rows, view_others, view_starter, view_groups, view_entry};
-ghost use Rattle.sbl_parser.specs.Gives.{Gives};
+ghost use Rattle.sbl_ast.specs.Tree.{among_, spelled_command, spelled_rows, spelled_others, spelled_starter, spelled_groups};
+ghost use Rattle.sbl_ast.specs.View.{view_among, view_command, view_rows, view_row, view_starter, view_groups, view_entry};
+ghost use Rattle.sbl_parser.specs.Gives.{ahead, Reads};
 ghost use Rattle.std.specs.Prelude.{map};
 
 use crate::arithmetic::expression;
+use crate::cursor::{Cursor, Delimiter, chain};
 use crate::entries::{entries, entry};
-use crate::error::{MAX_DEPTH, Parsed, syntax, too_deep};
-use crate::front::{behind, literal, role, text};
-use crate::leaves::{dollar, edited, moved, named, non};
+use crate::error::{MAX_DEPTH, Parsed, ReadError};
+use crate::leaves::{dollar, non};
 use crate::role::Role;
 use crate::starts::begins_command;
-use crate::tokens::{close, for_word, open};
+use crate::tokens::{argument, name};
 use sbl_ast::{Among, Command, Count, Entry, Group, Joined, Prefix, RowOfCommands};
-use sbl_text::Token;
-use std::alloc::Global;
 
 /// Parses a command whose first token is at nesting depth `depth`.
 #[cycle(commands)]
-pub fn command(alloc: Global, tokens: &[Token<'_>], at: usize, depth: u8) -> Parsed<Command>
+fn command(cursor: &mut Cursor<'_, '_>, depth: u8) -> Parsed<Command>
     requires { depth ≤ max_depth + 1 }
     ensures shallow { OnOk result (depth ≤ max_depth) }
-    ensures gives { Gives tokens.now at (wanted.command depth ∷ []) (λ x. spelled (view_command x.0) (left tokens.now x.1)) (λ x. x.1) result }
+    ensures gives { Reads (wanted.command depth ∷ []) (λ x. spelled_command (view_command x)) (ahead cursor.old) result (ahead cursor.new) }
 {
-    let role = role(tokens, at);
+    let role = cursor.role();
     if !begins_command(role) {
-        return Err(syntax(at));
+        return Err(ReadError::Syntax(cursor.left()));
     }
     if depth > MAX_DEPTH {
-        return Err(too_deep(at));
+        return Err(ReadError::TooDeep(cursor.left()));
     }
+    command_of(cursor, depth, role)
+}
+
+/// Parses a command whose first token has this role.
+#[cycle(commands)]
+fn command_of(cursor: &mut Cursor<'_, '_>, depth: u8, role: Role) -> Parsed<Command>
+    requires first { role_of (ahead cursor.old) ≡ role }
+    requires shallow { depth ≤ max_depth }
+    ensures { Reads (wanted.command depth ∷ []) (λ x. spelled_command (view_command x)) (ahead cursor.old) result (ahead cursor.new) }
+{
     match role {
-        Role::Open => bracket(alloc, tokens, at, depth),
-        Role::Simple(simple) => Ok((Command::Simple(simple), behind(tokens, at))),
-        Role::Literal => Ok((
-            Command::Literal(literal(alloc, tokens, at)?),
-            behind(tokens, at),
-        )),
-        Role::Name => Ok((Command::Name(text(alloc, tokens, at)?), behind(tokens, at))),
-        Role::Non => non(alloc, tokens, at, depth),
-        Role::Prefix(prefix) => prefixed(alloc, tokens, at, depth, prefix),
-        Role::Count(count) => counted(alloc, tokens, at, depth, count),
-        Role::Move(word) => moved(alloc, tokens, at, depth, word),
-        Role::Naming(word) => named(alloc, tokens, at, depth, word),
-        Role::Splice(word) => edited(alloc, tokens, at, depth, word),
-        Role::SetLimit => set_limit(alloc, tokens, at, depth),
-        Role::Dollar => dollar(alloc, tokens, at, depth),
-        Role::Among => {
-            let (among, rest) = among(alloc, tokens, at, depth)?;
-            Ok((Command::Among(among), rest))
+        Role::Open => {
+            cursor.skip();
+            Ok(Command::Bracket(block(cursor, depth)?))
         }
-        _ => Err(syntax(at)),
+        Role::Simple(simple) => {
+            cursor.skip();
+            Ok(Command::Simple(simple))
+        }
+        Role::Literal => Ok(Command::Literal(cursor.take_literal()?)),
+        Role::Name => Ok(Command::Name(cursor.take_name()?)),
+        Role::Non => {
+            cursor.skip();
+            non(cursor, depth)
+        }
+        Role::Prefix(prefix) => {
+            cursor.skip();
+            prefix_command(cursor, depth, prefix)
+        }
+        Role::Count(count) => {
+            cursor.skip();
+            count_command(cursor, depth, count)
+        }
+        Role::Move(word) => {
+            cursor.skip();
+            Ok(Command::Move(word, expression(cursor, depth)?))
+        }
+        Role::SetLimit => set_limit(cursor, depth),
+        Role::Naming(word) => {
+            cursor.skip();
+            Ok(Command::Named(word, name(cursor, depth)?))
+        }
+        Role::Among => Ok(Command::Among(among(cursor, depth)?)),
+        Role::Splice(word) => {
+            cursor.skip();
+            Ok(Command::Splice(word, argument(cursor, depth)?))
+        }
+        Role::Dollar => {
+            cursor.skip();
+            dollar(cursor, depth)
+        }
+        _ => Err(ReadError::Syntax(cursor.left())),
     }
 }
 
-/// Parses `( C1 C2 .. )`.
+/// Parses `C`, after a `not` or a similar word.
 #[cycle(commands)]
-fn bracket(alloc: Global, tokens: &[Token<'_>], at: usize, depth: u8) -> Parsed<Command>
-    requires first { role_of (left tokens.now at) ≡ Role.Open }
-    requires shallow { depth ≤ max_depth }
-    ensures { Gives tokens.now at (wanted.command depth ∷ []) (λ x. spelled (view_command x.0) (left tokens.now x.1)) (λ x. x.1) result }
+fn prefix_command(cursor: &mut Cursor<'_, '_>, depth: u8, prefix: Prefix) -> Parsed<Command>
+    requires { depth ≤ max_depth }
+    ensures { Reads (wanted.command depth ∷ []) (λ x. spelled_command (view_command x)) (t.prefix prefix ∷ ahead cursor.old) result (ahead cursor.new) }
 {
-    let (rows, rest) = block(alloc, tokens, behind(tokens, at), depth)?;
-    Ok((Command::Bracket(rows), rest))
+    let inner = command(cursor, depth + 1)?;
+    Ok(Command::Prefixed(prefix, Box::new(cursor.alloc, inner)?))
 }
 
-/// Parses `not C` and similar commands.
+/// Parses `E C`, after a `loop` or `atleast`.
 #[cycle(commands)]
-fn prefixed(
-    alloc: Global,
-    tokens: &[Token<'_>],
-    at: usize,
-    depth: u8,
-    prefix: Prefix,
-) -> Parsed<Command>
-    requires first { role_of (left tokens.now at) ≡ Role.Prefix prefix }
-    requires shallow { depth ≤ max_depth }
-    ensures { Gives tokens.now at (wanted.command depth ∷ []) (λ x. spelled (view_command x.0) (left tokens.now x.1)) (λ x. x.1) result }
+fn count_command(cursor: &mut Cursor<'_, '_>, depth: u8, count: Count) -> Parsed<Command>
+    requires { depth ≤ max_depth }
+    ensures { Reads (wanted.command depth ∷ []) (λ x. spelled_command (view_command x)) (t.count count ∷ ahead cursor.old) result (ahead cursor.new) }
 {
-    let (inner, rest) = command(alloc, tokens, behind(tokens, at), depth + 1)?;
-    Ok((Command::Prefixed(prefix, Box::new(alloc, inner)?), rest))
-}
-
-/// Parses `loop E C` and `atleast E C`.
-#[cycle(commands)]
-fn counted(
-    alloc: Global,
-    tokens: &[Token<'_>],
-    at: usize,
-    depth: u8,
-    count: Count,
-) -> Parsed<Command>
-    requires first { role_of (left tokens.now at) ≡ Role.Count count }
-    requires shallow { depth ≤ max_depth }
-    ensures { Gives tokens.now at (wanted.command depth ∷ []) (λ x. spelled (view_command x.0) (left tokens.now x.1)) (λ x. x.1) result }
-{
-    let (times, rest) = expression(alloc, tokens, behind(tokens, at), depth)?;
-    let (inner, rest) = command(alloc, tokens, rest, depth + 1)?;
-    Ok((
-        Command::Counted(count, times, Box::new(alloc, inner)?),
-        rest,
-    ))
+    let times = expression(cursor, depth)?;
+    let inner = command(cursor, depth + 1)?;
+    let inner = Box::new(cursor.alloc, inner)?;
+    Ok(Command::Counted(count, times, inner))
 }
 
 /// Parses `setlimit C1 for C2`.
 #[cycle(commands)]
-fn set_limit(alloc: Global, tokens: &[Token<'_>], at: usize, depth: u8) -> Parsed<Command>
-    requires first { role_of (left tokens.now at) ≡ Role.SetLimit }
+fn set_limit(cursor: &mut Cursor<'_, '_>, depth: u8) -> Parsed<Command>
+    requires first { role_of (ahead cursor.old) ≡ Role.SetLimit }
     requires shallow { depth ≤ max_depth }
-    ensures { Gives tokens.now at (wanted.command depth ∷ []) (λ x. spelled (view_command x.0) (left tokens.now x.1)) (λ x. x.1) result }
+    ensures { Reads (wanted.command depth ∷ []) (λ x. spelled_command (view_command x)) (ahead cursor.old) result (ahead cursor.new) }
 {
-    let (limit, rest) = command(alloc, tokens, behind(tokens, at), depth + 1)?;
-    let rest = for_word(tokens, rest, depth)?;
-    let (inner, rest) = command(alloc, tokens, rest, depth + 1)?;
-    Ok((
-        Command::SetLimit(Box::new(alloc, limit)?, Box::new(alloc, inner)?),
-        rest,
+    cursor.skip();
+    let limit = command(cursor, depth + 1)?;
+    cursor.take(Delimiter::For, depth)?;
+    let inner = command(cursor, depth + 1)?;
+    Ok(Command::SetLimit(
+        Box::new(cursor.alloc, limit)?,
+        Box::new(cursor.alloc, inner)?,
     ))
 }
 
 /// Parses `among ( .. )`.
 #[cycle(commands)]
-pub fn among(alloc: Global, tokens: &[Token<'_>], at: usize, depth: u8) -> Parsed<Among>
-    requires first { role_of (left tokens.now at) ≡ Role.Among }
+pub fn among(cursor: &mut Cursor<'_, '_>, depth: u8) -> Parsed<Among>
+    requires first { role_of (ahead cursor.old) ≡ Role.Among }
     requires shallow { depth ≤ max_depth }
-    ensures { Gives tokens.now at (wanted.among depth ∷ []) (λ x. spelled (among_ (view_among x.0).0 (view_among x.0).1) (left tokens.now x.1)) (λ x. x.1) result }
+    ensures { Reads (wanted.among depth ∷ []) (λ x. spelled_command (among_ (view_among x).0 (view_among x).1)) (ahead cursor.old) result (ahead cursor.new) }
 {
-    let inside = open(tokens, behind(tokens, at), depth)?;
-    let (starter, rest) = starter(alloc, tokens, inside, depth)?;
-    let ((groups, bare), rest) = groups(alloc, tokens, rest, depth)?;
-    let rest = close(tokens, rest, depth)?;
-    let among = Among {
+    cursor.skip();
+    cursor.take(Delimiter::Open, depth)?;
+    let starter = starter(cursor, depth)?;
+    let (groups, bare) = groups(cursor, depth)?;
+    cursor.take(Delimiter::Close, depth)?;
+    Ok(Among {
         starter,
         groups,
         bare,
-    };
-    Ok((among, rest))
+    })
 }
 
 /// Parses the starter of an `among` (the commands in parentheses before the first string), if there is one. Its
 /// parentheses are one level deeper than `depth`.
 #[cycle(commands)]
-fn starter(
-    alloc: Global,
-    tokens: &[Token<'_>],
-    at: usize,
-    depth: u8,
-) -> Parsed<Option<Vec<RowOfCommands>>>
+fn starter(cursor: &mut Cursor<'_, '_>, depth: u8) -> Parsed<Option<Vec<RowOfCommands>>>
     requires { depth ≤ max_depth }
-    ensures { Gives tokens.now at (wanted.starter depth ∷ []) (λ x. spelled_starter (view_starter x.0) (left tokens.now x.1)) (λ x. x.1) result }
+    ensures { Reads (wanted.starter depth ∷ []) (λ x. spelled_starter (view_starter x)) (ahead cursor.old) result (ahead cursor.new) }
 {
-    match role(tokens, at) {
+    match cursor.role() {
         Role::Open => {
             if depth >= MAX_DEPTH {
-                return Err(too_deep(at));
+                return Err(ReadError::TooDeep(cursor.left()));
             }
-            let (rows, rest) = block(alloc, tokens, behind(tokens, at), depth + 1)?;
-            Ok((Some(rows), rest))
+            cursor.skip();
+            Ok(Some(block(cursor, depth + 1)?))
         }
-        _ => Ok((None, at)),
+        _ => Ok(None),
     }
 }
 
 /// Parses the groups of an `among`, and the strings after the last group. Parentheses are one level deeper than
 /// `depth`.
 #[cycle(commands)]
-fn groups(
-    alloc: Global,
-    tokens: &[Token<'_>],
-    at: usize,
-    depth: u8,
-) -> Parsed<(Vec<Group>, Vec<Entry>)>
+fn groups(cursor: &mut Cursor<'_, '_>, depth: u8) -> Parsed<(Vec<Group>, Vec<Entry>)>
     requires { depth ≤ max_depth }
-    ensures { Gives tokens.now at (wanted.groups depth ∷ []) (λ x. spelled_groups (view_groups x.0.0.items (map view_entry x.0.1.items)) (left tokens.now x.1)) (λ x. x.1) result }
+    ensures { Reads (wanted.groups depth ∷ []) (λ x. spelled_groups (view_groups x.0.items (map view_entry x.1.items))) (ahead cursor.old) result (ahead cursor.new) }
 {
-    let mut groups = Vec::new(alloc);
-    let mut rest = at;
-    while let Role::Literal = role(tokens, rest) {
-        let (first, after) = entry(alloc, tokens, rest, depth)?;
-        let (mut others, after) = entries(alloc, tokens, after, depth)?;
-        match role(tokens, after) {
+    let mut groups = Vec::new(cursor.alloc);
+    while let Role::Literal = cursor.role() {
+        let first = entry(cursor, depth)?;
+        let mut others = entries(cursor, depth)?;
+        match cursor.role() {
             Role::Open => {
                 if depth >= MAX_DEPTH {
-                    return Err(too_deep(after));
+                    return Err(ReadError::TooDeep(cursor.left()));
                 }
-                let (rows, after) = block(alloc, tokens, behind(tokens, after), depth + 1)?;
+                cursor.skip();
+                let rows = block(cursor, depth + 1)?;
                 groups.push(Group {
                     first,
                     others,
                     rows,
                 })?;
-                rest = after;
             }
             _ => {
                 others.insert(0, first)?;
-                return Ok(((groups, others), after));
+                return Ok((groups, others));
             }
         }
     }
-    Ok(((groups, Vec::new(alloc)), rest))
+    Ok((groups, Vec::new(cursor.alloc)))
 }
 
 /// Parses the commands after a `(` at depth `depth`, and the `)`.
 #[cycle(commands)]
-fn block(alloc: Global, tokens: &[Token<'_>], at: usize, depth: u8) -> Parsed<Vec<RowOfCommands>>
+fn block(cursor: &mut Cursor<'_, '_>, depth: u8) -> Parsed<Vec<RowOfCommands>>
     requires { depth ≤ max_depth }
-    ensures { Gives tokens.now at (wanted.rows (depth + 1) ∷ wanted.closing depth ∷ []) (λ x. spelled_rows (view_rows x.0.items) (t.close_ ∷ left tokens.now x.1)) (λ x. x.1) result }
+    ensures { Reads (wanted.rows (depth + 1) ∷ wanted.closing depth ∷ []) (λ x rest. spelled_rows (view_rows x.items) (t.close_ ∷ rest)) (ahead cursor.old) result (ahead cursor.new) }
 {
-    let (rows, rest) = rows(alloc, tokens, at, depth + 1)?;
-    let rest = close(tokens, rest, depth)?;
-    Ok((rows, rest))
+    let rows = rows(cursor, depth + 1)?;
+    cursor.take(Delimiter::Close, depth)?;
+    Ok(rows)
 }
 
 /// Parses rows up to a token that does not begin a command.
 #[cycle(commands)]
-fn rows(alloc: Global, tokens: &[Token<'_>], at: usize, depth: u8) -> Parsed<Vec<RowOfCommands>>
+fn rows(cursor: &mut Cursor<'_, '_>, depth: u8) -> Parsed<Vec<RowOfCommands>>
     requires { depth ≤ max_depth + 1 }
-    ensures { Gives tokens.now at (wanted.rows depth ∷ []) (λ x. spelled_rows (view_rows x.0.items) (left tokens.now x.1)) (λ x. x.1) result }
+    ensures { Reads (wanted.rows depth ∷ []) (λ x. spelled_rows (view_rows x.items)) (ahead cursor.old) result (ahead cursor.new) }
 {
-    let mut rows = Vec::new(alloc);
-    let mut rest = at;
-    while begins_command(role(tokens, rest)) {
-        let (first, after) = command(alloc, tokens, rest, depth)?;
-        let (others, after) = others(alloc, tokens, after, depth)?;
-        rows.push(RowOfCommands { first, others })?;
-        rest = after;
+    let mut rows = Vec::new(cursor.alloc);
+    while begins_command(cursor.role()) {
+        rows.push(row(cursor, depth)?)?;
     }
-    Ok((rows, rest))
+    Ok(rows)
 }
 
-/// Parses the commands after the first one of a row, if any.
+/// Parses a command and those that `or` or `and` joins to it.
 #[cycle(commands)]
-pub fn others(alloc: Global, tokens: &[Token<'_>], at: usize, depth: u8) -> Parsed<Vec<Joined>>
-    requires { depth ≤ max_depth }
-    ensures { Gives tokens.now at (wanted.others depth ∷ []) (λ x. spelled_others (view_others x.0.items) (left tokens.now x.1)) (λ x. x.1) result }
+pub fn row(cursor: &mut Cursor<'_, '_>, depth: u8) -> Parsed<RowOfCommands>
+    requires { depth ≤ max_depth + 1 }
+    ensures { Reads (wanted.command depth ∷ wanted.others depth ∷ []) (λ x rest. spelled_command (view_row x).0 (spelled_others (view_row x).1 rest)) (ahead cursor.old) result (ahead cursor.new) }
 {
-    let mut others = Vec::new(alloc);
-    let mut rest = at;
-    while let Role::Joiner(joiner) = role(tokens, rest) {
-        let (command, after) = command(alloc, tokens, behind(tokens, rest), depth)?;
-        others.push(Joined { joiner, command })?;
-        rest = after;
-    }
-    Ok((others, rest))
+    let (first, others) = chain!(cursor, depth, command; Joiner => Joined { joiner, command });
+    Ok(RowOfCommands { first, others })
 }

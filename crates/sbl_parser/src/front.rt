@@ -1,11 +1,12 @@
-//! Access to the token at an index.
+//! The first of some tokens.
 
-ghost use Rattle.std.specs.Prelude.{◌≡◌, ◌<◌, length, drop, IfOk, string_bytes};
-ghost use Rattle.sbl_ast.specs.Terminal.{terminals_of, left, word_terminal, sign_terminal};
+ghost use Rattle.std.specs.Prelude.{◌≡◌, IfOk, string_bytes};
+ghost use Rattle.sbl_ast.specs.Terminal.{terminals_of, word_terminal, sign_terminal};
 ghost use Rattle.sbl_token.specs.Lexemes.{lexeme_of};
 ghost use Rattle.sbl_parser.specs.Profile as profile;
 ghost use Rattle.sbl_parser.specs.Roles.{role_of, role_as};
-ghost use Rattle.sbl_parser.specs.First.{kind_role, first_text, first_number, first_inserts, first_literal, quoted_in};
+ghost use Rattle.sbl_parser.specs.First as spec;
+ghost use Rattle.sbl_parser.specs.First.{kind_role, quoted_in};
 ghost use Rattle.sbl_ast.specs.View.{view_literal};
 
 use crate::role::Role;
@@ -131,17 +132,8 @@ pub fn is_left_out(token: &Token<'_>) -> bool
     role_of_kind(token.kind) == Role::Other
 }
 
-/// Returns the tokens from index `at` on.
-fn rest_of<'a, 'b>(tokens: &'b [Token<'a>], at: usize) -> &'b [Token<'a>]
-    ensures { result.now ≡ drop at tokens.now }
-{
-    if at < tokens.len() {
-        return &tokens[at..];
-    }
-    &tokens[tokens.len()..]
-}
-
-fn first_role(tokens: &[Token<'_>]) -> Role
+/// Returns the role of the first token, or `End` if there is none.
+pub fn first_role(tokens: &[Token<'_>]) -> Role
     ensures { result ≡ role_of (terminals_of tokens.now) }
 {
     match tokens.first() {
@@ -150,24 +142,9 @@ fn first_role(tokens: &[Token<'_>]) -> Role
     }
 }
 
-/// Returns the role of the token at an index, or `End` if there is none.
-pub fn role(tokens: &[Token<'_>], at: usize) -> Role
-    ensures { result ≡ role_of (left tokens.now at) }
-{
-    first_role(rest_of(tokens, at))
-}
-
-/// Returns the index of the next token.
-#[tactic(auto, using(crate::proofs::Left::left_next))]
-pub fn behind(tokens: &[Token<'_>], at: usize) -> usize
-    requires { 0 < length (left tokens.now at) }
-    ensures { left tokens.now result ≡ drop 1 (left tokens.now at) }
-{
-    at + 1
-}
-
-fn text_first(alloc: Global, tokens: &[Token<'_>]) -> Result<String, AllocError>
-    ensures { IfOk result (λ s. string_bytes s ≡ first_text tokens.now) }
+/// Returns a copy of the text of the first token.
+pub fn first_text(alloc: Global, tokens: &[Token<'_>]) -> Result<String, AllocError>
+    ensures { IfOk result (λ s. string_bytes s ≡ spec.first_text tokens.now) }
 {
     match tokens.first() {
         None => Ok(String::new(alloc)),
@@ -175,15 +152,9 @@ fn text_first(alloc: Global, tokens: &[Token<'_>]) -> Result<String, AllocError>
     }
 }
 
-/// Returns a copy of the text of the token at an index.
-pub fn text(alloc: Global, tokens: &[Token<'_>], at: usize) -> Result<String, AllocError>
-    ensures { IfOk result (λ s. string_bytes s ≡ first_text (drop at tokens.now)) }
-{
-    text_first(alloc, rest_of(tokens, at))
-}
-
-fn number_first(tokens: &[Token<'_>]) -> u32
-    ensures { result ≡ first_number tokens.now }
+/// Returns the number that the first token is.
+pub fn first_number(tokens: &[Token<'_>]) -> u32
+    ensures { result ≡ spec.first_number tokens.now }
 {
     match tokens.first() {
         None => 0,
@@ -194,15 +165,9 @@ fn number_first(tokens: &[Token<'_>]) -> u32
     }
 }
 
-/// Returns the value of the number at an index.
-pub fn number(tokens: &[Token<'_>], at: usize) -> u32
-    ensures { result ≡ first_number (drop at tokens.now) }
-{
-    number_first(rest_of(tokens, at))
-}
-
-fn inserts_first(tokens: &[Token<'_>]) -> (char, char)
-    ensures { result ≡ first_inserts tokens.now }
+/// Returns the insert characters that the first token is.
+pub fn first_inserts(tokens: &[Token<'_>]) -> (char, char)
+    ensures { result ≡ spec.first_inserts tokens.now }
 {
     match tokens.first() {
         None => ('\0', '\0'),
@@ -211,13 +176,6 @@ fn inserts_first(tokens: &[Token<'_>]) -> (char, char)
             _ => ('\0', '\0'),
         },
     }
-}
-
-/// Returns the insert characters at an index.
-pub fn inserts(tokens: &[Token<'_>], at: usize) -> (char, char)
-    ensures { result ≡ first_inserts (drop at tokens.now) }
-{
-    inserts_first(rest_of(tokens, at))
 }
 
 fn literal_in(alloc: Global, value: &Value<'_>) -> Result<Literal, AllocError>
@@ -235,8 +193,9 @@ fn literal_in(alloc: Global, value: &Value<'_>) -> Result<Literal, AllocError>
     }
 }
 
-fn literal_first(alloc: Global, tokens: &[Token<'_>]) -> Result<Literal, AllocError>
-    ensures { IfOk result (λ l. view_literal l ≡ first_literal tokens.now) }
+/// Returns a copy of the literal that the first token is.
+pub fn first_literal(alloc: Global, tokens: &[Token<'_>]) -> Result<Literal, AllocError>
+    ensures { IfOk result (λ l. view_literal l ≡ spec.first_literal tokens.now) }
 {
     match tokens.first() {
         None => Ok(Literal {
@@ -245,11 +204,4 @@ fn literal_first(alloc: Global, tokens: &[Token<'_>]) -> Result<Literal, AllocEr
         }),
         Some(token) => literal_in(alloc, &token.value),
     }
-}
-
-/// Returns the literal at an index.
-pub fn literal(alloc: Global, tokens: &[Token<'_>], at: usize) -> Result<Literal, AllocError>
-    ensures { IfOk result (λ l. view_literal l ≡ first_literal (drop at tokens.now)) }
-{
-    literal_first(alloc, rest_of(tokens, at))
 }

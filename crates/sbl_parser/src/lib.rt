@@ -3,6 +3,7 @@
 
 mod arithmetic;
 mod commands;
+mod cursor;
 mod entries;
 mod error;
 mod front;

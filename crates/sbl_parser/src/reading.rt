@@ -4,26 +4,25 @@ ghost use Rattle.std.specs.Prelude.{◌≡◌, ◌⊎◌, ◌≤◌, ◌∷◌, 
 ghost use Rattle.sbl_token.specs.Lexemes.{Lexeme};
 ghost use Rattle.sbl_ast.specs.Terminal.{Terminal, terminals_of, terminal_of, lexeme_as};
 ghost use Rattle.sbl_ast.specs.Tree as trees;
-ghost use Rattle.sbl_ast.specs.Tree.{written};
+ghost use Rattle.sbl_ast.specs.Tree.{script_tokens};
 ghost use Rattle.sbl_ast.specs.Texts.{script, body};
 ghost use Rattle.sbl_parser.specs.Fronts.{first_stack};
 ghost use Rattle.sbl_ast.specs.Texts as texts;
 ghost use Rattle.sbl_parser.specs.Reading.{IsReadAs};
 ghost use Rattle.sbl_ast.specs.View.{view_among, view_argument, view_items, view_row, view_term};
 ghost use Rattle.sbl_ast.specs.Counts.{count_in_among};
-ghost use Rattle.sbl_parser.specs.Told.{IsFaultOf, place_at, fault_told};
+ghost use Rattle.sbl_parser.specs.FaultOffsets.{IsFaultOf, place_at, fault_at_offset};
 ghost use Rattle.sbl_parser.specs.Gives.{Fails};
 ghost use Rattle.sbl_parser.specs.Laws.{FaultIsOne, PlacesAreWritten, TreeOrFault, TreesAreOne};
 ghost use Rattle.sbl_ast.specs.Places.{max_depth};
 ghost use Rattle.sbl_parser.specs.Steps.{fault};
 ghost use Rattle.sbl_parser.specs.Steps as wanted;
 
-use crate::commands::among;
-use crate::error::{Fault, ReadError, syntax};
-use crate::front::role;
-use crate::items::{items, row, terms};
+use crate::commands::{among, row};
+use crate::cursor::Cursor;
+use crate::error::ReadError;
+use crate::items::{items, terms};
 use crate::role::Role;
-use crate::tokens::argument;
 use sbl_ast::{Among, Argument, RowOfCommands, ScriptItem, Term};
 use sbl_text::{ScriptFault, Token};
 use std::alloc::Global;
@@ -38,23 +37,25 @@ fn place(tokens: &[Token<'_>], at: usize, end: usize) -> usize
     }
 }
 
-/// Returns the fault of a script for an error of the parser, with its byte offset.
-fn told(tokens: &[Token<'_>], end: usize, error: ReadError) -> ScriptFault
-    ensures { result ≡ fault_told tokens.now end error }
+/// Returns the fault of a script for an error of the parser, with its byte offset. It is at the `$` if a name has no
+/// operator after it.
+fn fault_at_offset(tokens: &[Token<'_>], end: usize, error: ReadError) -> ScriptFault
+    ensures { result ≡ fault_at_offset tokens.now end error }
 {
     match error {
         ReadError::Memory => ScriptFault::OutOfMemory,
-        ReadError::Fault(fault) => match fault {
-            Fault::Syntax(at) => ScriptFault::Syntax {
-                place: place(tokens, at, end),
-            },
-            Fault::TooDeep(at) => ScriptFault::TooDeep {
-                place: place(tokens, at, end),
-            },
-            Fault::OutOfProfile(at) => ScriptFault::OutOfProfile {
-                place: place(tokens, at, end),
-            },
+        ReadError::Syntax(left) => ScriptFault::Syntax {
+            place: place(tokens, tokens.len().saturating_sub(left), end),
         },
+        ReadError::TooDeep(left) => ScriptFault::TooDeep {
+            place: place(tokens, tokens.len().saturating_sub(left), end),
+        },
+        ReadError::OutOfProfile(left) => {
+            let dollar = tokens.len().saturating_sub(left).saturating_sub(2);
+            ScriptFault::OutOfProfile {
+                place: place(tokens, dollar, end),
+            }
+        }
     }
 }
 
@@ -76,19 +77,18 @@ pub fn parse(
 {
     match all_items(alloc, tokens) {
         Ok(items) => Ok(items),
-        Err(error) => Err(told(tokens, end, error)),
+        Err(error) => Err(fault_at_offset(tokens, end, error)),
     }
 }
 
 /// Parses all tokens as items.
 fn all_items(alloc: Global, tokens: &[Token<'_>]) -> Result<Vec<ScriptItem>, ReadError>
     ensures read { IfOk result (λ items. IsReadAs script (terminals_of tokens.now) (view_items items.items)) }
-    ensures fault { IfErr result (λ e. Fails tokens.now e (fault (terminals_of tokens.now) (wanted.items ∷ []))) }
+    ensures fault { IfErr result (λ e. Fails e (fault (terminals_of tokens.now) (wanted.items ∷ []))) }
 {
-    let (found, rest) = items(alloc, tokens, 0)?;
-    if rest < tokens.len() {
-        return Err(syntax(rest));
-    }
+    let mut cursor = Cursor::new(alloc, tokens);
+    let found = items(&mut cursor)?;
+    cursor.end()?;
     Ok(found)
 }
 
@@ -105,19 +105,18 @@ pub fn parse_body(
 {
     match whole_body(alloc, tokens) {
         Ok(row) => Ok(row),
-        Err(error) => Err(told(tokens, end, error)),
+        Err(error) => Err(fault_at_offset(tokens, end, error)),
     }
 }
 
 /// Parses all tokens as the body of a routine.
 fn whole_body(alloc: Global, tokens: &[Token<'_>]) -> Result<RowOfCommands, ReadError>
     ensures read { IfOk result (λ r. IsReadAs body (terminals_of tokens.now) (view_row r)) }
-    ensures fault { IfErr result (λ e. Fails tokens.now e (fault (terminals_of tokens.now) (first_stack body))) }
+    ensures fault { IfErr result (λ e. Fails e (fault (terminals_of tokens.now) (first_stack body))) }
 {
-    let (found, rest) = row(alloc, tokens, 0)?;
-    if rest < tokens.len() {
-        return Err(syntax(rest));
-    }
+    let mut cursor = Cursor::new(alloc, tokens);
+    let found = row(&mut cursor, 1)?;
+    cursor.end()?;
     Ok(found)
 }
 
@@ -137,7 +136,7 @@ pub fn parse_among(
 {
     match whole_among(alloc, tokens, depth) {
         Ok(among) => Ok(among),
-        Err(error) => Err(told(tokens, end, error)),
+        Err(error) => Err(fault_at_offset(tokens, end, error)),
     }
 }
 
@@ -145,18 +144,15 @@ pub fn parse_among(
 fn whole_among(alloc: Global, tokens: &[Token<'_>], depth: u8) -> Result<Among, ReadError>
     requires { depth ≤ max_depth }
     ensures read { IfOk result (λ a. IsReadAs (texts.among depth) (terminals_of tokens.now) (view_among a)) }
-    ensures fault { IfErr result (λ e. Fails tokens.now e (fault (terminals_of tokens.now) (first_stack (texts.among depth)))) }
+    ensures fault { IfErr result (λ e. Fails e (fault (terminals_of tokens.now) (first_stack (texts.among depth)))) }
 {
-    match role(tokens, 0) {
-        Role::Among => {
-            let (found, rest) = among(alloc, tokens, 0, depth)?;
-            if rest < tokens.len() {
-                return Err(syntax(rest));
-            }
-            Ok(found)
-        }
-        _ => Err(syntax(0)),
-    }
+    let mut cursor = Cursor::new(alloc, tokens);
+    let Role::Among = cursor.role() else {
+        return Err(ReadError::Syntax(cursor.left()));
+    };
+    let found = among(&mut cursor, depth)?;
+    cursor.end()?;
+    Ok(found)
 }
 
 /// Parses all tokens as the terms of a grouping and returns the first one and those after it. `end` is the length of
@@ -173,27 +169,25 @@ pub fn parse_terms(
 {
     match whole_terms(alloc, tokens) {
         Ok(terms) => Ok(terms),
-        Err(error) => Err(told(tokens, end, error)),
+        Err(error) => Err(fault_at_offset(tokens, end, error)),
     }
 }
 
 /// Parses all tokens as the terms of a grouping.
 fn whole_terms(alloc: Global, tokens: &[Token<'_>]) -> Result<(Argument, Vec<Term>), ReadError>
     ensures read { IfOk result (λ x. IsReadAs texts.terms (terminals_of tokens.now) (view_argument x.0, map view_term x.1.items)) }
-    ensures fault { IfErr result (λ e. Fails tokens.now e (fault (terminals_of tokens.now) (first_stack texts.terms))) }
+    ensures fault { IfErr result (λ e. Fails e (fault (terminals_of tokens.now) (first_stack texts.terms))) }
 {
-    let (first, rest) = argument(alloc, tokens, 0, 0)?;
-    let (others, rest) = terms(alloc, tokens, rest)?;
-    if rest < tokens.len() {
-        return Err(syntax(rest));
-    }
-    Ok((first, others))
+    let mut cursor = Cursor::new(alloc, tokens);
+    let found = terms(&mut cursor)?;
+    cursor.end()?;
+    Ok(found)
 }
 
 /// Two trees with the same tokens are equal. The same holds for the trees of each text that replaces a part of a
 /// script.
 pub fn one_tree()
-    ensures script { (t u : List trees.Item) → written t ≡ written u → t ≡ u }
+    ensures script { (t u : List trees.Item) → script_tokens t ≡ script_tokens u → t ≡ u }
     ensures text { TreesAreOne }
     ensures places { PlacesAreWritten }
 {}

@@ -50,10 +50,3 @@ pub fn begins_item(role: Role) -> bool
             | Role::BackwardMode
     )
 }
-
-/// Returns whether the token is a literal or a name.
-pub fn begins_argument(role: Role) -> bool
-    ensures { result ≡ spec.begins_argument role }
-{
-    matches!(role, Role::Literal | Role::Name)
-}

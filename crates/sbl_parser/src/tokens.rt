@@ -1,88 +1,49 @@
-//! Parses parts of one or two tokens. Each function reads from the token at index `at`, and returns the index of the
-//! token after what it has read, or else the first fault, or `Memory` if an allocation fails.
+//! Parses parts of one token.
 
 ghost use Rattle.std.specs.Prelude.{◌≡◌, ◌≤◌, ◌∷◌, [], string_bytes};
-ghost use Rattle.sbl_ast.specs.Terminal.{left};
 ghost use Rattle.sbl_ast.specs.Terminal as t;
 ghost use Rattle.sbl_parser.specs.Steps as wanted;
 ghost use Rattle.sbl_ast.specs.Places.{max_depth};
 ghost use Rattle.sbl_ast.specs.Tree.{argument_terminal};
 ghost use Rattle.sbl_ast.specs.View.{view_argument};
-ghost use Rattle.sbl_parser.specs.Gives.{Gives};
+ghost use Rattle.sbl_parser.specs.Gives.{ahead, Reads};
 
-use crate::error::{Parsed, ReadError, syntax};
-use crate::front::{behind, literal, role, text};
+use crate::cursor::Cursor;
+use crate::error::{Parsed, ReadError};
 use crate::role::Role;
 use sbl_ast::{Argument, Comparison};
-use sbl_text::Token;
-use std::alloc::Global;
-
-/// Parses `)`.
-pub fn close(tokens: &[Token<'_>], at: usize, depth: u8) -> Result<usize, ReadError>
-    requires { depth ≤ max_depth }
-    ensures { Gives tokens.now at (wanted.closing depth ∷ []) (λ x. t.close_ ∷ left tokens.now x) (λ x. x) result }
-{
-    match role(tokens, at) {
-        Role::Close => Ok(behind(tokens, at)),
-        _ => Err(syntax(at)),
-    }
-}
-
-/// Parses `(`.
-pub fn open(tokens: &[Token<'_>], at: usize, depth: u8) -> Result<usize, ReadError>
-    requires { depth ≤ max_depth }
-    ensures { Gives tokens.now at (wanted.opening depth ∷ []) (λ x. t.open_ ∷ left tokens.now x) (λ x. x) result }
-{
-    match role(tokens, at) {
-        Role::Open => Ok(behind(tokens, at)),
-        _ => Err(syntax(at)),
-    }
-}
-
-/// Parses `for`.
-pub fn for_word(tokens: &[Token<'_>], at: usize, depth: u8) -> Result<usize, ReadError>
-    requires { depth ≤ max_depth }
-    ensures { Gives tokens.now at (wanted.for_ depth ∷ []) (λ x. t.for_ ∷ left tokens.now x) (λ x. x) result }
-{
-    match role(tokens, at) {
-        Role::For => Ok(behind(tokens, at)),
-        _ => Err(syntax(at)),
-    }
-}
 
 /// Parses a name.
-pub fn name(alloc: Global, tokens: &[Token<'_>], at: usize, depth: u8) -> Parsed<String>
+pub fn name(cursor: &mut Cursor<'_, '_>, depth: u8) -> Parsed<String>
     requires { depth ≤ max_depth }
-    ensures { Gives tokens.now at (wanted.name depth ∷ []) (λ x. t.name (string_bytes x.0) ∷ left tokens.now x.1) (λ x. x.1) result }
+    ensures { Reads (wanted.name depth ∷ []) (λ x rest. t.name (string_bytes x) ∷ rest) (ahead cursor.old) result (ahead cursor.new) }
 {
-    match role(tokens, at) {
-        Role::Name => Ok((text(alloc, tokens, at)?, behind(tokens, at))),
-        _ => Err(syntax(at)),
+    match cursor.role() {
+        Role::Name => Ok(cursor.take_name()?),
+        _ => Err(ReadError::Syntax(cursor.left())),
     }
 }
 
 /// Parses a literal or a name.
-pub fn argument(alloc: Global, tokens: &[Token<'_>], at: usize, depth: u8) -> Parsed<Argument>
+pub fn argument(cursor: &mut Cursor<'_, '_>, depth: u8) -> Parsed<Argument>
     requires { depth ≤ max_depth }
-    ensures { Gives tokens.now at (wanted.argument depth ∷ []) (λ x. argument_terminal (view_argument x.0) ∷ left tokens.now x.1) (λ x. x.1) result }
+    ensures { Reads (wanted.argument depth ∷ []) (λ x rest. argument_terminal (view_argument x) ∷ rest) (ahead cursor.old) result (ahead cursor.new) }
 {
-    match role(tokens, at) {
-        Role::Literal => Ok((
-            Argument::Literal(literal(alloc, tokens, at)?),
-            behind(tokens, at),
-        )),
-        Role::Name => Ok((Argument::Name(text(alloc, tokens, at)?), behind(tokens, at))),
-        _ => Err(syntax(at)),
+    match cursor.role() {
+        Role::Literal => Ok(Argument::Literal(cursor.take_literal()?)),
+        Role::Name => Ok(Argument::Name(cursor.take_name()?)),
+        _ => Err(ReadError::Syntax(cursor.left())),
     }
 }
 
 /// Parses a sign that compares two numbers.
-pub fn comparison(tokens: &[Token<'_>], at: usize, depth: u8) -> Parsed<Comparison>
+pub fn comparison(cursor: &mut Cursor<'_, '_>, depth: u8) -> Parsed<Comparison>
     requires { depth ≤ max_depth }
-    ensures { Gives tokens.now at (wanted.comparison depth ∷ []) (λ x. t.compares x.0 ∷ left tokens.now x.1) (λ x. x.1) result }
+    ensures { Reads (wanted.comparison depth ∷ []) (λ x rest. t.compares x ∷ rest) (ahead cursor.old) result (ahead cursor.new) }
 {
-    match role(tokens, at) {
-        Role::Comparison(operator) => Ok((operator, behind(tokens, at))),
-        _ => Err(syntax(at)),
-    }
+    let Role::Comparison(operator) = cursor.role() else {
+        return Err(ReadError::Syntax(cursor.left()));
+    };
+    cursor.skip();
+    Ok(operator)
 }

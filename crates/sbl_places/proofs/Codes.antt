@@ -12,7 +12,7 @@ use Rattle.sbl_text.specs.Classes.{is_white, quote, slash}
 use Rattle.sbl_text.specs.Codes.{code_of, max_hex_digits}
 use Rattle.sbl_text.specs.Directives.{Directives}
 use Rattle.sbl_text.specs.Escapes.{InForce, opens, find}
-use Rattle.sbl_text.specs.Literals.{Refusal, byte_length, code_or_fault, character_named, value_or_character, inserted, IsWrong}
+use Rattle.sbl_text.specs.Literals.{Refusal, byte_length, code_or_fault, character_named, value_or_character, insertion_value, IsWrong}
 use Rattle.sbl_text.specs.Tokens.{Placed, starts_star, pair_fault, token_fault, fault_at, IsRefused, IsFirstFaultFrom}
 use Rattle.sbl_ast.specs.Texts.{Text}
 use Rattle.sbl_parser.specs.Reading.{IsSyntaxAt, IsTooDeepAt, IsOutOfProfileAt}
@@ -89,7 +89,7 @@ mild_value (Some v) r h = tt
 mild_value None (Ok c) h = tt
 mild_value None (Err g) h = h
 
-mild_inserted : (e : InForce) (name : List ℕ) → Mild (inserted e name)
+mild_inserted : (e : InForce) (name : List ℕ) → Mild (insertion_value e name)
 mild_inserted e name =
     mild_if (list_all is_white name) (Ok []) (value_or_character (find e.macros name) (character_named e.inserts name)) tt
     (mild_value (find e.macros name) (character_named e.inserts name) (mild_named e.inserts name))

@@ -7,12 +7,12 @@ use Rattle.sbl_token.specs.Lexemes.{lexeme_of}
 use Rattle.sbl_text.specs.declared.fault.ScriptFault.{ScriptFault}
 use Rattle.sbl_text.specs.declared.fault.ScriptFault.TheVariants as fault
 use Rattle.sbl_text.specs.Directives.{start}
-use Rattle.sbl_text.specs.Tokens.{Placed, placed_of, ArePlaced, IsFirstFault, said}
+use Rattle.sbl_text.specs.Tokens.{Placed, placed_of, ArePlaced, IsFirstFault, piece_lexemes}
 use Rattle.sbl_text.specs.Laws.{PlacesAreOne, TokensOrFault}
-use Rattle.sbl_ast.specs.Terminal.{Terminal, terminal_of, terminals_of, left}
+use Rattle.sbl_ast.specs.Terminal.{Terminal, terminal_of, terminals_of, tokens_left}
 use Rattle.sbl_ast.specs.Tree.{Item}
 use Rattle.sbl_ast.specs.Texts.{script}
-use Rattle.sbl_parser.specs.Told as grammar
+use Rattle.sbl_parser.specs.FaultOffsets as grammar
 use Rattle.sbl_parser.specs.Reading.{IsReadAs}
 use Rattle.sbl_parser.specs.Laws.{TreesAreOne, TreeOrFault, PlacesAreWritten, syntax, too_deep, out_of_profile}
 use Rattle.sbl_resolver.specs.Occurrences.{occurrences_of}
@@ -27,7 +27,7 @@ use Rattle.sbl_places.proofs.AtTokens.{has_token, fails}
 -- ---- texts without tokens, tokens without a tree
 
 pub no_tokens : TokensOrFault → (text : List ℕ) (f : ScriptFault) → IsFirstFault text f → (ts : List Placed) → ArePlaced text ts → ⊥
-no_tokens either text f h ts p = either start text (said p.0) f (p.0, p.1, p.2, p.3, refl) h
+no_tokens either text f h ts p = either start text (piece_lexemes p.0) f (p.0, p.1, p.2, p.3, refl) h
 
 terminals_same : (ts : List Token) → terminals_of ts ≡ terminals (map placed_of ts)
 terminals_same [] = refl
@@ -40,9 +40,9 @@ read_too ts items h = subst (λ (x : List Terminal). IsReadAs script x items) (t
 pub no_tree : TreeOrFault → (ts : List Token) (end : ℕ) (f : ScriptFault) → grammar.IsFaultOf script ts end f → (items : List Item) → IsReadAs script (terminals (map placed_of ts)) items → ⊥
 no_tree none ts end f h items tree = go f h (subst (λ (x : List Terminal). IsReadAs script x items) (sym (terminals_same ts)) tree) where
   go : (g : ScriptFault) → grammar.IsFaultOf script ts end g → IsReadAs script (terminals_of ts) items → ⊥
-  go (fault.Syntax place) (n, is, x) read = none script (terminals_of ts) (left ts n) items syntax read x
-  go (fault.TooDeep place) (n, is, x) read = none script (terminals_of ts) (left ts n) items too_deep read x
-  go (fault.OutOfProfile place) (n, is, x) read = none script (terminals_of ts) (left ts n) items out_of_profile read x
+  go (fault.Syntax place) (n, is, x) read = none script (terminals_of ts) (tokens_left ts n) items syntax read x
+  go (fault.TooDeep place) (n, is, x) read = none script (terminals_of ts) (tokens_left ts n) items too_deep read x
+  go (fault.OutOfProfile place) (n, is, x) read = none script (terminals_of ts) (tokens_left ts n) items out_of_profile read x
   go _ x read = absurd x
 
 -- ---- texts without a place

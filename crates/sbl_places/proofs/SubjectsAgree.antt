@@ -9,11 +9,11 @@ use Rattle.sbl_ast.specs.declared.tree.Prefix.{Prefix}
 use Rattle.sbl_ast.specs.declared.tree.Prefix.TheVariants as prefixes
 use Rattle.sbl_ast.specs.Terminal.{Terminal, Quoted, terminal_of}
 use Rattle.sbl_ast.specs.Terminal as t
-use Rattle.sbl_ast.specs.Tree.{Argument, written_out, by_name, Expression, expression, Sums, no_sums, sum, Product, product, Scales, no_scales, scale, Factor, negated, bracketed, numeral, variable, fixed, length_of, Entry, entry, Command, bracket, simple_, literal_, name_, non_, prefixed, counted, move_, named, splice_, setlimit_, assign_, compare_, compare_values_, among_, Rows, no_rows, row, Others, no_others, joined, Starter, no_starter, starter, Groups, bare, group, Term, term, Plain, declaration, escapes, macro, routine, grouping, Item, plain, backward, argument_terminal, spelled_expression, spelled_sums, spelled_product, spelled_scales, spelled_factor, spelled_entry, spelled_entries, spelled, spelled_rows, spelled_others, spelled_starter, spelled_groups, spelled_names, spelled_terms, spelled_plain, spelled_plains, spelled_items, written}
+use Rattle.sbl_ast.specs.Tree.{Argument, written_out, by_name, Expression, expression, Sums, no_sums, sum, Product, product, Scales, no_scales, scale, Factor, negated, bracketed, numeral, variable, fixed, length_of, Entry, entry, Command, bracket, simple_, literal_, name_, non_, prefixed, counted, move_, named, splice_, setlimit_, assign_, compare_, compare_values_, among_, Rows, no_rows, row, Others, no_others, joined, Starter, no_starter, starter, Groups, bare, group, Term, term, Plain, declaration, escapes, macro, routine, grouping, Item, plain, backward, argument_terminal, spelled_expression, spelled_sums, spelled_product, spelled_scales, spelled_factor, spelled_entry, spelled_entries, spelled_command, spelled_rows, spelled_others, spelled_starter, spelled_groups, spelled_names, spelled_terms, spelled_plain, spelled_plains, spelled_items, script_tokens}
 use Rattle.sbl_ast.specs.Order.{ItemInMode, in_mode, in_order}
 use Rattle.sbl_resolver.specs.declared.occurrences.Use.TheVariants as use_as
 use Rattle.sbl_resolver.specs.declared.occurrences.Site.{Site}
-use Rattle.sbl_resolver.specs.Occurrences.{Occurrence, Notice, put, uses, substring, among, string, backwards, region_end, declares, defines_routine, defines_grouping, amongs_in, noted_expression, noted_sums, noted_product, noted_scales, noted_factor, noted_simple, noted_prefix, site_behind, use_of, noted_entry, noted_entries, has_starter, is_empty, noted, noted_rows, noted_others, noted_starter, noted_groups, noted_terms, noted_plain, noted_items, occurrences_of, noted_name}
+use Rattle.sbl_resolver.specs.Occurrences.{Occurrence, Notice, put, uses, substring, among, string, backwards, region_end, declares, defines_routine, defines_grouping, amongs_in, noted_expression, noted_sums, noted_product, noted_scales, noted_factor, noted_simple, noted_prefix, site_behind, use_of, noted_entry, noted_entries, has_starter, is_empty, noted_command, noted_rows, noted_others, noted_starter, noted_groups, noted_terms, noted_plain, noted_items, occurrences_of, noted_name}
 use Rattle.sbl_resolver.specs.OccurrenceView.{noted_names}
 use Rattle.sbl_resolver.specs.Subjects.{Subject, subject_of, subjects_of, and_more}
 use Rattle.sbl_places.specs.SubjectTokens.{SubjectToken, subject_in, string_if, is_among, is_in_among, open_after, subject_tokens, subject_tokens_after, subjects}
@@ -125,19 +125,19 @@ entries_agree [] k p s o rest = refl
 entries_agree (e ∷ es) k p s o rest = entries_agree es k p (noted_entry e k p s) o rest ∙ entry_agree e k p s o (spelled_entries es rest)
 
 mutual
-  agree : (c : Command) (p : Site) (s : List Occurrence) (o : List Bool) (rest : List Terminal) → is_in_among o ≡ false → subjects_of (noted c p s) ++ at o rest ≡ subjects_of s ++ at o (spelled c rest)
+  agree : (c : Command) (p : Site) (s : List Occurrence) (o : List Bool) (rest : List Terminal) → is_in_among o ≡ false → subjects_of (noted_command c p s) ++ at o rest ≡ subjects_of s ++ at o (spelled_command c rest)
   agree (bracket rs) p s o rest h = rows_agree rs p s (false ∷ o) (t.close_ ∷ rest) refl
   agree (simple_ x) p s o rest h = simple_agree x p s o rest
   agree (literal_ q) p s o rest h = quiet q s o rest h
   agree (name_ n) p s o rest h = one (uses use_as.Command n) p s (at o rest)
   agree (non_ true n) p s o rest h = one (uses use_as.Excluded n) p s (at o rest)
   agree (non_ false n) p s o rest h = one (uses use_as.Excluded n) p s (at o rest)
-  agree (prefixed x c) p s o rest h = agree c (site_behind x p) (noted_prefix x p s) o rest h ∙ prefix_agree x p s o (spelled c rest)
-  agree (counted n e c) p s o rest h = agree c p (noted_expression e p s) o rest h ∙ expression_agree e p s o (spelled c rest) h
+  agree (prefixed x c) p s o rest h = agree c (site_behind x p) (noted_prefix x p s) o rest h ∙ prefix_agree x p s o (spelled_command c rest)
+  agree (counted n e c) p s o rest h = agree c p (noted_expression e p s) o rest h ∙ expression_agree e p s o (spelled_command c rest) h
   agree (move_ m e) p s o rest h = expression_agree e p s o rest h
   agree (named x n) p s o rest h = one (uses (use_of x) n) p s (at o rest)
   agree (splice_ x a) p s o rest h = string_agree a p s o rest h
-  agree (setlimit_ b c) p s o rest h = agree c p (noted b p s) o rest h ∙ agree b p s o (t.for_ ∷ spelled c rest) h
+  agree (setlimit_ b c) p s o rest h = agree c p (noted_command b p s) o rest h ∙ agree b p s o (t.for_ ∷ spelled_command c rest) h
   agree (assign_ n d e) p s o rest h =
       expression_agree e p (put (uses use_as.Integer n) p s) o rest h ∙ one (uses use_as.Integer n) p s (at o (t.assigns d ∷ spelled_expression e rest))
   agree (compare_ n d e) p s o rest h =
@@ -154,13 +154,13 @@ mutual
   rows_agree : (rs : Rows) (p : Site) (s : List Occurrence) (o : List Bool) (rest : List Terminal) → is_in_among o ≡ false → subjects_of (noted_rows rs p s) ++ at o rest ≡ subjects_of s ++ at o (spelled_rows rs rest)
   rows_agree no_rows p s o rest h = refl
   rows_agree (row c os rs) p s o rest h =
-      rows_agree rs p (noted_others os p (noted c p s)) o rest h
-      ∙ others_agree os p (noted c p s) o (spelled_rows rs rest) h
+      rows_agree rs p (noted_others os p (noted_command c p s)) o rest h
+      ∙ others_agree os p (noted_command c p s) o (spelled_rows rs rest) h
       ∙ agree c p s o (spelled_others os (spelled_rows rs rest)) h
 
   others_agree : (os : Others) (p : Site) (s : List Occurrence) (o : List Bool) (rest : List Terminal) → is_in_among o ≡ false → subjects_of (noted_others os p s) ++ at o rest ≡ subjects_of s ++ at o (spelled_others os rest)
   others_agree no_others p s o rest h = refl
-  others_agree (joined j c os) p s o rest h = others_agree os p (noted c p s) o rest h ∙ agree c p s o (spelled_others os rest) h
+  others_agree (joined j c os) p s o rest h = others_agree os p (noted_command c p s) o rest h ∙ agree c p s o (spelled_others os rest) h
 
   starter_agree : (x : Starter) (p : Site) (s : List Occurrence) (o : List Bool) (rest : List Terminal) → subjects_of (noted_starter x p s) ++ at (true ∷ o) rest ≡ subjects_of s ++ at (true ∷ o) (spelled_starter x rest)
   starter_agree no_starter p s o rest = refl
@@ -199,10 +199,10 @@ plain_agree (macro n None q) p s o rest h = quiet q s o rest h
 plain_agree (macro n (Some b) q) p s o rest h = quiet q s o rest h
 plain_agree (routine n c os) p s o rest h =
     let a = put (defines_routine n) p s in
-    one region_end p (noted_others os p (noted c p a)) (at o rest)
-    ∙ others_agree os p (noted c p a) o rest h
+    one region_end p (noted_others os p (noted_command c p a)) (at o rest)
+    ∙ others_agree os p (noted_command c p a) o rest h
     ∙ agree c p a o (spelled_others os rest) h
-    ∙ one (defines_routine n) p s (at o (t.as_ ∷ spelled c (spelled_others os rest)))
+    ∙ one (defines_routine n) p s (at o (t.as_ ∷ spelled_command c (spelled_others os rest)))
 plain_agree (grouping n a ts) p s o rest h =
     let b = put (defines_grouping n) p s in
     terms_agree ts p (noted_name use_as.Term a p b) o rest h
@@ -224,5 +224,5 @@ items_agree (plain x ∷ is) n s =
     items_agree is (n + 1) (noted_plain x p s) ∙ plain_agree x p s [] (spelled_items is []) refl
 items_agree (backward xs ∷ is) n s = plains_agree xs (in_order is) (spelled_items is []) (items_agree is) n s
 
-pub subjects_agree : (ts : List Placed) (items : List Item) → map (λ (t : Placed). terminal_of t.lexeme) ts ≡ written items → subjects (subject_tokens ts) ≡ subjects_of (occurrences_of items)
+pub subjects_agree : (ts : List Placed) (items : List Item) → map (λ (t : Placed). terminal_of t.lexeme) ts ≡ script_tokens items → subjects (subject_tokens ts) ≡ subjects_of (occurrences_of items)
 subjects_agree ts items e = same_subjects false [] ts ∙ ap (subjects_from false []) e ∙ sym (items_agree items 1 [])

@@ -10,7 +10,7 @@ use sbl_text::ScriptFault;
 use std::alloc::{AllocError, Global};
 
 /// Returns the whole text. Returns `AllocError` if an allocation fails.
-fn joined(alloc: Global, cut: Cut<'_>) -> Result<Vec<u8>, AllocError>
+fn join_parts(alloc: Global, cut: Cut<'_>) -> Result<Vec<u8>, AllocError>
     ensures { IfOk result (λ text. text.items ≡ cut.entry.before.now ++ cut.entry.part.now ++ cut.entry.after.now) }
 {
     let mut text = Vec::from_slice(alloc, cut.before)?;
@@ -39,7 +39,7 @@ fn token_offset_in(
     ensures { IfOk result (λ o. IsTokenIn cut.entry.before.now cut.entry.part.now cut.entry.after.now fault o) }
 {
     token_is_one();
-    let text = joined(alloc, cut)?;
+    let text = join_parts(alloc, cut)?;
     match token_offset(alloc, &text, fault)? {
         Some(offset) => Ok(offset_in(cut.before.len(), cut.part.len(), offset)),
         None => Ok(None),

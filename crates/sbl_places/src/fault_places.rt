@@ -2,11 +2,9 @@
 
 ghost use Rattle.std.specs.Prelude.{◌≡◌, ◌≤◌, List, None, Some, IfOk, MatchOption, length, map};
 ghost use Rattle.std.specs.Str.{IsUtf8, chars};
-ghost use Rattle.sbl_text.specs.Directives.{start};
-ghost use Rattle.sbl_text.specs.Tokens.{ArePlaced, Placed, placed_of};
+ghost use Rattle.sbl_text.specs.{Directives.start, Tokens.ArePlaced, Tokens.Placed, Tokens.placed_of};
 ghost use Rattle.sbl_ast.specs.Tree as trees;
-ghost use Rattle.sbl_ast.specs.Texts.{script};
-ghost use Rattle.sbl_ast.specs.View.{view_items};
+ghost use Rattle.sbl_ast.specs.{Texts.script, View.view_items};
 ghost use Rattle.sbl_parser.specs.Reading.{IsReadAs};
 ghost use Rattle.sbl_script.specs.Reading as spec;
 ghost use Rattle.sbl_script.specs.Reading.{HasTokens, max_script, terminals};

@@ -5,8 +5,8 @@ use Rattle.sbl_ast.specs.declared.tree.Base.{Base}
 use Rattle.sbl_ast.specs.declared.tree.Additive.TheVariants as additives
 use Rattle.sbl_ast.specs.Terminal.{Terminal}
 use Rattle.sbl_ast.specs.Terminal as t
-use Rattle.sbl_ast.specs.Tree.{Expression, expression, Sums, no_sums, sum, Product, product, Scales, no_scales, scale, Factor, negated, bracketed, numeral, variable, fixed, length_of, Entry, entry, Command, bracket, simple_, literal_, name_, non_, prefixed, counted, move_, named, splice_, setlimit_, assign_, compare_, compare_values_, among_, Rows, no_rows, row, Others, no_others, joined, Starter, no_starter, starter, Groups, bare, group, Term, term, Plain, declaration, escapes, macro, routine, grouping, argument_terminal, spelled_expression, spelled_sums, spelled_product, spelled_scales, spelled_factor, spelled_entry, spelled_entries, spelled, spelled_rows, spelled_others, spelled_starter, spelled_groups, spelled_names, spelled_base, spelled_terms, spelled_plain}
-use Rattle.sbl_ast.specs.Places.{AtDepth, placed_expression, placed_sums, placed_product, placed_scales, placed_factor, placed_entry, placed_entries, placed, placed_rows, placed_others, placed_starter, placed_groups, placed_names, placed_base, placed_terms, placed_plain, tokens}
+use Rattle.sbl_ast.specs.Tree.{Expression, expression, Sums, no_sums, sum, Product, product, Scales, no_scales, scale, Factor, negated, bracketed, numeral, variable, fixed, length_of, Entry, entry, Command, bracket, simple_, literal_, name_, non_, prefixed, counted, move_, named, splice_, setlimit_, assign_, compare_, compare_values_, among_, Rows, no_rows, row, Others, no_others, joined, Starter, no_starter, starter, Groups, bare, group, Term, term, Plain, declaration, escapes, macro, routine, grouping, argument_terminal, spelled_expression, spelled_sums, spelled_product, spelled_scales, spelled_factor, spelled_entry, spelled_entries, spelled_command, spelled_rows, spelled_others, spelled_starter, spelled_groups, spelled_names, spelled_base, spelled_terms, spelled_plain}
+use Rattle.sbl_ast.specs.Places.{AtDepth, placed_expression, placed_sums, placed_product, placed_scales, placed_factor, placed_entry, placed_entries, placed_command, placed_rows, placed_others, placed_starter, placed_groups, placed_names, placed_base, placed_terms, placed_plain, tokens}
 use Rattle.sbl_print.specs.Adding.{token_text, Begins, BeginsLine}
 use Rattle.sbl_print.specs.Canonical.{space}
 use Rattle.sbl_print.proofs.Roles.{joined_is}
@@ -49,7 +49,7 @@ entries_tokens [] d ps = refl
 entries_tokens (x ∷ xs) d ps = entry_tokens x d _ ∙ ap (λ (r : Ts). spelled_entry x r) (entries_tokens xs d ps)
 
 mutual
-  tree_tokens : (c : Command) (d : ℕ) (ps : List AtDepth) → tokens (placed c d ps) ≡ spelled c (tokens ps)
+  tree_tokens : (c : Command) (d : ℕ) (ps : List AtDepth) → tokens (placed_command c d ps) ≡ spelled_command c (tokens ps)
   tree_tokens (bracket rs) d ps = cons t.open_ (rows_tokens rs (d + 1) _)
   tree_tokens (simple_ x) d ps = refl
   tree_tokens (literal_ q) d ps = refl
@@ -61,7 +61,7 @@ mutual
   tree_tokens (move_ m e) d ps = cons (t.move m) (expression_tokens e d ps)
   tree_tokens (named x n) d ps = refl
   tree_tokens (splice_ x a) d ps = refl
-  tree_tokens (setlimit_ b c) d ps = cons t.set_limit (tree_tokens b (d + 1) _ ∙ ap (λ (r : Ts). spelled b r) (cons t.for_ (tree_tokens c (d + 1) ps)))
+  tree_tokens (setlimit_ b c) d ps = cons t.set_limit (tree_tokens b (d + 1) _ ∙ ap (λ (r : Ts). spelled_command b r) (cons t.for_ (tree_tokens c (d + 1) ps)))
   tree_tokens (assign_ n o e) d ps = cons t.dollar (cons (t.name n) (cons (t.assigns o) (expression_tokens e d ps)))
   tree_tokens (compare_ n o e) d ps = cons t.dollar (cons (t.name n) (cons (t.compares o) (expression_tokens e d ps)))
   tree_tokens (compare_values_ e o f) d ps = cons t.dollar (cons t.open_ (expression_tokens e d _ ∙ ap (λ (r : Ts). spelled_expression e r) (cons (t.compares o) (expression_tokens f d _))))
@@ -69,11 +69,11 @@ mutual
 
   rows_tokens : (rs : Rows) (d : ℕ) (ps : List AtDepth) → tokens (placed_rows rs d ps) ≡ spelled_rows rs (tokens ps)
   rows_tokens no_rows d ps = refl
-  rows_tokens (row c os rs) d ps = tree_tokens c d _ ∙ ap (λ (r : Ts). spelled c r) (others_tokens os d _ ∙ ap (λ (r : Ts). spelled_others os r) (rows_tokens rs d ps))
+  rows_tokens (row c os rs) d ps = tree_tokens c d _ ∙ ap (λ (r : Ts). spelled_command c r) (others_tokens os d _ ∙ ap (λ (r : Ts). spelled_others os r) (rows_tokens rs d ps))
 
   others_tokens : (os : Others) (d : ℕ) (ps : List AtDepth) → tokens (placed_others os d ps) ≡ spelled_others os (tokens ps)
   others_tokens no_others d ps = refl
-  others_tokens (joined j c os) d ps = cons (t.joiner j) (tree_tokens c d _ ∙ ap (λ (r : Ts). spelled c r) (others_tokens os d ps))
+  others_tokens (joined j c os) d ps = cons (t.joiner j) (tree_tokens c d _ ∙ ap (λ (r : Ts). spelled_command c r) (others_tokens os d ps))
 
   starter_tokens : (x : Starter) (d : ℕ) (ps : List AtDepth) → tokens (placed_starter x d ps) ≡ spelled_starter x (tokens ps)
   starter_tokens no_starter d ps = refl
@@ -100,7 +100,7 @@ pub plain_tokens : (p : Plain) (ps : List AtDepth) → tokens (placed_plain p ps
 plain_tokens (declaration k ns) ps = cons (t.declares k) (cons t.open_ (names_tokens ns _))
 plain_tokens (escapes a b) ps = refl
 plain_tokens (macro n b q) ps = cons t.string_def (cons (t.macro_name n) (base_tokens b _))
-plain_tokens (routine n c os) ps = cons t.define (cons (t.name n) (cons t.as_ (tree_tokens c 1 _ ∙ ap (λ (r : Ts). spelled c r) (others_tokens os 1 ps))))
+plain_tokens (routine n c os) ps = cons t.define (cons (t.name n) (cons t.as_ (tree_tokens c 1 _ ∙ ap (λ (r : Ts). spelled_command c r) (others_tokens os 1 ps))))
 plain_tokens (grouping n a xs) ps = cons t.define (cons (t.name n) (cons (argument_terminal a) (terms_tokens xs ps)))
 
 -- a line that begins with the tokens of an item as written begins with its tokens

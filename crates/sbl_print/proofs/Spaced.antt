@@ -5,14 +5,14 @@ use Rattle.std.specs.List.{flat_map, join_by}
 use Rattle.std.proofs.lemmas.Str.{encode_ascii}
 use Rattle.sbl_text.specs.Classes.{is_white}
 use Rattle.sbl_token.specs.Lexemes.{Lexeme}
-use Rattle.sbl_text.specs.Spaced.{Spaced, are_white, lexeme_text, lexemes_of, spaced_text}
+use Rattle.sbl_text.specs.SpacedTokens.{Spaced, are_white, lexeme_text, lexemes_of, spaced_text}
 use Rattle.sbl_ast.specs.Terminal.{Terminal, lexeme_as}
 use Rattle.sbl_ast.specs.Terminal as t
-use Rattle.sbl_ast.specs.Tree.{Plain, declaration, escapes, macro, routine, grouping, Item, plain, backward, spelled_plain, spelled_plains, spelled_item, spelled_items, written}
+use Rattle.sbl_ast.specs.Tree.{Plain, declaration, escapes, macro, routine, grouping, Item, plain, backward, spelled_plain, spelled_plains, spelled_item, spelled_items, script_tokens}
 use Rattle.sbl_ast.specs.Places.{placed_plain, tokens}
 use Rattle.sbl_print.specs.Adding.{token_text}
 use Rattle.sbl_print.specs.Canonical.{space, line_feed, line, plain_text, item_text, canonical}
-use Rattle.sbl_print.specs.Spaced.{IsSpaced}
+use Rattle.sbl_print.specs.SpacedItems.{IsSpaced}
 use Rattle.sbl_print.proofs.Placed.{plain_tokens}
 use Rattle.sbl_print.proofs.Roles.{joined_is}
 use Rattle.sbl_print.proofs.Spelled.{plain_before, plains_before, item_before}
@@ -109,6 +109,6 @@ item_spaced (backward ps) =
     of_same (ap (λ (ts : List Terminal). t.backward_mode ∷ t.open_ ∷ ts) (sym (plains_before ps [] (t.close_ ∷ []))))
     (both (line_spaced t.backward_mode (t.open_ ∷ [])) (both (plains_spaced ps) (line_spaced t.close_ [])))
 
-pub items_spaced : (items : List Item) → IsSpaced (written items) (canonical items)
+pub items_spaced : (items : List Item) → IsSpaced (script_tokens items) (canonical items)
 items_spaced [] = nothing_spaced
 items_spaced (i ∷ is) = of_same (sym (item_before i [] (spelled_items is []))) (both (item_spaced i) (items_spaced is))

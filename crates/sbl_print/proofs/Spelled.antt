@@ -4,7 +4,7 @@ use Rattle.sbl_ast.specs.declared.tree.Base.{Base}
 use Rattle.sbl_ast.specs.declared.tree.Additive.TheVariants as additives
 use Rattle.sbl_ast.specs.Terminal.{Terminal}
 use Rattle.sbl_ast.specs.Terminal as t
-use Rattle.sbl_ast.specs.Tree.{Expression, expression, Sums, no_sums, sum, Product, product, Scales, no_scales, scale, Factor, negated, bracketed, numeral, variable, fixed, length_of, Entry, entry, Command, bracket, simple_, literal_, name_, non_, prefixed, counted, move_, named, splice_, setlimit_, assign_, compare_, compare_values_, among_, Rows, no_rows, row, Others, no_others, joined, Starter, no_starter, starter, Groups, bare, group, Term, term, Plain, declaration, escapes, macro, routine, grouping, Item, plain, backward, argument_terminal, spelled_expression, spelled_sums, spelled_product, spelled_scales, spelled_factor, spelled_entry, spelled_entries, spelled, spelled_rows, spelled_others, spelled_starter, spelled_groups, spelled_names, spelled_base, spelled_terms, spelled_plain, spelled_plains, spelled_item}
+use Rattle.sbl_ast.specs.Tree.{Expression, expression, Sums, no_sums, sum, Product, product, Scales, no_scales, scale, Factor, negated, bracketed, numeral, variable, fixed, length_of, Entry, entry, Command, bracket, simple_, literal_, name_, non_, prefixed, counted, move_, named, splice_, setlimit_, assign_, compare_, compare_values_, among_, Rows, no_rows, row, Others, no_others, joined, Starter, no_starter, starter, Groups, bare, group, Term, term, Plain, declaration, escapes, macro, routine, grouping, Item, plain, backward, argument_terminal, spelled_expression, spelled_sums, spelled_product, spelled_scales, spelled_factor, spelled_entry, spelled_entries, spelled_command, spelled_rows, spelled_others, spelled_starter, spelled_groups, spelled_names, spelled_base, spelled_terms, spelled_plain, spelled_plains, spelled_item}
 
 abbrev Ts : Type 0
 Ts = List Terminal
@@ -45,7 +45,7 @@ entries_before [] us vs = refl
 entries_before (x ∷ xs) us vs = ap (spelled_entry x) (entries_before xs us vs) ∙ entry_before x (spelled_entries xs us) vs
 
 mutual
-  command_before : (c : Command) (us vs : Ts) → spelled c (us ++ vs) ≡ spelled c us ++ vs
+  command_before : (c : Command) (us vs : Ts) → spelled_command c (us ++ vs) ≡ spelled_command c us ++ vs
   command_before (bracket rs) us vs = behind t.open_ (rows_before rs (t.close_ ∷ us) vs)
   command_before (simple_ s) us vs = refl
   command_before (literal_ q) us vs = refl
@@ -53,12 +53,12 @@ mutual
   command_before (non_ true n) us vs = refl
   command_before (non_ false n) us vs = refl
   command_before (prefixed p c) us vs = behind (t.prefix p) (command_before c us vs)
-  command_before (counted n e c) us vs = behind (t.count n) (ap (spelled_expression e) (command_before c us vs) ∙ expression_before e (spelled c us) vs)
+  command_before (counted n e c) us vs = behind (t.count n) (ap (spelled_expression e) (command_before c us vs) ∙ expression_before e (spelled_command c us) vs)
   command_before (move_ m e) us vs = behind (t.move m) (expression_before e us vs)
   command_before (named x n) us vs = refl
   command_before (splice_ x a) us vs = refl
   command_before (setlimit_ b c) us vs =
-      behind t.set_limit (ap (λ (ts : Ts). spelled b (t.for_ ∷ ts)) (command_before c us vs) ∙ command_before b (t.for_ ∷ spelled c us) vs)
+      behind t.set_limit (ap (λ (ts : Ts). spelled_command b (t.for_ ∷ ts)) (command_before c us vs) ∙ command_before b (t.for_ ∷ spelled_command c us) vs)
   command_before (assign_ n o e) us vs = behind t.dollar (behind (t.name n) (behind (t.assigns o) (expression_before e us vs)))
   command_before (compare_ n o e) us vs = behind t.dollar (behind (t.name n) (behind (t.compares o) (expression_before e us vs)))
   command_before (compare_values_ e o f) us vs =
@@ -74,11 +74,11 @@ mutual
 
   rows_before : (rs : Rows) (us vs : Ts) → spelled_rows rs (us ++ vs) ≡ spelled_rows rs us ++ vs
   rows_before no_rows us vs = refl
-  rows_before (row c os rs) us vs = ap (λ (ts : Ts). spelled c (spelled_others os ts)) (rows_before rs us vs) ∙ ap (spelled c) (others_before os (spelled_rows rs us) vs) ∙ command_before c (spelled_others os (spelled_rows rs us)) vs
+  rows_before (row c os rs) us vs = ap (λ (ts : Ts). spelled_command c (spelled_others os ts)) (rows_before rs us vs) ∙ ap (spelled_command c) (others_before os (spelled_rows rs us) vs) ∙ command_before c (spelled_others os (spelled_rows rs us)) vs
 
   others_before : (os : Others) (us vs : Ts) → spelled_others os (us ++ vs) ≡ spelled_others os us ++ vs
   others_before no_others us vs = refl
-  others_before (joined j c os) us vs = behind (t.joiner j) (ap (spelled c) (others_before os us vs) ∙ command_before c (spelled_others os us) vs)
+  others_before (joined j c os) us vs = behind (t.joiner j) (ap (spelled_command c) (others_before os us vs) ∙ command_before c (spelled_others os us) vs)
 
   starter_before : (x : Starter) (us vs : Ts) → spelled_starter x (us ++ vs) ≡ spelled_starter x us ++ vs
   starter_before no_starter us vs = refl
@@ -108,7 +108,7 @@ pub plain_before : (p : Plain) (us vs : Ts) → spelled_plain p (us ++ vs) ≡ s
 plain_before (declaration k ns) us vs = behind (t.declares k) (behind t.open_ (names_before ns (t.close_ ∷ us) vs))
 plain_before (escapes a b) us vs = refl
 plain_before (macro n b q) us vs = behind t.string_def (behind (t.macro_name n) (base_before b (t.literal q ∷ us) vs))
-plain_before (routine n c os) us vs = behind t.define (behind (t.name n) (behind t.as_ (ap (spelled c) (others_before os us vs) ∙ command_before c (spelled_others os us) vs)))
+plain_before (routine n c os) us vs = behind t.define (behind (t.name n) (behind t.as_ (ap (spelled_command c) (others_before os us vs) ∙ command_before c (spelled_others os us) vs)))
 plain_before (grouping n a xs) us vs = behind t.define (behind (t.name n) (behind (argument_terminal a) (terms_before xs us vs)))
 
 pub plains_before : (ps : List Plain) (us vs : Ts) → spelled_plains ps (us ++ vs) ≡ spelled_plains ps us ++ vs

@@ -1,7 +1,7 @@
 -- What is appended to a line that has a token.
 use Rattle.std.specs.Prelude.{◌≡◌, ℕ, List, ◌++◌}
 use Rattle.std.specs.List.{flat_map, join_by}
-use Rattle.sbl_text.specs.Spaced.{lexeme_text}
+use Rattle.sbl_text.specs.SpacedTokens.{lexeme_text}
 use Rattle.sbl_ast.specs.Terminal.{Terminal, lexeme_as}
 use Rattle.sbl_print.specs.Canonical.{space}
 use Rattle.sbl_print.specs.Roles.{role_text}

@@ -1,6 +1,6 @@
 -- definitions that public contracts depend on
 pub mod Roles
 pub mod Canonical
-pub mod Spaced
+pub mod SpacedItems
 -- what the functions inside the crate promise each other; no public contract depends on these
 pub mod Adding

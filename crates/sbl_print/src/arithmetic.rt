@@ -5,7 +5,7 @@ ghost use Rattle.sbl_ast.specs.Tree.{spelled_expression, spelled_factor, spelled
 ghost use Rattle.sbl_ast.specs.View.{view_expression, view_factor, view_product, view_scales, view_sums};
 ghost use Rattle.sbl_print.specs.Adding.{Adds};
 
-use crate::tokens::{put, put_argument, put_name, put_number, put_sign, put_word};
+use crate::tokens::{put, put_argument, put_name, put_number, put_operations, put_sign, put_word};
 use crate::words::{additive_text, constant_text, multiplicative_text};
 use sbl_ast::{Added, Expression, Factor, Product, Scaled};
 use sbl_token::{Sign, Word};
@@ -25,17 +25,6 @@ pub fn put_expression(
 }
 
 #[cycle(arithmetic)]
-fn put_sums(alloc: Global, out: &mut String, others: &Vec<Added>) -> Result<(), AllocError>
-    ensures { OnOk result (Adds (string_bytes out.old) (string_bytes out.new) (spelled_sums (view_sums others.now.items))) }
-{
-    for added in others {
-        put(out, additive_text(added.operator))?;
-        put_product(alloc, out, &added.product)?;
-    }
-    Ok(())
-}
-
-#[cycle(arithmetic)]
 fn put_product(alloc: Global, out: &mut String, product: &Product) -> Result<(), AllocError>
     ensures { OnOk result (Adds (string_bytes out.old) (string_bytes out.new) (spelled_product (view_product product.now))) }
 {
@@ -44,14 +33,17 @@ fn put_product(alloc: Global, out: &mut String, product: &Product) -> Result<(),
 }
 
 #[cycle(arithmetic)]
+fn put_sums(alloc: Global, out: &mut String, others: &Vec<Added>) -> Result<(), AllocError>
+    ensures { OnOk result (Adds (string_bytes out.old) (string_bytes out.new) (spelled_sums (view_sums others.now.items))) }
+{
+    put_operations!(alloc, out, others: additive_text(operator), put_product(product))
+}
+
+#[cycle(arithmetic)]
 fn put_scales(alloc: Global, out: &mut String, others: &Vec<Scaled>) -> Result<(), AllocError>
     ensures { OnOk result (Adds (string_bytes out.old) (string_bytes out.new) (spelled_scales (view_scales others.now.items))) }
 {
-    for scaled in others {
-        put(out, multiplicative_text(scaled.operator))?;
-        put_factor(alloc, out, &scaled.factor)?;
-    }
-    Ok(())
+    put_operations!(alloc, out, others: multiplicative_text(operator), put_factor(factor))
 }
 
 #[cycle(arithmetic)]

@@ -3,13 +3,13 @@
 ghost use Rattle.std.specs.Prelude.{◌≡◌, ◌++◌, ◌∷◌, List, OnOk, map, string_bytes};
 ghost use Rattle.sbl_ast.specs.Terminal.{Terminal};
 ghost use Rattle.sbl_ast.specs.Terminal as t;
-ghost use Rattle.sbl_ast.specs.Tree.{spelled, spelled_entries, spelled_entry, spelled_expression, spelled_groups, spelled_others, spelled_rows, spelled_starter};
+ghost use Rattle.sbl_ast.specs.Tree.{spelled_command, spelled_entries, spelled_entry, spelled_expression, spelled_groups, spelled_others, spelled_rows, spelled_starter};
 ghost use Rattle.sbl_ast.specs.Tree as trees;
 ghost use Rattle.sbl_ast.specs.View.{view_among, view_argument, view_command, view_entry, view_expression, view_groups, view_others, view_row, view_rows};
 ghost use Rattle.sbl_print.specs.Adding.{Adds, more, token_text};
 
 use crate::arithmetic::put_expression;
-use crate::tokens::{put, put_argument, put_literal, put_name, put_sign, put_word};
+use crate::tokens::{put, put_argument, put_literal, put_name, put_operations, put_sign, put_word};
 use crate::words::{
     assignment_text, comparison_text, count_text, joiner_text, move_text, naming_text, prefix_text,
     simple_text, splice_text,
@@ -23,7 +23,7 @@ use std::alloc::{AllocError, Global};
 
 /// Appends `non G` or `non - G`. Returns `AllocError` if an allocation fails.
 fn put_non(out: &mut String, with_minus: bool, name: &String) -> Result<(), AllocError>
-    ensures { OnOk result (Adds (string_bytes out.old) (string_bytes out.new) (spelled (trees.non_ with_minus (string_bytes name.now)))) }
+    ensures { OnOk result (Adds (string_bytes out.old) (string_bytes out.new) (spelled_command (trees.non_ with_minus (string_bytes name.now)))) }
 {
     put_word(out, Word::Non)?;
     if with_minus {
@@ -39,7 +39,7 @@ fn put_move(
     word: Move,
     place: &Expression,
 ) -> Result<(), AllocError>
-    ensures { OnOk result (Adds (string_bytes out.old) (string_bytes out.new) (spelled (trees.move_ word (view_expression place.now)))) }
+    ensures { OnOk result (Adds (string_bytes out.old) (string_bytes out.new) (spelled_command (trees.move_ word (view_expression place.now)))) }
 {
     put(out, move_text(word))?;
     put_expression(alloc, out, place)
@@ -47,7 +47,7 @@ fn put_move(
 
 /// Appends `set X` and similar commands. Returns `AllocError` if an allocation fails.
 fn put_named(out: &mut String, word: Naming, name: &String) -> Result<(), AllocError>
-    ensures { OnOk result (Adds (string_bytes out.old) (string_bytes out.new) (spelled (trees.named word (string_bytes name.now)))) }
+    ensures { OnOk result (Adds (string_bytes out.old) (string_bytes out.new) (spelled_command (trees.named word (string_bytes name.now)))) }
 {
     put(out, naming_text(word))?;
     put_name(out, name)
@@ -55,7 +55,7 @@ fn put_named(out: &mut String, word: Naming, name: &String) -> Result<(), AllocE
 
 /// Appends `<- S` and similar commands. Returns `AllocError` if an allocation fails.
 fn put_splice(out: &mut String, word: Splice, string: &Argument) -> Result<(), AllocError>
-    ensures { OnOk result (Adds (string_bytes out.old) (string_bytes out.new) (spelled (trees.splice_ word (view_argument string.now)))) }
+    ensures { OnOk result (Adds (string_bytes out.old) (string_bytes out.new) (spelled_command (trees.splice_ word (view_argument string.now)))) }
 {
     put(out, splice_text(word))?;
     put_argument(out, string)
@@ -85,7 +85,7 @@ fn put_compare_values(
     sign: Comparison,
     second: &Expression,
 ) -> Result<(), AllocError>
-    ensures { OnOk result (Adds (string_bytes out.old) (string_bytes out.new) (spelled (trees.compare_values_ (view_expression first.now) sign (view_expression second.now)))) }
+    ensures { OnOk result (Adds (string_bytes out.old) (string_bytes out.new) (spelled_command (trees.compare_values_ (view_expression first.now) sign (view_expression second.now)))) }
 {
     put_sign(out, Sign::Dollar)?;
     put_sign(out, Sign::Open)?;
@@ -119,7 +119,7 @@ fn put_entries(out: &mut String, entries: &Vec<Entry>) -> Result<(), AllocError>
 /// Appends a command. Returns `AllocError` if an allocation fails.
 #[cycle(commands)]
 fn put_command(alloc: Global, out: &mut String, command: &Command) -> Result<(), AllocError>
-    ensures { OnOk result (Adds (string_bytes out.old) (string_bytes out.new) (spelled (view_command command.now))) }
+    ensures { OnOk result (Adds (string_bytes out.old) (string_bytes out.new) (spelled_command (view_command command.now))) }
 {
     match command {
         Command::Bracket(rows) => put_bracket(alloc, out, rows),
@@ -160,7 +160,7 @@ fn put_command(alloc: Global, out: &mut String, command: &Command) -> Result<(),
 
 #[cycle(commands)]
 fn put_among(alloc: Global, out: &mut String, among: &Among) -> Result<(), AllocError>
-    ensures { OnOk result (Adds (string_bytes out.old) (string_bytes out.new) (spelled (trees.among_ (view_among among.now).0 (view_among among.now).1))) }
+    ensures { OnOk result (Adds (string_bytes out.old) (string_bytes out.new) (spelled_command (trees.among_ (view_among among.now).0 (view_among among.now).1))) }
 {
     put_word(out, Word::Among)?;
     put_sign(out, Sign::Open)?;
@@ -222,22 +222,18 @@ fn put_rows(alloc: Global, out: &mut String, rows: &Vec<RowOfCommands>) -> Resul
     Ok(())
 }
 
-/// Appends a row. Returns `AllocError` if an allocation fails.
-#[cycle(commands)]
-pub fn put_row(alloc: Global, out: &mut String, row: &RowOfCommands) -> Result<(), AllocError>
-    ensures { OnOk result (Adds (string_bytes out.old) (string_bytes out.new) (λ rest. spelled (view_row row.now).0 (spelled_others (view_row row.now).1 rest))) }
-{
-    put_command(alloc, out, &row.first)?;
-    put_others(alloc, out, &row.others)
-}
-
 #[cycle(commands)]
 fn put_others(alloc: Global, out: &mut String, others: &Vec<Joined>) -> Result<(), AllocError>
     ensures { OnOk result (Adds (string_bytes out.old) (string_bytes out.new) (spelled_others (view_others others.now.items))) }
 {
-    for joined in others {
-        put(out, joiner_text(joined.joiner))?;
-        put_command(alloc, out, &joined.command)?;
-    }
-    Ok(())
+    put_operations!(alloc, out, others: joiner_text(joiner), put_command(command))
+}
+
+/// Appends a row. Returns `AllocError` if an allocation fails.
+#[cycle(commands)]
+pub fn put_row(alloc: Global, out: &mut String, row: &RowOfCommands) -> Result<(), AllocError>
+    ensures { OnOk result (Adds (string_bytes out.old) (string_bytes out.new) (λ rest. spelled_command (view_row row.now).0 (spelled_others (view_row row.now).1 rest))) }
+{
+    put_command(alloc, out, &row.first)?;
+    put_others(alloc, out, &row.others)
 }

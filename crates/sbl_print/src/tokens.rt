@@ -12,6 +12,19 @@ use sbl_ast::{Argument, Literal};
 use sbl_token::{Sign, Word};
 use std::alloc::{AllocError, Global};
 
+/// Appends the elements of a vector, each an operator and its operand.
+macro_rules! put_operations {
+    ($alloc:ident, $out:ident, $others:ident: $text:ident($operator:ident), $put:ident($operand:ident)) => {{
+        for other in $others {
+            put($out, $text(other.$operator))?;
+            $put($alloc, $out, &other.$operand)?;
+        }
+        Ok(())
+    }};
+}
+
+pub(crate) use put_operations;
+
 /// Appends a token with this text. Returns `AllocError` if an allocation fails.
 pub fn put(out: &mut String, text: &str) -> Result<(), AllocError>
     ensures { OnOk result ((x : Terminal) → token_text x ≡ text.now → Adds (string_bytes out.old) (string_bytes out.new) (λ rest. x ∷ rest)) }

@@ -2,8 +2,8 @@
 use Rattle.std.specs.Prelude.{ℕ, List, [], map, Vec, Option, Some, None, slice_get}
 use Rattle.std.specs.Global.{Global}
 use Rattle.sbl_ast.specs.declared.mode.Mode.TheVariants.{Forward}
-use Rattle.sbl_program.specs.declared.found.Found.{Found}
-use Rattle.sbl_program.specs.Listed.{Listed, listing}
+use Rattle.sbl_program.specs.declared.among.Found.{Found}
+use Rattle.sbl_program.specs.AmongStrings.{Listed, listing}
 
 -- the characters of the strings
 abbrev pub texts : List (Vec ℕ Global) → List (List ℕ)

@@ -1,6 +1,6 @@
 -- definitions that public contracts depend on
-pub mod Listed
+pub mod AmongStrings
 pub mod Program
-pub mod Grouped
+pub mod Chains
 pub mod ProgramOf
 pub mod FoundView

@@ -3,7 +3,7 @@ use Rattle.std.specs.Prelude.{ℕ, Bool, List}
 use Rattle.sbl_program.specs.declared.action.Change.{Change}
 use Rattle.sbl_program.specs.declared.action.Relation.{Relation}
 use Rattle.sbl_program.specs.declared.node.Candidate.{Candidate}
-use Rattle.sbl_program.specs.Listed.{Listed}
+use Rattle.sbl_program.specs.AmongStrings.{Listed}
 
 -- a string: a literal, or a string variable
 pub data StringTerm : Type 0 where

@@ -18,8 +18,8 @@ use Rattle.sbl_program.specs.declared.node.JoinedNode.{JoinedNode}
 use Rattle.sbl_program.specs.declared.node.Program.{Program}
 use Rattle.sbl_program.specs.declared.node.Routine.{Routine}
 use Rattle.sbl_char_class.specs.CharacterClasses.{members}
-use Rattle.sbl_program.specs.Grouped.{AddedView, JoinedView, ScaledView, added_all, grouped, scaled_all}
-use Rattle.sbl_program.specs.Listed.{Listed}
+use Rattle.sbl_program.specs.Chains.{AddedView, JoinedView, ScaledView, all_sums, row_node, all_products}
+use Rattle.sbl_program.specs.AmongStrings.{Listed}
 use Rattle.sbl_program.specs.Program as programs
 
 abbrev pub view_text : StringTerm → programs.StringTerm
@@ -37,8 +37,8 @@ number_step (sums.LengthOf t) = programs.lenof (view_text t)
 number_step sums.Greatest = programs.maxint
 number_step sums.Least = programs.minint
 number_step (sums.Negative a) = programs.negative a.value
-number_step (sums.Sum a others) = added_all others.items a.value
-number_step (sums.Product a others) = scaled_all others.items a.value
+number_step (sums.Sum a others) = all_sums others.items a.value
+number_step (sums.Product a others) = all_products others.items a.value
 
 abbrev pub added_step : Addend-F programs.Arithmetic AddedView ScaledView → AddedView
 added_step a = (a.operator, a.number)
@@ -89,7 +89,7 @@ commands_of (c ∷ cs) = programs.command c (commands_of cs)
 abbrev pub node_step : (ℕ → Listed) → Node-F programs.Node JoinedView → programs.Node
 node_step tables (nodes.Act a) = programs.act (view_action a)
 node_step tables (nodes.Sequence cs) = programs.sequence (commands_of cs.items)
-node_step tables (nodes.Row a others) = grouped a.value others.items
+node_step tables (nodes.Row a others) = row_node a.value others.items
 node_step tables (nodes.Not a) = programs.not a.value
 node_step tables (nodes.Test a) = programs.test a.value
 node_step tables (nodes.Try a) = programs.try a.value

@@ -3,9 +3,9 @@
 #![tactic(auto)]
 
 mod action;
-mod found;
+mod among;
 mod node;
 
 pub use action::{Action, Addend, Arithmetic, Change, Multiplicand, Relation, StringTerm};
-pub use found::Found;
+pub use among::Found;
 pub use node::{Candidate, JoinedNode, Node, Program, Routine};

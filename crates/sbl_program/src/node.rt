@@ -3,7 +3,7 @@
 
 ghost use Rattle.std.specs.Prelude.{◌≡◌, ℕ, slice_get};
 ghost use Rattle.std.specs.Option.{option_map};
-ghost use Rattle.sbl_program.specs.Listed.{Listed};
+ghost use Rattle.sbl_program.specs.AmongStrings.{Listed};
 ghost use Rattle.sbl_program.specs.ProgramOf.{program_of, view_routine};
 
 use crate::action::{Action, Arithmetic};

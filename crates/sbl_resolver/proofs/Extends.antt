@@ -8,7 +8,7 @@ use Rattle.sbl_ast.specs.declared.tree.Prefix.TheVariants as prefixes
 use Rattle.sbl_ast.specs.Tree.{Argument, written_out, by_name, Expression, expression, Sums, no_sums, sum, Product, product, Scales, no_scales, scale, Factor, negated, bracketed, numeral, variable, fixed, length_of, Entry, entry, Command, bracket, simple_, literal_, name_, non_, prefixed, counted, move_, named, splice_, setlimit_, assign_, compare_, compare_values_, among_, Rows, no_rows, row, Others, no_others, joined, Starter, no_starter, starter, Groups, bare, group, Term, term, Plain, declaration, escapes, macro, routine, grouping}
 use Rattle.sbl_resolver.specs.declared.occurrences.Use.TheVariants as use_as
 use Rattle.sbl_resolver.specs.declared.occurrences.Site.{Site}
-use Rattle.sbl_resolver.specs.Occurrences.{Occurrence, Notice, put, uses, substring, among, string, backwards, region_end, declares, defines_routine, defines_grouping, amongs_in, noted_expression, noted_sums, noted_product, noted_scales, noted_factor, noted_simple, noted_prefix, site_behind, use_of, noted_condition, noted_entry, noted_entries, has_starter, is_empty, noted, noted_rows, noted_others, noted_starter, noted_groups, noted_terms, noted_plain, noted_items, noted_name}
+use Rattle.sbl_resolver.specs.Occurrences.{Occurrence, Notice, put, uses, substring, among, string, backwards, region_end, declares, defines_routine, defines_grouping, amongs_in, noted_expression, noted_sums, noted_product, noted_scales, noted_factor, noted_simple, noted_prefix, site_behind, use_of, noted_condition, noted_entry, noted_entries, has_starter, is_empty, noted_command, noted_rows, noted_others, noted_starter, noted_groups, noted_terms, noted_plain, noted_items, noted_name}
 use Rattle.sbl_resolver.specs.OccurrenceView.{noted_names}
 use Rattle.sbl_ast.specs.Order.{ItemInMode}
 
@@ -87,7 +87,7 @@ entries_more [] o p s = same s
 entries_more (e ∷ es) o p s = then_ (entry_more e o p s) (entries_more es o p (noted_entry e o p s))
 
 mutual
-  pub command_more : (t : Command) (p : Site) (s : List Occurrence) → Extends s (noted t p s)
+  pub command_more : (t : Command) (p : Site) (s : List Occurrence) → Extends s (noted_command t p s)
   command_more (bracket rs) p s = rows_more rs p s
   command_more (simple_ x) p s = simple_more x p s
   command_more (literal_ q) p s = same s
@@ -98,7 +98,7 @@ mutual
   command_more (move_ m e) p s = expression_more e p s
   command_more (named x n) p s = put_more (uses (use_of x) n) p s
   command_more (splice_ x a) p s = string_more a p s
-  command_more (setlimit_ b c) p s = then_ (command_more b p s) (command_more c p (noted b p s))
+  command_more (setlimit_ b c) p s = then_ (command_more b p s) (command_more c p (noted_command b p s))
   command_more (assign_ n o e) p s = then_ (put_more (uses use_as.Integer n) p s) (expression_more e p (put (uses use_as.Integer n) p s))
   command_more (compare_ n o e) p s = then_ (put_more (uses use_as.Integer n) p s) (expression_more e p (put (uses use_as.Integer n) p s))
   command_more (compare_values_ e o f) p s = then_ (expression_more e p s) (expression_more f p (noted_expression e p s))
@@ -108,11 +108,11 @@ mutual
 
   pub rows_more : (rs : Rows) (p : Site) (s : List Occurrence) → Extends s (noted_rows rs p s)
   rows_more no_rows p s = same s
-  rows_more (row c os rs) p s = then_ (command_more c p s) (then_ (others_more os p (noted c p s)) (rows_more rs p (noted_others os p (noted c p s))))
+  rows_more (row c os rs) p s = then_ (command_more c p s) (then_ (others_more os p (noted_command c p s)) (rows_more rs p (noted_others os p (noted_command c p s))))
 
   pub others_more : (os : Others) (p : Site) (s : List Occurrence) → Extends s (noted_others os p s)
   others_more no_others p s = same s
-  others_more (joined j c os) p s = then_ (command_more c p s) (others_more os p (noted c p s))
+  others_more (joined j c os) p s = then_ (command_more c p s) (others_more os p (noted_command c p s))
 
   pub starter_more : (x : Starter) (p : Site) (s : List Occurrence) → Extends s (noted_starter x p s)
   starter_more no_starter p s = same s
@@ -144,7 +144,7 @@ plain_more (escapes a b) p s = same s
 plain_more (macro n b q) p s = same s
 plain_more (routine n c os) p s =
     let a = put (defines_routine n) p s in
-    let b = noted c p a in
+    let b = noted_command c p a in
     then_ (put_more (defines_routine n) p s) (then_ (command_more c p a) (then_ (others_more os p b) (put_more region_end p (noted_others os p b))))
 plain_more (grouping n a ts) p s =
     let b = put (defines_grouping n) p s in

@@ -9,7 +9,7 @@ use Rattle.sbl_resolver.specs.Occurrences as occurs
 use Rattle.sbl_resolver.specs.Checks.{fault_at, fault_behind}
 use Rattle.sbl_resolver.specs.Laws.{EachPasses, IsFirst}
 use Rattle.sbl_resolver.specs.Subjects.{Subject, name, string, substring, among, backwards, subject_of, subjects_of, and_more, IsFirstAfter}
-use Rattle.sbl_resolver.specs.Numbered.{first_from, one_more}
+use Rattle.sbl_resolver.specs.FirstFault.{first_from, one_more}
 use Rattle.sbl_resolver.specs.OccurrenceView.{view_occurrence, view_occurrences}
 use Rattle.sbl_resolver.proofs.Turns.{note_in, taken, left}
 use Rattle.sbl_resolver.proofs.FirstFault.{FirstFrom, here, there, each, found}

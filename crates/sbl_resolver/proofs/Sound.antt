@@ -13,7 +13,7 @@ use Rattle.sbl_ast.specs.Order.{ItemInMode, in_mode, in_order}
 use Rattle.sbl_ast.specs.declared.mode.Mode.{Mode}
 use Rattle.sbl_ast.specs.declared.mode.Mode.TheVariants.{Backward}
 use Rattle.sbl_resolver.specs.declared.occurrences.Site.{Site}
-use Rattle.sbl_resolver.specs.Occurrences.{Occurrence, put, among, string, region_end, defines_routine, amongs_in, noted_expression, noted_prefix, site_behind, noted_condition, noted_entry, noted_entries, has_starter, is_empty, noted, noted_rows, noted_others, noted_starter, noted_groups, noted_plain, noted_items, occurrences_of}
+use Rattle.sbl_resolver.specs.Occurrences.{Occurrence, put, among, string, region_end, defines_routine, amongs_in, noted_expression, noted_prefix, site_behind, noted_condition, noted_entry, noted_entries, has_starter, is_empty, noted_command, noted_rows, noted_others, noted_starter, noted_groups, noted_plain, noted_items, occurrences_of}
 use Rattle.sbl_resolver.specs.Checks.{fault_at, has_text, is_text_of, is_awaited}
 use Rattle.sbl_resolver.specs.Laws.{EachPasses}
 use Rattle.sbl_resolver.specs.Amongs.{text_of, texts_of, IsSound, EachAmong, EachAmongOfRows, EachAmongOfOthers, EachAmongOfStarter, EachAmongOfGroups, EachAmongOfPlain, EachAmongOfPlains, EachAmongOfItems, AmongsAreSound}
@@ -133,7 +133,7 @@ none_differ : IsDistinct bytes_eq []
 unfolding IsDistinct
 none_differ = tt
 
-sound : (all : List Occurrence) (x : Starter) (gs : Groups) (p : Site) (s : List Occurrence) → Passing all → Extends (noted (among_ x gs) p s) all → IsSound gs
+sound : (all : List Occurrence) (x : Starter) (gs : Groups) (p : Site) (s : List Occurrence) → Passing all → Extends (noted_command (among_ x gs) p s) all → IsSound gs
 sound all x gs p s passing e =
     let occurrence = among (has_starter x) (is_empty gs) in
     let a = put occurrence p s in
@@ -150,7 +150,7 @@ sound all x gs p s passing e =
 -- ---- each among
 
 mutual
-  each_command : (all : List Occurrence) (t : Command) (p : Site) (s : List Occurrence) → Passing all → Extends (noted t p s) all → EachAmong IsSound t
+  each_command : (all : List Occurrence) (t : Command) (p : Site) (s : List Occurrence) → Passing all → Extends (noted_command t p s) all → EachAmong IsSound t
   each_command all (bracket rs) p s passing e = each_rows all rs p s passing e
   each_command all (simple_ x) p s passing e = tt
   each_command all (literal_ q) p s passing e = tt
@@ -161,7 +161,7 @@ mutual
   each_command all (move_ m k) p s passing e = tt
   each_command all (named x n) p s passing e = tt
   each_command all (splice_ x a) p s passing e = tt
-  each_command all (setlimit_ b c) p s passing e = (each_command all b p s passing (then_ (command_more c p (noted b p s)) e), each_command all c p (noted b p s) passing e)
+  each_command all (setlimit_ b c) p s passing e = (each_command all b p s passing (then_ (command_more c p (noted_command b p s)) e), each_command all c p (noted_command b p s) passing e)
   each_command all (assign_ n o k) p s passing e = tt
   each_command all (compare_ n o k) p s passing e = tt
   each_command all (compare_values_ k o f) p s passing e = tt
@@ -173,7 +173,7 @@ mutual
   each_rows : (all : List Occurrence) (rs : Rows) (p : Site) (s : List Occurrence) → Passing all → Extends (noted_rows rs p s) all → EachAmongOfRows IsSound rs
   each_rows all no_rows p s passing e = tt
   each_rows all (row c os rs) p s passing e =
-      let a = noted c p s in
+      let a = noted_command c p s in
       let b = noted_others os p a in
       let after_b : Extends b all = then_ (rows_more rs p b) e in
       (each_command all c p s passing (then_ (others_more os p a) after_b), each_others all os p a passing after_b, each_rows all rs p b passing e)
@@ -181,7 +181,7 @@ mutual
   each_others : (all : List Occurrence) (os : Others) (p : Site) (s : List Occurrence) → Passing all → Extends (noted_others os p s) all → EachAmongOfOthers IsSound os
   each_others all no_others p s passing e = tt
   each_others all (joined j c os) p s passing e =
-      (each_command all c p s passing (then_ (others_more os p (noted c p s)) e), each_others all os p (noted c p s) passing e)
+      (each_command all c p s passing (then_ (others_more os p (noted_command c p s)) e), each_others all os p (noted_command c p s) passing e)
 
   each_starter : (all : List Occurrence) (x : Starter) (p : Site) (s : List Occurrence) → Passing all → Extends (noted_starter x p s) all → EachAmongOfStarter IsSound x
   each_starter all no_starter p s passing e = tt
@@ -201,7 +201,7 @@ each_plain all (escapes a b) p s passing e = tt
 each_plain all (macro n b q) p s passing e = tt
 each_plain all (routine n c os) p s passing e =
     let a = put (defines_routine n) p s in
-    let b = noted c p a in
+    let b = noted_command c p a in
     let after_os : Extends (noted_others os p b) all = then_ (put_more region_end p (noted_others os p b)) e in
     (each_command all c p a passing (then_ (others_more os p b) after_os), each_others all os p b passing after_os)
 each_plain all (grouping n a ts) p s passing e = tt

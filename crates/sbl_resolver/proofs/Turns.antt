@@ -13,7 +13,7 @@ use Rattle.sbl_ast.specs.declared.mode.Mode.TheVariants.{Forward}
 use Rattle.sbl_resolver.specs.declared.occurrences.Notice.TheVariants as notices
 use Rattle.sbl_resolver.specs.Occurrences.{Occurrence}
 use Rattle.sbl_resolver.specs.Checks.{kind_of, declared_as, has_text, is_text_of, is_awaited, waits_after, fault_at, fault_behind}
-use Rattle.sbl_resolver.specs.Met.{HasMet, Notes}
+use Rattle.sbl_resolver.specs.MetNames.{HasMet, Notes}
 use Rattle.sbl_resolver.specs.OccurrenceView.{view_occurrence, view_occurrences}
 
 or_none : {X : Type 0} (o : Option X) → option_or o None ≡ o

@@ -7,5 +7,5 @@ pub mod Laws
 pub mod Subjects
 -- what the functions inside the crate promise each other; no public contract depends on these
 pub mod OccurrenceView
-pub mod Met
-pub mod Numbered
+pub mod MetNames
+pub mod FirstFault

@@ -1,5 +1,5 @@
 -- An occurrence without memory addresses, and the occurrences of the names of a declaration.
-use Rattle.std.specs.Prelude.{ℕ, List, map}
+use Rattle.std.specs.Prelude.{◌≡◌, ℕ, List, map}
 use Rattle.std.specs.List.{fold}
 use Rattle.sbl_ast.specs.declared.tree.DeclarationKind.{DeclarationKind}
 use Rattle.sbl_resolver.specs.declared.occurrences.Notice.{Notice}
@@ -24,6 +24,10 @@ view_occurrence m = record { site = m.site; notice = view_notice m.notice }
 
 abbrev pub view_occurrences : List Occurrence → List spec.Occurrence
 view_occurrences ms = map view_occurrence ms
+
+-- the new occurrences are what a function of the definitions makes of the old ones
+abbrev pub Adds : List Occurrence → List Occurrence → (List spec.Occurrence → List spec.Occurrence) → Type 0
+Adds old new noted = view_occurrences new ≡ noted (view_occurrences old)
 
 abbrev pub noted_names : DeclarationKind → List (List ℕ) → Site → List spec.Occurrence → List spec.Occurrence
 noted_names k ns p sofar = fold (λ s n. spec.put (spec.declares k n) p s) sofar ns

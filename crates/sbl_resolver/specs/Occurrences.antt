@@ -119,30 +119,30 @@ is_empty (bare []) = true
 is_empty _ = false
 
 abbrev mutual
-  pub noted : Command → Site → List Occurrence → List Occurrence
-  noted (bracket rs) p sofar = noted_rows rs p sofar
-  noted (simple_ s) p sofar = noted_simple s p sofar
-  noted (literal_ q) p sofar = sofar
-  noted (name_ n) p sofar = put (uses use_as.Command n) p sofar
-  noted (non_ with_minus n) p sofar = put (uses use_as.Excluded n) p sofar
-  noted (prefixed x c) p sofar = noted c (site_behind x p) (noted_prefix x p sofar)
-  noted (counted n e c) p sofar = noted c p (noted_expression e p sofar)
-  noted (move_ m e) p sofar = noted_expression e p sofar
-  noted (named x n) p sofar = put (uses (use_of x) n) p sofar
-  noted (splice_ x a) p sofar = noted_name use_as.String a p sofar
-  noted (setlimit_ b c) p sofar = noted c p (noted b p sofar)
-  noted (assign_ n o e) p sofar = noted_expression e p (put (uses use_as.Integer n) p sofar)
-  noted (compare_ n o e) p sofar = noted_expression e p (put (uses use_as.Integer n) p sofar)
-  noted (compare_values_ e o f) p sofar = noted_expression f p (noted_expression e p sofar)
-  noted (among_ s gs) p sofar = noted_groups gs (amongs_in sofar 0 + 1) p (noted_starter s p (put (among (has_starter s) (is_empty gs)) p sofar))
+  pub noted_command : Command → Site → List Occurrence → List Occurrence
+  noted_command (bracket rs) p sofar = noted_rows rs p sofar
+  noted_command (simple_ s) p sofar = noted_simple s p sofar
+  noted_command (literal_ q) p sofar = sofar
+  noted_command (name_ n) p sofar = put (uses use_as.Command n) p sofar
+  noted_command (non_ with_minus n) p sofar = put (uses use_as.Excluded n) p sofar
+  noted_command (prefixed x c) p sofar = noted_command c (site_behind x p) (noted_prefix x p sofar)
+  noted_command (counted n e c) p sofar = noted_command c p (noted_expression e p sofar)
+  noted_command (move_ m e) p sofar = noted_expression e p sofar
+  noted_command (named x n) p sofar = put (uses (use_of x) n) p sofar
+  noted_command (splice_ x a) p sofar = noted_name use_as.String a p sofar
+  noted_command (setlimit_ b c) p sofar = noted_command c p (noted_command b p sofar)
+  noted_command (assign_ n o e) p sofar = noted_expression e p (put (uses use_as.Integer n) p sofar)
+  noted_command (compare_ n o e) p sofar = noted_expression e p (put (uses use_as.Integer n) p sofar)
+  noted_command (compare_values_ e o f) p sofar = noted_expression f p (noted_expression e p sofar)
+  noted_command (among_ s gs) p sofar = noted_groups gs (amongs_in sofar 0 + 1) p (noted_starter s p (put (among (has_starter s) (is_empty gs)) p sofar))
 
   pub noted_rows : Rows → Site → List Occurrence → List Occurrence
   noted_rows no_rows p sofar = sofar
-  noted_rows (row c os rs) p sofar = noted_rows rs p (noted_others os p (noted c p sofar))
+  noted_rows (row c os rs) p sofar = noted_rows rs p (noted_others os p (noted_command c p sofar))
 
   pub noted_others : Others → Site → List Occurrence → List Occurrence
   noted_others no_others p sofar = sofar
-  noted_others (joined j c os) p sofar = noted_others os p (noted c p sofar)
+  noted_others (joined j c os) p sofar = noted_others os p (noted_command c p sofar)
 
   pub noted_starter : Starter → Site → List Occurrence → List Occurrence
   noted_starter no_starter p sofar = sofar
@@ -162,7 +162,7 @@ abbrev pub noted_plain : Plain → Site → List Occurrence → List Occurrence
 noted_plain (declaration k ns) p sofar = fold (λ s n. put (declares k n) p s) sofar ns
 noted_plain (escapes a b) p sofar = sofar
 noted_plain (macro n b q) p sofar = sofar
-noted_plain (routine n c os) p sofar = put region_end p (noted_others os p (noted c p (put (defines_routine n) p sofar)))
+noted_plain (routine n c os) p sofar = put region_end p (noted_others os p (noted_command c p (put (defines_routine n) p sofar)))
 noted_plain (grouping n a ts) p sofar = noted_terms ts p (noted_name use_as.Term a p (put (defines_grouping n) p sofar))
 
 -- the occurrences of these items; n is the number of the first one

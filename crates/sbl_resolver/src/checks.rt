@@ -6,8 +6,8 @@ ghost use Rattle.sbl_resolver.specs.Occurrences.{Occurrence as PlainOccurrence, 
 ghost use Rattle.sbl_resolver.specs.OccurrenceView.{view_notice, view_occurrence, view_occurrences};
 ghost use Rattle.sbl_resolver.specs.Laws.{EachPasses};
 ghost use Rattle.sbl_resolver.specs.Subjects.{subject_of, IsFirstAfter};
-ghost use Rattle.sbl_resolver.specs.Numbered.{first_from, one_more};
-ghost use Rattle.sbl_resolver.specs.Met.{at_name, has_string, HasPlaces, HasMet, Notes, Finds, may_define_as};
+ghost use Rattle.sbl_resolver.specs.FirstFault.{first_from, one_more};
+ghost use Rattle.sbl_resolver.specs.MetNames.{at_name, has_string, HasPlaces, HasMet, Notes, Finds, may_define_as};
 ghost use Rattle.std.specs.Option.{option_or};
 ghost use Rattle.sbl_ast.specs.View.{view_items};
 ghost use Rattle.std.specs.Str.{bytes_eq};

@@ -5,7 +5,7 @@ ghost use Rattle.sbl_ast.specs.View.{view_argument, view_expression, view_factor
 ghost use Rattle.sbl_ast.specs.Order.{view_in_mode};
 ghost use Rattle.sbl_ast.specs.Tree as trees;
 ghost use Rattle.sbl_resolver.specs.Occurrences as spec;
-ghost use Rattle.sbl_resolver.specs.OccurrenceView.{noted_names, view_notice, view_occurrences};
+ghost use Rattle.sbl_resolver.specs.OccurrenceView.{Adds, noted_names, view_occurrences};
 
 use crate::occurrences::{Notice, Occurrence, Site, Use};
 use crate::sofar::SoFar;
@@ -16,107 +16,14 @@ use sbl_ast::{
 };
 use std::alloc::{AllocError, Global};
 
-/// Appends the occurrence of a name, where a literal could be.
-fn note_name<'a>(
-    how: Use,
-    argument: &'a Argument,
-    site: Site,
-    occurrences: &mut SoFar<'a>,
-) -> Result<(), AllocError>
-    ensures { OnOk result (view_occurrences occurrences.new ≡ spec.noted_name how (view_argument argument.now) site (view_occurrences occurrences.old)) }
-{
-    match argument {
-        Argument::Literal(_) => Ok(()),
-        Argument::Name(name) => occurrences.put(Notice::Uses(how, name.as_str()), site),
-    }
-}
-
-/// Appends the occurrences of an arithmetic expression.
-#[cycle(arithmetic)]
-fn note_expression<'a>(
-    expression: &'a Expression,
-    site: Site,
-    occurrences: &mut SoFar<'a>,
-) -> Result<(), AllocError>
-    ensures { OnOk result (view_occurrences occurrences.new ≡ spec.noted_expression (view_expression expression.now) site (view_occurrences occurrences.old)) }
-{
-    note_product(&expression.first, site, occurrences)?;
-    note_sums(&expression.others, site, occurrences)
-}
-
-#[cycle(arithmetic)]
-fn note_sums<'a>(
-    others: &'a Vec<Added>,
-    site: Site,
-    occurrences: &mut SoFar<'a>,
-) -> Result<(), AllocError>
-    ensures { OnOk result (view_occurrences occurrences.new ≡ spec.noted_sums (view_sums others.now.items) site (view_occurrences occurrences.old)) }
-{
-    for added in others {
-        note_product(&added.product, site, occurrences)?;
-    }
-    Ok(())
-}
-
-#[cycle(arithmetic)]
-fn note_product<'a>(
-    product: &'a Product,
-    site: Site,
-    occurrences: &mut SoFar<'a>,
-) -> Result<(), AllocError>
-    ensures { OnOk result (view_occurrences occurrences.new ≡ spec.noted_product (view_product product.now) site (view_occurrences occurrences.old)) }
-{
-    note_factor(&product.first, site, occurrences)?;
-    note_scales(&product.others, site, occurrences)
-}
-
-#[cycle(arithmetic)]
-fn note_scales<'a>(
-    others: &'a Vec<Scaled>,
-    site: Site,
-    occurrences: &mut SoFar<'a>,
-) -> Result<(), AllocError>
-    ensures { OnOk result (view_occurrences occurrences.new ≡ spec.noted_scales (view_scales others.now.items) site (view_occurrences occurrences.old)) }
-{
-    for scaled in others {
-        note_factor(&scaled.factor, site, occurrences)?;
-    }
-    Ok(())
-}
-
-#[cycle(arithmetic)]
-fn note_factor<'a>(
-    factor: &'a Factor,
-    site: Site,
-    occurrences: &mut SoFar<'a>,
-) -> Result<(), AllocError>
-    ensures { OnOk result (view_occurrences occurrences.new ≡ spec.noted_factor (view_factor factor.now) site (view_occurrences occurrences.old)) }
-{
-    match factor {
-        Factor::Minus(inner) => note_factor(inner, site, occurrences),
-        Factor::Bracket(inner) => note_expression(inner, site, occurrences),
-        Factor::Name(name) => occurrences.put(Notice::Uses(Use::Integer, name.as_str()), site),
-        Factor::LenOf(string) => note_name(Use::String, string, site, occurrences),
-        Factor::Number(_) | Factor::Constant(_) => Ok(()),
-    }
-}
-
-fn note_simple(simple: Simple, site: Site, occurrences: &mut SoFar) -> Result<(), AllocError>
-    ensures { OnOk result (view_occurrences occurrences.new ≡ spec.noted_simple simple site (view_occurrences occurrences.old)) }
-{
-    match simple {
-        Simple::Substring => occurrences.put(Notice::Substring, site),
-        _ => Ok(()),
-    }
-}
-
-fn note_prefix(prefix: Prefix, site: Site, occurrences: &mut SoFar) -> Result<(), AllocError>
-    ensures { OnOk result (view_occurrences occurrences.new ≡ spec.noted_prefix prefix site (view_occurrences occurrences.old)) }
-{
-    match prefix {
-        Prefix::Backwards => occurrences.put(Notice::Backwards, site),
-        _ => Ok(()),
-    }
+/// Does the same with each item of a list, up to the first error.
+macro_rules! each {
+    ($items:expr, $item:ident => $action:expr) => {{
+        for $item in $items {
+            $action?;
+        }
+        Ok(())
+    }};
 }
 
 /// Returns the site of a command after a prefix.
@@ -142,35 +49,6 @@ fn use_of(naming: Naming) -> Use
     }
 }
 
-fn note_entry<'a>(
-    entry: &'a Entry,
-    number: usize,
-    site: Site,
-    occurrences: &mut SoFar<'a>,
-) -> Result<(), AllocError>
-    ensures { OnOk result (view_occurrences occurrences.new ≡ spec.noted_entry (view_entry entry.now) number site (view_occurrences occurrences.old)) }
-{
-    occurrences.put(Notice::String(number, entry.string.value.as_slice()), site)?;
-    match &entry.condition {
-        None => Ok(()),
-        Some(name) => occurrences.put(Notice::Uses(Use::Condition, name.as_str()), site),
-    }
-}
-
-fn note_entries<'a>(
-    entries: &'a Vec<Entry>,
-    number: usize,
-    site: Site,
-    occurrences: &mut SoFar<'a>,
-) -> Result<(), AllocError>
-    ensures { OnOk result (view_occurrences occurrences.new ≡ spec.noted_entries (map view_entry entries.now.items) number site (view_occurrences occurrences.old)) }
-{
-    for entry in entries {
-        note_entry(entry, number, site, occurrences)?;
-    }
-    Ok(())
-}
-
 fn has_starter(among: &Among) -> bool
     ensures { result ≡ spec.has_starter (view_among among.now).0 }
 {
@@ -189,214 +67,265 @@ fn has_none(groups: &[Group], bare: &[Entry]) -> bool
     groups.is_empty() && bare.is_empty()
 }
 
-/// Appends the occurrences of a command.
-#[cycle(commands)]
-fn note_command<'a>(
-    command: &'a Command,
-    site: Site,
-    occurrences: &mut SoFar<'a>,
-) -> Result<(), AllocError>
-    ensures { OnOk result (view_occurrences occurrences.new ≡ spec.noted (view_command command.now) site (view_occurrences occurrences.old)) }
-{
-    match command {
-        Command::Bracket(rows) => note_rows(rows, site, occurrences),
-        Command::Simple(simple) => note_simple(*simple, site, occurrences),
-        Command::Literal(_) => Ok(()),
-        Command::Name(name) => occurrences.put(Notice::Uses(Use::Command, name.as_str()), site),
-        Command::Non {
-            with_minus: _,
-            name,
-        } => occurrences.put(Notice::Uses(Use::Excluded, name.as_str()), site),
-        Command::Prefixed(prefix, inner) => {
-            note_prefix(*prefix, site, occurrences)?;
-            note_command(inner, site_behind(*prefix, site), occurrences)
-        }
-        Command::Counted(_, number, inner) => {
-            note_expression(number, site, occurrences)?;
-            note_command(inner, site, occurrences)
-        }
-        Command::Move(_, number) => note_expression(number, site, occurrences),
-        Command::Named(naming, name) => occurrences.put(
-            Notice::Uses(use_of(*naming), name.as_str()),
-            site,
-        ),
-        Command::Splice(_, string) => note_name(Use::String, string, site, occurrences),
-        Command::SetLimit(first, second) => {
-            note_command(first, site, occurrences)?;
-            note_command(second, site, occurrences)
-        }
-        Command::Assign(name, _, number) | Command::Compare(name, _, number) => {
-            occurrences.put(Notice::Uses(Use::Integer, name.as_str()), site)?;
-            note_expression(number, site, occurrences)
-        }
-        Command::CompareValues(first, _, second) => {
-            note_expression(first, site, occurrences)?;
-            note_expression(second, site, occurrences)
-        }
-        Command::Among(among) => note_among(among, site, occurrences),
-    }
-}
-
-#[cycle(commands)]
-fn note_rows<'a>(
-    rows: &'a Vec<RowOfCommands>,
-    site: Site,
-    occurrences: &mut SoFar<'a>,
-) -> Result<(), AllocError>
-    ensures { OnOk result (view_occurrences occurrences.new ≡ spec.noted_rows (view_rows rows.now.items) site (view_occurrences occurrences.old)) }
-{
-    for row in rows {
-        note_row(row, site, occurrences)?;
-    }
-    Ok(())
-}
-
-#[cycle(commands)]
-fn note_row<'a>(
-    row: &'a RowOfCommands,
-    site: Site,
-    occurrences: &mut SoFar<'a>,
-) -> Result<(), AllocError>
-    ensures { OnOk result (view_occurrences occurrences.new ≡ spec.noted_others (view_row row.now).1 site (spec.noted (view_row row.now).0 site (view_occurrences occurrences.old))) }
-{
-    note_command(&row.first, site, occurrences)?;
-    note_others(&row.others, site, occurrences)
-}
-
-#[cycle(commands)]
-fn note_others<'a>(
-    others: &'a Vec<Joined>,
-    site: Site,
-    occurrences: &mut SoFar<'a>,
-) -> Result<(), AllocError>
-    ensures { OnOk result (view_occurrences occurrences.new ≡ spec.noted_others (view_others others.now.items) site (view_occurrences occurrences.old)) }
-{
-    for joined in others {
-        note_command(&joined.command, site, occurrences)?;
-    }
-    Ok(())
-}
-
-/// Appends the occurrences of an among, of its starter, and then of each string and group.
-#[cycle(commands)]
-fn note_among<'a>(
-    among: &'a Among,
-    site: Site,
-    occurrences: &mut SoFar<'a>,
-) -> Result<(), AllocError>
-    ensures { OnOk result (view_occurrences occurrences.new ≡ spec.noted (trees.among_ (view_among among.now).0 (view_among among.now).1) site (view_occurrences occurrences.old)) }
-{
-    let number = occurrences.next_among();
-    let notice = Notice::Among {
-        has_starter: has_starter(among),
-        is_empty: is_empty(among),
-    };
-    occurrences.put(notice, site)?;
-    if let Some(rows) = &among.starter {
-        note_rows(rows, site, occurrences)?;
-        occurrences.put(Notice::RegionEnd, site)?;
-    }
-    note_groups(&among.groups, number, site, occurrences)?;
-    note_entries(&among.bare, number, site, occurrences)
-}
-
-#[cycle(commands)]
-fn note_groups<'a>(
-    groups: &'a Vec<Group>,
-    number: usize,
-    site: Site,
-    occurrences: &mut SoFar<'a>,
-) -> Result<(), AllocError>
-    ensures { OnOk result ((bare : List trees.Entry) →
-        spec.noted_entries bare number site (view_occurrences occurrences.new) ≡ spec.noted_groups (view_groups groups.now.items bare) number site (view_occurrences occurrences.old)) }
-{
-    for group in groups {
-        note_entry(&group.first, number, site, occurrences)?;
-        note_entries(&group.others, number, site, occurrences)?;
-        note_rows(&group.rows, site, occurrences)?;
-        occurrences.put(Notice::RegionEnd, site)?;
-    }
-    Ok(())
-}
-
-fn note_names<'a>(
-    kind: DeclarationKind,
-    names: &'a Vec<String>,
-    site: Site,
-    occurrences: &mut SoFar<'a>,
-) -> Result<(), AllocError>
-    ensures { OnOk result (view_occurrences occurrences.new ≡ noted_names kind (map string_bytes names.now.items) site (view_occurrences occurrences.old)) }
-{
-    for name in names {
-        occurrences.put(Notice::Declares(kind, name.as_str()), site)?;
-    }
-    Ok(())
-}
-
-fn note_terms<'a>(
-    terms: &'a Vec<Term>,
-    site: Site,
-    occurrences: &mut SoFar<'a>,
-) -> Result<(), AllocError>
-    ensures { OnOk result (view_occurrences occurrences.new ≡ spec.noted_terms (map view_term terms.now.items) site (view_occurrences occurrences.old)) }
-{
-    for term in terms {
-        note_name(Use::Term, &term.argument, site, occurrences)?;
-    }
-    Ok(())
-}
-
-fn note_plain<'a>(
-    plain: &'a Plain,
-    site: Site,
-    occurrences: &mut SoFar<'a>,
-) -> Result<(), AllocError>
-    ensures { OnOk result (view_occurrences occurrences.new ≡ spec.noted_plain (view_plain plain.now) site (view_occurrences occurrences.old)) }
-{
-    match plain {
-        Plain::Declaration(kind, names) => note_names(*kind, names, site, occurrences),
-        Plain::StringEscapes(_, _) => Ok(()),
-        Plain::StringDef {
-            name: _,
-            base: _,
-            value: _,
-        } => Ok(()),
-        Plain::Routine { name, body } => {
-            occurrences.put(Notice::DefinesRoutine(name.as_str()), site)?;
-            note_row(body, site, occurrences)?;
-            occurrences.put(Notice::RegionEnd, site)
-        }
-        Plain::Grouping {
-            name,
-            first,
-            others,
-        } => {
-            occurrences.put(Notice::DefinesGrouping(name.as_str()), site)?;
-            note_name(Use::Term, first, site, occurrences)?;
-            note_terms(others, site, occurrences)
+// Each of these appends the occurrences of one part of a script to those so far.
+impl<'a> SoFar<'a> {
+    /// Appends the occurrence of a name, where a literal could be.
+    fn note_name(&mut self, how: Use, argument: &'a Argument, site: Site) -> Result<(), AllocError>
+        ensures { OnOk result (Adds self.old self.new (spec.noted_name how (view_argument argument.now) site)) }
+    {
+        match argument {
+            Argument::Literal(_) => Ok(()),
+            Argument::Name(name) => self.put(Notice::Uses(how, name.as_str()), site),
         }
     }
-}
 
-fn note_in_order<'a>(
-    in_order: &[ItemInMode<'a>],
-    occurrences: &mut SoFar<'a>,
-) -> Result<(), AllocError>
-    ensures { OnOk result (view_occurrences occurrences.new ≡ spec.noted_items (map view_in_mode in_order.now) 1 (view_occurrences occurrences.old)) }
-{
-    let mut item = 0;
-    for one in in_order {
-        item += 1;
-        note_plain(
-            one.plain,
-            Site {
-                item,
-                mode: one.mode,
-            },
-            occurrences,
-        )?;
+    /// Appends the occurrences of an arithmetic expression.
+    #[cycle(arithmetic)]
+    fn note_expression(&mut self, expression: &'a Expression, site: Site) -> Result<(), AllocError>
+        ensures { OnOk result (Adds self.old self.new (spec.noted_expression (view_expression expression.now) site)) }
+    {
+        self.note_product(&expression.first, site)?;
+        self.note_sums(&expression.others, site)
     }
-    Ok(())
+
+    #[cycle(arithmetic)]
+    fn note_product(&mut self, product: &'a Product, site: Site) -> Result<(), AllocError>
+        ensures { OnOk result (Adds self.old self.new (spec.noted_product (view_product product.now) site)) }
+    {
+        self.note_factor(&product.first, site)?;
+        self.note_scales(&product.others, site)
+    }
+
+    #[cycle(arithmetic)]
+    fn note_factor(&mut self, factor: &'a Factor, site: Site) -> Result<(), AllocError>
+        ensures { OnOk result (Adds self.old self.new (spec.noted_factor (view_factor factor.now) site)) }
+    {
+        match factor {
+            Factor::Minus(inner) => self.note_factor(inner, site),
+            Factor::Bracket(inner) => self.note_expression(inner, site),
+            Factor::Name(name) => self.put(Notice::Uses(Use::Integer, name.as_str()), site),
+            Factor::LenOf(string) => self.note_name(Use::String, string, site),
+            Factor::Number(_) | Factor::Constant(_) => Ok(()),
+        }
+    }
+
+    #[cycle(arithmetic)]
+    fn note_sums(&mut self, others: &'a Vec<Added>, site: Site) -> Result<(), AllocError>
+        ensures { OnOk result (Adds self.old self.new (spec.noted_sums (view_sums others.now.items) site)) }
+    {
+        each!(others, added => self.note_product(&added.product, site))
+    }
+
+    #[cycle(arithmetic)]
+    fn note_scales(&mut self, others: &'a Vec<Scaled>, site: Site) -> Result<(), AllocError>
+        ensures { OnOk result (Adds self.old self.new (spec.noted_scales (view_scales others.now.items) site)) }
+    {
+        each!(others, scaled => self.note_factor(&scaled.factor, site))
+    }
+
+    fn note_entry(&mut self, entry: &'a Entry, number: usize, site: Site) -> Result<(), AllocError>
+        ensures { OnOk result (Adds self.old self.new (spec.noted_entry (view_entry entry.now) number site)) }
+    {
+        self.put(Notice::String(number, entry.string.value.as_slice()), site)?;
+        match &entry.condition {
+            None => Ok(()),
+            Some(name) => self.put(Notice::Uses(Use::Condition, name.as_str()), site),
+        }
+    }
+
+    fn note_entries(
+        &mut self,
+        entries: &'a [Entry],
+        number: usize,
+        site: Site,
+    ) -> Result<(), AllocError>
+        ensures { OnOk result (Adds self.old self.new (spec.noted_entries (map view_entry entries.now) number site)) }
+    {
+        each!(entries, entry => self.note_entry(entry, number, site))
+    }
+
+    fn note_simple(&mut self, simple: Simple, site: Site) -> Result<(), AllocError>
+        ensures { OnOk result (Adds self.old self.new (spec.noted_simple simple site)) }
+    {
+        match simple {
+            Simple::Substring => self.put(Notice::Substring, site),
+            _ => Ok(()),
+        }
+    }
+
+    fn note_prefix(&mut self, prefix: Prefix, site: Site) -> Result<(), AllocError>
+        ensures { OnOk result (Adds self.old self.new (spec.noted_prefix prefix site)) }
+    {
+        match prefix {
+            Prefix::Backwards => self.put(Notice::Backwards, site),
+            _ => Ok(()),
+        }
+    }
+
+    /// Appends the occurrences of a command.
+    #[cycle(commands)]
+    fn note_command(&mut self, command: &'a Command, site: Site) -> Result<(), AllocError>
+        ensures { OnOk result (Adds self.old self.new (spec.noted_command (view_command command.now) site)) }
+    {
+        match command {
+            Command::Bracket(rows) => self.note_rows(rows, site),
+            Command::Simple(simple) => self.note_simple(*simple, site),
+            Command::Literal(_) => Ok(()),
+            Command::Name(name) => self.put(Notice::Uses(Use::Command, name.as_str()), site),
+            Command::Non {
+                with_minus: _,
+                name,
+            } => self.put(Notice::Uses(Use::Excluded, name.as_str()), site),
+            Command::Prefixed(prefix, inner) => {
+                self.note_prefix(*prefix, site)?;
+                self.note_command(inner, site_behind(*prefix, site))
+            }
+            Command::Counted(_, number, inner) => {
+                self.note_expression(number, site)?;
+                self.note_command(inner, site)
+            }
+            Command::Move(_, number) => self.note_expression(number, site),
+            Command::Named(naming, name) => {
+                self.put(Notice::Uses(use_of(*naming), name.as_str()), site)
+            }
+            Command::Splice(_, string) => self.note_name(Use::String, string, site),
+            Command::SetLimit(first, second) => {
+                self.note_command(first, site)?;
+                self.note_command(second, site)
+            }
+            Command::Assign(name, _, number) | Command::Compare(name, _, number) => {
+                self.put(Notice::Uses(Use::Integer, name.as_str()), site)?;
+                self.note_expression(number, site)
+            }
+            Command::CompareValues(first, _, second) => {
+                self.note_expression(first, site)?;
+                self.note_expression(second, site)
+            }
+            Command::Among(among) => self.note_among(among, site),
+        }
+    }
+
+    #[cycle(commands)]
+    fn note_row(&mut self, row: &'a RowOfCommands, site: Site) -> Result<(), AllocError>
+        ensures { OnOk result (Adds self.old self.new (λ sofar. spec.noted_others (view_row row.now).1 site (spec.noted_command (view_row row.now).0 site sofar))) }
+    {
+        self.note_command(&row.first, site)?;
+        self.note_others(&row.others, site)
+    }
+
+    #[cycle(commands)]
+    fn note_rows(&mut self, rows: &'a Vec<RowOfCommands>, site: Site) -> Result<(), AllocError>
+        ensures { OnOk result (Adds self.old self.new (spec.noted_rows (view_rows rows.now.items) site)) }
+    {
+        each!(rows, row => self.note_row(row, site))
+    }
+
+    #[cycle(commands)]
+    fn note_others(&mut self, others: &'a Vec<Joined>, site: Site) -> Result<(), AllocError>
+        ensures { OnOk result (Adds self.old self.new (spec.noted_others (view_others others.now.items) site)) }
+    {
+        each!(others, joined => self.note_command(&joined.command, site))
+    }
+
+    /// Appends the occurrences of an among, of its starter, and then of each string and group.
+    #[cycle(commands)]
+    fn note_among(&mut self, among: &'a Among, site: Site) -> Result<(), AllocError>
+        ensures { OnOk result (Adds self.old self.new (spec.noted_command (trees.among_ (view_among among.now).0 (view_among among.now).1) site)) }
+    {
+        let number = self.next_among();
+        let notice = Notice::Among {
+            has_starter: has_starter(among),
+            is_empty: is_empty(among),
+        };
+        self.put(notice, site)?;
+        if let Some(rows) = &among.starter {
+            self.note_rows(rows, site)?;
+            self.put(Notice::RegionEnd, site)?;
+        }
+        self.note_groups(&among.groups, number, site)?;
+        self.note_entries(&among.bare, number, site)
+    }
+
+    #[cycle(commands)]
+    fn note_groups(
+        &mut self,
+        groups: &'a Vec<Group>,
+        number: usize,
+        site: Site,
+    ) -> Result<(), AllocError>
+        ensures { OnOk result ((bare : List trees.Entry) →
+            spec.noted_entries bare number site (view_occurrences self.new) ≡ spec.noted_groups (view_groups groups.now.items bare) number site (view_occurrences self.old)) }
+    {
+        for group in groups {
+            self.note_entry(&group.first, number, site)?;
+            self.note_entries(&group.others, number, site)?;
+            self.note_rows(&group.rows, site)?;
+            self.put(Notice::RegionEnd, site)?;
+        }
+        Ok(())
+    }
+
+    fn note_names(
+        &mut self,
+        kind: DeclarationKind,
+        names: &'a Vec<String>,
+        site: Site,
+    ) -> Result<(), AllocError>
+        ensures { OnOk result (Adds self.old self.new (noted_names kind (map string_bytes names.now.items) site)) }
+    {
+        each!(names, name => self.put(Notice::Declares(kind, name.as_str()), site))
+    }
+
+    fn note_terms(&mut self, terms: &'a Vec<Term>, site: Site) -> Result<(), AllocError>
+        ensures { OnOk result (Adds self.old self.new (spec.noted_terms (map view_term terms.now.items) site)) }
+    {
+        each!(terms, term => self.note_name(Use::Term, &term.argument, site))
+    }
+
+    fn note_plain(&mut self, plain: &'a Plain, site: Site) -> Result<(), AllocError>
+        ensures { OnOk result (Adds self.old self.new (spec.noted_plain (view_plain plain.now) site)) }
+    {
+        match plain {
+            Plain::Declaration(kind, names) => self.note_names(*kind, names, site),
+            Plain::StringEscapes(_, _) => Ok(()),
+            Plain::StringDef {
+                name: _,
+                base: _,
+                value: _,
+            } => Ok(()),
+            Plain::Routine { name, body } => {
+                self.put(Notice::DefinesRoutine(name.as_str()), site)?;
+                self.note_row(body, site)?;
+                self.put(Notice::RegionEnd, site)
+            }
+            Plain::Grouping {
+                name,
+                first,
+                others,
+            } => {
+                self.put(Notice::DefinesGrouping(name.as_str()), site)?;
+                self.note_name(Use::Term, first, site)?;
+                self.note_terms(others, site)
+            }
+        }
+    }
+
+    fn note_in_order(&mut self, in_order: &[ItemInMode<'a>]) -> Result<(), AllocError>
+        ensures { OnOk result (Adds self.old self.new (spec.noted_items (map view_in_mode in_order.now) 1)) }
+    {
+        let mut item = 0;
+        for one in in_order {
+            item += 1;
+            self.note_plain(
+                one.plain,
+                Site {
+                    item,
+                    mode: one.mode,
+                },
+            )?;
+        }
+        Ok(())
+    }
 }
 
 /// Returns the occurrences of a script, with items counted from 1. Returns `AllocError` if an allocation fails.
@@ -408,6 +337,6 @@ pub fn occurrences_of<'a>(
 {
     let in_order = items_in_order(alloc, items)?;
     let mut occurrences = SoFar::new(alloc);
-    note_in_order(&in_order, &mut occurrences)?;
+    occurrences.note_in_order(&in_order)?;
     Ok(occurrences.into_vec())
 }

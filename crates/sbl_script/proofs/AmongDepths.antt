@@ -5,14 +5,14 @@ use Rattle.std.specs.Option.{ok_or}
 use Rattle.std.proofs.lemmas.Bool.{eqb-true, ne_eqb, true≢false}
 use Rattle.std.proofs.lemmas.Bool.Decides.{nat_tests}
 use Rattle.sbl_ast.specs.Counts.{count_amongs, count_in_rows, count_in_others, count_in_starter, count_in_groups, count_in_among}
-use Rattle.sbl_ast.specs.Places.{AtDepth, placed, placed_rows, placed_others, placed_starter, placed_groups, placed_entry, placed_entries, placed_expression, placed_sums, placed_product, placed_scales, placed_factor}
+use Rattle.sbl_ast.specs.Places.{AtDepth, placed_command, placed_rows, placed_others, placed_starter, placed_groups, placed_entry, placed_entries, placed_expression, placed_sums, placed_product, placed_scales, placed_factor}
 use Rattle.sbl_ast.specs.Terminal as t
 use Rattle.sbl_ast.specs.Texts.{body, places_in}
 use Rattle.sbl_ast.specs.Texts as texts
 use Rattle.sbl_ast.specs.Tree.{Argument, written_out, by_name, Expression, expression, Sums, no_sums, sum, Product, product, Scales, no_scales, scale, Factor, negated, bracketed, numeral, variable, fixed, length_of, Entry, entry, Command, bracket, simple_, literal_, name_, non_, prefixed, counted, move_, named, splice_, setlimit_, assign_, compare_, compare_values_, among_, Rows, no_rows, row, Others, no_others, joined, Starter, no_starter, starter, Groups, bare, group, Item, argument_terminal}
 use Rattle.sbl_ast.specs.View.{RowView}
 use Rattle.sbl_amongs.specs.Amongs.{Held, amongs, amongs_of_rows, amongs_of_others, amongs_of_starter, amongs_of_groups, amongs_of_body, nth_held, put_in_body}
-use Rattle.sbl_amongs.specs.Replaced.{IsBetween, is_among}
+use Rattle.sbl_amongs.specs.Replacement.{IsBetween, is_among}
 use Rattle.sbl_amongs.proofs.Swapped.{body_one}
 use Rattle.sbl_script.specs.declared.edit_fault.ScriptEditFault.TheVariants as edits
 use Rattle.sbl_script.specs.Edits.{Home, home_at_among, among_depths, nth}
@@ -71,7 +71,7 @@ entries_q (x ∷ xs) d r = entry_q x d (placed_entries xs d r) ∙ entries_q xs 
 -- ---- the depths of the amongs are those of the words
 
 mutual
-  tree_d : (c : Command) (d : ℕ) (hs : Hs) (r : Ps) → depths hs ≡ D r → depths (amongs c d hs) ≡ D (placed c d r)
+  tree_d : (c : Command) (d : ℕ) (hs : Hs) (r : Ps) → depths hs ≡ D r → depths (amongs c d hs) ≡ D (placed_command c d r)
   tree_d (bracket rs) d hs r e = rows_d rs (d + 1) hs ((t.close_, d) ∷ r) e
   tree_d (simple_ x) d hs r e = e
   tree_d (literal_ x) d hs r e = e
@@ -79,11 +79,11 @@ mutual
   tree_d (non_ true y) d hs r e = e
   tree_d (non_ false y) d hs r e = e
   tree_d (prefixed p c) d hs r e = tree_d c (d + 1) hs r e
-  tree_d (counted n x c) d hs r e = tree_d c (d + 1) hs r e ∙ sym (expression_q x d (placed c (d + 1) r))
+  tree_d (counted n x c) d hs r e = tree_d c (d + 1) hs r e ∙ sym (expression_q x d (placed_command c (d + 1) r))
   tree_d (move_ x y) d hs r e = e ∙ sym (expression_q y d r)
   tree_d (named x y) d hs r e = e
   tree_d (splice_ x y) d hs r e = e ∙ sym (argument_q y d r)
-  tree_d (setlimit_ b c) d hs r e = tree_d b (d + 1) (amongs c (d + 1) hs) ((t.for_, d) ∷ placed c (d + 1) r) (tree_d c (d + 1) hs r e)
+  tree_d (setlimit_ b c) d hs r e = tree_d b (d + 1) (amongs c (d + 1) hs) ((t.for_, d) ∷ placed_command c (d + 1) r) (tree_d c (d + 1) hs r e)
   tree_d (assign_ x y z) d hs r e = e ∙ sym (expression_q z d r)
   tree_d (compare_ x y z) d hs r e = e ∙ sym (expression_q z d r)
   tree_d (compare_values_ x y z) d hs r e = e ∙ sym (expression_q x d ((t.compares y, d) ∷ placed_expression z d ((t.close_, d) ∷ r)) ∙ expression_q z d ((t.close_, d) ∷ r))
@@ -128,7 +128,7 @@ abbrev N : Ps → ℕ
 N ps = length (D ps)
 
 mutual
-  tree_n : (c : Command) (d : ℕ) (r : Ps) → N (placed c d r) ≡ count_amongs c + N r
+  tree_n : (c : Command) (d : ℕ) (r : Ps) → N (placed_command c d r) ≡ count_amongs c + N r
   tree_n (bracket rs) d r = rows_n rs (d + 1) ((t.close_, d) ∷ r)
   tree_n (simple_ x) d r = omega arith
   tree_n (literal_ x) d r = omega arith
@@ -136,12 +136,12 @@ mutual
   tree_n (non_ true y) d r = omega arith
   tree_n (non_ false y) d r = omega arith
   tree_n (prefixed p c) d r = tree_n c (d + 1) r
-  tree_n (counted n x c) d r = ap length (expression_q x d (placed c (d + 1) r)) ∙ tree_n c (d + 1) r
+  tree_n (counted n x c) d r = ap length (expression_q x d (placed_command c (d + 1) r)) ∙ tree_n c (d + 1) r
   tree_n (move_ x y) d r = let q = ap length (expression_q y d r) in omega (arith, q)
   tree_n (named x y) d r = omega arith
   tree_n (splice_ x y) d r = let q = ap length (argument_q y d r) in omega (arith, q)
   tree_n (setlimit_ b c) d r =
-      let x = tree_n b (d + 1) ((t.for_, d) ∷ placed c (d + 1) r) in
+      let x = tree_n b (d + 1) ((t.for_, d) ∷ placed_command c (d + 1) r) in
       let y = tree_n c (d + 1) r in
       omega (arith, x, y)
   tree_n (assign_ x y z) d r = let q = ap length (expression_q z d r) in omega (arith, q)
@@ -205,8 +205,8 @@ keeps : (b : RowView) (k : ℕ) (h : Held) (a : Starter × Groups) → nth_held 
     → nat_eq (length (among_depths (put_in_body b k a))) (length (among_depths b)) ≡ nat_eq (count_in_among a) (count_in_among (h.1, h.2))
 keeps b k h a e =
     let two = body_one b k a h e in
-    let was = ap N two.was ∙ both_n two.front (placed (among_ h.1 h.2) h.0 two.behind) ∙ ap (λ (n : ℕ). N two.front + n) (tree_n (among_ h.1 h.2) h.0 two.behind) in
-    let is = ap N two.is ∙ both_n two.front (placed (among_ a.0 a.1) h.0 two.behind) ∙ ap (λ (n : ℕ). N two.front + n) (tree_n (among_ a.0 a.1) h.0 two.behind) in
+    let was = ap N two.was ∙ both_n two.front (placed_command (among_ h.1 h.2) h.0 two.behind) ∙ ap (λ (n : ℕ). N two.front + n) (tree_n (among_ h.1 h.2) h.0 two.behind) in
+    let is = ap N two.is ∙ both_n two.front (placed_command (among_ a.0 a.1) h.0 two.behind) ∙ ap (λ (n : ℕ). N two.front + n) (tree_n (among_ a.0 a.1) h.0 two.behind) in
     (λ i. nat_eq (is i) (was i)) ∙ same_eq (N two.front) (N two.behind) (count_in_among a) (count_in_among (h.1, h.2))
 
 -- ---- the place of an among

@@ -31,7 +31,7 @@ use Rattle.sbl_ast.specs.declared.tree.Constant.{Constant}
 use Rattle.sbl_ast.specs.declared.tree.Constant.TheVariants as constants
 use Rattle.sbl_ast.specs.Terminal.{Terminal, lexeme_as}
 use Rattle.sbl_ast.specs.Terminal as t
-use Rattle.sbl_ast.specs.Tree.{Expression, expression, Sums, no_sums, sum, Product, product, Scales, no_scales, scale, Factor, negated, bracketed, numeral, variable, fixed, length_of, Argument, written_out, by_name, Entry, entry, Command, bracket, simple_, literal_, name_, non_, prefixed, counted, move_, named, splice_, setlimit_, assign_, compare_, compare_values_, among_, Rows, no_rows, row, Others, no_others, joined, Starter, no_starter, starter, Groups, bare, group, Term, term, Plain, declaration, escapes, macro, routine, grouping, Item, plain, backward, argument_terminal, spelled_expression, spelled_sums, spelled_product, spelled_scales, spelled_factor, spelled_entry, spelled_entries, spelled, spelled_rows, spelled_others, spelled_starter, spelled_groups, spelled_names, spelled_base, spelled_terms, spelled_plain, spelled_plains, spelled_items, written}
+use Rattle.sbl_ast.specs.Tree.{Expression, expression, Sums, no_sums, sum, Product, product, Scales, no_scales, scale, Factor, negated, bracketed, numeral, variable, fixed, length_of, Argument, written_out, by_name, Entry, entry, Command, bracket, simple_, literal_, name_, non_, prefixed, counted, move_, named, splice_, setlimit_, assign_, compare_, compare_values_, among_, Rows, no_rows, row, Others, no_others, joined, Starter, no_starter, starter, Groups, bare, group, Term, term, Plain, declaration, escapes, macro, routine, grouping, Item, plain, backward, argument_terminal, spelled_expression, spelled_sums, spelled_product, spelled_scales, spelled_factor, spelled_entry, spelled_entries, spelled_command, spelled_rows, spelled_others, spelled_starter, spelled_groups, spelled_names, spelled_base, spelled_terms, spelled_plain, spelled_plains, spelled_items, script_tokens}
 use Rattle.sbl_parser.specs.Profile.{is_left_out}
 
 abbrev Ts : Type 0
@@ -176,19 +176,19 @@ of_entries [] ts = refl
 of_entries (x ∷ xs) ts = of_entry x (spelled_entries xs ts) ∙ of_entries xs ts
 
 mutual
-  of_command : (c : Command) (ts : Ts) → any_left_out (spelled c ts) ≡ any_left_out ts
+  of_command : (c : Command) (ts : Ts) → any_left_out (spelled_command c ts) ≡ any_left_out ts
   of_command (bracket rs) ts = of_rows rs (t.close_ ∷ ts)
   of_command (simple_ s) ts = past (t.simple s) ts (simply s)
   of_command (literal_ q) ts = refl
   of_command (name_ n) ts = refl
   of_command (non_ true n) ts = refl
   of_command (non_ false n) ts = refl
-  of_command (prefixed p c) ts = past (t.prefix p) (spelled c ts) (before p) ∙ of_command c ts
-  of_command (counted n e c) ts = past (t.count n) (spelled_expression e (spelled c ts)) (counting n) ∙ of_expression e (spelled c ts) ∙ of_command c ts
+  of_command (prefixed p c) ts = past (t.prefix p) (spelled_command c ts) (before p) ∙ of_command c ts
+  of_command (counted n e c) ts = past (t.count n) (spelled_expression e (spelled_command c ts)) (counting n) ∙ of_expression e (spelled_command c ts) ∙ of_command c ts
   of_command (move_ m e) ts = past (t.move m) (spelled_expression e ts) (moving m) ∙ of_expression e ts
   of_command (named x n) ts = past (t.naming x) (t.name n ∷ ts) (naming_ x)
   of_command (splice_ x a) ts = past (t.edit x) (argument_terminal a ∷ ts) (splicing x) ∙ past (argument_terminal a) ts (arguing a)
-  of_command (setlimit_ b c) ts = of_command b (t.for_ ∷ spelled c ts) ∙ of_command c ts
+  of_command (setlimit_ b c) ts = of_command b (t.for_ ∷ spelled_command c ts) ∙ of_command c ts
   of_command (assign_ n o e) ts = past (t.assigns o) (spelled_expression e ts) (assigning o) ∙ of_expression e ts
   of_command (compare_ n o e) ts = past (t.compares o) (spelled_expression e ts) (comparing o) ∙ of_expression e ts
   of_command (compare_values_ e o f) ts =
@@ -201,7 +201,7 @@ mutual
 
   of_others : (os : Others) (ts : Ts) → any_left_out (spelled_others os ts) ≡ any_left_out ts
   of_others no_others ts = refl
-  of_others (joined j c os) ts = past (t.joiner j) (spelled c (spelled_others os ts)) (joining j) ∙ of_command c (spelled_others os ts) ∙ of_others os ts
+  of_others (joined j c os) ts = past (t.joiner j) (spelled_command c (spelled_others os ts)) (joining j) ∙ of_command c (spelled_others os ts) ∙ of_others os ts
 
   of_starter : (x : Starter) (ts : Ts) → any_left_out (spelled_starter x ts) ≡ any_left_out ts
   of_starter no_starter ts = refl
@@ -236,7 +236,7 @@ of_plains : (ps : List Plain) (ts : Ts) → any_left_out (spelled_plains ps ts) 
 of_plains [] ts = refl
 of_plains (p ∷ ps) ts = of_plain p (spelled_plains ps ts) ∙ of_plains ps ts
 
-pub none_left_out : (items : List Item) → any_left_out (written items) ≡ false
+pub none_left_out : (items : List Item) → any_left_out (script_tokens items) ≡ false
 none_left_out [] = refl
 none_left_out (plain p ∷ is) = of_plain p (spelled_items is []) ∙ none_left_out is
 none_left_out (backward ps ∷ is) = of_plains ps (t.close_ ∷ spelled_items is []) ∙ none_left_out is

@@ -7,7 +7,7 @@ use Rattle.sbl_text.specs.declared.fault.ScriptFault.TheVariants as fault
 use Rattle.sbl_token.specs.Lexemes.{Lexeme}
 use Rattle.sbl_text.specs.Literals.{byte_length}
 use Rattle.sbl_text.specs.Directives.{Directives, start}
-use Rattle.sbl_text.specs.Tokens.{Piece, Placed, AreTokensFrom, ArePlacedFrom, and_more, said, put_placed, placed_from}
+use Rattle.sbl_text.specs.Tokens.{Piece, Placed, AreTokensFrom, ArePlacedFrom, and_more, piece_lexemes, put_placed, placed_from}
 use Rattle.sbl_text.specs.Laws.{PlacesAreOne, FirstFaultIsOne, TokensOrFault}
 use Rattle.sbl_ast.specs.Tree.{Item}
 use Rattle.sbl_ast.specs.Texts.{Text, TreeOf, script}
@@ -32,9 +32,9 @@ said_by : (l : Option Lexeme) (place : ℕ) (x : List ℕ) (ts : List Placed) (l
 said_by None place x ts ls e = e
 said_by (Some l) place x ts ls e = ap (λ (r : List Lexeme). l ∷ r) e
 
-pub said_so : (place : ℕ) (ps : List Piece) → map (λ (p : Placed). p.lexeme) (placed_from place ps) ≡ said ps
+pub said_so : (place : ℕ) (ps : List Piece) → map (λ (p : Placed). p.lexeme) (placed_from place ps) ≡ piece_lexemes ps
 said_so place [] = refl
-said_so place (p ∷ ps) = said_by p.lexeme place p.text (placed_from (place + byte_length p.text) ps) (said ps) (said_so (place + byte_length p.text) ps)
+said_so place (p ∷ ps) = said_by p.lexeme place p.text (placed_from (place + byte_length p.text) ps) (piece_lexemes ps) (said_so (place + byte_length p.text) ps)
 
 pub are_tokens : (s : Directives) (text : List ℕ) (ts : List Placed) → ArePlacedFrom s text ts → AreTokensFrom s text (map (λ (p : Placed). p.lexeme) ts)
 are_tokens s text ts h = (h.0, h.1, h.2, h.3, ap (map (λ (p : Placed). p.lexeme)) h.4 ∙ said_so 0 h.0)

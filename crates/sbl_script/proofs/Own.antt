@@ -9,7 +9,7 @@ use Rattle.sbl_ast.specs.declared.tree.Prefix.TheVariants as prefixes
 use Rattle.sbl_ast.specs.Tree.{Argument, written_out, by_name, Expression, expression, Sums, no_sums, sum, Product, product, Scales, no_scales, scale, Factor, negated, bracketed, numeral, variable, fixed, length_of, Entry, entry, Command, bracket, simple_, literal_, name_, non_, prefixed, counted, move_, named, splice_, setlimit_, assign_, compare_, compare_values_, among_, Rows, no_rows, row, Others, no_others, joined, Starter, no_starter, starter, Groups, bare, group, Term, term, Plain, declaration, escapes, macro, routine, grouping}
 use Rattle.sbl_resolver.specs.declared.occurrences.Use.TheVariants as use_as
 use Rattle.sbl_resolver.specs.declared.occurrences.Site.{Site}
-use Rattle.sbl_resolver.specs.Occurrences.{Occurrence, Notice, put, uses, substring, among, string, backwards, region_end, declares, defines_routine, defines_grouping, amongs_after, amongs_in, noted_expression, noted_sums, noted_product, noted_scales, noted_factor, noted_simple, noted_prefix, site_behind, use_of, noted_condition, noted_entry, noted_entries, has_starter, is_empty, noted, noted_rows, noted_others, noted_starter, noted_groups, noted_terms, noted_plain, noted_name}
+use Rattle.sbl_resolver.specs.Occurrences.{Occurrence, Notice, put, uses, substring, among, string, backwards, region_end, declares, defines_routine, defines_grouping, amongs_after, amongs_in, noted_expression, noted_sums, noted_product, noted_scales, noted_factor, noted_simple, noted_prefix, site_behind, use_of, noted_condition, noted_entry, noted_entries, has_starter, is_empty, noted_command, noted_rows, noted_others, noted_starter, noted_groups, noted_terms, noted_plain, noted_name}
 use Rattle.sbl_resolver.specs.OccurrenceView.{noted_names}
 
 -- it holds of each occurrence
@@ -172,7 +172,7 @@ module _ (i : ℕ) where
   }
 
   mutual
-    command_own : (t : Command) (p : Site) → p.item ≡ i → Ours (λ s. noted t p s)
+    command_own : (t : Command) (p : Site) → p.item ≡ i → Ours (λ s. noted_command t p s)
     command_own (bracket rs) p h = rows_own rs p h
     command_own (simple_ x) p h = simple_own x p h
     command_own (literal_ q) p h = none
@@ -211,7 +211,7 @@ module _ (i : ℕ) where
 
 -- the occurrences of a routine's body, behind its definition
 abbrev of_body : Command → Others → Site → List Occurrence → List Occurrence
-of_body c os p s = put region_end p (noted_others os p (noted c p s))
+of_body c os p s = put region_end p (noted_others os p (noted_command c p s))
 
 body_own : (c : Command) (os : Others) (p : Site) → Own HasRoutine (IsOfCommand p.item) (λ s. of_body c os p s)
 body_own c os p = and_ p.item (command_own p.item c p refl) (and_ p.item (others_own p.item os p refl) (one p.item region_end p refl refl))

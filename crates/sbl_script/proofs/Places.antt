@@ -6,10 +6,10 @@ use Rattle.sbl_text.specs.declared.fault.ScriptFault.TheVariants as fault
 use Rattle.sbl_token.specs.declared.token.Token.{Token}
 use Rattle.sbl_token.specs.Lexemes.{lexeme_of}
 use Rattle.sbl_text.specs.Tokens.{Placed, placed_of}
-use Rattle.sbl_ast.specs.Terminal.{Terminal, terminal_of, terminals_of, left}
+use Rattle.sbl_ast.specs.Terminal.{Terminal, terminal_of, terminals_of, tokens_left}
 use Rattle.sbl_parser.specs.Reading.{IsSyntaxAt, IsTooDeepAt, IsOutOfProfileAt}
 use Rattle.sbl_ast.specs.Texts.{Text}
-use Rattle.sbl_parser.specs.Told as grammar
+use Rattle.sbl_parser.specs.FaultOffsets as grammar
 use Rattle.sbl_script.specs.Reading.{terminals, place_of, IsGrammarFault, IsUnread, first_left_out}
 
 pub terminals_same : (ts : List Token) → terminals_of ts ≡ terminals (map placed_of ts)
@@ -23,7 +23,7 @@ place_same (t ∷ ts) end = refl
 cut : (ts : List Token) (n : ℕ) → map placed_of ts ≡ map placed_of (take n ts) ++ map placed_of (drop n ts)
 cut ts n = ap (map placed_of) (sym (take-append-drop n ts)) ∙ map-append placed_of (take n ts) (drop n ts)
 
-moved : (P : List Terminal → List Terminal → Type 0) (ts : List Token) (n : ℕ) → P (terminals_of ts) (left ts n) → P (terminals (map placed_of ts)) (terminals (map placed_of (drop n ts)))
+moved : (P : List Terminal → List Terminal → Type 0) (ts : List Token) (n : ℕ) → P (terminals_of ts) (tokens_left ts n) → P (terminals (map placed_of ts)) (terminals (map placed_of (drop n ts)))
 moved P ts n h =
     subst (λ (x : List Terminal). P x (terminals (map placed_of (drop n ts)))) (terminals_same ts) (subst (λ (x : List Terminal). P (terminals_of ts) x) (terminals_same (drop n ts)) h)
 

@@ -6,20 +6,20 @@ use Rattle.std.specs.Str.{chars, IsUtf8}
 use Rattle.sbl_token.specs.Lexemes.{Lexeme}
 use Rattle.sbl_text.specs.Directives.{start}
 use Rattle.sbl_text.specs.Tokens.{Placed, AreTokensFrom, MayEnd, placed_from}
-use Rattle.sbl_text.specs.Spaced.{after_all, AreSaid, spaced_text}
+use Rattle.sbl_text.specs.SpacedTokens.{after_all, AreSaid, spaced_text}
 use Rattle.sbl_text.specs.Laws.{SpacedAreRead}
 use Rattle.sbl_ast.specs.Terminal.{Terminal, lexeme_as, terminal_of}
-use Rattle.sbl_ast.specs.Tree.{Item, lexemes_of, written}
+use Rattle.sbl_ast.specs.Tree.{Item, lexemes_of, script_tokens}
 use Rattle.sbl_parser.specs.Laws.{PlacesAreWritten}
 use Rattle.sbl_ast.specs.Places.{places, AreShallow}
 use Rattle.sbl_print.specs.Canonical.{canonical}
-use Rattle.sbl_print.specs.Spaced.{CanonicalIsSpaced}
+use Rattle.sbl_print.specs.SpacedItems.{CanonicalIsSpaced}
 use Rattle.sbl_ast.specs.Source.{Source}
 use Rattle.sbl_resolver.specs.Checks.{WellDeclared}
-use Rattle.sbl_script.specs.Printed.{CanonicalIsRead}
+use Rattle.sbl_script.specs.CanonicalText.{CanonicalIsRead}
 use Rattle.sbl_parser.specs.Profile.{is_left_out}
 use Rattle.sbl_script.specs.Reading.{first_left_out, terminals}
-use Rattle.sbl_script.specs.Spelled.{AreSpelled}
+use Rattle.sbl_script.specs.SpelledScript.{AreSpelled}
 use Rattle.sbl_script.proofs.Offered.{none_left_out}
 use Rattle.sbl_script.proofs.OneReading.{said_so}
 
@@ -79,7 +79,7 @@ read_back k text utf8 s kept is short =
       placed = found;
       tokens = record { short = short; text = utf8; cut = (t.0, t.1, t.2, t.3, refl) };
       offered = none_offered found (ap (list_any is_left_out) are ∙ none_left_out s.items);
-      tree = (k.places s.items ∙ sym (terminals_are k found (written s.items) are), kept.shallow);
+      tree = (k.places s.items ∙ sym (terminals_are k found (script_tokens s.items) are), kept.shallow);
       external_is = refl;
       well_declared = kept.declared;
     }

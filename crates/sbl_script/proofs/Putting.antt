@@ -5,7 +5,7 @@ use Rattle.sbl_ast.specs.Terminal as t
 use Rattle.sbl_ast.specs.Tree.{Command, bracket, simple_, literal_, name_, non_, prefixed, counted, move_, named, splice_, setlimit_, assign_, compare_, compare_values_, among_, Rows, no_rows, row, Others, no_others, joined, Starter, no_starter, starter, Groups, bare, group}
 use Rattle.sbl_ast.specs.Counts.{count_amongs, count_in_rows, count_in_others, count_in_starter}
 use Rattle.sbl_amongs.specs.Amongs.{put_among, put_in_rows, put_in_others, put_in_starter, put_in_groups, put_in_body}
-use Rattle.sbl_ast.specs.Places.{AtDepth, placed, placed_rows, placed_others, placed_starter, placed_groups, placed_entry, placed_entries, placed_expression}
+use Rattle.sbl_ast.specs.Places.{AtDepth, placed_command, placed_rows, placed_others, placed_starter, placed_groups, placed_entry, placed_entries, placed_expression}
 use Rattle.sbl_ast.specs.Texts.{body, places_in}
 use Rattle.sbl_ast.proofs.Behind.{IsBefore, entry_before, entries_before, expression_before, tree_before}
 
@@ -39,35 +39,35 @@ instead P part other before after r q o f h =
 
 -- it holds of each token of an among, wherever that stands
 abbrev pub HoldsIn : (AtDepth → Type 0) → Starter × Groups → Type 0
-HoldsIn P a = (d : ℕ) → Each P (placed (among_ a.0 a.1) d [])
+HoldsIn P a = (d : ℕ) → Each P (placed_command (among_ a.0 a.1) d [])
 
 -- an among with the others inside it that are put there
-chosen : (P : AtDepth → Type 0) (a : Starter × Groups) → HoldsIn P a → (s : Starter) (gs : Groups) (d k : ℕ) (r q : Ps) → (Each P r → Each P q) → Each P (placed (among_ s gs) d r)
-    → Each P (placed_starter (put_in_starter s (k - 1) a) d (placed_groups (put_in_groups gs (k - 1 - count_in_starter s) a) d ((t.close_, d) ∷ q))) → Each P (placed (put_among (among_ s gs) k a) d q)
+chosen : (P : AtDepth → Type 0) (a : Starter × Groups) → HoldsIn P a → (s : Starter) (gs : Groups) (d k : ℕ) (r q : Ps) → (Each P r → Each P q) → Each P (placed_command (among_ s gs) d r)
+    → Each P (placed_starter (put_in_starter s (k - 1) a) d (placed_groups (put_in_groups gs (k - 1 - count_in_starter s) a) d ((t.close_, d) ∷ q))) → Each P (placed_command (put_among (among_ s gs) k a) d q)
 chosen P a o s gs d k r q f h inside = go (nat_eq k 1) where
-  go : (b : Bool) → Each P (placed (if b then among_ a.0 a.1 else among_ (put_in_starter s (k - 1) a) (put_in_groups gs (k - 1 - count_in_starter s) a)) d q)
-  go true = instead P (placed (among_ s gs) d) (placed (among_ a.0 a.1) d) (tree_before (among_ s gs) d) (tree_before (among_ a.0 a.1) d) r q (o d) f h
+  go : (b : Bool) → Each P (placed_command (if b then among_ a.0 a.1 else among_ (put_in_starter s (k - 1) a) (put_in_groups gs (k - 1 - count_in_starter s) a)) d q)
+  go true = instead P (placed_command (among_ s gs) d) (placed_command (among_ a.0 a.1) d) (tree_before (among_ s gs) d) (tree_before (among_ a.0 a.1) d) r q (o d) f h
   go false = (h.0, (h.1.0, inside))
 
 mutual
-  tree_put : (P : AtDepth → Type 0) (a : Starter × Groups) → HoldsIn P a → (c : Command) (d k : ℕ) (r q : Ps) → (Each P r → Each P q) → Each P (placed c d r) → Each P (placed (put_among c k a) d q)
+  tree_put : (P : AtDepth → Type 0) (a : Starter × Groups) → HoldsIn P a → (c : Command) (d k : ℕ) (r q : Ps) → (Each P r → Each P q) → Each P (placed_command c d r) → Each P (placed_command (put_among c k a) d q)
   tree_put P a o (bracket rs) d k r q f h = (h.0, rows_put P a o rs (d + 1) k ((t.close_, d) ∷ r) ((t.close_, d) ∷ q) (λ x. (x.0, f x.1)) h.1)
-  tree_put P a o (simple_ x) d k r q f h = behind P (placed (simple_ x) d) (tree_before (simple_ x) d) r q f h
-  tree_put P a o (literal_ x) d k r q f h = behind P (placed (literal_ x) d) (tree_before (literal_ x) d) r q f h
-  tree_put P a o (name_ x) d k r q f h = behind P (placed (name_ x) d) (tree_before (name_ x) d) r q f h
-  tree_put P a o (non_ x y) d k r q f h = behind P (placed (non_ x y) d) (tree_before (non_ x y) d) r q f h
+  tree_put P a o (simple_ x) d k r q f h = behind P (placed_command (simple_ x) d) (tree_before (simple_ x) d) r q f h
+  tree_put P a o (literal_ x) d k r q f h = behind P (placed_command (literal_ x) d) (tree_before (literal_ x) d) r q f h
+  tree_put P a o (name_ x) d k r q f h = behind P (placed_command (name_ x) d) (tree_before (name_ x) d) r q f h
+  tree_put P a o (non_ x y) d k r q f h = behind P (placed_command (non_ x y) d) (tree_before (non_ x y) d) r q f h
   tree_put P a o (prefixed p c) d k r q f h = (h.0, tree_put P a o c (d + 1) k r q f h.1)
   tree_put P a o (counted n e c) d k r q f h =
-      (h.0, behind P (placed_expression e d) (expression_before e d) (placed c (d + 1) r) (placed (put_among c k a) (d + 1) q) (λ x. tree_put P a o c (d + 1) k r q f x) h.1)
-  tree_put P a o (move_ x y) d k r q f h = behind P (placed (move_ x y) d) (tree_before (move_ x y) d) r q f h
-  tree_put P a o (named x y) d k r q f h = behind P (placed (named x y) d) (tree_before (named x y) d) r q f h
-  tree_put P a o (splice_ x y) d k r q f h = behind P (placed (splice_ x y) d) (tree_before (splice_ x y) d) r q f h
+      (h.0, behind P (placed_expression e d) (expression_before e d) (placed_command c (d + 1) r) (placed_command (put_among c k a) (d + 1) q) (λ x. tree_put P a o c (d + 1) k r q f x) h.1)
+  tree_put P a o (move_ x y) d k r q f h = behind P (placed_command (move_ x y) d) (tree_before (move_ x y) d) r q f h
+  tree_put P a o (named x y) d k r q f h = behind P (placed_command (named x y) d) (tree_before (named x y) d) r q f h
+  tree_put P a o (splice_ x y) d k r q f h = behind P (placed_command (splice_ x y) d) (tree_before (splice_ x y) d) r q f h
   tree_put P a o (setlimit_ b c) d k r q f h =
       let m = k - count_amongs b in
-      (h.0, tree_put P a o b (d + 1) k ((t.for_, d) ∷ placed c (d + 1) r) ((t.for_, d) ∷ placed (put_among c m a) (d + 1) q) (λ x. (x.0, tree_put P a o c (d + 1) m r q f x.1)) h.1)
-  tree_put P a o (assign_ x y z) d k r q f h = behind P (placed (assign_ x y z) d) (tree_before (assign_ x y z) d) r q f h
-  tree_put P a o (compare_ x y z) d k r q f h = behind P (placed (compare_ x y z) d) (tree_before (compare_ x y z) d) r q f h
-  tree_put P a o (compare_values_ x y z) d k r q f h = behind P (placed (compare_values_ x y z) d) (tree_before (compare_values_ x y z) d) r q f h
+      (h.0, tree_put P a o b (d + 1) k ((t.for_, d) ∷ placed_command c (d + 1) r) ((t.for_, d) ∷ placed_command (put_among c m a) (d + 1) q) (λ x. (x.0, tree_put P a o c (d + 1) m r q f x.1)) h.1)
+  tree_put P a o (assign_ x y z) d k r q f h = behind P (placed_command (assign_ x y z) d) (tree_before (assign_ x y z) d) r q f h
+  tree_put P a o (compare_ x y z) d k r q f h = behind P (placed_command (compare_ x y z) d) (tree_before (compare_ x y z) d) r q f h
+  tree_put P a o (compare_values_ x y z) d k r q f h = behind P (placed_command (compare_values_ x y z) d) (tree_before (compare_values_ x y z) d) r q f h
   tree_put P a o (among_ s gs) d k r q f h =
       let m = k - 1 - count_in_starter s in
       let old = (t.close_, d) ∷ r in

@@ -1,7 +1,7 @@
 -- A token of a routine's body sets nothing where the next token is to come; nor does one of a declaration or of a grouping's definition.
 use Rattle.std.proofs.Common.{◌≡◌, ℕ, ◌+◌, true, false, List, [], ◌∷◌, Some, None, refl}
 use Rattle.sbl_text.specs.Escapes.{InForce}
-use Rattle.sbl_text.specs.Directives.{after, settled}
+use Rattle.sbl_text.specs.Directives.{after, no_directive}
 use Rattle.sbl_ast.specs.declared.tree.DeclarationKind.{DeclarationKind}
 use Rattle.sbl_ast.specs.declared.tree.DeclarationKind.TheVariants as declarations
 use Rattle.sbl_ast.specs.declared.tree.Joiner.{Joiner}
@@ -31,7 +31,7 @@ use Rattle.sbl_ast.specs.declared.tree.Constant.TheVariants as constants
 use Rattle.sbl_ast.specs.Terminal.{Terminal, lexeme_as}
 use Rattle.sbl_ast.specs.Terminal as t
 use Rattle.sbl_ast.specs.Tree.{Argument, written_out, by_name, argument_terminal, Expression, expression, Sums, no_sums, sum, Product, product, Scales, no_scales, scale, Factor, negated, bracketed, numeral, variable, fixed, length_of, Entry, entry, Command, bracket, simple_, literal_, name_, non_, prefixed, counted, move_, named, splice_, setlimit_, assign_, compare_, compare_values_, among_, Rows, no_rows, row, Others, no_others, joined, Starter, no_starter, starter, Groups, bare, group, Term, term}
-use Rattle.sbl_ast.specs.Places.{AtDepth, placed, placed_rows, placed_others, placed_starter, placed_groups, placed_entry, placed_entries, placed_expression, placed_sums, placed_product, placed_scales, placed_factor, placed_names, placed_terms}
+use Rattle.sbl_ast.specs.Places.{AtDepth, placed_command, placed_rows, placed_others, placed_starter, placed_groups, placed_entry, placed_entries, placed_expression, placed_sums, placed_product, placed_scales, placed_factor, placed_names, placed_terms}
 use Rattle.sbl_ast.specs.Texts.{body, places_in}
 use Rattle.sbl_script.proofs.Putting.{Each}
 
@@ -39,7 +39,7 @@ abbrev Ps : Type 0
 Ps = List AtDepth
 
 abbrev Keeps : Terminal → Type 0
-Keeps x = (e : InForce) → after (settled e) (lexeme_as x) ≡ settled e
+Keeps x = (e : InForce) → after (no_directive e) (lexeme_as x) ≡ no_directive e
 
 -- such a token, at any depth
 abbrev pub IsQuiet : AtDepth → Type 0
@@ -168,7 +168,7 @@ entries_quiet [] d r h = h
 entries_quiet (x ∷ es) d r h = entry_quiet x d (placed_entries es d r) (entries_quiet es d r h)
 
 mutual
-  tree_quiet : (c : Command) (d : ℕ) (r : Ps) → Each IsQuiet r → Each IsQuiet (placed c d r)
+  tree_quiet : (c : Command) (d : ℕ) (r : Ps) → Each IsQuiet r → Each IsQuiet (placed_command c d r)
   tree_quiet (bracket rs) d r h = ((λ e. refl), rows_quiet rs (d + 1) ((t.close_, d) ∷ r) ((λ e. refl), h))
   tree_quiet (simple_ s) d r h = (simple_keeps s, h)
   tree_quiet (literal_ q) d r h = ((λ e. refl), h)
@@ -176,11 +176,11 @@ mutual
   tree_quiet (non_ true n) d r h = ((λ e. refl), ((λ e. refl), ((λ e. refl), h)))
   tree_quiet (non_ false n) d r h = ((λ e. refl), ((λ e. refl), h))
   tree_quiet (prefixed p c) d r h = (prefix_keeps p, tree_quiet c (d + 1) r h)
-  tree_quiet (counted n x c) d r h = (count_keeps n, expression_quiet x d (placed c (d + 1) r) (tree_quiet c (d + 1) r h))
+  tree_quiet (counted n x c) d r h = (count_keeps n, expression_quiet x d (placed_command c (d + 1) r) (tree_quiet c (d + 1) r h))
   tree_quiet (move_ m x) d r h = (move_keeps m, expression_quiet x d r h)
   tree_quiet (named x n) d r h = (naming_keeps x, ((λ e. refl), h))
   tree_quiet (splice_ x a) d r h = (edit_keeps x, (argument_keeps a, h))
-  tree_quiet (setlimit_ b c) d r h = ((λ e. refl), tree_quiet b (d + 1) ((t.for_, d) ∷ placed c (d + 1) r) ((λ e. refl), tree_quiet c (d + 1) r h))
+  tree_quiet (setlimit_ b c) d r h = ((λ e. refl), tree_quiet b (d + 1) ((t.for_, d) ∷ placed_command c (d + 1) r) ((λ e. refl), tree_quiet c (d + 1) r h))
   tree_quiet (assign_ n o x) d r h = ((λ e. refl), ((λ e. refl), (assigns_keeps o, expression_quiet x d r h)))
   tree_quiet (compare_ n o x) d r h = ((λ e. refl), ((λ e. refl), (compares_keeps o, expression_quiet x d r h)))
   tree_quiet (compare_values_ x o y) d r h =
@@ -209,7 +209,7 @@ mutual
       let inner = (t.open_, d + 1) ∷ placed_rows rs (d + 1 + 1) close in
       entry_quiet x d (placed_entries es d inner) (entries_quiet es d inner ((λ e. refl), rows_quiet rs (d + 1 + 1) close ((λ e. refl), groups_quiet gs d r h)))
 
-pub among_quiet : (s : Starter) (gs : Groups) (d : ℕ) → Each IsQuiet (placed (among_ s gs) d [])
+pub among_quiet : (s : Starter) (gs : Groups) (d : ℕ) → Each IsQuiet (placed_command (among_ s gs) d [])
 among_quiet s gs d = tree_quiet (among_ s gs) d [] tt
 
 pub body_quiet : (b : Command × Others) → Each IsQuiet (places_in body b)

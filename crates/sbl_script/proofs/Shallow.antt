@@ -5,7 +5,7 @@ use Rattle.std.specs.Option.{option_or}
 use Rattle.sbl_amongs.specs.Amongs.{FitsAt, Held, nth_held}
 use Rattle.sbl_ast.specs.Terminal as t
 use Rattle.sbl_ast.specs.Tree.{Argument, Term, Plain, routine, grouping, Item, plain, backward, Starter, Groups, among_}
-use Rattle.sbl_ast.specs.Places.{AtDepth, placed, placed_plain, placed_plains, placed_items, AreShallow}
+use Rattle.sbl_ast.specs.Places.{AtDepth, placed_command, placed_plain, placed_plains, placed_items, AreShallow}
 use Rattle.sbl_ast.specs.Texts.{among, body, terms, places_in}
 use Rattle.sbl_ast.specs.View.{RowView}
 use Rattle.sbl_ast.proofs.Behind.{IsBefore, by_itself, behind_it, with_behind, plain_before}
@@ -89,4 +89,4 @@ held_one : (o : Option Held) (d g : Held) → o ≡ Some d → o ≡ Some g → 
 held_one o d g e f = cc
 
 pub fits : (k : ℕ) (hs : List Held) (d : Held) (a : Starter × Groups) → nth_held k hs ≡ Some d → AreShallow (places_in (among d.0) a) → FitsAt k hs a
-fits k hs d a there h g is = subst (λ (z : Held). AreShallow (placed (among_ a.0 a.1) z.0 [])) (held_one (nth_held k hs) d g there is) h
+fits k hs d a there h g is = subst (λ (z : Held). AreShallow (placed_command (among_ a.0 a.1) z.0 [])) (held_one (nth_held k hs) d g there is) h

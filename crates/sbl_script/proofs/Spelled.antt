@@ -5,10 +5,10 @@ use Rattle.std.specs.List.{list_any}
 use Rattle.std.specs.Option.{option_or}
 use Rattle.sbl_text.specs.Escapes.{InForce, nothing_set}
 use Rattle.sbl_token.specs.Lexemes.{Lexeme}
-use Rattle.sbl_text.specs.Directives.{Directives, after, settled, start}
+use Rattle.sbl_text.specs.Directives.{Directives, after, no_directive, start}
 use Rattle.sbl_text.specs.Literals.{byte_length}
-use Rattle.sbl_text.specs.Tokens.{Placed, Piece, MayEnd, and_more, placed_from, put_placed, said}
-use Rattle.sbl_text.specs.Spaced.{IsSaid, AreSaid, after_all}
+use Rattle.sbl_text.specs.Tokens.{Placed, Piece, MayEnd, and_more, placed_from, put_placed, piece_lexemes}
+use Rattle.sbl_text.specs.SpacedTokens.{IsSaid, AreSaid, after_all}
 use Rattle.sbl_text.proofs.Spaced.{tokens_said}
 use Rattle.sbl_ast.specs.declared.tree.Base.TheVariants as bases
 use Rattle.sbl_ast.specs.Terminal.{Terminal, lexeme_as, terminal_of}
@@ -16,7 +16,7 @@ use Rattle.sbl_ast.specs.Terminal as t
 use Rattle.sbl_ast.specs.Tree.{Argument, Term, Starter, Groups, among_, Plain, declaration, escapes, macro, routine, grouping, Item, plain, backward, lexemes_of}
 use Rattle.sbl_ast.specs.View.{RowView}
 use Rattle.sbl_amongs.specs.Amongs.{put_in_body}
-use Rattle.sbl_ast.specs.Places.{AtDepth, placed, placed_plain, placed_plains, placed_items, places, tokens}
+use Rattle.sbl_ast.specs.Places.{AtDepth, placed_command, placed_plain, placed_plains, placed_items, places, tokens}
 use Rattle.sbl_ast.specs.Texts.{Text, TreeOf, body, places_in, script, tokens_of}
 use Rattle.sbl_ast.specs.Texts as texts
 use Rattle.sbl_parser.specs.Reading.{IsReadAs}
@@ -25,9 +25,9 @@ use Rattle.sbl_parser.proofs.Faults.{tree_tokens, places_tokens}
 use Rattle.sbl_parser.proofs.Parts.{there}
 use Rattle.sbl_script.specs.declared.edits.DefinitionKind.{DefinitionKind}
 use Rattle.sbl_script.specs.declared.edits.DefinitionKind.TheVariants as kinds
-use Rattle.sbl_script.specs.Edits.{Reached, defines, escapes_before, escapes_behind, first_in, first_of, items_with, plain_if, plains_with, reached, reached_in, state_before}
+use Rattle.sbl_script.specs.Edits.{Reached, defines, escapes_before, escapes_behind, first_in, first_of, items_with, plain_if, plains_with, walk_to, walk_in, state_before}
 use Rattle.sbl_script.specs.Reading.{HasTokens, terminals}
-use Rattle.sbl_script.specs.Spelled.{AreSpelled, IsSpelled}
+use Rattle.sbl_script.specs.SpelledScript.{AreSpelled, IsSpelled}
 use Rattle.sbl_script.proofs.Putting.{Each, body_put}
 use Rattle.sbl_script.proofs.Quiet.{IsQuiet, among_quiet, body_quiet, names_quiet, terms_quiet}
 use Rattle.sbl_script.proofs.Found.{some_plain}
@@ -77,32 +77,32 @@ part_then part before s r = ap (Then s) (before [] r) ∙ then_both s (part []) 
 
 -- ---- tokens that set nothing
 
-quiet_then : (e : InForce) (ps : Ps) → Each IsQuiet ps → Then (settled e) ps ≡ settled e
+quiet_then : (e : InForce) (ps : Ps) → Each IsQuiet ps → Then (no_directive e) ps ≡ no_directive e
 quiet_then e [] h = refl
 quiet_then e (p ∷ ps) h = ap (λ (s : Directives). Then s ps) (h.0 e) ∙ quiet_then e ps h.1
 
 abbrev SaidUnder : InForce → AtDepth → Type 0
-SaidUnder e p = IsSaid (settled e) (lexeme_as p.0)
+SaidUnder e p = IsSaid (no_directive e) (lexeme_as p.0)
 
-each_said : (e : InForce) (ps : Ps) → Each IsQuiet ps → Say (settled e) ps → Each (SaidUnder e) ps
+each_said : (e : InForce) (ps : Ps) → Each IsQuiet ps → Say (no_directive e) ps → Each (SaidUnder e) ps
 each_said e [] q h = tt
 each_said e (p ∷ ps) q h = (h.0, each_said e ps q.1 (subst (λ (s : Directives). Say s ps) (q.0 e) h.1))
 
-said_each : (e : InForce) (ps : Ps) → Each IsQuiet ps → Each (SaidUnder e) ps → Say (settled e) ps
+said_each : (e : InForce) (ps : Ps) → Each IsQuiet ps → Each (SaidUnder e) ps → Say (no_directive e) ps
 said_each e [] q h = tt
 said_each e (p ∷ ps) q h = (h.0, subst (λ (s : Directives). Say s ps) (sym (q.0 e)) (said_each e ps q.1 h.1))
 
-among_anywhere : (e : InForce) (a : Starter × Groups) (d f : ℕ) → Say (settled e) (placed (among_ a.0 a.1) d []) → Say (settled e) (placed (among_ a.0 a.1) f [])
-among_anywhere e a d f h = subst (λ (ts : List Terminal). AreSaid (settled e) (map lexeme_as ts)) (tree_tokens (among_ a.0 a.1) d [] ∙ sym (tree_tokens (among_ a.0 a.1) f [])) h
+among_anywhere : (e : InForce) (a : Starter × Groups) (d f : ℕ) → Say (no_directive e) (placed_command (among_ a.0 a.1) d []) → Say (no_directive e) (placed_command (among_ a.0 a.1) f [])
+among_anywhere e a d f h = subst (λ (ts : List Terminal). AreSaid (no_directive e) (map lexeme_as ts)) (tree_tokens (among_ a.0 a.1) d [] ∙ sym (tree_tokens (among_ a.0 a.1) f [])) h
 
-put_said : (e : InForce) (b : RowView) (k : ℕ) (a : Starter × Groups) (d : ℕ) → Say (settled e) (places_in body b) → Say (settled e) (placed (among_ a.0 a.1) d []) → Say (settled e) (places_in body (put_in_body b k a))
+put_said : (e : InForce) (b : RowView) (k : ℕ) (a : Starter × Groups) (d : ℕ) → Say (no_directive e) (places_in body b) → Say (no_directive e) (placed_command (among_ a.0 a.1) d []) → Say (no_directive e) (places_in body (put_in_body b k a))
 put_said e b k a d h g =
     said_each e (places_in body (put_in_body b k a)) (body_quiet (put_in_body b k a))
-    (body_put (SaidUnder e) a (λ f. each_said e (placed (among_ a.0 a.1) f []) (among_quiet a.0 a.1 f) (among_anywhere e a d f g)) b k (each_said e (places_in body b) (body_quiet b) h))
+    (body_put (SaidUnder e) a (λ f. each_said e (placed_command (among_ a.0 a.1) f []) (among_quiet a.0 a.1 f) (among_anywhere e a d f g)) b k (each_said e (places_in body b) (body_quiet b) h))
 
 -- ---- what an item sets
 
-plain_sets : (e : InForce) (x : Plain) → Then (settled e) (placed_plain x []) ≡ settled (escapes_behind e x)
+plain_sets : (e : InForce) (x : Plain) → Then (no_directive e) (placed_plain x []) ≡ no_directive (escapes_behind e x)
 plain_sets e (declaration k ns) = quiet_then e (placed_plain (declaration k ns) []) (names_quiet k ns)
 plain_sets e (escapes a b) = refl
 plain_sets e (macro n None q) = refl
@@ -115,24 +115,24 @@ abbrev all_behind : InForce → List Plain → InForce
 all_behind e [] = e
 all_behind e (x ∷ xs) = all_behind (escapes_behind e x) xs
 
-plains_set : (e : InForce) (xs : List Plain) → Then (settled e) (placed_plains xs []) ≡ settled (all_behind e xs)
+plains_set : (e : InForce) (xs : List Plain) → Then (no_directive e) (placed_plains xs []) ≡ no_directive (all_behind e xs)
 plains_set e [] = refl
 plains_set e (x ∷ xs) =
-    part_then (placed_plain x) (plain_before x) (settled e) (placed_plains xs []) ∙ ap (λ (s : Directives). Then s (placed_plains xs [])) (plain_sets e x) ∙ plains_set (escapes_behind e x) xs
+    part_then (placed_plain x) (plain_before x) (no_directive e) (placed_plains xs []) ∙ ap (λ (s : Directives). Then s (placed_plains xs [])) (plain_sets e x) ∙ plains_set (escapes_behind e x) xs
 
-items_settle : (is : List Item) (e : InForce) → (f : InForce) × (Then (settled e) (placed_items is []) ≡ settled f)
+items_settle : (is : List Item) (e : InForce) → (f : InForce) × (Then (no_directive e) (placed_items is []) ≡ no_directive f)
 items_settle [] e = (e, refl)
 items_settle (plain x ∷ is) e =
     let more = placed_items is [] in
     let r = items_settle is (escapes_behind e x) in
-    (r.0, part_then (placed_plain x) (plain_before x) (settled e) more ∙ ap (λ (s : Directives). Then s more) (plain_sets e x) ∙ r.1)
+    (r.0, part_then (placed_plain x) (plain_before x) (no_directive e) more ∙ ap (λ (s : Directives). Then s more) (plain_sets e x) ∙ r.1)
 items_settle (backward xs ∷ is) e =
     let more = (t.close_, 0) ∷ placed_items is [] in
     let r = items_settle is (all_behind e xs) in
-    (r.0, part_then (placed_plains xs) (plains_before xs) (settled e) more ∙ ap (λ (s : Directives). Then s more) (plains_set e xs) ∙ r.1)
+    (r.0, part_then (placed_plains xs) (plains_before xs) (no_directive e) more ∙ ap (λ (s : Directives). Then s more) (plains_set e xs) ∙ r.1)
 
-behind_plain : (e : InForce) (x : Plain) (r : Ps) → Say (settled e) (placed_plain x r) → Say (settled (escapes_behind e x)) r
-behind_plain e x r h = subst (λ (s : Directives). Say s r) (plain_sets e x) (part_rest (placed_plain x) (plain_before x) (settled e) r h)
+behind_plain : (e : InForce) (x : Plain) (r : Ps) → Say (no_directive e) (placed_plain x r) → Say (no_directive (escapes_behind e x)) r
+behind_plain e x r h = subst (λ (s : Directives). Say s r) (plain_sets e x) (part_rest (placed_plain x) (plain_before x) (no_directive e) r h)
 
 -- ---- with another definition
 
@@ -145,16 +145,16 @@ sets_nothing kinds.Grouping n (escapes a b) e h = absurd cc
 sets_nothing kinds.Routine n (macro m b q) e h = absurd cc
 sets_nothing kinds.Grouping n (macro m b q) e h = absurd cc
 
-step_same : (e : InForce) (x : Plain) (r q : Ps) → (Say (settled (escapes_behind e x)) r → Say (settled (escapes_behind e x)) q) → Say (settled e) (placed_plain x r) → Say (settled e) (placed_plain x q)
+step_same : (e : InForce) (x : Plain) (r q : Ps) → (Say (no_directive (escapes_behind e x)) r → Say (no_directive (escapes_behind e x)) q) → Say (no_directive e) (placed_plain x r) → Say (no_directive e) (placed_plain x q)
 step_same e x r q f h =
-    part_with (placed_plain x) (plain_before x) (settled e) q (part_front (placed_plain x) (plain_before x) (settled e) r h) (subst (λ (s : Directives). Say s q) (sym (plain_sets e x)) (f (behind_plain e x r h)))
+    part_with (placed_plain x) (plain_before x) (no_directive e) q (part_front (placed_plain x) (plain_before x) (no_directive e) r h) (subst (λ (s : Directives). Say s q) (sym (plain_sets e x)) (f (behind_plain e x r h)))
 
-step_new : (e : InForce) (x y : Plain) (r q : Ps) → escapes_behind e x ≡ e → escapes_behind e y ≡ e → Say (settled e) (placed_plain y []) → (Say (settled e) r → Say (settled e) q) → Say (settled e) (placed_plain x r) → Say (settled e) (placed_plain y q)
+step_new : (e : InForce) (x y : Plain) (r q : Ps) → escapes_behind e x ≡ e → escapes_behind e y ≡ e → Say (no_directive e) (placed_plain y []) → (Say (no_directive e) r → Say (no_directive e) q) → Say (no_directive e) (placed_plain x r) → Say (no_directive e) (placed_plain y q)
 step_new e x y r q i j hy f h =
-    let after_it = subst (λ (g : InForce). Say (settled g) r) i (behind_plain e x r h) in
-    part_with (placed_plain y) (plain_before y) (settled e) q hy (subst (λ (s : Directives). Say s q) (sym (plain_sets e y ∙ ap settled j)) (f after_it))
+    let after_it = subst (λ (g : InForce). Say (no_directive g) r) i (behind_plain e x r h) in
+    part_with (placed_plain y) (plain_before y) (no_directive e) q hy (subst (λ (s : Directives). Say s q) (sym (plain_sets e y ∙ ap no_directive j)) (f after_it))
 
-plains_same : (xs : List Plain) (e : InForce) (r q : Ps) → (Say (settled (all_behind e xs)) r → Say (settled (all_behind e xs)) q) → Say (settled e) (placed_plains xs r) → Say (settled e) (placed_plains xs q)
+plains_same : (xs : List Plain) (e : InForce) (r q : Ps) → (Say (no_directive (all_behind e xs)) r → Say (no_directive (all_behind e xs)) q) → Say (no_directive e) (placed_plains xs r) → Say (no_directive e) (placed_plains xs q)
 plains_same [] e r q f h = f h
 plains_same (x ∷ xs) e r q f h = step_same e x (placed_plains xs r) (placed_plains xs q) (λ z. plains_same xs (escapes_behind e x) r q f z) h
 
@@ -163,31 +163,31 @@ module _ (k : DefinitionKind) (n : List ℕ) (y : Plain) (new : defines k n y �
   p = defines k n
 
   abbrev InPlains : List Plain → InForce → Ps → Ps → Type 0
-  InPlains xs e r q = list_any p xs ≡ true → Say (settled (reached_in p xs e).0) (placed_plain y []) → Say (settled e) (placed_plains xs r) → Say (settled e) (placed_plains (plains_with p y xs) q)
+  InPlains xs e r q = list_any p xs ≡ true → Say (no_directive (walk_in p xs e).0) (placed_plain y []) → Say (no_directive e) (placed_plains xs r) → Say (no_directive e) (placed_plains (plains_with p y xs) q)
 
-  plains_new : (xs : List Plain) (e : InForce) (r q : Ps) → list_any p xs ≡ true → Say (settled (reached_in p xs e).0) (placed_plain y []) → (Say (settled (all_behind e xs)) r → Say (settled (all_behind e xs)) q)
-      → Say (settled e) (placed_plains xs r) → Say (settled e) (placed_plains (plains_with p y xs) q)
+  plains_new : (xs : List Plain) (e : InForce) (r q : Ps) → list_any p xs ≡ true → Say (no_directive (walk_in p xs e).0) (placed_plain y []) → (Say (no_directive (all_behind e xs)) r → Say (no_directive (all_behind e xs)) q)
+      → Say (no_directive e) (placed_plains xs r) → Say (no_directive e) (placed_plains (plains_with p y xs) q)
   plains_new [] e r q any hy f h = absurd cc
   plains_new (x ∷ xs) e r q any hy f h = go (p x) refl any hy (λ a l z. plains_new xs (escapes_behind e x) r q a l f z) where
-    go : (here : Bool) → p x ≡ here → here || list_any p xs ≡ true → Say (settled (if here then (e, true) else reached_in p xs (escapes_behind e x)).0) (placed_plain y []) → InPlains xs (escapes_behind e x) r q
-        → Say (settled e) (placed_plains (if here then y ∷ xs else x ∷ plains_with p y xs) q)
+    go : (here : Bool) → p x ≡ here → here || list_any p xs ≡ true → Say (no_directive (if here then (e, true) else walk_in p xs (escapes_behind e x)).0) (placed_plain y []) → InPlains xs (escapes_behind e x) r q
+        → Say (no_directive e) (placed_plains (if here then y ∷ xs else x ∷ plains_with p y xs) q)
     go true i a l more =
-        let g = subst (λ (z : InForce). Say (settled (all_behind z xs)) r → Say (settled (all_behind z xs)) q) (sets_nothing k n x e i) f in
+        let g = subst (λ (z : InForce). Say (no_directive (all_behind z xs)) r → Say (no_directive (all_behind z xs)) q) (sets_nothing k n x e i) f in
         step_new e x y (placed_plains xs r) (placed_plains xs q) (sets_nothing k n x e i) (sets_nothing k n y e new) l (λ z. plains_same xs e r q g z) h
     go false i a l more = step_same e x (placed_plains xs r) (placed_plains (plains_with p y xs) q) (λ z. more a l z) h
 
 -- an item that passes is reached; if none does, all items were gone through
-in_held : (p : Plain → Bool) (xs : List Plain) (e : InForce) → (reached_in p xs e).1 ≡ list_any p xs
+in_held : (p : Plain → Bool) (xs : List Plain) (e : InForce) → (walk_in p xs e).1 ≡ list_any p xs
 in_held p [] e = refl
 in_held p (x ∷ xs) e = go (p x) (in_held p xs (escapes_behind e x)) where
-  go : (here : Bool) → (reached_in p xs (escapes_behind e x)).1 ≡ list_any p xs → (if here then (e, true) else reached_in p xs (escapes_behind e x)).1 ≡ (here || list_any p xs)
+  go : (here : Bool) → (walk_in p xs (escapes_behind e x)).1 ≡ list_any p xs → (if here then (e, true) else walk_in p xs (escapes_behind e x)).1 ≡ (here || list_any p xs)
   go true more = refl
   go false more = more
 
-not_held : (p : Plain → Bool) (xs : List Plain) (e : InForce) → list_any p xs ≡ false → (reached_in p xs e).0 ≡ all_behind e xs
+not_held : (p : Plain → Bool) (xs : List Plain) (e : InForce) → list_any p xs ≡ false → (walk_in p xs e).0 ≡ all_behind e xs
 not_held p [] e h = refl
 not_held p (x ∷ xs) e h = go (p x) h (λ l. not_held p xs (escapes_behind e x) l) where
-  go : (here : Bool) → (here || list_any p xs) ≡ false → (list_any p xs ≡ false → (reached_in p xs (escapes_behind e x)).0 ≡ all_behind (escapes_behind e x) xs) → (if here then (e, true) else reached_in p xs (escapes_behind e x)).0 ≡ all_behind (escapes_behind e x) xs
+  go : (here : Bool) → (here || list_any p xs) ≡ false → (list_any p xs ≡ false → (walk_in p xs (escapes_behind e x)).0 ≡ all_behind (escapes_behind e x) xs) → (if here then (e, true) else walk_in p xs (escapes_behind e x)).0 ≡ all_behind (escapes_behind e x) xs
   go true l more = absurd cc
   go false l more = more l
 
@@ -196,24 +196,24 @@ module _ (k : DefinitionKind) (n : List ℕ) (y : Plain) (new : defines k n y �
   q = defines k n
 
   abbrev InItems : List Item → InForce → Type 0
-  InItems is e = Say (settled (reached q is e).0) (placed_plain y []) → Say (settled e) (placed_items is []) → Say (settled e) (placed_items (items_with q y is) [])
+  InItems is e = Say (no_directive (walk_to q is e).0) (placed_plain y []) → Say (no_directive e) (placed_items is []) → Say (no_directive e) (placed_items (items_with q y is) [])
 
-  items_said : (is : List Item) (e : InForce) → Say (settled (reached q is e).0) (placed_plain y []) → Say (settled e) (placed_items is []) → Say (settled e) (placed_items (items_with q y is) [])
+  items_said : (is : List Item) (e : InForce) → Say (no_directive (walk_to q is e).0) (placed_plain y []) → Say (no_directive e) (placed_items is []) → Say (no_directive e) (placed_items (items_with q y is) [])
   items_said [] e hy h = h
   items_said (plain x ∷ is) e hy h = go (q x) refl hy (λ l z. items_said is (escapes_behind e x) l z) where
-    go : (here : Bool) → q x ≡ here → Say (settled (if here then (e, true) else reached q is (escapes_behind e x)).0) (placed_plain y []) → InItems is (escapes_behind e x) → Say (settled e) (placed_items (if here then plain y ∷ is else plain x ∷ items_with q y is) [])
+    go : (here : Bool) → q x ≡ here → Say (no_directive (if here then (e, true) else walk_to q is (escapes_behind e x)).0) (placed_plain y []) → InItems is (escapes_behind e x) → Say (no_directive e) (placed_items (if here then plain y ∷ is else plain x ∷ items_with q y is) [])
     go true i l more = step_new e x y (placed_items is []) (placed_items is []) (sets_nothing k n x e i) (sets_nothing k n y e new) l (λ z. z) h
     go false i l more = step_same e x (placed_items is []) (placed_items (items_with q y is) []) (λ z. more l z) h
   items_said (backward xs ∷ is) e hy h = go (list_any q xs) refl (λ l z. items_said is (all_behind e xs) l z) where
-    found : (here : Bool) → list_any q xs ≡ here → Say (settled (if here then reached_in q xs e else reached q is (reached_in q xs e).0).0) (placed_plain y [])
-    found here i = subst (λ (u : Bool). Say (settled (if u then reached_in q xs e else reached q is (reached_in q xs e).0).0) (placed_plain y [])) (in_held q xs e ∙ i) hy
+    found : (here : Bool) → list_any q xs ≡ here → Say (no_directive (if here then walk_in q xs e else walk_to q is (walk_in q xs e).0).0) (placed_plain y [])
+    found here i = subst (λ (u : Bool). Say (no_directive (if u then walk_in q xs e else walk_to q is (walk_in q xs e).0).0) (placed_plain y [])) (in_held q xs e ∙ i) hy
 
-    go : (here : Bool) → list_any q xs ≡ here → InItems is (all_behind e xs) → Say (settled e) (placed_items (if here then backward (plains_with q y xs) ∷ is else backward xs ∷ items_with q y is) [])
+    go : (here : Bool) → list_any q xs ≡ here → InItems is (all_behind e xs) → Say (no_directive e) (placed_items (if here then backward (plains_with q y xs) ∷ is else backward xs ∷ items_with q y is) [])
     go true i more =
         let rest = (t.close_, 0) ∷ placed_items is [] in
         (h.0, (h.1.0, plains_new k n y new xs e rest rest i (found true i) (λ z. z) h.1.1))
     go false i more =
-        let l = subst (λ (f : InForce). Say (settled (reached q is f).0) (placed_plain y [])) (not_held q xs e i) (found false i) in
+        let l = subst (λ (f : InForce). Say (no_directive (walk_to q is f).0) (placed_plain y [])) (not_held q xs e i) (found false i) in
         (h.0, (h.1.0, plains_same xs e ((t.close_, 0) ∷ placed_items is []) ((t.close_, 0) ∷ placed_items (items_with q y is) []) (λ z. (z.0, more l z.1)) h.1.1))
 
 -- ---- a definition that there is
@@ -222,26 +222,26 @@ or_either : (a b o : Option Plain) → option_or (option_or a b) o ≡ option_or
 or_either None b o = refl
 or_either (Some x) b o = refl
 
-first_said : (p : Plain → Bool) (x : Plain) (e : InForce) (y : Plain) (o : Option Plain) (later : Reached) (F : Reached → Reached) → (Say (settled e) (placed_plain y []) → Say (settled (F (e, true)).0) (placed_plain y [])) → option_or (plain_if p x) o ≡ Some y
-    → Say (settled e) (placed_plain x []) → (o ≡ Some y → Say (settled (F later).0) (placed_plain y [])) → Say (settled (F (if p x then (e, true) else later)).0) (placed_plain y [])
+first_said : (p : Plain → Bool) (x : Plain) (e : InForce) (y : Plain) (o : Option Plain) (later : Reached) (F : Reached → Reached) → (Say (no_directive e) (placed_plain y []) → Say (no_directive (F (e, true)).0) (placed_plain y [])) → option_or (plain_if p x) o ≡ Some y
+    → Say (no_directive e) (placed_plain x []) → (o ≡ Some y → Say (no_directive (F later).0) (placed_plain y [])) → Say (no_directive (F (if p x then (e, true) else later)).0) (placed_plain y [])
 first_said p x e y o later F f is h more = go (p x) is where
-  go : (here : Bool) → option_or (if here then Some x else None) o ≡ Some y → Say (settled (F (if here then (e, true) else later)).0) (placed_plain y [])
-  go true g = f (subst (λ (z : Plain). Say (settled e) (placed_plain z [])) (some_plain x y g) h)
+  go : (here : Bool) → option_or (if here then Some x else None) o ≡ Some y → Say (no_directive (F (if here then (e, true) else later)).0) (placed_plain y [])
+  go true g = f (subst (λ (z : Plain). Say (no_directive e) (placed_plain z [])) (some_plain x y g) h)
   go false g = more g
 
-in_said : (p : Plain → Bool) (xs : List Plain) (e : InForce) (y : Plain) (o : Option Plain) (r : Ps) (later : InForce → Reached) → option_or (first_in p xs) o ≡ Some y → Say (settled e) (placed_plains xs r)
-    → (o ≡ Some y → Say (settled (all_behind e xs)) r → Say (settled (later (all_behind e xs)).0) (placed_plain y [])) → Say (settled (if (reached_in p xs e).1 then reached_in p xs e else later (reached_in p xs e).0).0) (placed_plain y [])
+in_said : (p : Plain → Bool) (xs : List Plain) (e : InForce) (y : Plain) (o : Option Plain) (r : Ps) (later : InForce → Reached) → option_or (first_in p xs) o ≡ Some y → Say (no_directive e) (placed_plains xs r)
+    → (o ≡ Some y → Say (no_directive (all_behind e xs)) r → Say (no_directive (later (all_behind e xs)).0) (placed_plain y [])) → Say (no_directive (if (walk_in p xs e).1 then walk_in p xs e else later (walk_in p xs e).0).0) (placed_plain y [])
 in_said p [] e y o r later is h more = more is h
 in_said p (x ∷ xs) e y o r later is h more =
-    first_said p x e y (option_or (first_in p xs) o) (reached_in p xs (escapes_behind e x)) (λ (z : Reached). if z.1 then z else later z.0) (λ l. l) (sym (or_either (plain_if p x) (first_in p xs) o) ∙ is) (part_front (placed_plain x) (plain_before x) (settled e) (placed_plains xs r) h)
+    first_said p x e y (option_or (first_in p xs) o) (walk_in p xs (escapes_behind e x)) (λ (z : Reached). if z.1 then z else later z.0) (λ l. l) (sym (or_either (plain_if p x) (first_in p xs) o) ∙ is) (part_front (placed_plain x) (plain_before x) (no_directive e) (placed_plains xs r) h)
     (λ i. in_said p xs (escapes_behind e x) y o r later i (behind_plain e x (placed_plains xs r) h) more)
 
-found_said : (p : Plain → Bool) (is : List Item) (e : InForce) (y : Plain) → first_of p is ≡ Some y → Say (settled e) (placed_items is []) → Say (settled (reached p is e).0) (placed_plain y [])
+found_said : (p : Plain → Bool) (is : List Item) (e : InForce) (y : Plain) → first_of p is ≡ Some y → Say (no_directive e) (placed_items is []) → Say (no_directive (walk_to p is e).0) (placed_plain y [])
 found_said p [] e y i h = absurd cc
 found_said p (plain x ∷ is) e y i h =
-    first_said p x e y (first_of p is) (reached p is (escapes_behind e x)) (λ (z : Reached). z) (λ l. l) i (part_front (placed_plain x) (plain_before x) (settled e) (placed_items is []) h)
+    first_said p x e y (first_of p is) (walk_to p is (escapes_behind e x)) (λ (z : Reached). z) (λ l. l) i (part_front (placed_plain x) (plain_before x) (no_directive e) (placed_items is []) h)
     (λ j. found_said p is (escapes_behind e x) y j (behind_plain e x (placed_items is []) h))
-found_said p (backward xs ∷ is) e y i h = in_said p xs e y (first_of p is) ((t.close_, 0) ∷ placed_items is []) (λ (f : InForce). reached p is f) i h.1.1 (λ j z. found_said p is (all_behind e xs) y j z.1)
+found_said p (backward xs ∷ is) e y i h = in_said p xs e y (first_of p is) ((t.close_, 0) ∷ placed_items is []) (λ (f : InForce). walk_to p is f) i h.1.1 (λ j z. found_said p is (all_behind e xs) y j z.1)
 
 -- ---- what is read
 
@@ -249,18 +249,18 @@ lexemes_there : (ts : List Placed) → map lexeme_as (terminals ts) ≡ map (λ 
 lexemes_there [] = refl
 lexemes_there (x ∷ ts) = ap (λ (l : Lexeme). l ∷ map lexeme_as (terminals ts)) (there x.lexeme) ∙ ap (λ (ls : List Lexeme). x.lexeme ∷ ls) (lexemes_there ts)
 
-said_there : (ps : List Piece) (place : ℕ) → map (λ (x : Placed). x.lexeme) (placed_from place ps) ≡ said ps
+said_there : (ps : List Piece) (place : ℕ) → map (λ (x : Placed). x.lexeme) (placed_from place ps) ≡ piece_lexemes ps
 said_there [] place = refl
 said_there (p ∷ ps) place = go p.lexeme (said_there ps (place + byte_length p.text)) where
-  go : (o : Option Lexeme) → map (λ (x : Placed). x.lexeme) (placed_from (place + byte_length p.text) ps) ≡ said ps → map (λ (x : Placed). x.lexeme) (put_placed place p.text o (placed_from (place + byte_length p.text) ps)) ≡ and_more o (said ps)
+  go : (o : Option Lexeme) → map (λ (x : Placed). x.lexeme) (placed_from (place + byte_length p.text) ps) ≡ piece_lexemes ps → map (λ (x : Placed). x.lexeme) (put_placed place p.text o (placed_from (place + byte_length p.text) ps)) ≡ and_more o (piece_lexemes ps)
   go None more = more
   go (Some l) more = ap (λ (ls : List Lexeme). l ∷ ls) more
 
 pub read_said : (s : Directives) (bytes : List ℕ) (ts : List Placed) (w : Text) (x : TreeOf w) → HasTokens s bytes ts → IsReadAs w (terminals ts) x → AreSaid s (map lexeme_as (tokens_of w x))
 read_said s bytes ts w x has read =
     let cut = has.cut in
-    let is : map lexeme_as (tokens_of w x) ≡ said cut.0 = ap (map lexeme_as) read.0 ∙ lexemes_there ts ∙ ap (map (λ (z : Placed). z.lexeme)) cut.4 ∙ said_there cut.0 0 in
-    subst (AreSaid s) (sym is) (tokens_said s bytes (said cut.0) has.text (cut.0, cut.1, cut.2, cut.3, refl)).0
+    let is : map lexeme_as (tokens_of w x) ≡ piece_lexemes cut.0 = ap (map lexeme_as) read.0 ∙ lexemes_there ts ∙ ap (map (λ (z : Placed). z.lexeme)) cut.4 ∙ said_there cut.0 0 in
+    subst (AreSaid s) (sym is) (tokens_said s bytes (piece_lexemes cut.0) has.text (cut.0, cut.1, cut.2, cut.3, refl)).0
 
 -- ---- scripts
 
@@ -279,9 +279,9 @@ definition_replaced k n y items new h hy = said_written (items_with (defines k n
 -- a routine with another body, or with another among in it, and a grouping with other terms
 pub body_said : (n : List ℕ) (items : List Item) (b new : RowView) → AreSpelled items → first_of (defines kinds.Routine n) items ≡ Some (routine n b.0 b.1) → AreSaid (state_before (defines kinds.Routine n) items) (map lexeme_as (tokens_of body new))
     → IsSpelled (state_before (defines kinds.Routine n) items) (routine n new.0 new.1)
-body_said n items b new h is said =
+body_said n items b new h is piece_lexemes =
     let old = found_said (defines kinds.Routine n) items nothing_set (routine n b.0 b.1) is (written_said items h) in
-    (old.0, (old.1.0, (old.1.1.0, said)))
+    (old.0, (old.1.0, (old.1.1.0, piece_lexemes)))
 
 pub among_said : (n : List ℕ) (items : List Item) (b : RowView) (k : ℕ) (a : Starter × Groups) (d : ℕ) → AreSpelled items → first_of (defines kinds.Routine n) items ≡ Some (routine n b.0 b.1)
     → AreSaid (state_before (defines kinds.Routine n) items) (map lexeme_as (tokens_of (texts.among d) a)) → IsSpelled (state_before (defines kinds.Routine n) items) (routine n (put_in_body b k a).0 (put_in_body b k a).1)
@@ -291,9 +291,9 @@ among_said n items b k a d h is ha =
 
 pub terms_said : (n : List ℕ) (items : List Item) (a : Argument) (ts : List Term) (x : Argument × List Term) → AreSpelled items → first_of (defines kinds.Grouping n) items ≡ Some (grouping n a ts)
     → AreSaid (state_before (defines kinds.Grouping n) items) (map lexeme_as (tokens_of texts.terms x)) → IsSpelled (state_before (defines kinds.Grouping n) items) (grouping n x.0 x.1)
-terms_said n items a ts x h is said =
+terms_said n items a ts x h is piece_lexemes =
     let old = found_said (defines kinds.Grouping n) items nothing_set (grouping n a ts) is (written_said items h) in
-    (old.0, (old.1.0, said))
+    (old.0, (old.1.0, piece_lexemes))
 
 -- a text may end behind a script
 pub ends : (items : List Item) → MayEnd (after_all start (lexemes_of items))

@@ -11,7 +11,7 @@ use Rattle.sbl_text.specs.declared.pieces.Wanted.TheVariants as wanted
 use Rattle.sbl_text.specs.Classes.{is_white, quote, slash}
 use Rattle.sbl_text.specs.declared.escapes.Inserts.{Inserts}
 use Rattle.sbl_text.specs.Escapes.{InForce, find, opens}
-use Rattle.sbl_text.specs.Literals.{Refusal, byte_length, code_or_fault, character_named, value_or_character, inserted, FirstWrong}
+use Rattle.sbl_text.specs.Literals.{Refusal, byte_length, code_or_fault, character_named, value_or_character, insertion_value, FirstWrong}
 use Rattle.sbl_text.specs.Codes.{code_of}
 use Rattle.sbl_text.specs.Directives.{Directives}
 use Rattle.sbl_text.specs.Tokens.{Placed, starts_star, pair_fault, token_fault, fault_at, IsRefused}
@@ -69,7 +69,7 @@ value_refuses (Some v) c h = ok_refuses v
 value_refuses None (Ok c) h = ok_refuses (c ∷ [])
 value_refuses None (Err k) h = refused k (h k refl)
 
-inserted_refuses : (e : InForce) (name : List ℕ) → Refuses (inserted e name)
+inserted_refuses : (e : InForce) (name : List ℕ) → Refuses (insertion_value e name)
 inserted_refuses e name =
     either (list_all is_white name) (Ok []) (value_or_character (find e.macros name) (character_named e.inserts name)) (ok_refuses [])
     (value_refuses (find e.macros name) (character_named e.inserts name) (character_refuses e.inserts name))

@@ -7,12 +7,12 @@ use Rattle.std.specs.Str.{bytes_eq, chars}
 use Rattle.sbl_text.specs.declared.directives.Coding.{Coding}
 use Rattle.sbl_text.specs.declared.directives.Coding.TheVariants as coding
 use Rattle.sbl_text.specs.Escapes.{InForce, nothing_set, with_inserts}
-use Rattle.sbl_text.specs.Directives.{Directives, start_under, coded, defined_as}
+use Rattle.sbl_text.specs.Directives.{Directives, start_under, value_for_macro, defined_as}
 use Rattle.sbl_text.specs.Tokens.{Placed}
 use Rattle.sbl_ast.specs.declared.tree.Base.{Base}
 use Rattle.sbl_ast.specs.declared.tree.Base.TheVariants as bases
 use Rattle.sbl_amongs.specs.Amongs.{put_in_body}
-use Rattle.sbl_amongs.specs.Replaced.{is_among}
+use Rattle.sbl_amongs.specs.Replacement.{is_among}
 use Rattle.sbl_ast.specs.Tree.{Plain, escapes, macro, routine, grouping, Item, plain, backward}
 use Rattle.sbl_ast.specs.View.{RowView}
 use Rattle.sbl_ast.specs.Texts.{Text, TreeOf, places_in}
@@ -72,25 +72,25 @@ coding_of (Some bases.Decimal) = coding.Decimal
 -- what is in force after an item
 abbrev pub escapes_behind : InForce → Plain → InForce
 escapes_behind e (escapes a b) = with_inserts e a b
-escapes_behind e (macro n b q) = defined_as e (chars n) (coded (coding_of b) q.value)
+escapes_behind e (macro n b q) = defined_as e (chars n) (value_for_macro (coding_of b) q.value)
 escapes_behind e _ = e
 
 -- what is in force before the first item that passes, and whether one passes
 abbrev pub Reached : Type 0
 Reached = InForce × Bool
 
-abbrev pub reached_in : (Plain → Bool) → List Plain → InForce → Reached
-reached_in p [] e = (e, false)
-reached_in p (x ∷ xs) e = if p x then (e, true) else reached_in p xs (escapes_behind e x)
+abbrev pub walk_in : (Plain → Bool) → List Plain → InForce → Reached
+walk_in p [] e = (e, false)
+walk_in p (x ∷ xs) e = if p x then (e, true) else walk_in p xs (escapes_behind e x)
 
-abbrev pub reached : (Plain → Bool) → List Item → InForce → Reached
-reached p [] e = (e, false)
-reached p (plain x ∷ is) e = if p x then (e, true) else reached p is (escapes_behind e x)
-reached p (backward xs ∷ is) e = if (reached_in p xs e).1 then reached_in p xs e else reached p is (reached_in p xs e).0
+abbrev pub walk_to : (Plain → Bool) → List Item → InForce → Reached
+walk_to p [] e = (e, false)
+walk_to p (plain x ∷ is) e = if p x then (e, true) else walk_to p is (escapes_behind e x)
+walk_to p (backward xs ∷ is) e = if (walk_in p xs e).1 then walk_in p xs e else walk_to p is (walk_in p xs e).0
 
 -- the insert characters and macros that all items before the first that passes set
 abbrev pub escapes_before : (Plain → Bool) → List Item → InForce
-escapes_before p is = (reached p is nothing_set).0
+escapes_before p is = (walk_to p is nothing_set).0
 
 abbrev pub state_before : (Plain → Bool) → List Item → Directives
 state_before p is = start_under (escapes_before p is)

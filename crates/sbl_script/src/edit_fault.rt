@@ -1,5 +1,9 @@
 //! Why an edit of a script is refused.
 
+ghost use Rattle.std.specs.Prelude.{◌≡◌};
+ghost use Rattle.sbl_script.specs.Refusals.{Refuses};
+ghost use Rattle.sbl_script.specs.declared.edit_fault.ScriptEditFault.TheVariants.{OutOfMemory};
+
 use sbl_text::ScriptFault;
 use std::alloc::AllocError;
 use thiserror::Error;
@@ -27,27 +31,21 @@ pub enum ScriptEditFault {
     OutOfMemory,
 }
 
-impl From<AllocError> for ScriptEditFault {
-    ghost use Rattle.std.specs.Prelude.{◌≡◌};
-    ghost use Rattle.sbl_script.specs.declared.edit_fault.ScriptEditFault.TheVariants.{OutOfMemory};
+impl From<ScriptFault> for ScriptEditFault {
+    ghost from_gives = { λ fault refused. Refuses fault refused };
 
+    fn from(fault: ScriptFault) -> ScriptEditFault {
+        match fault {
+            ScriptFault::OutOfMemory => ScriptEditFault::OutOfMemory,
+            _ => ScriptEditFault::Script(fault),
+        }
+    }
+}
+
+impl From<AllocError> for ScriptEditFault {
     ghost from_gives = { λ _ refused. refused ≡ OutOfMemory };
 
     fn from(_error: AllocError) -> ScriptEditFault {
         ScriptEditFault::OutOfMemory
-    }
-}
-
-impl From<ScriptFault> for ScriptEditFault {
-    ghost use Rattle.sbl_script.specs.Refusals.{Refuses};
-
-    ghost from_gives = { λ fault refused. Refuses fault refused };
-
-    fn from(fault: ScriptFault) -> ScriptEditFault {
-        if fault == ScriptFault::OutOfMemory {
-            ScriptEditFault::OutOfMemory
-        } else {
-            ScriptEditFault::Script(fault)
-        }
     }
 }

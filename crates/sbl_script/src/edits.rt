@@ -153,7 +153,7 @@ fn reach_in(
     name: &str,
     escapes: &mut Escapes,
 ) -> Result<bool, ScriptFault>
-    ensures reached { IfOk result (λ found. (escapes.new, found) ≡ spec.reached_in (spec.defines kind name.now) (map view_plain plains.now) escapes.old) }
+    ensures reached { IfOk result (λ found. (escapes.new, found) ≡ spec.walk_in (spec.defines kind name.now) (map view_plain plains.now) escapes.old) }
     ensures fault { IfErr result (λ f. f ≡ ScriptFault.OutOfMemory) }
 {
     for plain in plains {
@@ -172,7 +172,7 @@ fn reach(
     name: &str,
     escapes: &mut Escapes,
 ) -> Result<bool, ScriptFault>
-    ensures reached { IfOk result (λ found. (escapes.new, found) ≡ spec.reached (spec.defines kind name.now) (view_items items.now) escapes.old) }
+    ensures reached { IfOk result (λ found. (escapes.new, found) ≡ spec.walk_to (spec.defines kind name.now) (view_items items.now) escapes.old) }
     ensures fault { IfErr result (λ f. f ≡ ScriptFault.OutOfMemory) }
 {
     for item in items {

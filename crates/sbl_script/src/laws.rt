@@ -3,8 +3,8 @@
 ghost use Rattle.sbl_script.specs.OneEdit.{EditFaultIsOne, EditIsOne, EditOrFault};
 ghost use Rattle.sbl_script.specs.OnlyTheItem.{ExternalStays, OnlyTheItem};
 ghost use Rattle.sbl_script.specs.OneReading.{FaultIsOne, ScriptIsOne, ScriptOrFault};
-ghost use Rattle.sbl_script.specs.Parsed.{source_of};
-ghost use Rattle.sbl_script.specs.Printed.{CanonicalIsOne, CanonicalIsRead, LiteralsFit};
+ghost use Rattle.sbl_script.specs.ParsedScript.{source_of};
+ghost use Rattle.sbl_script.specs.CanonicalText.{CanonicalIsOne, CanonicalIsRead, LiteralsFit};
 
 use crate::script::Script;
 pub use crate::script::{is_shallow, is_spelled, is_well_declared};

@@ -1,7 +1,7 @@
 //! Whether two scripts are the same.
 
 ghost use Rattle.std.specs.Prelude.{◌≡◌, ◌↔◌, IfOk, IsTrue};
-ghost use Rattle.sbl_script.specs.Parsed.{source_of};
+ghost use Rattle.sbl_script.specs.ParsedScript.{source_of};
 
 use crate::laws::canonical_is_one;
 use crate::script::Script;

@@ -8,12 +8,12 @@ ghost use Rattle.sbl_ast.specs.Texts as texts;
 ghost use Rattle.sbl_ast.specs.View.{view_among, view_argument, view_items, view_plain, view_row, view_term};
 ghost use Rattle.sbl_ast.specs.Counts.{count_in_among};
 ghost use Rattle.sbl_resolver.specs.Checks.{WellDeclared, fault_of};
-ghost use Rattle.sbl_script.specs.Spelled.{AreSpelled, IsSpelled};
+ghost use Rattle.sbl_script.specs.SpelledScript.{AreSpelled, IsSpelled};
 ghost use Rattle.sbl_text.specs.Directives.{start, Directives};
-ghost use Rattle.sbl_text.specs.Spaced.{after_all};
+ghost use Rattle.sbl_text.specs.SpacedTokens.{after_all};
 ghost use Rattle.sbl_text.specs.Tokens.{MayEnd, placed_of};
 ghost use Rattle.sbl_ast.specs.Tree.{lexemes_of};
-ghost use Rattle.sbl_script.specs.Parsed.{source_of};
+ghost use Rattle.sbl_script.specs.ParsedScript.{source_of};
 ghost use Rattle.sbl_script.specs.Reading as spec;
 
 use crate::edit_fault::ScriptEditFault;
@@ -128,10 +128,10 @@ impl Model for Script {
     ghost use Rattle.std.specs.Coded.{codes};
     ghost use Rattle.sbl_ast.specs.contracts.tree.ScriptItem as e;
     ghost use Rattle.sbl_ast.specs.View.{view_items};
-    ghost use Rattle.sbl_script.specs.Parsed.{Parsed};
+    ghost use Rattle.sbl_script.specs.ParsedScript.{Parsed};
     ghost use Rattle.sbl_resolver.specs.Checks.{WellDeclared};
     ghost use Rattle.sbl_ast.specs.Places.{places, AreShallow};
-    ghost use Rattle.sbl_script.specs.Spelled.{AreSpelled};
+    ghost use Rattle.sbl_script.specs.SpelledScript.{AreSpelled};
 
     ghost Value = { Parsed };
 
@@ -146,13 +146,17 @@ impl Script {
     ghost use Rattle.std.specs.Prelude.{Err, string_bytes};
     ghost use Rattle.sbl_ast.specs.Places.{places, AreShallow};
     ghost use Rattle.sbl_ast.specs.Texts.{places_in};
-    ghost use Rattle.sbl_script.specs.Parsed.{body_of};
+    ghost use Rattle.sbl_script.specs.ParsedScript.{body_of};
     ghost use Rattle.sbl_print.specs.Canonical.{canonical};
     ghost use Rattle.sbl_script.specs.Reading.{HasTokens};
     ghost use Rattle.sbl_script.specs.Edits.{IsEditFault, IsEdited, among, body, defines, home, items_with, state_before, terms};
 
     /// Checks a tree and returns its script, or the fault of the first check that fails.
-    fn checked(alloc: Global, items: Vec<ScriptItem>, external: &str) -> Result<Script, ScriptFault>
+    fn check_tree(
+        alloc: Global,
+        items: Vec<ScriptItem>,
+        external: &str,
+    ) -> Result<Script, ScriptFault>
         requires shallow { AreShallow (places (view_items items.items)) }
         requires spelled { AreSpelled (view_items items.items) }
         ensures tree { IfOk result (λ s. source_of s ≡ record { items = view_items items.items; external = external.now }) }
@@ -177,7 +181,7 @@ impl Script {
         let text = text_of(bytes)?;
         let found = tokens(alloc, text)?;
         let items = tree_of(alloc, &found, text.len())?;
-        Script::checked(alloc, items, external)
+        Script::check_tree(alloc, items, external)
     }
 
     /// Returns the script with `text` as the body of the routine `name`. The text is one row of the grammar. It is read
@@ -304,7 +308,7 @@ impl Script {
         ensures fault { IfErr result (λ f. (f ≡ ScriptFault.OutOfMemory) ⊎ (fault_of (items_with (defines kind name.now) (view_plain new.now) (source_of self.now).items) (source_of self.now).external ≡ Some f)) }
     {
         let items = items_with(alloc, &self.items, kind, name, new)?;
-        Script::checked(alloc, items, self.external())
+        Script::check_tree(alloc, items, self.external())
     }
 
     /// Returns the canonical text of the script (our own choice). Each item is a line of its tokens, with one space

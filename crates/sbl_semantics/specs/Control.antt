@@ -1,9 +1,11 @@
 -- Control: turns, loops, `goto`, limits, `backwards` and calls, each in terms of what its parts do.
-use Rattle.std.specs.Prelude.{ℕ, zero, suc, ℤ, pos, negsuc, ◌-◌, Bool, true, false, List, length, Option, Some, None, replicate}
+use Rattle.std.specs.Prelude.{ℕ, zero, suc, ℤ, ◌-◌, Bool, true, false, List, length, if◌then◌else◌, Option, Some, None, replicate}
+use Rattle.std.specs.Option.{option_map_or, unwrap_or}
 use Rattle.sbl_semantics.specs.declared.fault.RunFault.TheVariants.{Steps}
 use Rattle.sbl_semantics.specs.declared.limits.Limits.{Limits}
 use Rattle.sbl_semantics.specs.declared.touch.Touch.TheVariants.{Entered}
-use Rattle.sbl_semantics.specs.Moves.{next}
+use Rattle.sbl_semantics.specs.Moves.{hop}
+use Rattle.sbl_semantics.specs.Numbers.{natural}
 use Rattle.sbl_semantics.specs.State.{State, Ending, Signals, Stops, Doing, after, then_on, pay, at_place, to_limit, saved_cursor, put_back, note_event}
 use Rattle.sbl_semantics.specs.Events.{Enters, Leaves}
 use Rattle.sbl_semantics.specs.Touches.{with_touch}
@@ -21,72 +23,64 @@ abbrev pub times : ℕ → Doing → Mode → State → Ending
 times zero c m s = Signals true s
 times (suc n) c m s = after (c m s) (times n c m) (Signals false)
 
--- a negative count is zero
-abbrev pub count_of : ℤ → ℕ
-count_of (pos n) = n
-count_of (negsuc n) = zero
-
--- the end of a search at the first t, from the state before the command and the one after it: `gopast` leaves the
--- cursor after the match, `goto` puts it back before it
-abbrev pub found : Bool → Mode → State → State → Ending
-found true m s t = Signals true t
-found false m s t = put_back m (saved_cursor s) t
-
--- Tries at the cursor, and after each f puts the cursor back and tries one character further on; f if nothing is ahead
--- any more. Each try uses at least one step.
+-- Tries at the cursor, up to the first t: `gopast` leaves the cursor after the match, `goto` puts it back before it. After
+-- each f it puts the cursor back and tries one character further on; f if nothing is ahead any more. Each try uses at
+-- least one step.
 abbrev pub seeks : ℕ → Bool → Doing → Mode → State → Ending
 seeks zero past c m s = Stops Steps s
 seeks (suc n) past c m s =
-    after (c m s) (found past m s)
-    (λ f. then_on (put_back m (saved_cursor s) f) (λ b. after (next m b) (seeks n past c m) (Signals false)))
+    after (c m s) (λ t. if past then Signals true t else put_back m (saved_cursor s) t)
+    (λ f. then_on (put_back m (saved_cursor s) f) (λ b. after (hop (Some 1) m b) (seeks n past c m) (Signals false)))
 
--- the limits in both directions
-abbrev pub limits : State → Limits
-limits s = record { left = s.left; beyond = s.beyond }
+-- the limit of the direction set: backwards to an offset, forwards to a distance from the end of the text
+abbrev pub set_limit : Mode → ℕ → ℕ → State → State
+set_limit Forward left beyond s = record s { beyond = beyond }
+set_limit Backward left beyond s = record s { left = left }
 
--- the limit of the direction set to the cursor
-abbrev pub limit_here : Mode → State → State
-limit_here Forward s = record s { beyond = length s.text - s.cursor }
-limit_here Backward s = record s { left = s.cursor }
-
--- an earlier limit restored: forwards by its distance from the end of the text, backwards by its offset
-abbrev pub limit_back : Mode → Limits → State → State
-limit_back Forward from s = record s { beyond = from.beyond }
-limit_back Backward from s = record s { left = from.left }
-
--- a change at the end, whatever the signal
-abbrev pub at_end : (State → State) → Ending → Ending
-at_end change e = after e (λ t. Signals true (change t)) (λ f. Signals false (change f))
-
--- what was done within a limit, with the earlier limit restored at the end
-abbrev pub limited : Mode → Limits → Ending → Ending
-limited m from = at_end (limit_back m from)
-
--- the start of `backwards`: the left limit is the cursor, and the cursor moves to the limit
-abbrev pub backwards_from : State → Ending
-backwards_from s = to_limit Forward (record s { left = s.cursor })
-
--- the end of `backwards` after t
-abbrev pub backwards_end : State → Ending
-backwards_end s = at_place s.left s
-
--- continues with the chosen group; f if there is none
-abbrev pub chosen : Option ℕ → State → (ℕ → Ending) → Ending
-chosen None s go = Signals false s
-chosen (Some g) s go = go g
+-- a change at the end, which may depend on the signal
+abbrev pub at_end : (Bool → State → State) → Ending → Ending
+at_end change e = after e (λ t. Signals true (change true t)) (λ f. Signals false (change false f))
 
 -- a command uses one step before it does anything
-abbrev pub paid : Doing → Doing
-paid d m s = then_on (pay s.steps s) (d m)
+abbrev pub pay_first : Doing → Doing
+pay_first d m s = then_on (pay s.steps s) (d m)
 
 -- a call of a routine with n amongs touches it and begins with no choices
 abbrev pub enter : ℕ → ℕ → State → State
 enter i n s = note_event (Enters i) (record s { choices = replicate n None; routine = i; touched = with_touch (Entered i) s.touched })
 
--- the routine and the choices of the caller, after a call with this signal
+-- the caller's routine and choices, which a call with this signal restores when it returns
 abbrev pub back_in : ℕ → List (Option ℕ) → Bool → State → State
 back_in i choices b s = note_event (Leaves b) (record s { choices = choices; routine = i })
 
--- a call restores these when it returns
+-- ---- names for parts of these definitions, which the interpreter and proofs use
+
+abbrev pub count_of : ℤ → ℕ
+count_of z = unwrap_or (natural z) 0
+
+abbrev pub end_search : Bool → Mode → State → State → Ending
+end_search past m s t = if past then Signals true t else put_back m (saved_cursor s) t
+
+abbrev pub limits : State → Limits
+limits s = record { left = s.left; beyond = s.beyond }
+
+abbrev pub limit_here : Mode → State → State
+limit_here m s = set_limit m s.cursor (length s.text - s.cursor) s
+
+abbrev pub limit_back : Mode → Limits → State → State
+limit_back m from s = set_limit m from.left from.beyond s
+
+abbrev pub restore_limit : Mode → Limits → Ending → Ending
+restore_limit m from = at_end (λ b. limit_back m from)
+
+abbrev pub backwards_from : State → Ending
+backwards_from s = to_limit Forward (record s { left = s.cursor })
+
+abbrev pub backwards_end : State → Ending
+backwards_end s = at_place s.left s
+
+abbrev pub with_group : Option ℕ → State → (ℕ → Ending) → Ending
+with_group g s go = option_map_or go g (Signals false s)
+
 abbrev pub leave : ℕ → List (Option ℕ) → Ending → Ending
-leave i choices e = after e (λ t. Signals true (back_in i choices true t)) (λ f. Signals false (back_in i choices false f))
+leave i choices e = at_end (back_in i choices) e

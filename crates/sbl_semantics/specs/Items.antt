@@ -1,6 +1,6 @@
 -- The meaning of the items of a script, by name.
 use Rattle.std.specs.Prelude.{ℕ, suc, Bool, true, false, not, ◌&&◌, ◌||◌, List, [], ◌∷◌, ◌++◌, nat_eq, if◌then◌else◌, Option, Some, None}
-use Rattle.std.specs.List.{list_any, flat_map}
+use Rattle.std.specs.List.{list_any, flat_map, fold}
 use Rattle.std.specs.Str.{bytes_eq}
 use Rattle.sbl_ast.specs.declared.tree.Additive.TheVariants.{Plus, Minus}
 use Rattle.sbl_ast.specs.declared.tree.DeclarationKind.{DeclarationKind}
@@ -67,8 +67,7 @@ and_grouping (grouping n a ts) gs = gs ++ (record { name = n; has = λ c. terms_
 and_grouping x gs = gs
 
 abbrev pub classes_behind : List ItemInMode → List Grouping → List Grouping
-classes_behind [] gs = gs
-classes_behind (x ∷ xs) gs = classes_behind xs (and_grouping x.plain gs)
+classes_behind xs gs = fold (λ gs x. and_grouping x.plain gs) gs xs
 
 -- ---- routines
 

@@ -14,4 +14,6 @@ pub mod Items
 pub mod Regions
 pub mod Meaning
 pub mod Outcome
-pub mod Touched
+pub mod TouchedItems
+pub mod Same
+pub mod Differs

@@ -1,6 +1,8 @@
 -- What a run of a script does. Each command of its trees is defined by what its parts do. A command takes the mode m
 -- and the state s. It ends with the signal t or f and a new state, or it stops the run.
-use Rattle.std.specs.Prelude.{ℕ, ℤ, pos, negsuc, zero, suc, ◌+◌, ◌+ℤ◌, ◌-ℤ◌, ◌*ℤ◌, neg_ℤ, Bool, true, false, not, List, [], ◌∷◌, ◌++◌, length, map, take, replicate, nat_eq, int_lt, if◌then◌else◌, Option, Some, None, Ok, slice_index_or, slice_set}
+use Rattle.std.specs.Prelude.{ℕ, ℤ, pos, negsuc, zero, suc, ◌+◌, ◌+ℤ◌, ◌-ℤ◌, ◌*ℤ◌, neg_ℤ, ◌-◌, Bool, true, false, not, List, [], ◌∷◌, ◌++◌, length, map, take, replicate, nat_eq, int_lt, if◌then◌else◌, Option, Some, None, Ok, slice_index_or, slice_set}
+use Rattle.std.specs.List.{find}
+use Rattle.std.specs.Option.{option_map_or, unwrap_or}
 use Rattle.std.specs.Ordering.{int_eq}
 use Rattle.sbl_ast.specs.Order.{in_order}
 use Rattle.sbl_ast.specs.declared.tree.Joiner.{Joiner}
@@ -33,14 +35,16 @@ use Rattle.std.specs.Cmp.Lexicographic.{pointwise}
 use Rattle.sbl_ast.specs.declared.tree.DeclarationKind.TheVariants as kinds
 use Rattle.sbl_semantics.specs.Fitting.{read_as, ahead_at}
 use Rattle.sbl_semantics.specs.Items.{Known, Body, is_among, place_of, body_named, class_of, classes_behind, known_in}
-use Rattle.sbl_semantics.specs.Moves.{match, one_of, touch_grouping, next, hop, at_limit, set_mark, at_mark, to_mark, set_boolean, test_boolean}
-use Rattle.sbl_semantics.specs.Numbers.{Value, natural, given, fitted, divided, with_value, with_both, limit_value, integer_at}
-use Rattle.sbl_semantics.specs.Regions.{Among, among_at, behind, behind_rows, behind_others, behind_starter, first, first_rows, first_others, mode_behind, waits, waits_others}
-use Rattle.sbl_semantics.specs.Control.{at_end, turns, times, count_of, seeks, limits, limit_here, limit_back, backwards_from, backwards_end, chosen as go_on, enter, leave, paid}
-use Rattle.sbl_semantics.specs.Choices.{choice, take_none, take_string, touch_among}
-use Rattle.sbl_semantics.specs.Slices.{left_bracket, right_bracket, replace, keep, insert, attach}
+use Rattle.sbl_semantics.specs.Moves.{match, one_of, hop, at_mark, to_mark}
+use Rattle.sbl_semantics.specs.Numbers.{Value, natural, continue_with, value_in_range, rounded_quotient, with_value, with_both, limit_value, integer_at}
+use Rattle.sbl_semantics.specs.Regions.{Among, number_after, number_after_rows, number_after_others, number_after_starter, first, first_rows, first_others, mode_under, waits, waits_others}
+use Rattle.sbl_semantics.specs.Control.{turns, times, seeks, set_limit, at_end, pay_first, enter, back_in}
+use Rattle.sbl_semantics.specs.Choices.{touch_among, conclude_search}
+use Rattle.sbl_semantics.specs.Slices.{is_forward, set_end, replace, keep, put_in}
+use Rattle.sbl_semantics.specs.Touches.{with_touch}
+use Rattle.sbl_semantics.specs.declared.touch.Touch.TheVariants.{Tested}
 use Rattle.sbl_semantics.specs.Limit.{max_levels}
-use Rattle.sbl_semantics.specs.State.{State, Ending, Signals, Stops, Doing, bound_of, after, then_on, saved_cursor, place_after, put_back, to_limit}
+use Rattle.sbl_semantics.specs.State.{State, Ending, Signals, Stops, Doing, bound_of, room, after, then_on, saved_cursor, place_after, put_back, at_place, to_limit}
 use Rattle.sbl_semantics.specs.declared.fault.RunFault.TheVariants.{Depth}
 use Rattle.sbl_ast.specs.Source.{Source}
 use Rattle.sbl_ast.specs.declared.mode.Mode.{Mode}
@@ -58,13 +62,14 @@ prefixed_does prefixes.Fail c m s = after (c m s) (Signals false) (Signals false
 prefixed_does prefixes.Repeat c m s = turns (suc s.steps) c m s
 prefixed_does prefixes.GoTo c m s = seeks (suc s.steps) false c m s
 prefixed_does prefixes.GoPast c m s = seeks (suc s.steps) true c m s
-prefixed_does prefixes.Backwards c m s = then_on (backwards_from s) (λ b. after (c Backward b) backwards_end (Signals false))
+prefixed_does prefixes.Backwards c m s =
+    then_on (to_limit Forward (record s { left = s.cursor })) (λ b. after (c Backward b) (λ t. at_place t.left t) (Signals false))
 
--- `loop`; and `atleast`, which is the loop followed by a `repeat` that costs no step of its own
+-- `loop`; and `atleast`, which is the loop followed by a `repeat` that costs no step of its own; a negative count is zero
 abbrev pub counted_does : Count → Value → Doing → Doing
-counted_does counts.Loop v c m s = given v s (λ z. times (count_of z) c m s)
+counted_does counts.Loop v c m s = continue_with v s (λ z. times (unwrap_or (natural z) 0) c m s)
 counted_does counts.AtLeast v c m s =
-    after (given v s (λ z. times (count_of z) c m s)) (λ t. turns (suc t.steps) c m t) (Signals false)
+    after (continue_with v s (λ z. times (unwrap_or (natural z) 0) c m s)) (λ t. turns (suc t.steps) c m t) (Signals false)
 
 -- `C1 or C2`, `C1 and C2`: before C2 the cursor goes back to where C1 began
 abbrev pub joined_does : Joiner → Doing → Doing → Doing
@@ -76,36 +81,38 @@ joined_does And a b m s = after (a m s) (λ t. then_on (put_back m (saved_cursor
 abbrev pub limited_does : Doing → Doing → Doing
 limited_does a b m s =
     after (a m s)
-    (λ t. then_on (put_back m (saved_cursor s) (limit_here m t)) (λ u. at_end (limit_back m (limits s)) (b m u))) (Signals false)
+    (λ t. then_on (put_back m (saved_cursor s) (set_limit m t.cursor (length t.text - t.cursor) t))
+    (λ u. at_end (λ signal. set_limit m s.left s.beyond) (b m u))) (Signals false)
 
--- commands of a single word; `substring` does the search of the next among
+-- commands of a single word; `substring` does the search of the next among; backwards `[` sets the right end of the slice,
+-- and `]` its left end
 abbrev pub simple_does : Doing → Simple → Doing
 simple_does search simples.Substring m s = search m s
-simple_does search simples.LeftBracket m s = Signals true (left_bracket m s)
-simple_does search simples.RightBracket m s = Signals true (right_bracket m s)
-simple_does search simples.Next m s = next m s
+simple_does search simples.LeftBracket m s = Signals true (set_end (is_forward m) s)
+simple_does search simples.RightBracket m s = Signals true (set_end (not (is_forward m)) s)
+simple_does search simples.Next m s = hop (Some 1) m s
 simple_does search simples.ToLimit m s = to_limit m s
-simple_does search simples.AtLimit m s = at_limit m s
+simple_does search simples.AtLimit m s = Signals (nat_eq (room m s) 0) s
 simple_does search simples.Delete m s = replace [] s
 simple_does search simples.True m s = Signals true s
 simple_does search simples.False m s = Signals false s
 
 abbrev pub moved_does : Move → Value → Doing
-moved_does moves.Hop v m s = given v s (λ z. hop (natural z) m s)
-moved_does moves.AtMark v m s = given v s (λ z. at_mark (natural z) s)
-moved_does moves.ToMark v m s = given v s (λ z. to_mark (natural z) m s)
+moved_does moves.Hop v m s = continue_with v s (λ z. hop (natural z) m s)
+moved_does moves.AtMark v m s = continue_with v s (λ z. at_mark (natural z) s)
+moved_does moves.ToMark v m s = continue_with v s (λ z. to_mark (natural z) m s)
 
 -- the new value of x in `$x = AE`, `$x += AE` and the like
-abbrev pub altered : Assignment → ℤ → ℤ → Value
-altered assignments.Equals x y = Ok y
-altered assignments.Plus x y = fitted (x +ℤ y)
-altered assignments.Minus x y = fitted (x -ℤ y)
-altered assignments.Times x y = fitted (x *ℤ y)
-altered assignments.Over x y = divided x y
+abbrev pub assigned_value : Assignment → ℤ → ℤ → Value
+assigned_value assignments.Equals x y = Ok y
+assigned_value assignments.Plus x y = value_in_range (x +ℤ y)
+assigned_value assignments.Minus x y = value_in_range (x -ℤ y)
+assigned_value assignments.Times x y = value_in_range (x *ℤ y)
+assigned_value assignments.Over x y = rounded_quotient x y
 
 abbrev pub assigned_does : ℕ → Assignment → Value → State → Ending
 assigned_does x o v s =
-    given (with_value v (altered o (integer_at x s))) s (λ z. Signals true (record s { integers = slice_set s.integers x z }))
+    continue_with (with_value v (assigned_value o (integer_at x s))) s (λ z. Signals true (record s { integers = slice_set s.integers x z }))
 
 abbrev pub is_so : Comparison → ℤ → ℤ → Bool
 is_so comparisons.Same x y = int_eq x y
@@ -116,26 +123,20 @@ is_so comparisons.Greater x y = int_lt y x
 is_so comparisons.AtLeast x y = not (int_lt x y)
 
 abbrev pub compared_does : Value → Comparison → Value → State → Ending
-compared_does v o w s = given v s (λ x. given w s (λ y. Signals (is_so o x y) s))
+compared_does v o w s = continue_with v s (λ x. continue_with w s (λ y. Signals (is_so o x y) s))
 
 abbrev pub named_does : Known → Naming → List ℕ → Doing
-named_does ns namings.SetMark n m s = Signals true (set_mark (place_of (ns kinds.Integers) n) s)
-named_does ns namings.Set n m s = Signals true (set_boolean (place_of (ns kinds.Booleans) n) true s)
-named_does ns namings.Unset n m s = Signals true (set_boolean (place_of (ns kinds.Booleans) n) false s)
+named_does ns namings.SetMark n m s = Signals true (record s { integers = slice_set s.integers (place_of (ns kinds.Integers) n) (pos s.cursor) })
+named_does ns namings.Set n m s = Signals true (record s { booleans = slice_set s.booleans (place_of (ns kinds.Booleans) n) true })
+named_does ns namings.Unset n m s = Signals true (record s { booleans = slice_set s.booleans (place_of (ns kinds.Booleans) n) false })
 named_does ns namings.Arrow n m s = keep (place_of (ns kinds.Strings) n) s
 
--- `<-`, `insert`, its sign `<+`, and `attach`
+-- `<-`; `insert` and its sign `<+` leave the cursor right of S forwards, and left of S backwards; `attach` on the other side
 abbrev pub edited_does : Splice → List ℕ → Doing
 edited_does edits.Replace cs m s = replace cs s
-edited_does edits.InsertSign cs m s = insert cs m s
-edited_does edits.Insert cs m s = insert cs m s
-edited_does edits.Attach cs m s = attach cs m s
-
--- An among first makes its own search, and on t runs its starter. If a `substring` waits for it, that search has been
--- made, and the among skips both.
-abbrev pub begins : Bool → Doing → Doing → Doing
-begins true search begun m s = Signals true s
-begins false search begun m s = after (paid search m s) (begun m) (Signals false)
+edited_does edits.InsertSign cs m s = put_in (is_forward m) cs s
+edited_does edits.Insert cs m s = put_in (is_forward m) cs s
+edited_does edits.Attach cs m s = put_in (not (is_forward m)) cs s
 
 -- ---- strings and numbers, given the names of the variables
 
@@ -147,43 +148,43 @@ module _ (ns : Known) where
   abbrev pub constant_worth : Constant → Mode → State → Value
   constant_worth constants.MaxInt m s = Ok (pos 2147483647)
   constant_worth constants.MinInt m s = Ok (negsuc 2147483647)
-  constant_worth constants.Cursor m s = fitted (pos s.cursor)
+  constant_worth constants.Cursor m s = value_in_range (pos s.cursor)
   constant_worth constants.Limit m s = limit_value m s
-  constant_worth constants.Len m s = fitted (pos (length s.text))
+  constant_worth constants.Len m s = value_in_range (pos (length s.text))
 
-  abbrev pub added : Additive → Value → Value → Value
-  added additives.Plus v w = with_both v w (λ x y. fitted (x +ℤ y))
-  added additives.Minus v w = with_both v w (λ x y. fitted (x -ℤ y))
+  abbrev pub value_of_sum : Additive → Value → Value → Value
+  value_of_sum additives.Plus v w = with_both v w (λ x y. value_in_range (x +ℤ y))
+  value_of_sum additives.Minus v w = with_both v w (λ x y. value_in_range (x -ℤ y))
 
-  abbrev pub scaled : Multiplicative → Value → Value → Value
-  scaled multiplicatives.Times v w = with_both v w (λ x y. fitted (x *ℤ y))
-  scaled multiplicatives.Over v w = with_both v w divided
+  abbrev pub value_of_product : Multiplicative → Value → Value → Value
+  value_of_product multiplicatives.Times v w = with_both v w (λ x y. value_in_range (x *ℤ y))
+  value_of_product multiplicatives.Over v w = with_both v w rounded_quotient
 
   abbrev mutual
     -- the value of an expression
     pub worth : trees.Expression → Mode → State → Value
-    worth (trees.expression p ss) m s = summed ss (product_worth p m s) m s
+    worth (trees.expression p ss) m s = value_of_sums ss (product_worth p m s) m s
 
     -- adds and subtracts products, from left to right
-    pub summed : trees.Sums → Value → Mode → State → Value
-    summed trees.no_sums v m s = v
-    summed (trees.sum o p ss) v m s = summed ss (added o v (product_worth p m s)) m s
+    pub value_of_sums : trees.Sums → Value → Mode → State → Value
+    value_of_sums trees.no_sums v m s = v
+    value_of_sums (trees.sum o p ss) v m s = value_of_sums ss (value_of_sum o v (product_worth p m s)) m s
 
     pub product_worth : trees.Product → Mode → State → Value
-    product_worth (trees.product f ss) m s = multiplied ss (factor_worth f m s) m s
+    product_worth (trees.product f ss) m s = value_of_products ss (factor_worth f m s) m s
 
     -- multiplies and divides factors, from left to right
-    pub multiplied : trees.Scales → Value → Mode → State → Value
-    multiplied trees.no_scales v m s = v
-    multiplied (trees.scale o f ss) v m s = multiplied ss (scaled o v (factor_worth f m s)) m s
+    pub value_of_products : trees.Scales → Value → Mode → State → Value
+    value_of_products trees.no_scales v m s = v
+    value_of_products (trees.scale o f ss) v m s = value_of_products ss (value_of_product o v (factor_worth f m s)) m s
 
     pub factor_worth : trees.Factor → Mode → State → Value
-    factor_worth (trees.negated f) m s = with_value (factor_worth f m s) (λ x. fitted (neg_ℤ x))
+    factor_worth (trees.negated f) m s = with_value (factor_worth f m s) (λ x. value_in_range (neg_ℤ x))
     factor_worth (trees.bracketed e) m s = worth e m s
-    factor_worth (trees.numeral n) m s = fitted (pos n)
+    factor_worth (trees.numeral n) m s = value_in_range (pos n)
     factor_worth (trees.variable n) m s = Ok (integer_at (place_of (ns kinds.Integers) n) s)
     factor_worth (trees.fixed c) m s = constant_worth c m s
-    factor_worth (trees.length_of a) m s = fitted (pos (length (text a s)))
+    factor_worth (trees.length_of a) m s = value_in_range (pos (length (text a s)))
 
 -- ---- the search of an among
 
@@ -202,124 +203,111 @@ abbrev pub offers : ℕ → trees.Groups → List Offer
 offers g (bare es) = map (offer g) es
 offers g (group e es rs gs) = offer g e ∷ (map (offer g) es ++ offers (g + 1) gs)
 
--- the first entry whose string, as the mode reads it, is w
-abbrev pub offering : Mode → List ℕ → List Offer → Option Offer
-offering r w [] = None
-offering r w (o ∷ os) = if pointwise nat_eq w (read_as r o.string) then Some o else offering r w os
-
 module _ (call : List ℕ → Doing) where
-  -- a condition is a call that costs one step; without a condition the signal is t
-  abbrev pub condition_does : Option (List ℕ) → Doing
-  condition_does None m s = Signals true s
-  condition_does (Some n) m s = paid (call n) m s
-
-  -- Tries one entry, if there is one. The cursor moves past the string, and the condition is called. If it signals t,
-  -- the cursor moves past the string again and the entry is chosen. If it signals f, `next` continues from the state
-  -- that the condition left.
+  -- Tries one entry, if there is one. The cursor moves past the string, and the condition is called, which costs one step;
+  -- without a condition the signal is t. If it signals t, the cursor moves past the string again and the entry is chosen.
+  -- If it signals f, `next` continues from the state that the condition left.
   abbrev pub takes : ℕ → Option Offer → Mode → State → State → (State → Ending) → Ending
   takes k None m from s next = next s
   takes k (Some o) m from s next =
       then_on (place_after m (saved_cursor from) (length o.string) s) (λ a.
-      after (condition_does o.condition m a)
-      (λ b. then_on (place_after m (saved_cursor from) (length o.string) b) (λ c. Signals true (take_string k (length o.string) o.group c)))
+      after (option_map_or (λ n. pay_first (call n) m a) o.condition (Signals true a))
+      (λ b. then_on (place_after m (saved_cursor from) (length o.string) b) (λ c. Signals true (conclude_search k (Some (length o.string)) (Some o.group) c)))
       next)
 
   -- Tries the entries whose strings are a prefix of x, longest first, and of each length the first entry only. The last
   -- argument is one more than the longest length to try. The state `from` is the one in which the search began. If no
   -- entry is taken, none is chosen and the signal is f.
-  abbrev pub tried : ℕ → List Offer → Mode → Mode → State → List ℕ → ℕ → State → Ending
-  tried k os r m from x zero s = Signals false (take_none k s)
-  tried k os r m from x (suc l) s = takes k (offering r (take l x) os) m from s (tried k os r m from x l)
+  abbrev pub try_each : ℕ → List Offer → Mode → Mode → State → List ℕ → ℕ → State → Ending
+  try_each k os r m from x zero s = Signals false (conclude_search k None None s)
+  try_each k os r m from x (suc l) s =
+      takes k (find (λ o. pointwise nat_eq (take l x) (read_as r o.string)) os) m from s (try_each k os r m from x l)
 
-  -- searches the text ahead; the strings and the text are both read in the mode of the among's place
-  abbrev pub searched : Among → Doing
-  searched a m s =
-      let x = ahead_at a.mode s.text s.cursor (bound_of m s) in
-      tried a.number (offers 0 a.groups) a.mode m s x (suc (length x)) s
-
-  -- a search touches its among, whether or not it finds a string
+  -- touches the among, whether or not it finds a string, and searches the text ahead; the strings and the text are both
+  -- read in the mode of the among's place
   abbrev pub search : Among → Doing
-  search a m s = searched a m (touch_among a.number m s)
+  search a m s =
+      let t = touch_among a.number m s in
+      let x = ahead_at a.mode t.text t.cursor (bound_of m t) in
+      try_each a.number (offers 0 a.groups) a.mode m t x (suc (length x)) t
 
 -- ---- what a command does, given the names of the script, its groupings, and what a call of each routine does
 
 -- a test of a grouping touches it, whatever the result
 abbrev pub tests : Known → (List ℕ → ℕ → Bool) → Bool → List ℕ → Doing
-tests ns class wanted n m s = one_of wanted (class n) m (touch_grouping (place_of (ns kinds.Groupings) n) s)
+tests ns class wanted n m s =
+    one_of wanted (class n) m (record s { touched = with_touch (Tested (place_of (ns kinds.Groupings) n)) s.touched })
 
 module _ (ns : Known) (class : List ℕ → ℕ → Bool) (call : List ℕ → Doing) where
-  -- `substring`: f if no among follows in its region
-  abbrev pub search_ahead : Option Among → Doing
-  search_ahead None m s = Signals false s
-  search_ahead (Some a) m s = search call a m s
-
   -- a name alone: a string variable, a boolean, a grouping, or else a routine to call
   abbrev pub name_does : List ℕ → Doing
   name_does n m s =
       if is_among (ns kinds.Strings) n then match (slice_index_or s.strings (place_of (ns kinds.Strings) n) []) m s else
-      if is_among (ns kinds.Booleans) n then test_boolean (place_of (ns kinds.Booleans) n) s else
+      if is_among (ns kinds.Booleans) n then Signals (slice_index_or s.booleans (place_of (ns kinds.Booleans) n) false) s else
       if is_among (ns kinds.Groupings) n then tests ns class true n m s else
       call n m s
 
   abbrev mutual
     -- What a command does after its step is paid. r is the mode of its place. k is the number of amongs before it in
     -- its routine. w says whether a `substring` of its region waits for an among. n is the next among of its region
-    -- after the command.
+    -- after the command; a `substring` without one signals f. An among first makes its own search, and on t runs its
+    -- starter; if a `substring` waits for it, that search has been made, and the among skips both.
     pub act : Mode → ℕ → Bool → Option Among → trees.Command → Doing
     act r k w n (bracket rs) m s = rows_do r k w n rs m s
-    act r k w n (simple_ x) m s = simple_does (search_ahead n) x m s
+    act r k w n (simple_ x) m s = simple_does (λ m s. option_map_or (λ a. search call a m s) n (Signals false s)) x m s
     act r k w n (literal_ q) m s = match q.value m s
     act r k w n (name_ x) m s = name_does x m s
     act r k w n (non_ b x) m s = tests ns class false x m s
-    act r k w n (prefixed x c) m s = prefixed_does x (paid (act (mode_behind x r) k w n c)) m s
-    act r k w n (counted x e c) m s = counted_does x (worth ns e m s) (paid (act r k w n c)) m s
+    act r k w n (prefixed x c) m s = prefixed_does x (pay_first (act (mode_under x r) k w n c)) m s
+    act r k w n (counted x e c) m s = counted_does x (worth ns e m s) (pay_first (act r k w n c)) m s
     act r k w n (move_ x e) m s = moved_does x (worth ns e m s) m s
     act r k w n (named x y) m s = named_does ns x y m s
     act r k w n (splice_ x a) m s = edited_does x (text ns a s) m s
     act r k w n (setlimit_ b c) m s =
-        limited_does (paid (act r k w (first r c (behind b k) n) b)) (paid (act r (behind b k) (waits b w) n c)) m s
+        limited_does (pay_first (act r k w (first r c (number_after b k) n) b)) (pay_first (act r (number_after b k) (waits b w) n c)) m s
     act r k w n (assign_ x o e) m s = assigned_does (place_of (ns kinds.Integers) x) o (worth ns e m s) s
     act r k w n (compare_ x o e) m s = compared_does (Ok (integer_at (place_of (ns kinds.Integers) x) s)) o (worth ns e m s) s
     act r k w n (compare_values_ e o f) m s = compared_does (worth ns e m s) o (worth ns f m s) s
     act r k w n (among_ st gs) m s =
-        after (begins w (search call (among_at r k gs)) (starter_does r (suc k) st) m s)
-        (λ t. go_on (choice k t) t (λ g. group_does r (behind_starter st (suc k)) gs g m t)) (Signals false)
+        after
+        (if w then Signals true s
+        else after (pay_first (search call (record { number = k; mode = r; groups = gs })) m s) (starter_does r (suc k) st m) (Signals false))
+        (λ t. option_map_or (λ g. group_does r (number_after_starter st (suc k)) gs g m t) (slice_index_or t.choices k None) (Signals false t))
+        (Signals false)
 
     -- runs the rows in order, up to the first that signals f
     pub rows_do : Mode → ℕ → Bool → Option Among → trees.Rows → Doing
     rows_do r k w n no_rows m s = Signals true s
     rows_do r k w n (row c os rs) m s =
         after
-        (paid (others_do r (behind c k) (waits c w) (first_rows r rs (behind_others os (behind c k)) n) os
-        (act r k w (first_others r os (behind c k) (first_rows r rs (behind_others os (behind c k)) n)) c)) m s)
-        (rows_do r (behind_others os (behind c k)) (waits_others os (waits c w)) n rs m) (Signals false)
+        (pay_first (others_do r (number_after c k) (waits c w) (first_rows r rs (number_after_others os (number_after c k)) n) os
+        (act r k w (first_others r os (number_after c k) (first_rows r rs (number_after_others os (number_after c k)) n)) c)) m s)
+        (rows_do r (number_after_others os (number_after c k)) (waits_others os (waits c w)) n rs m) (Signals false)
 
     -- joins commands from the left: d is what the commands so far do
     pub others_do : Mode → ℕ → Bool → Option Among → trees.Others → Doing → Doing
     others_do r k w n no_others d m s = d m s
     others_do r k w n (joined j c os) d m s =
-        others_do r (behind c k) (waits c w) n os (joined_does j (paid d) (paid (act r k w (first_others r os (behind c k) n) c))) m s
+        others_do r (number_after c k) (waits c w) n os (joined_does j (pay_first d) (pay_first (act r k w (first_others r os (number_after c k) n) c))) m s
 
     pub starter_does : Mode → ℕ → trees.Starter → Doing
     starter_does r k no_starter m s = Signals true s
-    starter_does r k (starter rs) m s = paid (rows_do r k false None rs) m s
+    starter_does r k (starter rs) m s = pay_first (rows_do r k false None rs) m s
 
     -- the command of group number g; t if that group has none
     pub group_does : Mode → ℕ → trees.Groups → ℕ → Doing
     group_does r k (bare es) g m s = Signals true s
-    group_does r k (group e es rs gs) zero m s = paid (rows_do r k false None rs) m s
-    group_does r k (group e es rs gs) (suc g) m s = group_does r (behind_rows rs k) gs g m s
-
-  -- what the body of a routine does: its commands are joined from the left
-  abbrev pub row_does : Mode → trees.Command → trees.Others → Doing
-  row_does r c os = others_do r (behind c 0) (waits c false) None os (act r 0 false (first_others r os (behind c 0) None) c)
+    group_does r k (group e es rs gs) zero m s = pay_first (rows_do r k false None rs) m s
+    group_does r k (group e es rs gs) (suc g) m s = group_does r (number_after_rows rs k) gs g m s
 
   -- A call touches the routine and begins with nothing chosen. When it returns, the caller's choices are restored.
   abbrev pub body_does : List ℕ → Option Body → Doing
   body_does n None m s = Signals false s
   body_does n (Some b) m s =
-      leave s.routine s.choices
-      (paid (row_does b.mode b.first b.others) m (enter (place_of (ns kinds.Routines) n) (behind_others b.others (behind b.first 0)) s))
+      at_end (back_in s.routine s.choices)
+      (pay_first (others_do b.mode (number_after b.first 0) (waits b.first false) None b.others
+      (act b.mode 0 false (first_others b.mode b.others (number_after b.first 0) None) b.first))
+      m (enter (place_of (ns kinds.Routines) n) (number_after_others b.others (number_after b.first 0)) s))
 
 -- ---- runs
 
@@ -360,3 +348,28 @@ ending_with_events script word limit =
     let items = in_order script.items in
     calls (known_in items) (class_of (classes_behind items [])) (body_named items) max_levels script.external Forward
     (record (start (known_in items) word limit) { events = Some [] })
+
+-- ---- names for parts of these definitions, which only proofs use
+
+abbrev pub begins : Bool → Doing → Doing → Doing
+begins w search begun m s = if w then Signals true s else after (pay_first search m s) (begun m) (Signals false)
+
+abbrev pub offering : Mode → List ℕ → List Offer → Option Offer
+offering r w os = find (λ o. pointwise nat_eq w (read_as r o.string)) os
+
+module _ (call : List ℕ → Doing) where
+  abbrev pub condition_does : Option (List ℕ) → Doing
+  condition_does c m s = option_map_or (λ n. pay_first (call n) m s) c (Signals true s)
+
+  abbrev pub search_among : Among → Doing
+  search_among a m s =
+      let x = ahead_at a.mode s.text s.cursor (bound_of m s) in
+      try_each call a.number (offers 0 a.groups) a.mode m s x (suc (length x)) s
+
+module _ (ns : Known) (class : List ℕ → ℕ → Bool) (call : List ℕ → Doing) where
+  abbrev pub search_ahead : Option Among → Doing
+  search_ahead n m s = option_map_or (λ a. search call a m s) n (Signals false s)
+
+  abbrev pub row_does : Mode → trees.Command → trees.Others → Doing
+  row_does r c os =
+      others_do ns class call r (number_after c 0) (waits c false) None os (act ns class call r 0 false (first_others r os (number_after c 0) None) c)

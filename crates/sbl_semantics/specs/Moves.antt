@@ -1,9 +1,10 @@
 -- Moving and testing: what each of these commands does once its step is paid.
-use Rattle.std.specs.Prelude.{ℕ, pos, ◌+◌, Bool, true, false, not, ◌&&◌, List, length, nat_lt, nat_le, nat_eq, if◌then◌else◌, Option, Some, None, slice_get, slice_index_or, slice_set}
+use Rattle.std.specs.Prelude.{ℕ, pos, ◌+◌, Bool, true, false, not, ◌&&◌, List, length, nat_le, nat_eq, if◌then◌else◌, Option, Some, None, slice_get, slice_index_or, slice_set}
 use Rattle.std.specs.List.{starts_with}
+use Rattle.std.specs.Option.{option_map_or}
 use Rattle.sbl_semantics.specs.Fitting.{read_as}
 use Rattle.sbl_semantics.specs.declared.touch.Touch.TheVariants.{Tested}
-use Rattle.sbl_semantics.specs.State.{State, Ending, Signals, ahead, moved, room}
+use Rattle.sbl_semantics.specs.State.{State, Ending, Signals, ahead, move_cursor, room}
 use Rattle.sbl_semantics.specs.Touches.{with_touch}
 use Rattle.sbl_ast.specs.declared.mode.Mode.{Mode}
 use Rattle.sbl_ast.specs.declared.mode.Mode.TheVariants.{Forward, Backward}
@@ -11,39 +12,18 @@ use Rattle.sbl_ast.specs.declared.mode.Mode.TheVariants.{Forward, Backward}
 -- moves over a string that is a prefix of the text ahead
 abbrev pub match : List ℕ → Mode → State → Ending
 match string m s =
-    if starts_with nat_eq (ahead m s) (read_as m string) then Signals true (moved m (length string) s) else Signals false s
-
--- a character is ahead, and it is in the class or is not, as wanted
-abbrev pub next_is : Bool → (ℕ → Bool) → Option ℕ → Bool
-next_is wanted class None = false
-next_is true class (Some c) = class c
-next_is false class (Some c) = not (class c)
-
--- the test of the grouping with this number touches it, whatever its result
-abbrev pub touch_grouping : ℕ → State → State
-touch_grouping g s = record s { touched = with_touch (Tested g) s.touched }
+    if starts_with nat_eq (ahead m s) (read_as m string) then Signals true (move_cursor m (length string) s) else Signals false s
 
 -- a grouping moves over one character of its class, `non` over one that is not in it
 abbrev pub one_of : Bool → (ℕ → Bool) → Mode → State → Ending
 one_of wanted class m s =
-    if next_is wanted class (slice_get (ahead m s) 0) then Signals true (moved m 1 s) else Signals false s
+    if option_map_or (λ c. if wanted then class c else not (class c)) (slice_get (ahead m s) 0) false
+    then Signals true (move_cursor m 1 s) else Signals false s
 
--- `next` moves over one character
-abbrev pub next : Mode → State → Ending
-next m s = if nat_lt 0 (room m s) then Signals true (moved m 1 s) else Signals false s
-
--- `hop` moves over this many characters; a negative number signals f
+-- `hop` moves over this many characters, and `next` over one; a negative number signals f
 abbrev pub hop : Option ℕ → Mode → State → Ending
 hop None m s = Signals false s
-hop (Some n) m s = if nat_le n (room m s) then Signals true (moved m n s) else Signals false s
-
--- `atlimit` tests that nothing is ahead
-abbrev pub at_limit : Mode → State → Ending
-at_limit m s = Signals (nat_eq (room m s) 0) s
-
--- `setmark` stores the cursor in an integer
-abbrev pub set_mark : ℕ → State → State
-set_mark x s = record s { integers = slice_set s.integers x (pos s.cursor) }
+hop (Some n) m s = if nat_le n (room m s) then Signals true (move_cursor m n s) else Signals false s
 
 -- `atmark` tests that the cursor is at an offset
 abbrev pub at_mark : Option ℕ → State → Ending
@@ -58,10 +38,25 @@ to_mark (Some n) Forward s =
 to_mark (Some n) Backward s =
     if nat_le s.left n && nat_le n s.cursor then Signals true (record s { cursor = n }) else Signals false s
 
--- `set` and `unset` set a boolean
+-- ---- names for parts of these definitions, which the interpreter and proofs use
+
+abbrev pub next_is : Bool → (ℕ → Bool) → Option ℕ → Bool
+next_is wanted class next = option_map_or (λ c. if wanted then class c else not (class c)) next false
+
+abbrev pub touch_grouping : ℕ → State → State
+touch_grouping g s = record s { touched = with_touch (Tested g) s.touched }
+
+abbrev pub next : Mode → State → Ending
+next m s = hop (Some 1) m s
+
+abbrev pub at_limit : Mode → State → Ending
+at_limit m s = Signals (nat_eq (room m s) 0) s
+
+abbrev pub set_mark : ℕ → State → State
+set_mark x s = record s { integers = slice_set s.integers x (pos s.cursor) }
+
 abbrev pub set_boolean : ℕ → Bool → State → State
 set_boolean x b s = record s { booleans = slice_set s.booleans x b }
 
--- the name of a boolean tests it
 abbrev pub test_boolean : ℕ → State → Ending
 test_boolean x s = Signals (slice_index_or s.booleans x false) s

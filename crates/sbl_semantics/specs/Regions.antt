@@ -10,35 +10,35 @@ use Rattle.sbl_ast.specs.declared.mode.Mode.{Mode}
 use Rattle.sbl_ast.specs.declared.mode.Mode.TheVariants.{Backward}
 
 -- the mode of a command after a prefix
-abbrev pub mode_behind : Prefix → Mode → Mode
-mode_behind prefixes.Backwards m = Backward
-mode_behind x m = m
+abbrev pub mode_under : Prefix → Mode → Mode
+mode_under prefixes.Backwards m = Backward
+mode_under x m = m
 
 -- the number of the next among after a command, if it is k before the command
 abbrev mutual
-  pub behind : trees.Command → ℕ → ℕ
-  behind (bracket rs) k = behind_rows rs k
-  behind (prefixed x c) k = behind c k
-  behind (counted n e c) k = behind c k
-  behind (setlimit_ b c) k = behind c (behind b k)
-  behind (among_ s gs) k = behind_groups gs (behind_starter s (suc k))
-  behind t k = k
+  pub number_after : trees.Command → ℕ → ℕ
+  number_after (bracket rs) k = number_after_rows rs k
+  number_after (prefixed x c) k = number_after c k
+  number_after (counted n e c) k = number_after c k
+  number_after (setlimit_ b c) k = number_after c (number_after b k)
+  number_after (among_ s gs) k = number_after_groups gs (number_after_starter s (suc k))
+  number_after t k = k
 
-  pub behind_rows : trees.Rows → ℕ → ℕ
-  behind_rows no_rows k = k
-  behind_rows (row c os rs) k = behind_rows rs (behind_others os (behind c k))
+  pub number_after_rows : trees.Rows → ℕ → ℕ
+  number_after_rows no_rows k = k
+  number_after_rows (row c os rs) k = number_after_rows rs (number_after_others os (number_after c k))
 
-  pub behind_others : trees.Others → ℕ → ℕ
-  behind_others no_others k = k
-  behind_others (joined j c os) k = behind_others os (behind c k)
+  pub number_after_others : trees.Others → ℕ → ℕ
+  number_after_others no_others k = k
+  number_after_others (joined j c os) k = number_after_others os (number_after c k)
 
-  pub behind_starter : trees.Starter → ℕ → ℕ
-  behind_starter no_starter k = k
-  behind_starter (starter rs) k = behind_rows rs k
+  pub number_after_starter : trees.Starter → ℕ → ℕ
+  number_after_starter no_starter k = k
+  number_after_starter (starter rs) k = number_after_rows rs k
 
-  pub behind_groups : trees.Groups → ℕ → ℕ
-  behind_groups (bare es) k = k
-  behind_groups (group e es rs gs) k = behind_groups gs (behind_rows rs k)
+  pub number_after_groups : trees.Groups → ℕ → ℕ
+  number_after_groups (bare es) k = k
+  number_after_groups (group e es rs gs) k = number_after_groups gs (number_after_rows rs k)
 
 -- a `substring` waits after a command
 abbrev mutual
@@ -65,24 +65,26 @@ pub record Among : Type 0 where
   pub mode : Mode
   pub groups : trees.Groups
 
-abbrev pub among_at : Mode → ℕ → trees.Groups → Among
-among_at m k gs = record { number = k; mode = m; groups = gs }
-
 abbrev mutual
   -- the first among of a command, with k amongs before the command in the routine; or else the next one of the region
   -- after it, if there is one
   pub first : Mode → trees.Command → ℕ → Option Among → Option Among
   first m (bracket rs) k n = first_rows m rs k n
-  first m (prefixed x c) k n = first (mode_behind x m) c k n
+  first m (prefixed x c) k n = first (mode_under x m) c k n
   first m (counted x e c) k n = first m c k n
-  first m (setlimit_ b c) k n = first m b k (first m c (behind b k) n)
-  first m (among_ s gs) k n = Some (among_at m k gs)
+  first m (setlimit_ b c) k n = first m b k (first m c (number_after b k) n)
+  first m (among_ s gs) k n = Some (record { number = k; mode = m; groups = gs })
   first m t k n = n
 
   pub first_rows : Mode → trees.Rows → ℕ → Option Among → Option Among
   first_rows m no_rows k n = n
-  first_rows m (row c os rs) k n = first m c k (first_others m os (behind c k) (first_rows m rs (behind_others os (behind c k)) n))
+  first_rows m (row c os rs) k n = first m c k (first_others m os (number_after c k) (first_rows m rs (number_after_others os (number_after c k)) n))
 
   pub first_others : Mode → trees.Others → ℕ → Option Among → Option Among
   first_others m no_others k n = n
-  first_others m (joined j c os) k n = first m c k (first_others m os (behind c k) n)
+  first_others m (joined j c os) k n = first m c k (first_others m os (number_after c k) n)
+
+-- ---- names for parts of these definitions, which proofs use
+
+abbrev pub among_at : Mode → ℕ → trees.Groups → Among
+among_at m k gs = record { number = k; mode = m; groups = gs }

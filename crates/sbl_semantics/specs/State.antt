@@ -1,10 +1,10 @@
 -- The state of a run, and how a command ends.
-use Rattle.std.specs.Prelude.{ℕ, ℤ, zero, suc, ◌+◌, ◌-◌, Bool, true, false, List, length, nat_lt, nat_le, if◌then◌else◌, Option}
+use Rattle.std.specs.Prelude.{ℕ, ℤ, zero, suc, ◌+◌, ◌-◌, Bool, true, false, List, [], ◌∷◌, ◌++◌, length, nat_lt, nat_le, if◌then◌else◌, Option, option_map}
 use Rattle.sbl_semantics.specs.declared.fault.RunFault.{RunFault}
 use Rattle.sbl_semantics.specs.declared.fault.RunFault.TheVariants.{Steps, Cursor}
 use Rattle.sbl_semantics.specs.declared.cursor.SavedCursor.{SavedCursor}
 use Rattle.sbl_semantics.specs.declared.touch.Touch.{Touch}
-use Rattle.sbl_semantics.specs.Events.{Event', with_event}
+use Rattle.sbl_semantics.specs.Events.{Event'}
 use Rattle.sbl_semantics.specs.Fitting.{ahead_at}
 use Rattle.sbl_ast.specs.declared.mode.Mode.{Mode}
 use Rattle.sbl_ast.specs.declared.mode.Mode.TheVariants.{Forward, Backward}
@@ -40,7 +40,7 @@ max_text_length = 1024
 
 -- records an event, if the run records events
 abbrev pub note_event : Event' → State → State
-note_event x s = record s { events = with_event x s.events }
+note_event x s = record s { events = option_map (λ xs. xs ++ (x ∷ [])) s.events }
 
 -- how a command ends: with its signal and a state, or the run is refused in a state
 pub data Ending : Type 0 where
@@ -66,13 +66,9 @@ abbrev pub pay : ℕ → State → Ending
 pay zero s = Stops Steps s
 pay (suc n) s = Signals true (record s { steps = n })
 
--- the limit: the end of the text that may be read forwards
-abbrev pub limit_of : State → ℕ
-limit_of s = length s.text - s.beyond
-
--- the end of the part ahead
+-- the end of the part ahead; forwards it is the limit, the end of the text that may be read
 abbrev pub bound_of : Mode → State → ℕ
-bound_of Forward s = limit_of s
+bound_of Forward s = length s.text - s.beyond
 bound_of Backward s = s.left
 
 -- the text that the mode reads next: forwards from the cursor to the limit, backwards from the cursor leftwards to the
@@ -82,13 +78,13 @@ ahead m s = ahead_at m s.text s.cursor (bound_of m s)
 
 -- the number of characters ahead
 abbrev pub room : Mode → State → ℕ
-room Forward s = limit_of s - s.cursor
+room Forward s = bound_of Forward s - s.cursor
 room Backward s = s.cursor - s.left
 
 -- the cursor moved by n characters
-abbrev pub moved : Mode → ℕ → State → State
-moved Forward n s = record s { cursor = s.cursor + n }
-moved Backward n s = record s { cursor = s.cursor - n }
+abbrev pub move_cursor : Mode → ℕ → State → State
+move_cursor Forward n s = record s { cursor = s.cursor + n }
+move_cursor Backward n s = record s { cursor = s.cursor - n }
 
 -- the cursor at an offset; outside the text the run is refused
 abbrev pub at_place : ℕ → State → Ending
@@ -121,3 +117,8 @@ step_over Backward n s = at_difference s.cursor n s
 -- the cursor just after a string of this many characters that begins at a saved cursor
 abbrev pub place_after : Mode → SavedCursor → ℕ → State → Ending
 place_after m from n s = then_on (put_back m from s) (step_over m n)
+
+-- ---- names for parts of these definitions, which the interpreter and proofs use
+
+abbrev pub limit_of : State → ℕ
+limit_of s = bound_of Forward s

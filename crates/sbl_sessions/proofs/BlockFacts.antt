@@ -2,7 +2,7 @@
 use Rattle.std.proofs.Common.{◌≡◌, ◌⊎◌, inl, inr, ◌≢◌, ◌∙◌, ◌++◌, ◌≤◌, ℕ, List, [], ◌∷◌, Option, Some, None, refl, sym, length}
 use Rattle.sbl_sessions.specs.Block.{Breaks, NoPoint, point}
 use Rattle.sbl_io.specs.Faults.{serve_fault_of}
-use Rattle.sbl_io.specs.Held.{AllFit, BeginsLong, BreaksOff, Took}
+use Rattle.sbl_io.specs.HeldInput.{AllFit, BeginsLong, BreaksOff, Took}
 use Rattle.sbl_io.specs.declared.faults.LineFault.{LineFault}
 use Rattle.sbl_io.specs.declared.faults.LineFault.TheVariants.{Read, TooLong}
 

@@ -11,7 +11,7 @@ use Rattle.sbl_bench.specs.declared.fault.EditFault.TheVariants as fault
 use Rattle.sbl_script.specs.Edits.{ScriptEdit}
 use Rattle.sbl_text.specs.declared.fault.ScriptFault.{ScriptFault}
 use Rattle.sbl_text.specs.declared.fault.ScriptFault.TheVariants as script
-use Rattle.sbl_sessions.specs.Answers.{BlockRefused, Enough, RefusedAfter, edit_text, ended}
+use Rattle.sbl_sessions.specs.Answers.{BlockRefused, Enough, RefusedAfter, edit_text, with_line_feed}
 use Rattle.sbl_sessions.specs.Block.{HasText, made_text, max_script}
 use Rattle.sbl_sessions.specs.CommandViews.{IsEditAnswer, IsTextAnswer}
 use Rattle.sbl_sessions.specs.Commands.{Bad, Command, block_command, target_of, text_of_block, with_text}
@@ -128,8 +128,8 @@ abbrev with_target : Option ScriptEdit → List (List ℕ) → Command
 with_target what lines = option_map_or (λ (w : ScriptEdit). with_text w (text_of_block lines)) what Bad
 
 -- the line is bad, whatever its block is
-pub bad_line : (s : Contents) (line : List ℕ) (lines : List (List ℕ)) → None ≡ target_of line → IsTextAnswer s (block_command line lines) (ended (codes "no 52 BadCommand")) s
-bad_line s line lines none = subst (λ (c : Command). IsTextAnswer s c (ended (codes "no 52 BadCommand")) s) (ap (λ (t : Option ScriptEdit). with_target t lines) none) (Enough, (refl, refl))
+pub bad_line : (s : Contents) (line : List ℕ) (lines : List (List ℕ)) → None ≡ target_of line → IsTextAnswer s (block_command line lines) (with_line_feed (codes "no 52 BadCommand")) s
+bad_line s line lines none = subst (λ (c : Command). IsTextAnswer s c (with_line_feed (codes "no 52 BadCommand")) s) (ap (λ (t : Option ScriptEdit). with_target t lines) none) (Enough, (refl, refl))
 
 command_is : (line : List ℕ) (lines : List (List ℕ)) (what : ScriptEdit) → Some what ≡ target_of line → block_command line lines ≡ with_text what (text_of_block lines)
 command_is line lines what is = ap (λ (t : Option ScriptEdit). with_target t lines) (sym is)

@@ -8,7 +8,7 @@ use Rattle.std.specs.List.{find}
 use Rattle.std.specs.Str.{bytes_eq}
 use Rattle.sbl_bench.specs.Contents.{Contents}
 use Rattle.sbl_bench.specs.Edits.{Edits, Remove, IsAccepted, IsMeterFull, IsOutOfMemory, IsRefused, IsVerdict}
-use Rattle.sbl_bench.specs.Kept.{IsWord}
+use Rattle.sbl_bench.specs.KeptRuns.{IsWord}
 use Rattle.sbl_bench.specs.Rows.{Row, rows_of}
 use Rattle.sbl_bench.specs.Setting.{Setting}
 use Rattle.sbl_bench.specs.Traces.{trace_of}

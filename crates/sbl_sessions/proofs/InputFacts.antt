@@ -4,8 +4,8 @@ use Rattle.std.proofs.lemmas.List.{append-nil, length-map}
 use Rattle.std.proofs.lemmas.Slice.Eq.{bytes_eq-Decides}
 use Rattle.std.specs.Str.{bytes_eq, is_utf8}
 use Rattle.sbl_sessions.specs.Block.{AllText, BlockLines, point}
-use Rattle.sbl_io.specs.Held.{StandFirst}
-use Rattle.sbl_io.specs.LinesOf.{AreWhole, chomped, max_line, onto_first, raw_lines}
+use Rattle.sbl_io.specs.HeldInput.{StandFirst}
+use Rattle.sbl_io.specs.LinesOf.{AreWhole, without_carriage_return, max_line, onto_first, raw_lines}
 use Rattle.sbl_io.proofs.Bytes.{raw-feed, raw-other, raw-some}
 
 -- ---- the bytes behind some lines
@@ -74,7 +74,7 @@ stand-rest : (bytes rest : List ℕ) (lines : List (List ℕ)) → StandFirst by
 stand-rest bytes rest lines p = by p.whole
   where
     count : length lines ≡ length (raw_lines p.front)
-    count = ap length (sym p.lines_are) ∙ length-map (raw_lines p.front) chomped
+    count = ap length (sym p.lines_are) ∙ length-map (raw_lines p.front) without_carriage_return
 
     by : AreWhole p.front ⊎ (rest ≡ []) → drop_lines (length lines) bytes ≡ rest
     by (inl whole) = ap (λ (n : ℕ). drop_lines n bytes) count ∙ ap (λ (x : List ℕ). drop_lines (length (raw_lines p.front)) x) p.bytes_are ∙ drop-whole p.front rest whole

@@ -6,16 +6,16 @@ use Rattle.std.specs.declared.vec.Vec.{Vec}
 use Rattle.std.specs.declared.alloc.Global.{Global}
 use Rattle.sbl_text.specs.declared.fault.ScriptFault.{ScriptFault}
 use Rattle.sbl_text.specs.declared.fault.ScriptFault.TheVariants as script
-use Rattle.sbl_script.specs.Parsed.{Parsed, source_of}
+use Rattle.sbl_script.specs.ParsedScript.{Parsed, source_of}
 use Rattle.sbl_ast.specs.Source.{Source}
 use Rattle.sbl_script.specs.Reading.{IsFaultOf, IsScriptOf}
 use Rattle.sbl_bench.specs.Contents.{IsFaultOrMemory, Contents, Opens, opening_fault}
 use Rattle.sbl_bench.specs.declared.fault.EditFault.{EditFault}
 use Rattle.sbl_bench.specs.declared.fault.EditFault.TheVariants as edit
 use Rattle.sbl_sessions.specs.Block.{AllText, BlockLines, Breaks, NoPoint, point}
-use Rattle.sbl_io.specs.Held.{AllFit, Took}
+use Rattle.sbl_io.specs.HeldInput.{AllFit, Took}
 use Rattle.sbl_io.specs.Faults.{serve_fault_of}
-use Rattle.sbl_sessions.specs.Loaded.{IsLoaded, ReadsScript, TookFault, TookSource, TookWords, WordLines}
+use Rattle.sbl_sessions.specs.Loading.{IsLoaded, ReadsScript, TookFault, TookSource, TookWords, WordLines}
 use Rattle.sbl_sessions.specs.WordLists.{ReadsWords}
 use Rattle.sbl_io.specs.declared.faults.LineFault.{LineFault}
 use Rattle.sbl_sessions.proofs.BlockFacts.{all_fit-push, no_point-push}

@@ -6,7 +6,7 @@ use Rattle.sbl_bench.specs.OneVerdict.{VerdictIsOne}
 use Rattle.sbl_bench.specs.declared.fault.EditFault.{EditFault}
 use Rattle.sbl_bench.specs.declared.fault.EditFault.TheVariants as fault
 use Rattle.sbl_print.specs.Canonical.{canonical}
-use Rattle.sbl_sessions.specs.Answers.{Answers, BlockRefused, Enough, IsEdit, IsNoText, IsReplyTo, IsReport, Memory, RefusedAfter, Tells, edit_text, ended}
+use Rattle.sbl_sessions.specs.Answers.{Answers, BlockRefused, Enough, IsEdit, IsNoText, IsReplyTo, IsReport, Memory, RefusedAfter, Tells, edit_text, with_line_feed}
 use Rattle.sbl_sessions.specs.Commands.{Command, Nothing, Makes, Stems, Classes, Script, Class, Trace, Runs, HasNoNumber, HasNoText, Bad, command_of}
 use Rattle.sbl_sessions.specs.OneAnswer.{AnswersAreOne}
 use Rattle.sbl_sessions.specs.Rows.{class_text, classes_text, stems_text}
@@ -41,10 +41,10 @@ reply-one one s Classes m a b t u p q = report-one s (Some (classes_text s)) m a
 reply-one one s Script m a b t u p q = report-one s (Some (canonical s.setting.script.items)) m a b t u p q
 reply-one one s (Class word) m a b t u p q = report-one s (class_text s word) m a b t u p q
 reply-one one s (Trace word) m a b t u p q = report-one s (trace_text s word) m a b t u p q
-reply-one one s Runs m a b t u p q = report-one s (Some (ended (decimal s.count))) m a b t u p q
+reply-one one s Runs m a b t u p q = report-one s (Some (with_line_feed (decimal s.count))) m a b t u p q
 reply-one one s HasNoNumber m a b t u p q = tells-one s (edit_text (Some fault.BadLimit)) a b t u p q
 reply-one one s (HasNoText f) m a b t u p q = no_text-one s (fault.Script f) m a b t u p q
-reply-one one s Bad m a b t u p q = tells-one s (ended (codes "no 52 BadCommand")) a b t u p q
+reply-one one s Bad m a b t u p q = tells-one s (with_line_feed (codes "no 52 BadCommand")) a b t u p q
 
 pub answers-one : VerdictIsOne → AnswersAreOne
 answers-one one s [] [] a b t u p q = tells-one s [] a b t u p q

@@ -3,7 +3,7 @@ use Rattle.std.proofs.Common.{◌≡◌, ◌⊎◌, inl, inr, ◌∙◌, ◌++�
 use Rattle.std.proofs.lemmas.List.{append-nil}
 use Rattle.std.specs.Io.KnownBytes.{IsAtEnd}
 use Rattle.std.specs.Str.{chars}
-use Rattle.sbl_bench.specs.Contents.{Contents, opened, opening_fault}
+use Rattle.sbl_bench.specs.Contents.{Contents, opening_contents, opening_fault}
 use Rattle.sbl_bench.specs.declared.fault.EditFault.{EditFault}
 use Rattle.sbl_bench.specs.declared.fault.EditFault.TheVariants as edit
 use Rattle.sbl_script.specs.OneReading.{FaultIsOne, ScriptIsOne, ScriptOrFault}
@@ -12,9 +12,9 @@ use Rattle.sbl_script.specs.Reading.{IsFaultOf, IsScriptOf}
 use Rattle.sbl_text.specs.declared.fault.ScriptFault.{ScriptFault}
 use Rattle.sbl_text.specs.declared.fault.ScriptFault.TheVariants as script
 use Rattle.sbl_sessions.specs.Block.{BlockLines, Breaks, made_text, point}
-use Rattle.sbl_io.specs.Held.{BeginsLong, StandFirst, Took}
+use Rattle.sbl_io.specs.HeldInput.{BeginsLong, StandFirst, Took}
 use Rattle.sbl_io.specs.LinesOf.{lines_of}
-use Rattle.sbl_sessions.specs.Loaded.{IsInput, IsLoaded, TookFault, TookNoText, TookSource, TookWords, WordLines}
+use Rattle.sbl_sessions.specs.Loading.{IsInput, IsLoaded, TookFault, TookNoText, TookSource, TookWords, WordLines}
 use Rattle.sbl_sessions.specs.OneLoading.{IsToldByBytes, LoadingIsOne, RestIsOne}
 use Rattle.sbl_sessions.specs.declared.faults.LoadFault.{LoadFault}
 use Rattle.sbl_sessions.specs.declared.faults.LoadFault.TheVariants.{Input, Open, Script}
@@ -31,7 +31,7 @@ abbrev as_bench : Contents → Result Contents LoadFault
 as_bench c = Ok c
 
 abbrev by_fault : Source → List (List ℕ) → Option EditFault → Result Contents LoadFault
-by_fault s words None = Ok (opened s (map chars words))
+by_fault s words None = Ok (opening_contents s (map chars words))
 by_fault s words (Some f) = Err (Open f)
 
 abbrev by_words : Source → List (List ℕ) → Result Contents LoadFault

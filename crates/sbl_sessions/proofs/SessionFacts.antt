@@ -11,7 +11,7 @@ use Rattle.sbl_sessions.specs.Answers.{Answers, IsReplyTo, Memory}
 use Rattle.sbl_sessions.specs.Block.{BlockLines, Breaks, HoldsText, ReadsBlock, point}
 use Rattle.sbl_sessions.specs.CommandViews.{IsAnswer, IsAnswered, IsReply, IsTextAnswer}
 use Rattle.sbl_sessions.specs.Commands.{block_command, command_of, line_command}
-use Rattle.sbl_io.specs.Held.{AllFit, BeginsLong, BreaksOff, GivesLine, Took, TookWhole}
+use Rattle.sbl_io.specs.HeldInput.{AllFit, BeginsLong, BreaksOff, GivesLine, Took, TookWhole}
 use Rattle.sbl_sessions.specs.Requests.{BlockWord, HasBlock, IsBegun, IsRequest, Request, TookRequests, asks_block, block_lines, block_word, lines_in, lines_in_all}
 use Rattle.sbl_sessions.specs.Session.{Answered, HalfAnswered, IsSession, Served}
 use Rattle.sbl_sessions.specs.declared.block_text.BlockText.{BlockText}

@@ -1,7 +1,7 @@
 -- The replies of a session to its requests.
 use Rattle.std.specs.Prelude.{◌≡◌, ℕ, true, List, [], ◌∷◌, ◌++◌, codes, decimal, Option, Some, None}
 use Rattle.sbl_bench.specs.Contents.{Contents}
-use Rattle.sbl_bench.specs.Edits.{Edit, IsOutOfMemory, IsVerdict, counted, is_of_script}
+use Rattle.sbl_bench.specs.Edits.{Edit, IsOutOfMemory, IsVerdict, count_runs, is_of_script}
 use Rattle.sbl_bench.specs.Names.{script_name}
 use Rattle.sbl_bench.specs.declared.fault.EditFault.{EditFault}
 use Rattle.sbl_bench.specs.declared.fault.EditFault.TheVariants as fault
@@ -12,25 +12,25 @@ use Rattle.sbl_sessions.specs.Rows.{class_text, classes_text, stems_text}
 use Rattle.sbl_sessions.specs.Traces.{trace_text}
 
 -- a text and the line feed that ends it
-abbrev pub ended : List ℕ → List ℕ
-ended text = text ++ 10 ∷ []
+abbrev pub with_line_feed : List ℕ → List ℕ
+with_line_feed text = text ++ 10 ∷ []
 
 -- the reply to an edit: `ok`, or `no` with the number and name of the fault
 abbrev pub edit_text : Option EditFault → List ℕ
-edit_text None = ended (codes "ok")
-edit_text (Some fault.Present) = ended (codes "no 40 Present")
-edit_text (Some fault.Absent) = ended (codes "no 41 Absent")
-edit_text (Some fault.EmptyWord) = ended (codes "no 42 EmptyWord")
-edit_text (Some fault.WordTooLong) = ended (codes "no 43 WordTooLong")
-edit_text (Some fault.Full) = ended (codes "no 44 Full")
-edit_text (Some fault.NoRoutine) = ended (codes "no 45 NoRoutine")
-edit_text (Some fault.NoAmong) = ended (codes "no 46 NoAmong")
-edit_text (Some fault.AmongCount) = ended (codes "no 47 AmongCount")
-edit_text (Some (fault.Script f)) = ended (codes "no 48 " ++ script_name f)
-edit_text (Some fault.OutOfMemory) = ended (codes "no 49 OutOfMemory")
-edit_text (Some fault.MeterFull) = ended (codes "no 50 MeterFull")
-edit_text (Some fault.BadLimit) = ended (codes "no 51 BadLimit")
-edit_text (Some fault.NoGrouping) = ended (codes "no 53 NoGrouping")
+edit_text None = with_line_feed (codes "ok")
+edit_text (Some fault.Present) = with_line_feed (codes "no 40 Present")
+edit_text (Some fault.Absent) = with_line_feed (codes "no 41 Absent")
+edit_text (Some fault.EmptyWord) = with_line_feed (codes "no 42 EmptyWord")
+edit_text (Some fault.WordTooLong) = with_line_feed (codes "no 43 WordTooLong")
+edit_text (Some fault.Full) = with_line_feed (codes "no 44 Full")
+edit_text (Some fault.NoRoutine) = with_line_feed (codes "no 45 NoRoutine")
+edit_text (Some fault.NoAmong) = with_line_feed (codes "no 46 NoAmong")
+edit_text (Some fault.AmongCount) = with_line_feed (codes "no 47 AmongCount")
+edit_text (Some (fault.Script f)) = with_line_feed (codes "no 48 " ++ script_name f)
+edit_text (Some fault.OutOfMemory) = with_line_feed (codes "no 49 OutOfMemory")
+edit_text (Some fault.MeterFull) = with_line_feed (codes "no 50 MeterFull")
+edit_text (Some fault.BadLimit) = with_line_feed (codes "no 51 BadLimit")
+edit_text (Some fault.NoGrouping) = with_line_feed (codes "no 53 NoGrouping")
 
 -- The memory of a request: no allocation fails; or one for its name or block fails; or one for its edit or report fails, after
 -- this many of the runs that the edit needs.
@@ -48,7 +48,7 @@ Tells s expected text t = (text ≡ expected) × (t ≡ s)
 abbrev pub IsEdit : Contents → Edit → Memory → Option EditFault → Contents → Type 0
 IsEdit s e Enough f t = IsVerdict s e f t
 IsEdit s e BlockRefused f t = (is_of_script e ≡ true) × (f ≡ Some fault.OutOfMemory) × (t ≡ s)
-IsEdit s e (RefusedAfter n) f t = (f ≡ Some fault.OutOfMemory) × (t ≡ counted n s) × IsOutOfMemory s e t
+IsEdit s e (RefusedAfter n) f t = (f ≡ Some fault.OutOfMemory) × (t ≡ count_runs n s) × IsOutOfMemory s e t
 
 -- A report is written whole, or an allocation for it fails. There is no report of a word that is not in the vocabulary; that is
 -- said without an allocation.
@@ -73,10 +73,10 @@ IsReplyTo s Classes memory text t = IsReport s (Some (classes_text s)) memory te
 IsReplyTo s Script memory text t = IsReport s (Some (canonical s.setting.script.items)) memory text t
 IsReplyTo s (Class word) memory text t = IsReport s (class_text s word) memory text t
 IsReplyTo s (Trace word) memory text t = IsReport s (trace_text s word) memory text t
-IsReplyTo s Runs memory text t = IsReport s (Some (ended (decimal s.count))) memory text t
+IsReplyTo s Runs memory text t = IsReport s (Some (with_line_feed (decimal s.count))) memory text t
 IsReplyTo s HasNoNumber memory text t = Tells s (edit_text (Some fault.BadLimit)) text t
 IsReplyTo s (HasNoText f) memory text t = IsNoText s (fault.Script f) memory text t
-IsReplyTo s Bad memory text t = Tells s (ended (codes "no 52 BadCommand")) text t
+IsReplyTo s Bad memory text t = Tells s (with_line_feed (codes "no 52 BadCommand")) text t
 
 -- The whole text of a session with these requests that starts with this bench, and the bench after it. The list gives the
 -- memory of each request in turn.

@@ -4,7 +4,7 @@ use Rattle.std.specs.List.{flat_map}
 use Rattle.std.specs.Str.{is_utf8}
 use Rattle.std.specs.Io.KnownBytes.{IsAtEnd}
 pub use Rattle.sbl_script.specs.Reading.{max_script}
-use Rattle.sbl_io.specs.Held.{AllFit, BeginsLong, BreaksOff, Took}
+use Rattle.sbl_io.specs.HeldInput.{AllFit, BeginsLong, BreaksOff, Took}
 use Rattle.sbl_sessions.specs.declared.block_text.BlockFault.{BlockFault}
 use Rattle.sbl_sessions.specs.declared.block_text.BlockFault.TheVariants.{TooLong, OutOfMemory}
 use Rattle.sbl_sessions.specs.declared.block_text.BlockText.{BlockText}

@@ -12,7 +12,7 @@ pub mod CommandViews
 pub mod Edits
 pub mod Session
 pub mod OneAnswer
-pub mod Loaded
+pub mod Loading
 pub mod OneLoading
 -- what the functions inside the crate promise each other: nothing in these need be believed
 pub mod RowWriter

@@ -6,7 +6,7 @@ use Rattle.sbl_sessions.specs.Answers.{Answers, IsReplyTo, Memory}
 use Rattle.sbl_sessions.specs.Block.{Breaks}
 use Rattle.sbl_sessions.specs.Commands.{command_of}
 use Rattle.sbl_io.specs.Devices.{HasStopped, Tally}
-use Rattle.sbl_io.specs.Held.{HasCause, TookWhole, fault_of}
+use Rattle.sbl_io.specs.HeldInput.{HasCause, TookWhole, fault_of}
 use Rattle.sbl_sessions.specs.Requests.{IsBegun, IsOpen, Request, TookRequests}
 use Rattle.sbl_io.specs.declared.lines.Lines.{Lines}
 use Rattle.sbl_io.specs.declared.faults.LineFault.TheVariants as line

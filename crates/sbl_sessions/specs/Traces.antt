@@ -3,7 +3,7 @@ use Rattle.std.specs.Prelude.{ℕ, List, [], ◌∷◌, codes, decimal, map, Opt
 use Rattle.std.specs.Option.{option_map}
 use Rattle.sbl_bench.specs.Contents.{Contents}
 use Rattle.sbl_bench.specs.Traces.{trace_of}
-use Rattle.sbl_semantics.specs.Touched.{Item', Routine, Among, Grouping}
+use Rattle.sbl_semantics.specs.TouchedItems.{Item', Routine, Among, Grouping}
 use Rattle.sbl_io.specs.Records.{records_text}
 
 -- the fields of an item: its kind, its name or that of its routine, and the number of an among

@@ -8,7 +8,7 @@ use Rattle.sbl_bench.specs.Contents.{opening_fault}
 use Rattle.sbl_bench.specs.Vocabulary.{vocabulary}
 use Rattle.sbl_io.specs.declared.faults.ServeFault.TheVariants as fault
 use Rattle.sbl_sessions.specs.Block.{Breaks}
-use Rattle.sbl_sessions.specs.Loaded.{TookNoText, TookSome, TookWords, WordLines}
+use Rattle.sbl_sessions.specs.Loading.{TookNoText, TookSome, TookWords, WordLines}
 use Rattle.sbl_sessions.specs.declared.faults.LoadFault.{LoadFault}
 use Rattle.sbl_sessions.specs.declared.faults.LoadFault.TheVariants.{Input, Script, Open}
 use Rattle.sbl_sessions.specs.declared.word_list.WordList.{WordList}

@@ -3,7 +3,7 @@ ghost use Rattle.std.specs.Prelude.{◌≡◌, ◌<◌, ◌≤◌, ◌++◌, [],
 ghost use Rattle.std.specs.Io.KnownBytes.{Keeps};
 ghost use Rattle.sbl_sessions.specs.Block.{HasText, HoldsText, ReadsBlock, made_text, max_script};
 ghost use Rattle.sbl_io.specs.Faults.{serve_fault_of};
-ghost use Rattle.sbl_io.specs.Held.{Reading, fault_of, input_of};
+ghost use Rattle.sbl_io.specs.HeldInput.{Reading, fault_of, input_of};
 ghost use Rattle.sbl_io.specs.declared.faults.LineFault.{LineFault};
 
 use sbl_io::{Lines, ServeFault, Source};

@@ -10,32 +10,22 @@ ghost use Rattle.sbl_sessions.specs.Numbers as numbers;
 
 use std::alloc::{AllocError, Global};
 
-/// The command on a line that no block follows.
+/// The command on a line that no block follows, with the word or the number that it is about.
 #[derive(Debug, Drop)]
 pub(crate) enum Command<'a> {
     /// No command: the line is empty.
     Nothing,
-    /// Adds a word.
     Add(&'a str),
-    /// Removes a word.
     Remove(&'a str),
-    /// Sets the limit of steps.
     Limit(u64),
-    /// Sets a limit that is not a number.
+    /// `limit` with an argument that is not a number.
     HasNoNumber,
-    /// Reports the rows of all words.
     Stems,
-    /// Reports the classes of all words.
     Classes,
-    /// Reports the canonical text of the script.
     Script,
-    /// Reports the class of a word.
     Class(&'a str),
-    /// Reports the items that the run of a word touches.
     Trace(&'a str),
-    /// Reports the number of runs.
     Runs,
-    /// An unknown command.
     Bad,
 }
 
@@ -61,34 +51,20 @@ fn text_command(text: &str) -> Command<'_>
         Some((word, argument)) => (word, argument),
         None => (text, ""),
     };
-    if word == "add" {
-        return Command::Add(argument);
+    match word {
+        "add" => Command::Add(argument),
+        "remove" => Command::Remove(argument),
+        "class" => Command::Class(argument),
+        "trace" => Command::Trace(argument),
+        "limit" => limit_command(argument),
+        _ => match text {
+            "stems" => Command::Stems,
+            "classes" => Command::Classes,
+            "script" => Command::Script,
+            "runs" => Command::Runs,
+            _ => Command::Bad,
+        },
     }
-    if word == "remove" {
-        return Command::Remove(argument);
-    }
-    if word == "class" {
-        return Command::Class(argument);
-    }
-    if word == "trace" {
-        return Command::Trace(argument);
-    }
-    if word == "limit" {
-        return limit_command(argument);
-    }
-    if text == "stems" {
-        return Command::Stems;
-    }
-    if text == "classes" {
-        return Command::Classes;
-    }
-    if text == "script" {
-        return Command::Script;
-    }
-    if text == "runs" {
-        return Command::Runs;
-    }
-    Command::Bad
 }
 
 /// Returns the command that sets the limit of steps to the number in the argument.
@@ -174,7 +150,7 @@ fn target_by(alloc: Global, word: BlockWord, argument: &str) -> Result<Option<Ta
 
 /// Returns the number that one or more decimal digits write, and `u64::MAX` for each larger number; `None` if the bytes are not
 /// one or more decimal digits.
-fn number_in(digits: &[u8]) -> Option<u64>
+pub fn number_in(digits: &[u8]) -> Option<u64>
     ensures { result ≡ numbers.number_in digits.now }
 {
     if digits.is_empty() {

@@ -1,8 +1,8 @@
 //! Edits on request of a session.
 ghost use Rattle.std.specs.Prelude.{◌≡◌, ◌≤◌, ℕ, List, Some, true, false, length, take};
 ghost use Rattle.std.specs.Str.{chars, is_utf8};
-ghost use Rattle.sbl_bench.specs.Kept.{contents_of};
-ghost use Rattle.sbl_bench.specs.Edits.{Add, Remove, Replace};
+ghost use Rattle.sbl_bench.specs.KeptRuns.{contents_of};
+ghost use Rattle.sbl_bench.specs.Edits as edits;
 ghost use Rattle.sbl_sessions.specs.Answers as spec;
 ghost use Rattle.sbl_sessions.specs.Block.{HoldsText};
 ghost use Rattle.sbl_sessions.specs.CommandViews.{FindsTarget, IsEditAnswer, IsTextAnswer, view_target};
@@ -38,7 +38,7 @@ pub(crate) fn first_characters(word: &str, room: &mut [char]) -> usize
 /// Adds a word, and returns the reply. The first characters determine whether a word is too long, so this makes no copy of the
 /// whole word, and nothing is allocated before the edit itself.
 pub(crate) fn add_word(bench: &mut Bench, word: &str) -> &'static str
-    ensures { IsEditAnswer (contents_of bench.old) (Add (chars word.now)) result.now (contents_of bench.new) }
+    ensures { IsEditAnswer (contents_of bench.old) (edits.Add (chars word.now)) result.now (contents_of bench.new) }
 {
     let mut room = ['\0'; MAX_LOOKED_AT];
     let count = first_characters(word, &mut room);
@@ -48,7 +48,7 @@ pub(crate) fn add_word(bench: &mut Bench, word: &str) -> &'static str
 /// Removes a word, and returns the reply. A word that is too long is not in the vocabulary, and neither is the text of its
 /// first characters. Does not allocate.
 pub(crate) fn remove_word(bench: &mut Bench, word: &str) -> &'static str
-    ensures { IsEditAnswer (contents_of bench.old) (Remove (chars word.now)) result.now (contents_of bench.new) }
+    ensures { IsEditAnswer (contents_of bench.old) (edits.Remove (chars word.now)) result.now (contents_of bench.new) }
 {
     words_fit(bench);
     let mut room = ['\0'; MAX_LOOKED_AT];
@@ -58,7 +58,7 @@ pub(crate) fn remove_word(bench: &mut Bench, word: &str) -> &'static str
 
 /// Replaces the target by this text, and returns the reply. A text that is not UTF-8 is refused for that.
 fn replace(bench: &mut Bench, target: &Target, text: &[u8]) -> &'static str
-    ensures text { is_utf8 text.now ≡ true → IsEditAnswer (contents_of bench.old) (Replace (view_target target.now) text.now) result.now (contents_of bench.new) }
+    ensures text { is_utf8 text.now ≡ true → IsEditAnswer (contents_of bench.old) (edits.Replace (view_target target.now) text.now) result.now (contents_of bench.new) }
     ensures bytes { is_utf8 text.now ≡ false → (result.now ≡ spec.edit_text (Some (EditFault.Script ScriptFault.NotUtf8))) × (contents_of bench.new ≡ contents_of bench.old) }
 {
     let Ok(text) = str::from_utf8(text) else {

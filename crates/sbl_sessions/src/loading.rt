@@ -1,16 +1,16 @@
 //! Loading a bench from an input: a script block, and then words.
 ghost use Rattle.std.specs.Prelude.{◌≡◌, ◌⊎◌, ◌≤◌, ℕ, List, None, Some, Err, IfOk, IfErr, OnOk, true, false};
 ghost use Rattle.std.specs.Str.{chars, is_utf8};
-ghost use Rattle.sbl_bench.specs.Kept.{contents_of};
+ghost use Rattle.sbl_bench.specs.KeptRuns.{contents_of};
 ghost use Rattle.sbl_bench.specs.Contents.{Opens};
-ghost use Rattle.sbl_script.specs.Parsed.{source_of};
+ghost use Rattle.sbl_script.specs.ParsedScript.{source_of};
 ghost use Rattle.sbl_sessions.specs.WordLists.{HoldsWords, ReadsWords};
 ghost use Rattle.std.specs.Io.KnownBytes.{Keeps};
 ghost use Rattle.sbl_io.specs.Faults.{serve_fault_of};
 ghost use Rattle.sbl_sessions.specs.Faults.{left_by_load};
 ghost use Rattle.sbl_io.specs.declared.faults.LineFault.{LineFault};
-ghost use Rattle.sbl_io.specs.Held.{KeepsTime, fault_of, input_of, reads_bound};
-ghost use Rattle.sbl_sessions.specs.Loaded.{HasReason, IsLoaded, ReadsScript};
+ghost use Rattle.sbl_io.specs.HeldInput.{KeepsTime, fault_of, input_of, reads_bound};
+ghost use Rattle.sbl_sessions.specs.Loading.{HasReason, IsLoaded, ReadsScript};
 
 use crate::block_text::{BlockFault, read_block};
 use crate::faults::LoadFault;
@@ -56,11 +56,26 @@ fn characters_of(alloc: Global, line: &[u8]) -> Result<Vec<char>, LoadFault>
     ensures text { IfOk result (λ word. (is_utf8 line.now ≡ true) × (word.items ≡ chars line.now)) }
     ensures none { IfErr result (λ fault. ((fault ≡ LoadFault.Input ServeFault.NotText) × (is_utf8 line.now ≡ false)) ⊎ (fault ≡ LoadFault.Input ServeFault.OutOfMemory)) }
 {
+    if line.is_ascii() {
+        return ascii_characters(alloc, line);
+    }
     let Ok(text) = str::from_utf8(line) else {
         return Err(LoadFault::Input(ServeFault::NotText));
     };
     let mut word = Vec::with_capacity(alloc, text.chars().count())?;
     word.extend(text.chars())?;
+    Ok(word)
+}
+
+/// Returns the characters of a line that is ASCII. Returns `OutOfMemory` if an allocation fails.
+fn ascii_characters(alloc: Global, line: &[u8]) -> Result<Vec<char>, LoadFault>
+    ensures text { IfOk result (λ word. word.items ≡ line.now) }
+    ensures none { IfErr result (λ fault. fault ≡ LoadFault.Input ServeFault.OutOfMemory) }
+{
+    let mut word = Vec::with_capacity(alloc, line.len())?;
+    for byte in line {
+        word.push(*byte as char)?;
+    }
     Ok(word)
 }
 

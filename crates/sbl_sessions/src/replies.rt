@@ -6,7 +6,7 @@ ghost use Rattle.sbl_sessions.specs.CommandViews.{IsReply};
 ghost use Rattle.sbl_io.specs.Devices.{HasStopped, WritesInTime};
 ghost use Rattle.sbl_sessions.specs.Edits.{fault_in};
 
-use sbl_bench::EditFault;
+use sbl_bench::{EditFault, script_name_between};
 use sbl_io::{ServeFault, Sink, write_all};
 use sbl_script::ScriptFault;
 use std::alloc::AllocError;
@@ -60,32 +60,7 @@ pub fn edit_text(answer: Result<(), EditFault>) -> &'static str
 fn script_fault_text(fault: ScriptFault) -> &'static str
     ensures { result.now ≡ spec.edit_text (Some (EditFault.Script fault)) }
 {
-    match fault {
-        ScriptFault::BadCharacter { place: _ } => "no 48 BadCharacter\n",
-        ScriptFault::UnclosedString { place: _ } => "no 48 UnclosedString\n",
-        ScriptFault::UnclosedComment { place: _ } => "no 48 UnclosedComment\n",
-        ScriptFault::UnknownEscape { place: _ } => "no 48 UnknownEscape\n",
-        ScriptFault::BadCode { place: _ } => "no 48 BadCode\n",
-        ScriptFault::NumberTooLarge { place: _ } => "no 48 NumberTooLarge\n",
-        ScriptFault::Syntax { place: _ } => "no 48 Syntax\n",
-        ScriptFault::TooDeep { place: _ } => "no 48 TooDeep\n",
-        ScriptFault::DeclaredTwice { item: _ } => "no 48 DeclaredTwice\n",
-        ScriptFault::Undeclared { item: _ } => "no 48 Undeclared\n",
-        ScriptFault::WrongKind { item: _ } => "no 48 WrongKind\n",
-        ScriptFault::DefinedTwice { item: _ } => "no 48 DefinedTwice\n",
-        ScriptFault::Undefined { item: _ } => "no 48 Undefined\n",
-        ScriptFault::WrongMode { item: _ } => "no 48 WrongMode\n",
-        ScriptFault::Substring { item: _ } => "no 48 Substring\n",
-        ScriptFault::Starter { item: _ } => "no 48 Starter\n",
-        ScriptFault::RepeatedString { item: _ } => "no 48 RepeatedString\n",
-        ScriptFault::EmptyAmong { item: _ } => "no 48 EmptyAmong\n",
-        ScriptFault::NestedBackwards { item: _ } => "no 48 NestedBackwards\n",
-        ScriptFault::OutOfProfile { place: _ } => "no 48 OutOfProfile\n",
-        ScriptFault::NoExternal => "no 48 NoExternal\n",
-        ScriptFault::NotUtf8 => "no 48 NotUtf8\n",
-        ScriptFault::ScriptTooLong => "no 48 ScriptTooLong\n",
-        ScriptFault::OutOfMemory => "no 48 OutOfMemory\n",
-    }
+    script_name_between!("no 48 ", fault, "\n")
 }
 
 /// Writes a reply. Returns `Write` if the writer fails or is interrupted more than 1,000 times in a row; then a prefix of the

@@ -3,13 +3,10 @@ ghost use Rattle.std.specs.Prelude.{◌≡◌, IfOk, decimal};
 ghost use Rattle.std.specs.List.{find};
 ghost use Rattle.std.specs.Option.{option_map};
 ghost use Rattle.std.specs.Str.{bytes_eq, chars};
-ghost use Rattle.sbl_bench.specs.Kept.{contents_of};
-ghost use Rattle.sbl_bench.specs.Rows.{view_row};
-ghost use Rattle.sbl_semantics.specs.Touched.{items_in};
+ghost use Rattle.sbl_bench.specs.{KeptRuns.contents_of, Rows.view_row};
+ghost use Rattle.sbl_semantics.specs.TouchedItems.{items_in};
 ghost use Rattle.sbl_print.specs.Canonical.{canonical};
-ghost use Rattle.sbl_sessions.specs.Answers.{ended};
-ghost use Rattle.sbl_sessions.specs.CommandViews.{IsAnswer};
-ghost use Rattle.sbl_sessions.specs.Commands.{Class, Trace};
+ghost use Rattle.sbl_sessions.specs.{Answers.with_line_feed, CommandViews.IsAnswer, Commands.Class, Commands.Trace};
 ghost use Rattle.sbl_sessions.specs.Rows as spec;
 ghost use Rattle.sbl_sessions.specs.Traces as traces;
 
@@ -57,7 +54,7 @@ pub(crate) fn script_text(alloc: Global, bench: &Bench) -> Result<Vec<u8>, Alloc
 /// Returns the report of the number of runs: the number in decimal, and a line feed. Returns `AllocError` if an allocation
 /// fails.
 pub(crate) fn runs_text(alloc: Global, bench: &Bench) -> Result<Vec<u8>, AllocError>
-    ensures { IfOk result (λ text. text.items ≡ ended (decimal (contents_of bench.now).count)) }
+    ensures { IfOk result (λ text. text.items ≡ with_line_feed (decimal (contents_of bench.now).count)) }
 {
     let count = bench.runs();
     let line = format!(in alloc; "{count}\n")?;
@@ -116,7 +113,7 @@ pub(crate) fn trace_reply(alloc: Global, bench: &Bench, word: &str) -> Reply
     words_fit(bench);
     let mut room = ['\0'; MAX_LOOKED_AT];
     let count = first_characters(word, &mut room);
-    match bench.touched(&room[..count]) {
+    match bench.items_of_trace(&room[..count]) {
         Ok(Some(items)) => report(items_text(alloc, items)),
         Ok(None) => Reply::Fixed(edit_text(Err(EditFault::Absent))),
         Err(refused) => report(Err(refused)),

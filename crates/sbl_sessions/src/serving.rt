@@ -1,13 +1,13 @@
 //! A session: each request gets its reply before the next line is read.
 ghost use Rattle.std.specs.Prelude.{◌≡◌, ◌≤◌, None, Some, Err, IfOk, IfErr, OnOk};
 ghost use Rattle.std.specs.Io.KnownBytes.{IsAtEnd, Keeps};
-ghost use Rattle.sbl_bench.specs.Kept.{contents_of};
+ghost use Rattle.sbl_bench.specs.KeptRuns.{contents_of};
 ghost use Rattle.sbl_sessions.specs.CommandViews.{BreaksBlock, IsAnswer, IsAnswered};
 ghost use Rattle.sbl_sessions.specs.Commands.{line_command};
 ghost use Rattle.sbl_io.specs.Devices.{WritesInTime};
 ghost use Rattle.sbl_io.specs.Faults.{left_by, serve_fault_of};
 ghost use Rattle.sbl_io.specs.declared.faults.LineFault.{LineFault};
-ghost use Rattle.sbl_io.specs.Held.{IsDrained, KeepsTime, Reading, fault_of, input_of, line_of, reads_bound};
+ghost use Rattle.sbl_io.specs.HeldInput.{IsDrained, KeepsTime, Reading, fault_of, input_of, line_of, reads_bound};
 ghost use Rattle.sbl_sessions.specs.Session.{Ends, IsSession};
 
 use crate::block_text::read_block;

@@ -1,5 +1,5 @@
 -- The literals of a text have few characters for its length.
-use Rattle.std.proofs.Common.{◌≡◌, ℕ, suc, ◌+◌, ◌*◌, ◌≤◌, Bool, true, false, List, [], ◌∷◌, ◌++◌, length, Option, Some, None, Result, Ok, Err, refl, sym, ap, subst, ◌∙◌, arith, ◌⊎◌, inl, inr, length-append}
+use Rattle.std.proofs.Common.{◌≡◌, ℕ, suc, ◌+◌, ◌*◌, ◌≤◌, Bool, true, false, List, [], ◌∷◌, ◌++◌, length, Option, Some, None, Result, Ok, Err, refl, sym, ap, subst, ◌∙◌, arith, inl, inr, length-append}
 use Rattle.std.specs.Prelude.{if◌then◌else◌, nat_le, encode_utf8_all}
 use Rattle.std.specs.List.{list_all}
 use Rattle.std.specs.Option.{option_or}
@@ -14,9 +14,9 @@ use Rattle.sbl_text.specs.declared.pieces.Shape.TheVariants as shape
 use Rattle.sbl_text.specs.declared.directives.Coding.{Coding}
 use Rattle.sbl_text.specs.Classes.{is_white, quote}
 use Rattle.sbl_text.specs.Escapes.{InForce, Definition, find}
-use Rattle.sbl_text.specs.Literals.{Refusal, character_named, alone, value_or_character, inserted, IsPart, Part, AreParts, values}
-use Rattle.sbl_text.specs.Directives.{Directives, Defining, max_macro, if_short, decoded, coded, defined_as, defined_by, after_word, after}
-use Rattle.sbl_text.specs.Tokens.{word_or_name, Told, MaySay, Piece, after_piece, AreCut, and_more, said, AreTokensFrom}
+use Rattle.sbl_text.specs.Literals.{Refusal, character_named, alone, value_or_character, insertion_value, IsPart, Part, AreParts, values}
+use Rattle.sbl_text.specs.Directives.{Directives, Defining, max_macro, if_short, literal_characters, value_for_macro, defined_as, defined_by, after_word, after}
+use Rattle.sbl_text.specs.Tokens.{word_or_name, Told, MaySay, Piece, after_piece, AreCut, and_more, piece_lexemes, AreTokensFrom}
 use Rattle.sbl_text.specs.Laws.{AreShort, literal_length, all_literals}
 
 -- ---- macros
@@ -52,8 +52,8 @@ defined_as_short : (e : InForce) (n : List ℕ) (o : Option (List ℕ)) → AreS
 defined_as_short e n None h f = h
 defined_as_short e n (Some w) h f = short_more e.macros (record { name = n; value = w }) h (f w refl)
 
-pub defined_short : (e : InForce) (n : List ℕ) (k : Coding) (v : List ℕ) → AreShort e.macros → AreShort (defined_as e n (coded k v)).macros
-defined_short e n k v h = defined_as_short e n (coded k v) h (if_short_is (decoded k v))
+pub defined_short : (e : InForce) (n : List ℕ) (k : Coding) (v : List ℕ) → AreShort e.macros → AreShort (defined_as e n (value_for_macro k v)).macros
+defined_short e n k v h = defined_as_short e n (value_for_macro k v) h (if_short_is (literal_characters k v))
 
 word_sets_no_macro : (s : Directives) (w : Word) → (after_word s w).escapes ≡ s.escapes
 word_sets_no_macro s reserved.Among = refl
@@ -148,7 +148,7 @@ empty_short v h = sym (ap length (same_value [] v h))
 empty_few : (v : List ℕ) → (let r : Result (List ℕ) Refusal = Ok [] in r) ≡ Ok v → length v ≤ 64
 empty_few v h = let l = empty_short v h in omega (arith, l)
 
-inserted_few : (e : InForce) (q v : List ℕ) → AreShort e.macros → inserted e q ≡ Ok v → length v * 3 ≤ (length q + 2) * 64
+inserted_few : (e : InForce) (q v : List ℕ) → AreShort e.macros → insertion_value e q ≡ Ok v → length v * 3 ≤ (length q + 2) * 64
 inserted_few e [] v h k = let l : length v ≡ 0 = empty_short v k in omega (arith, l)
 inserted_few e (c ∷ cs) v h k =
     let l : length v ≤ 64 =
@@ -201,11 +201,11 @@ more_few s k x (Some l) rest n h m f =
     let g = f (after_short s l h) in
     let t = told_few s k x l h m.0 in omega (arith, g, t)
 
-cut_few : (s t : Directives) (text rest : List ℕ) (ps : List Piece) → AreShort s.escapes.macros → AreCut s text ps t rest → all_literals (said ps) * 3 ≤ length text * 64
+cut_few : (s t : Directives) (text rest : List ℕ) (ps : List Piece) → AreShort s.escapes.macros → AreCut s text ps t rest → all_literals (piece_lexemes ps) * 3 ≤ length text * 64
 cut_few s t text rest [] h c = omega arith
 cut_few s t text rest (p ∷ ps) h c =
     let l : length text ≡ length p.text + length c.0 = ap length c.1 ∙ length-append p.text c.0 in
-    let g = more_few s p.shape p.text p.lexeme (said ps) (length c.0) h c.3 (λ k. cut_few (after_piece s p.lexeme) t c.0 rest ps k c.4) in omega (arith, l, g)
+    let g = more_few s p.shape p.text p.lexeme (piece_lexemes ps) (length c.0) h c.3 (λ k. cut_few (after_piece s p.lexeme) t c.0 rest ps k c.4) in omega (arith, l, g)
 
 pub literals_few : (s : Directives) (text : List ℕ) (ls : List Lexeme) → AreShort s.escapes.macros → AreTokensFrom s text ls → all_literals ls * 3 ≤ length text * max_macro
 literals_few s text ls h a =

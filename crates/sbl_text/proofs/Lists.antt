@@ -14,7 +14,7 @@ use Rattle.std.specs.List.{All}
 use Rattle.std.proofs.lemmas.List.Elements.{All-append, All-cons, All-nil}
 use Rattle.sbl_token.specs.Lexemes.{Lexeme, lexeme_of, SaysFitting}
 use Rattle.sbl_text.specs.Directives.{Directives, setting_of, after}
-use Rattle.sbl_text.specs.Tokens.{Says, Piece, after_piece, AreCut, and_more, said, AreTokensFrom, Placed, placed_of, put_placed, placed_from, ArePlacedFrom, IsFirstFaultFrom, Stops, IsAt, Advances, Reading, IsAnswer, IsNext}
+use Rattle.sbl_text.specs.Tokens.{Says, Piece, after_piece, AreCut, and_more, piece_lexemes, AreTokensFrom, Placed, placed_of, put_placed, placed_from, ArePlacedFrom, IsFirstFaultFrom, Stops, IsAt, Advances, Reading, IsAnswer, IsNext}
 use Rattle.sbl_text.proofs.Written.{sign_found_as}
 
 pub append_nil : {X : Type 0} (xs : List X) → xs ++ [] ≡ xs
@@ -31,11 +31,11 @@ pub cut_append : (s m t : Directives) (text mid rest : List ℕ) (ps qs : List P
 cut_append s m t text mid rest [] qs a b = subst (λ (u : Directives). AreCut u text qs t rest) (sym a.1) (subst (λ (x : List ℕ). AreCut m x qs t rest) (sym a.0) b)
 cut_append s m t text mid rest (p ∷ ps) qs a b = (a.0, a.1, a.2, a.3, cut_append (after_piece s p.lexeme) m t a.0 mid rest ps qs a.4 b)
 
-pub said_append : (ps qs : List Piece) → said (ps ++ qs) ≡ said ps ++ said qs
+pub said_append : (ps qs : List Piece) → piece_lexemes (ps ++ qs) ≡ piece_lexemes ps ++ piece_lexemes qs
 said_append [] qs = refl
 said_append (p ∷ ps) qs = more p.lexeme (said_append ps qs)
   where
-    more : (o : Option Lexeme) → said (ps ++ qs) ≡ said ps ++ said qs → and_more o (said (ps ++ qs)) ≡ and_more o (said ps) ++ said qs
+    more : (o : Option Lexeme) → piece_lexemes (ps ++ qs) ≡ piece_lexemes ps ++ piece_lexemes qs → and_more o (piece_lexemes (ps ++ qs)) ≡ and_more o (piece_lexemes ps) ++ piece_lexemes qs
     more None h = h
     more (Some l) h = ap (λ (t : List Lexeme). l ∷ t) h
 
@@ -73,7 +73,7 @@ unfolding as_pieces
 gaps_cut s text rest [] h = (h, refl)
 gaps_cut s text rest (g ∷ gs) h = (h.0, h.1, h.2, h.3, gaps_cut s h.0 rest gs h.4)
 
-pub said_gaps : (gs : List Gap) → said (as_pieces gs) ≡ []
+pub said_gaps : (gs : List Gap) → piece_lexemes (as_pieces gs) ≡ []
 unfolding as_pieces
 said_gaps [] = refl
 said_gaps (g ∷ gs) = said_gaps gs
@@ -86,7 +86,7 @@ placed_gaps n (g ∷ gs) = placed_gaps (n + byte_length g.text) gs
 -- ---- the tokens so far
 
 abbrev pub SoFar : Directives → List ℕ → Directives → List ℕ → List Token → Type 0
-SoFar first source s rest ts = (ps : List Piece) × AreCut first source ps s rest × (map lexeme_of ts ≡ said ps) × (map placed_of ts ≡ placed_from 0 ps)
+SoFar first source s rest ts = (ps : List Piece) × AreCut first source ps s rest × (map lexeme_of ts ≡ piece_lexemes ps) × (map placed_of ts ≡ placed_from 0 ps)
 
 pub none_yet : (first : Directives) (source : List ℕ) (s : Directives) → s ≡ first → SoFar first source s source []
 none_yet first source s h = ([], (refl, sym h), refl, refl)
@@ -95,7 +95,7 @@ pub over_gaps : (first : Directives) (source : List ℕ) (s : Directives) (rest 
 over_gaps first source s rest at ts b g = (
   b.0 ++ as_pieces g.0,
   cut_append first s s source rest at b.0 (as_pieces g.0) b.1 (gaps_cut s rest at g.0 g.1),
-  b.2 ∙ sym (said_append b.0 (as_pieces g.0) ∙ ap (λ (t : List Lexeme). said b.0 ++ t) (said_gaps g.0) ∙ append_nil (said b.0)),
+  b.2 ∙ sym (said_append b.0 (as_pieces g.0) ∙ ap (λ (t : List Lexeme). piece_lexemes b.0 ++ t) (said_gaps g.0) ∙ append_nil (piece_lexemes b.0)),
   b.3 ∙ sym (placed_append 0 (total b.0) b.0 (as_pieces g.0) (omega arith) ∙ ap (λ (t : List Placed). placed_from 0 b.0 ++ t) (placed_gaps (total b.0) g.0) ∙ append_nil (placed_from 0 b.0)),
 )
 

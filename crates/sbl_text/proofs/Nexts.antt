@@ -19,7 +19,7 @@ use Rattle.sbl_text.specs.Literals.{byte_length, Means, FirstWrong, is_closed}
 use Rattle.sbl_text.specs.Pieces.{is_inner, Setting, setting, NoPiece, Gap, AreGaps, AfterGaps}
 use Rattle.sbl_text.specs.Scan.{Piece_at}
 use Rattle.sbl_token.specs.Lexemes.{Lexeme, word, sign, name, number, literal, inserts, macro_name, lexeme_of, SaysFitting}
-use Rattle.sbl_text.specs.Directives.{Directives, Defining, setting_of, settled, value_for, defined_by}
+use Rattle.sbl_text.specs.Directives.{Directives, Defining, setting_of, no_directive, value_for, defined_by}
 use Rattle.sbl_text.specs.Tokens.{digits_value, word_or_name, Told, LacksValue, MayEnd, IsRefused, fault_at, pair_fault, Stops, Comes}
 
 -- ---- numbers
@@ -164,8 +164,8 @@ wrong_literal s e text letters inner place f same is l (inr h) =
 pub same_setting : (s : Directives) (f : InForce) (i : Option Inserts) (w : Wanted) → i ≡ f.inserts → f ≡ s.escapes → w ≡ s.wanted → setting i w ≡ setting_of s
 same_setting s f i w a b c = ap (λ (j : Option Inserts). setting j w) (a ∙ ap (λ (g : InForce). g.inserts) b) ∙ ap (setting s.escapes.inserts) c
 
-pub nothing_defined : (s t : Directives) (v : List ℕ) → s.defining ≡ None → t ≡ settled s.escapes → (w : List ℕ) × (value_for s.defining v ≡ Some w) × (t ≡ settled (defined_by s.escapes s.defining v))
-nothing_defined s t v d h = (v, ap (λ (o : Option Defining). value_for o v) d, h ∙ ap (λ (o : Option Defining). settled (defined_by s.escapes o v)) (sym d))
+pub nothing_defined : (s t : Directives) (v : List ℕ) → s.defining ≡ None → t ≡ no_directive s.escapes → (w : List ℕ) × (value_for s.defining v ≡ Some w) × (t ≡ no_directive (defined_by s.escapes s.defining v))
+nothing_defined s t v d h = (v, ap (λ (o : Option Defining). value_for o v) d, h ∙ ap (λ (o : Option Defining). no_directive (defined_by s.escapes o v)) (sym d))
 
 pub undefined : {D : Type 0} (f : D → Defining) (s : Directives) (o : Option D) (e : InForce) (w : Wanted) → (let u : Directives = record { escapes = e; wanted = w; defining = option_map f o } in u) ≡ s → o ≡ None → s.defining ≡ None
 undefined f s o e w is h = ap (λ (u : Directives). u.defining) (sym is) ∙ ap (option_map f) h

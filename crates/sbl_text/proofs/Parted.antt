@@ -11,7 +11,7 @@ use Rattle.sbl_text.specs.declared.escapes.Inserts.{Inserts}
 use Rattle.sbl_text.specs.declared.fault.ScriptFault.{ScriptFault}
 use Rattle.sbl_text.specs.declared.fault.ScriptFault.TheVariants as fault
 use Rattle.sbl_text.specs.Escapes.{InForce, opens, closes}
-use Rattle.sbl_text.specs.Literals.{Refusal, byte_length, inserted, IsInsertion, IsPlain, Part, IsPart, AreParts, values, Means, IsWrong, FirstWrong, is_closed, IsLiteral}
+use Rattle.sbl_text.specs.Literals.{Refusal, byte_length, insertion_value, IsInsertion, IsPlain, Part, IsPart, AreParts, values, Means, IsWrong, FirstWrong, is_closed, IsLiteral}
 use Rattle.sbl_text.proofs.Lists.{append_nil, bytes_append}
 
 parts_more : (e : InForce) (text rest behind : List ℕ) (ps : List Part) (p : Part) → AreParts e text ps rest → rest ≡ p.text ++ behind → IsPart e p → AreParts e text (ps ++ p ∷ []) behind
@@ -31,7 +31,7 @@ pub none_read : (e : InForce) (spelling : List ℕ) (place : ℕ) (value : List 
 none_read e spelling place value h k = ([], [], refl, refl, h, omega arith, k)
 
 pub part_read : (e : InForce) (spelling rest behind value more x w : List ℕ) (place at next : ℕ) → Read e spelling place rest value at → rest ≡ x ++ behind
-    → IsPlain e x w ⊎ ((name : List ℕ) × IsInsertion e x name × (inserted e name ≡ Ok w)) → more ≡ value ++ w → next ≡ at + byte_length x → is_closed e.inserts false behind ≡ true
+    → IsPlain e x w ⊎ ((name : List ℕ) × IsInsertion e x name × (insertion_value e name ≡ Ok w)) → more ≡ value ++ w → next ≡ at + byte_length x → is_closed e.inserts false behind ≡ true
     → Read e spelling place behind more next
 part_read e spelling rest behind value more x w place at next r is h v n k =
     let p : Part = record { text = x; value = w } in (
@@ -100,13 +100,13 @@ insertion_bytes name r b n m k x y z =
     let v = one_byte_length b k z in omega (arith, p, q, u, v, y)
 
 pub insertion_read : (e : InForce) (spelling rest name after value more w : List ℕ) (place at n m k r b : ℕ) → Read e spelling place rest value at → Taken e rest name after r b
-    → (inserted e name ≡ Ok w) → more ≡ value ++ w → n ≡ len_utf8 r → m ≡ byte_length name → k ≡ len_utf8 b → Read e spelling place after more (at + (n + m + k))
+    → (insertion_value e name ≡ Ok w) → more ≡ value ++ w → n ≡ len_utf8 r → m ≡ byte_length name → k ≡ len_utf8 b → Read e spelling place after more (at + (n + m + k))
 insertion_read e spelling rest name after value more w place at n m k r b s t i v x y z =
     part_read e spelling rest after value more (r ∷ (name ++ b ∷ [])) w place at (at + (n + m + k)) s t.0 (inr (name, t.1, i)) v
     (ap (λ (l : ℕ). at + l) (sym (insertion_bytes name r b n m k x y z))) (t.2 s.6)
 
 pub insertion_wrong : (e : InForce) (spelling rest name after value : List ℕ) (place at r b : ℕ) (f : ScriptFault) → Read e spelling place rest value at → Taken e rest name after r b
-    → (f ≡ fault.OutOfMemory) ⊎ ((g : Refusal) × (inserted e name ≡ Err g) × (f ≡ g at)) → (f ≡ fault.OutOfMemory) ⊎ FirstWrong e spelling place f
+    → (f ≡ fault.OutOfMemory) ⊎ ((g : Refusal) × (insertion_value e name ≡ Err g) × (f ≡ g at)) → (f ≡ fault.OutOfMemory) ⊎ FirstWrong e spelling place f
 insertion_wrong e spelling rest name after value place at r b f s t (inl h) = inl h
 insertion_wrong e spelling rest name after value place at r b f s t (inr h) =
     inr (wrong_read e spelling rest value place at f s (inr (r ∷ (name ++ b ∷ []), name, after, t.0, t.1, h.0, h.1, h.2)))

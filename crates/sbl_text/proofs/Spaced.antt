@@ -26,8 +26,8 @@ use Rattle.sbl_text.specs.Pieces.{Has, may_come, setting, Stands, IsPiece, Begin
 use Rattle.sbl_text.specs.Scan.{IsCutFrom, Cut, cut_in, past_literal}
 use Rattle.sbl_token.specs.Lexemes.{Lexeme, number}
 use Rattle.sbl_text.specs.Directives.{Directives, after}
-use Rattle.sbl_text.specs.Tokens.{digits_value, number_of, word_or_name, Told, Says, Piece, MaySay, after_piece, AreCut, and_more, said, MayEnd, AreTokensFrom}
-use Rattle.sbl_text.specs.Spaced.{lexeme_text, IsSaidBy, IsSaid, after_all, AreSaid, Spaced, lexemes_of, are_white, spaced_text}
+use Rattle.sbl_text.specs.Tokens.{digits_value, number_of, word_or_name, Told, Says, Piece, MaySay, after_piece, AreCut, and_more, piece_lexemes, MayEnd, AreTokensFrom}
+use Rattle.sbl_text.specs.SpacedTokens.{lexeme_text, IsSaidBy, IsSaid, after_all, AreSaid, Spaced, lexemes_of, are_white, spaced_text}
 use Rattle.sbl_text.proofs.Written.{sign_found_as}
 use Rattle.sbl_text.proofs.Cuts.{and_left, and_right, literal_ends}
 use Rattle.sbl_text.proofs.Whole.{no_eq, if_same, LeavesCut, longest, cut_is}
@@ -302,7 +302,7 @@ space_chars c rest h =
     chars-append (encode_utf8_all (c ∷ [])) rest u ∙ ap (λ (t : List ℕ). t ++ chars rest) (sym (chars_from_encodes (c ∷ []) (encode_utf8_all (c ∷ [])) u refl))
 
 abbrev Read : Directives → List Spaced → Type 0
-Read s ps = (qs : List Piece) × AreCut s (chars (spaced_text ps)) qs (after_all s (lexemes_of ps)) [] × (lexemes_of ps ≡ said qs)
+Read s ps = (qs : List Piece) × AreCut s (chars (spaced_text ps)) qs (after_all s (lexemes_of ps)) [] × (lexemes_of ps ≡ piece_lexemes qs)
 
 read : (s : Directives) (ps : List Spaced) → are_white ps ≡ true → AreSaid s (lexemes_of ps) → Read s ps
 read s [] w h = ([], (chars-nil, refl), refl)
@@ -346,14 +346,14 @@ said_as s k x l h has may says =
     let e : x ≡ chars (encode_utf8_all x) = chars_from_encodes x (encode_utf8_all x) u refl in
     (k, encode_utf8_all x, (u, subst (Has s.escapes.inserts k) e has, may, subst (λ (y : List ℕ). Says s k y l) e says))
 
-all_said : (s : Directives) (text : List ℕ) (ps : List Piece) (t : Directives) → all_scalars text ≡ true → AreCut s text ps t [] → AreSaid s (said ps) × (after_all s (said ps) ≡ t)
+all_said : (s : Directives) (text : List ℕ) (ps : List Piece) (t : Directives) → all_scalars text ≡ true → AreCut s text ps t [] → AreSaid s (piece_lexemes ps) × (after_all s (piece_lexemes ps) ≡ t)
 all_said s text [] t h c = (tt, c.1)
 all_said s text (p ∷ ps) t h c = by p.lexeme c.3 (all_said (after_piece s p.lexeme) c.0 ps t parts.1 c.4)
   where
     parts : (all_scalars p.text ≡ true) × (all_scalars c.0 ≡ true)
     parts = scalars_apart p.text c.0 (ap all_scalars (sym c.1) ∙ h)
 
-    by : (o : Option Lexeme) → MaySay s p.shape p.text o → AreSaid (after_piece s o) (said ps) × (after_all (after_piece s o) (said ps) ≡ t) → AreSaid s (and_more o (said ps)) × (after_all s (and_more o (said ps)) ≡ t)
+    by : (o : Option Lexeme) → MaySay s p.shape p.text o → AreSaid (after_piece s o) (piece_lexemes ps) × (after_all (after_piece s o) (piece_lexemes ps) ≡ t) → AreSaid s (and_more o (piece_lexemes ps)) × (after_all s (and_more o (piece_lexemes ps)) ≡ t)
     by None m r = r
     by (Some l) m r = ((said_as s p.shape p.text l parts.0 c.2.stands.has c.2.stands.comes m, r.0), r.1)
 

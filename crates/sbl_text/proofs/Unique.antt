@@ -10,12 +10,12 @@ use Rattle.sbl_text.specs.declared.fault.ScriptFault.{ScriptFault}
 use Rattle.sbl_text.specs.declared.fault.ScriptFault.TheVariants as fault
 use Rattle.sbl_token.specs.declared.token.Token.{Token}
 use Rattle.sbl_text.specs.Escapes.{InForce, opens, closes}
-use Rattle.sbl_text.specs.Literals.{Refusal, byte_length, inserted, IsInsertion, IsPlain, Part, IsPart, AreParts, values, Means, IsWrong, FirstWrong, IsLiteral}
+use Rattle.sbl_text.specs.Literals.{Refusal, byte_length, insertion_value, IsInsertion, IsPlain, Part, IsPart, AreParts, values, Means, IsWrong, FirstWrong, IsLiteral}
 use Rattle.sbl_text.specs.Pieces.{Setting, IsPiece, is_gap}
 use Rattle.sbl_text.specs.Scan.{Cut, cut_in}
 use Rattle.sbl_token.specs.Lexemes.{Lexeme, lexeme_of, sign, literal, inserts}
 use Rattle.sbl_text.specs.Directives.{Directives, setting_of, value_for, after}
-use Rattle.sbl_text.specs.Tokens.{Told, HasValue, Piece, MaySay, after_piece, AreCut, said, MayEnd, AreTokensFrom, Placed, placed_from, ArePlacedFrom, IsRefused, IsFault, IsFirstFaultFrom, Advances, Reading, IsAnswer, IsNext}
+use Rattle.sbl_text.specs.Tokens.{Told, HasValue, Piece, MaySay, after_piece, AreCut, piece_lexemes, MayEnd, AreTokensFrom, Placed, placed_from, ArePlacedFrom, IsRefused, IsFault, IsFirstFaultFrom, Advances, Reading, IsAnswer, IsNext}
 use Rattle.sbl_text.proofs.Written.{signs_differ}
 use Rattle.sbl_text.proofs.Cuts.{and_left, and_right}
 use Rattle.sbl_text.proofs.Whole.{LeavesCut, longest}
@@ -94,7 +94,7 @@ part_one e p q r s (inl a) (inr b) is = absurd (plain_not_insertion e p.text q.t
 part_one e p q r s (inr a) (inl b) is = absurd (plain_not_insertion e q.text p.text q.value a.0 s r b a.1 (sym is))
 part_one e p q r s (inr a) (inr b) is =
     let t = insertion_one e p.text q.text a.0 b.0 r s a.1 b.1 is in
-    let o : Ok p.value ≡ Ok q.value = sym a.2 ∙ ap (inserted e) t.1 ∙ b.2 in
+    let o : Ok p.value ≡ Ok q.value = sym a.2 ∙ ap (insertion_value e) t.1 ∙ b.2 in
     (same_part p q t.0 (cc), t.2)
 
 part_takes : (e : InForce) (p : Part) → IsPart e p → 0 < length p.text
@@ -130,7 +130,7 @@ wrong_no_part e p text behind n f (inl h) is (inr a) =
 wrong_no_part e p text behind n f (inr h) is (inl a) = plain_not_insertion e p.text h.0 p.value h.1 behind h.2 a h.4 (sym is ∙ h.3)
 wrong_no_part e p text behind n f (inr h) is (inr a) =
     let t = insertion_one e h.0 p.text h.1 a.0 h.2 behind h.4 a.1 (sym h.3 ∙ is) in
-    absurd (let k : Err h.5 ≡ Ok p.value = sym h.6 ∙ ap (inserted e) t.1 ∙ a.2 in cc)
+    absurd (let k : Err h.5 ≡ Ok p.value = sym h.6 ∙ ap (insertion_value e) t.1 ∙ a.2 in cc)
 
 quote_not_insertion : (e : InForce) (text more x n r : List ℕ) → text ≡ 39 ∷ more → text ≡ x ++ r → IsInsertion e x n → ⊥
 quote_not_insertion e text more x n r i j a =
@@ -143,7 +143,7 @@ wrong_one_at e text n f g (inl a) (inr b) = absurd (quote_not_insertion e text a
 wrong_one_at e text n f g (inr a) (inl b) = absurd (quote_not_insertion e text b.0 a.0 a.1 a.2 b.1 a.3 a.4)
 wrong_one_at e text n f g (inr a) (inr b) =
     let t = insertion_one e a.0 b.0 a.1 b.1 a.2 b.2 a.4 b.4 (sym a.3 ∙ b.3) in
-    let o : Err a.5 ≡ Err b.5 = sym a.6 ∙ ap (inserted e) t.1 ∙ b.6 in
+    let o : Err a.5 ≡ Err b.5 = sym a.6 ∙ ap (insertion_value e) t.1 ∙ b.6 in
     let h : a.5 ≡ b.5 = cc in
     a.7 ∙ ap (λ (k : Refusal). k n) h ∙ sym b.7
 
@@ -252,7 +252,7 @@ same_at_end ps qs u v (inr h) = sym (h.1 ∙ ap (λ (t : List Piece). qs ++ t) (
 
 pub tokens_one : (s : Directives) (text : List ℕ) (ls ms : List Lexeme) → AreTokensFrom s text ls → AreTokensFrom s text ms → ls ≡ ms
 tokens_one s text ls ms a b =
-    a.4 ∙ ap said (sym (same_at_end a.0 b.0 a.1 b.1 (two_cuts s text a.0 b.0 a.1 [] b.1 [] a.2 b.2))) ∙ sym b.4
+    a.4 ∙ ap piece_lexemes (sym (same_at_end a.0 b.0 a.1 b.1 (two_cuts s text a.0 b.0 a.1 [] b.1 [] a.2 b.2))) ∙ sym b.4
 
 pub placed_tokens_one : (s : Directives) (text : List ℕ) (ts us : List Placed) → ArePlacedFrom s text ts → ArePlacedFrom s text us → ts ≡ us
 placed_tokens_one s text ts us a b =
@@ -409,7 +409,7 @@ advanced_first text s t from rest token ls h g =
     let q : Piece = record { shape = c.kind; text = c.own; lexeme = Some (lexeme_of token) } in
     let behind : AreCut (after s (lexeme_of token)) rest g.0 g.1 [] = subst (λ (v : Directives). AreCut v rest g.0 g.1 []) h.2 g.2 in
     let cut : AreCut s from (as_pieces c.gaps.0 ++ q ∷ g.0) g.1 [] = cut_append s s g.1 from (c.own ++ rest) [] (as_pieces c.gaps.0) (q ∷ g.0) (gaps_cut s from (c.own ++ rest) c.gaps.0 c.gaps.1) (rest, refl, c.piece, (c.told, h.1), behind) in
-    let says : said (as_pieces c.gaps.0 ++ q ∷ g.0) ≡ lexeme_of token ∷ said g.0 = said_append (as_pieces c.gaps.0) (q ∷ g.0) ∙ ap (λ (l : List Lexeme). l ++ said (q ∷ g.0)) (said_gaps c.gaps.0) in
+    let says : piece_lexemes (as_pieces c.gaps.0 ++ q ∷ g.0) ≡ lexeme_of token ∷ piece_lexemes g.0 = said_append (as_pieces c.gaps.0) (q ∷ g.0) ∙ ap (λ (l : List Lexeme). l ++ piece_lexemes (q ∷ g.0)) (said_gaps c.gaps.0) in
     (as_pieces c.gaps.0 ++ q ∷ g.0, g.1, cut, g.3, ap (λ (l : List Lexeme). lexeme_of token ∷ l) g.4 ∙ sym says)
 
 advanced_last : (text : List ℕ) (s t : Directives) (from rest : List ℕ) → Advances text s from t rest (Ok None) → AreTokensFrom s from []

@@ -302,10 +302,11 @@ pub cut_is : (i : Option Inserts) (w : Wanted) (text : List ℕ) → IsCutFrom (
 cut_is i w text = cut_is_at (setting i w) text (cut_in i w text) refl (found_in i w text)
 
 -- the same of what the code answers
-pub given : {B : Type 0} (i : Option Inserts) (w : Wanted) (text : List ℕ) (view : B → List ℕ) (o : Option (Shape × B)) → MatchOption o (cut_in i w text ≡ None) (λ p. cut_in i w text ≡ Some (p.0, view p.1))
+pub given : {B : Type 0} (i : Option Inserts) (w : Wanted) (text : List ℕ) (view : B → List ℕ) (IsLess : B → Type 0) (o : Option (Shape × B))
+    → MatchOption o (cut_in i w text ≡ None) (λ p. (cut_in i w text ≡ Some (p.0, view p.1)) × IsLess p.1)
     → MatchOption o (NoPiece (setting i w) text) (λ p. (x : List ℕ) × (text ≡ x ++ view p.1) × IsPiece (setting i w) p.0 x (view p.1))
-given i w text view None h = subst (IsCutFrom (setting i w) text) h (cut_is i w text)
-given i w text view (Some p) h = subst (IsCutFrom (setting i w) text) h (cut_is i w text)
+given i w text view IsLess None h = subst (IsCutFrom (setting i w) text) h (cut_is i w text)
+given i w text view IsLess (Some p) h = subst (IsCutFrom (setting i w) text) h.0 (cut_is i w text)
 
 -- ---- gaps
 

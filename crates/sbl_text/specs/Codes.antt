@@ -1,26 +1,21 @@
 -- Characters written as numbers.
-use Rattle.std.specs.Prelude.{ℕ, ◌+◌, ◌*◌, Bool, true, false, ◌&&◌, ◌||◌, nat_le, nat_lt, if◌then◌else◌, List, [], ◌∷◌, length, filter, Option, Some, None, option_map, option_and_then}
+use Rattle.std.specs.Prelude.{ℕ, ◌+◌, ◌*◌, Bool, true, false, ◌&&◌, ◌||◌, nat_le, nat_lt, if◌then◌else◌, List, [], ◌∷◌, length, filter, fold, Option, Some, None, option_map, option_and_then}
 use Rattle.std.specs.List.{list_all, slice_split}
 use Rattle.std.specs.Char.{digit_value}
 use Rattle.sbl_text.specs.Classes.{is_white}
 
 -- the number that the digits write in this base, after digits that write n
 abbrev pub value_in : ℕ → ℕ → List ℕ → ℕ
-value_in base n [] = n
-value_in base n (c ∷ cs) = value_in base (n * base + digit_value c) cs
+value_in base n ds = fold (λ m d. m * base + digit_value d) n ds
 
 -- a Unicode scalar value: a code point that is not a surrogate
 abbrev pub is_scalar : ℕ → Bool
 is_scalar c = nat_lt c 0xD800 || (nat_le 0xE000 c && nat_le c 0x10FFFF)
 
--- the digits, after digits that write n, are digits of the base and write a Unicode scalar value
-abbrev pub write_scalar : ℕ → ℕ → List ℕ → Bool
-write_scalar base n ds = list_all (λ c. nat_lt (digit_value c) base) ds && is_scalar (value_in base n ds)
-
--- the character whose code point is written by at least one and at most `most` digits
+-- the character whose code point is written by at least one and at most `most` digits of the base
 abbrev pub code_of : ℕ → ℕ → List ℕ → Option ℕ
 code_of base most ds =
-    if (nat_lt 0 (length ds) && nat_le (length ds) most) && write_scalar base 0 ds then Some (value_in base 0 ds) else None
+    if (nat_lt 0 (length ds) && nat_le (length ds) most) && (list_all (λ d. nat_lt (digit_value d) base) ds && is_scalar (value_in base 0 ds)) then Some (value_in base 0 ds) else None
 
 -- ---- numbers separated by white space
 
@@ -44,3 +39,9 @@ max_decimal_digits = 7
 abbrev pub codes_of : Bool → List ℕ → Option (List ℕ)
 codes_of true cs = all_codes 16 max_hex_digits (numbers_in cs)
 codes_of false cs = all_codes 10 max_decimal_digits (numbers_in cs)
+
+-- ---- a name for a part of these definitions, which only proofs use
+
+-- the digits, after digits that write n, are digits of the base and write a Unicode scalar value
+abbrev pub write_scalar : ℕ → ℕ → List ℕ → Bool
+write_scalar base n ds = list_all (λ c. nat_lt (digit_value c) base) ds && is_scalar (value_in base n ds)

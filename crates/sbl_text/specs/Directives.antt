@@ -36,40 +36,38 @@ abbrev pub start : Directives
 start = start_under nothing_set
 
 -- the characters that a literal writes, as they are or as codes
-abbrev pub decoded : Coding → List ℕ → Option (List ℕ)
-decoded coding.Plain v = Some v
-decoded coding.Hex v = all_codes 16 max_hex_digits (numbers_in v)
-decoded coding.Decimal v = all_codes 10 max_decimal_digits (numbers_in v)
+abbrev pub literal_characters : Coding → List ℕ → Option (List ℕ)
+literal_characters coding.Plain v = Some v
+literal_characters coding.Hex v = all_codes 16 max_hex_digits (numbers_in v)
+literal_characters coding.Decimal v = all_codes 10 max_decimal_digits (numbers_in v)
 
 -- the most characters of a macro
 abbrev pub max_macro : ℕ
 max_macro = 64
 
 -- The value that a literal gives to a macro. Longer ones are refused, so that few insertions never give many characters.
-abbrev pub coded : Coding → List ℕ → Option (List ℕ)
-coded k v = option_and_then (λ w. if nat_le (length w) max_macro then Some w else None) (decoded k v)
+abbrev pub value_for_macro : Coding → List ℕ → Option (List ℕ)
+value_for_macro k v = option_and_then (λ w. if nat_le (length w) max_macro then Some w else None) (literal_characters k v)
 
 abbrev pub value_for : Option Defining → List ℕ → Option (List ℕ)
-value_for d v = option_map_or (λ m. coded m.coding v) d (Some v)
+value_for d v = option_map_or (λ m. value_for_macro m.coding v) d (Some v)
 
 -- after `hex` or `decimal`, which come before the literal
-abbrev pub recoded : Option Defining → Coding → Option Defining
-recoded d k = option_and_then (λ m. if sameb codings.the_type m.coding coding.Plain then Some (record { name = m.name; coding = k }) else None) d
+abbrev pub with_coding : Option Defining → Coding → Option Defining
+with_coding d k = option_and_then (λ m. if sameb codings.the_type m.coding coding.Plain then Some (record { name = m.name; coding = k }) else None) d
 
 abbrev pub after_word : Directives → Word → Directives
 after_word s reserved.StringEscapes = record { escapes = s.escapes; wanted = wanted.Inserts; defining = None }
 after_word s reserved.StringDef = record { escapes = s.escapes; wanted = wanted.MacroName; defining = None }
-after_word s reserved.Hex = record { escapes = s.escapes; wanted = wanted.Token; defining = recoded s.defining coding.Hex }
-after_word s reserved.Decimal = record { escapes = s.escapes; wanted = wanted.Token; defining = recoded s.defining coding.Decimal }
+after_word s reserved.Hex = record { escapes = s.escapes; wanted = wanted.Token; defining = with_coding s.defining coding.Hex }
+after_word s reserved.Decimal = record { escapes = s.escapes; wanted = wanted.Token; defining = with_coding s.defining coding.Decimal }
 after_word s _ = start_under s.escapes
 
 abbrev pub defined_as : InForce → List ℕ → Option (List ℕ) → InForce
-defined_as e n None = e
-defined_as e n (Some v) = with_macro e n v
+defined_as e n value = option_map_or (λ v. with_macro e n v) value e
 
 abbrev pub defined_by : InForce → Option Defining → List ℕ → InForce
-defined_by e None v = e
-defined_by e (Some d) v = defined_as e d.name (coded d.coding v)
+defined_by e d v = option_map_or (λ m. defined_as e m.name (value_for_macro m.coding v)) d e
 
 -- the state after a token: some words require insert characters or a macro's name next; a literal may define a macro
 abbrev pub after : Directives → Lexeme → Directives
@@ -85,5 +83,5 @@ abbrev pub if_short : Option (List ℕ) → Option (List ℕ)
 if_short o = option_and_then (λ w. if nat_le (length w) max_macro then Some w else None) o
 
 -- the state after most tokens
-abbrev pub settled : InForce → Directives
-settled e = start_under e
+abbrev pub no_directive : InForce → Directives
+no_directive e = start_under e

@@ -12,7 +12,7 @@ use Rattle.sbl_text.specs.Directives.{Directives, max_macro}
 use Rattle.sbl_text.specs.Tokens.{Placed, AreTokensFrom, ArePlacedFrom, IsFirstFaultFrom, Reading, IsNext, MayEnd}
 use Rattle.sbl_text.specs.Escapes.{InForce, Definition}
 use Rattle.sbl_text.specs.Literals.{IsLiteral}
-use Rattle.sbl_text.specs.Spaced.{after_all, AreSaid, Spaced, lexemes_of, are_white, spaced_text}
+use Rattle.sbl_text.specs.SpacedTokens.{after_all, AreSaid, Spaced, lexemes_of, are_white, spaced_text}
 use Rattle.std.specs.Str.{chars, IsUtf8}
 
 -- a text has at most one list of tokens

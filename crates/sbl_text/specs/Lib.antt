@@ -6,7 +6,7 @@ pub mod Literals
 pub mod Pieces
 pub mod Directives
 pub mod Tokens
-pub mod Spaced
+pub mod SpacedTokens
 pub mod Laws
 -- what the functions inside the crate promise each other; no public contract depends on these
 pub mod Skip

@@ -27,8 +27,8 @@ character_named e (c ∷ []) = if c == quote || opens e c then Ok c else Err fau
 character_named e (c ∷ d ∷ cs) = if c == 85 && d == 43 then ok_or (code_of 16 max_hex_digits cs) fault.BadCode else Err fault.UnknownEscape
 
 -- The value of an insertion: nothing for white space, the value of a macro, otherwise the character that is named.
-abbrev pub inserted : InForce → List ℕ → Result (List ℕ) Refusal
-inserted e name =
+abbrev pub insertion_value : InForce → List ℕ → Result (List ℕ) Refusal
+insertion_value e name =
     if list_all is_white name then Ok []
     else option_map_or Ok (find e.macros name) (result_map_both (λ c. c ∷ []) (λ f. f) (character_named e.inserts name))
 
@@ -48,7 +48,7 @@ pub record Part : Type 0 where
   pub value : List ℕ
 
 abbrev pub IsPart : InForce → Part → Type 0
-IsPart e p = IsPlain e p.text p.value ⊎ ((name : List ℕ) × IsInsertion e p.text name × (inserted e name ≡ Ok p.value))
+IsPart e p = IsPlain e p.text p.value ⊎ ((name : List ℕ) × IsInsertion e p.text name × (insertion_value e name ≡ Ok p.value))
 
 -- the spelling begins with these parts, one after another, and the rest follows
 abbrev pub AreParts : InForce → List ℕ → List Part → List ℕ → Type 0
@@ -63,7 +63,7 @@ Means e spelling v = (ps : List Part) × AreParts e spelling ps [] × (v ≡ fla
 abbrev pub IsWrong : InForce → List ℕ → ℕ → ScriptFault → Type 0
 IsWrong e text place f =
     ((more : List ℕ) × (text ≡ quote ∷ more) × (f ≡ fault.BadCharacter place))
-    ⊎ ((x : List ℕ) × (name : List ℕ) × (more : List ℕ) × (text ≡ x ++ more) × IsInsertion e x name × (g : Refusal) × (inserted e name ≡ Err g) × (f ≡ g place))
+    ⊎ ((x : List ℕ) × (name : List ℕ) × (more : List ℕ) × (text ≡ x ++ more) × IsInsertion e x name × (g : Refusal) × (insertion_value e name ≡ Err g) × (f ≡ g place))
 
 -- the first fault of a spelling that begins at this byte offset
 abbrev pub FirstWrong : InForce → List ℕ → ℕ → ScriptFault → Type 0

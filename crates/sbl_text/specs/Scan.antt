@@ -1,6 +1,8 @@
 -- Finds the end of a piece, starting from its first character. Internal: only functions inside the crate use these
 -- definitions in their contracts.
-use Rattle.std.specs.Prelude.{◌≡◌, ◌++◌, ℕ, Bool, true, false, not, ◌&&◌, ◌||◌, ◌==◌, if◌then◌else◌, List, [], ◌∷◌, drop, Option, Some, None, option_map}
+use Rattle.std.specs.Prelude.{◌≡◌, ◌++◌, ℕ, Bool, true, false, not, ◌&&◌, ◌||◌, ◌==◌, if◌then◌else◌, List, [], ◌∷◌, drop, length, ◌<◌, Option, Some, None, option_map, MatchOption}
+use Rattle.std.specs.Borrow.{Bor}
+use Rattle.std.specs.Str.{chars}
 use Rattle.sbl_text.specs.declared.pieces.Shape.{Shape}
 use Rattle.sbl_text.specs.declared.pieces.Shape.TheVariants as shape
 use Rattle.sbl_text.specs.declared.pieces.Wanted.{Wanted}
@@ -77,6 +79,10 @@ abbrev pub cut_in : Option Inserts → Wanted → List ℕ → Cut
 cut_in e wanted.Token text = cut e text
 cut_in e wanted.Inserts text = pair_cut text
 cut_in e wanted.MacroName text = name_cut text
+
+-- the cut of a text of these bytes, which leaves less of it
+abbrev pub IsCut : List ℕ → Cut → Option (Shape × Bor (List ℕ)) → Type 0
+IsCut bytes o result = MatchOption result (o ≡ None) (λ p. (o ≡ Some (p.0, chars p.1.now)) × (length p.1.now < length bytes))
 
 -- the result of cutting the text is its longest first piece
 abbrev pub IsCutFrom : Setting → List ℕ → Option (Shape × List ℕ) → Type 0

@@ -1,5 +1,5 @@
 -- The tokens of a text, and its first fault.
-use Rattle.std.specs.Prelude.{◌≡◌, ◌⊎◌, ℕ, ◌<◌, ◌≤◌, ◌+◌, ◌-◌, ◌*◌, Bool, true, false, ◌&&◌, ◌==◌, if◌then◌else◌, List, [], ◌∷◌, ◌++◌, encode_utf8_all, filter_map, drop, Option, Some, None, MatchOption, option_map, Result, Ok, Err}
+use Rattle.std.specs.Prelude.{◌≡◌, ◌⊎◌, ℕ, ◌<◌, ◌≤◌, ◌+◌, ◌-◌, ◌*◌, Bool, true, ◌&&◌, ◌==◌, if◌then◌else◌, List, [], ◌∷◌, ◌++◌, encode_utf8_all, filter_map, fold, drop, Option, Some, None, MatchOption, option_map, Result, Ok, Err}
 use Rattle.std.specs.List.{cons_option}
 use Rattle.std.specs.Option.{option_map_or}
 use Rattle.sbl_token.specs.declared.signs.Sign.{Sign}
@@ -19,13 +19,9 @@ use Rattle.sbl_text.specs.Literals.{byte_length, Means, FirstWrong}
 use Rattle.sbl_token.specs.Lexemes.{Lexeme, word, sign, name, number, literal, inserts, macro_name, lexeme_of, SaysFitting}
 use Rattle.sbl_text.specs.Classes.{quote, slash, star, begins_with}
 
--- the number that the digits write, after digits that write n
-abbrev pub digits_value : ℕ → List ℕ → ℕ
-digits_value n [] = n
-digits_value n (c ∷ cs) = digits_value (n * 10 + (c - 48)) cs
-
+-- the number that the digits write
 abbrev pub number_of : List ℕ → ℕ
-number_of text = digits_value 0 text
+number_of text = fold (λ n c. n * 10 + (c - 48)) 0 text
 
 -- the lexeme that a text of this shape means; white space and comments mean none
 abbrev pub Told : Directives → Shape → List ℕ → Lexeme → Type 0
@@ -67,15 +63,15 @@ AreCut s text (p ∷ ps) t rest =
     × MatchOption p.lexeme (is_gap p.shape ≡ true) (Says s p.shape p.text) × AreCut (option_map_or (after s) p.lexeme s) behind ps t rest
 
 -- the lexemes of the pieces, in order
-abbrev pub said : List Piece → List Lexeme
-said ps = filter_map (λ p. p.lexeme) ps
+abbrev pub piece_lexemes : List Piece → List Lexeme
+piece_lexemes ps = filter_map (λ p. p.lexeme) ps
 
 -- the text may end here: no insert characters are expected
 abbrev pub MayEnd : Directives → Type 0
 MayEnd s = s.wanted ≡ wanted.Inserts → ⊥
 
 abbrev pub AreTokensFrom : Directives → List ℕ → List Lexeme → Type 0
-AreTokensFrom s text ls = (ps : List Piece) × (t : Directives) × AreCut s text ps t [] × MayEnd t × (ls ≡ said ps)
+AreTokensFrom s text ls = (ps : List Piece) × (t : Directives) × AreCut s text ps t [] × MayEnd t × (ls ≡ piece_lexemes ps)
 
 -- the tokens of a text
 abbrev pub AreTokens : List ℕ → List Lexeme → Type 0
@@ -109,20 +105,13 @@ ArePlaced text ts = ArePlacedFrom start text ts
 
 -- ---- faults
 
--- if two insert characters are expected: the fault is at a quote, or after the first character
-abbrev pub pair_fault : List ℕ → ℕ → ScriptFault
-pair_fault [] place = fault.BadCharacter place
-pair_fault (c ∷ cs) place = if c == quote then fault.BadCharacter place else fault.BadCharacter (place + byte_length (c ∷ []))
-
-abbrev pub token_fault : List ℕ → ℕ → ScriptFault
-token_fault text place =
+-- the fault if there is no piece; if two insert characters are expected, it is at a quote, or after the first character
+abbrev pub fault_at : Wanted → List ℕ → ℕ → ScriptFault
+fault_at wanted.Inserts [] place = fault.BadCharacter place
+fault_at wanted.Inserts (c ∷ cs) place = if c == quote then fault.BadCharacter place else fault.BadCharacter (place + byte_length (c ∷ []))
+fault_at _ text place =
     if begins_with quote text then fault.UnclosedString place
     else (if begins_with slash text && begins_with star (drop 1 text) then fault.UnclosedComment place else fault.BadCharacter place)
-
--- the fault if there is no piece
-abbrev pub fault_at : Wanted → List ℕ → ℕ → ScriptFault
-fault_at wanted.Inserts text place = pair_fault text place
-fault_at _ text place = token_fault text place
 
 -- a number that is too large, a literal with a bad insertion, or a literal that gives no value to its macro
 abbrev pub IsRefused : Directives → Shape → List ℕ → ℕ → ScriptFault → Type 0
@@ -208,6 +197,10 @@ IsNext r t result = IsAnswer r.fault r t result
 
 -- ---- names for parts of these definitions, which only proofs use
 
+-- the number that the digits write, after digits that write n
+abbrev pub digits_value : ℕ → List ℕ → ℕ
+digits_value n text = fold (λ m c. m * 10 + (c - 48)) n text
+
 abbrev pub word_or_name : Option Word → List ℕ → Lexeme
 word_or_name o text = option_map_or word o (name text)
 
@@ -226,3 +219,9 @@ put_placed place x o ts =
 
 abbrev pub starts_star : List ℕ → Bool
 starts_star text = begins_with star text
+
+abbrev pub pair_fault : List ℕ → ℕ → ScriptFault
+pair_fault text place = fault_at wanted.Inserts text place
+
+abbrev pub token_fault : List ℕ → ℕ → ScriptFault
+token_fault text place = fault_at wanted.Token text place

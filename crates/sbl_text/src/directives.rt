@@ -49,8 +49,8 @@ impl<'a> Model for Directives<'a> {
     ghost view = { λ s. record { escapes = s.escapes; wanted = s.wanted; defining = option_map (λ d. record { name = chars d.name.now; coding = d.coding }) s.defining } };
 }
 
-fn recoded<'a>(defining: Option<Defining<'a>>, coding: Coding) -> Option<Defining<'a>>
-    ensures { option_map (λ d. record { name = chars d.name.now; coding = d.coding }) result ≡ spec.recoded (option_map (λ d. record { name = chars d.name.now; coding = d.coding }) defining.entry) coding }
+fn with_coding<'a>(defining: Option<Defining<'a>>, coding: Coding) -> Option<Defining<'a>>
+    ensures { option_map (λ d. record { name = chars d.name.now; coding = d.coding }) result ≡ spec.with_coding (option_map (λ d. record { name = chars d.name.now; coding = d.coding }) defining.entry) coding }
 {
     match defining {
         Some(
@@ -64,8 +64,13 @@ fn recoded<'a>(defining: Option<Defining<'a>>, coding: Coding) -> Option<Definin
 }
 
 /// Returns the characters that a literal writes.
-fn decoded(alloc: Global, coding: Coding, characters: &[char], place: usize) -> Characters
-    ensures { MatchResult result (λ v. spec.decoded coding characters.now ≡ Some v.items) (λ f. (f ≡ ScriptFault.OutOfMemory) ⊎ ((spec.decoded coding characters.now ≡ None) × (f ≡ ScriptFault.BadCode place))) }
+fn literal_characters(
+    alloc: Global,
+    coding: Coding,
+    characters: &[char],
+    place: usize,
+) -> Characters
+    ensures { MatchResult result (λ v. spec.literal_characters coding characters.now ≡ Some v.items) (λ f. (f ≡ ScriptFault.OutOfMemory) ⊎ ((spec.literal_characters coding characters.now ≡ None) × (f ≡ ScriptFault.BadCode place))) }
 {
     match coding {
         Coding::Plain => match Vec::from_slice(alloc, characters) {
@@ -84,9 +89,9 @@ fn decoded(alloc: Global, coding: Coding, characters: &[char], place: usize) -> 
 /// `OutOfMemory` if an allocation fails.
 #[tactic(auto, using(crate::proofs::Short::short_is_kept, crate::proofs::Short::long_is_refused, crate::proofs::Short::none_is_refused))]
 pub fn macro_value(alloc: Global, coding: Coding, characters: &[char], place: usize) -> Characters
-    ensures { MatchResult result (λ v. spec.coded coding characters.now ≡ Some v.items) (λ f. (f ≡ ScriptFault.OutOfMemory) ⊎ ((spec.coded coding characters.now ≡ None) × (f ≡ ScriptFault.BadCode place))) }
+    ensures { MatchResult result (λ v. spec.value_for_macro coding characters.now ≡ Some v.items) (λ f. (f ≡ ScriptFault.OutOfMemory) ⊎ ((spec.value_for_macro coding characters.now ≡ None) × (f ≡ ScriptFault.BadCode place))) }
 {
-    let value = decoded(alloc, coding, characters, place)?;
+    let value = literal_characters(alloc, coding, characters, place)?;
     if value.len() > MAX_MACRO {
         return Err(ScriptFault::BadCode { place });
     }
@@ -136,14 +141,14 @@ impl<'a> Directives<'a> {
     }
 
     /// Returns what may come next.
-    pub fn wanted(&self) -> Wanted
+    pub fn next_wanted(&self) -> Wanted
         ensures { result ≡ self.now.wanted }
     {
         self.wanted
     }
 
     fn settle(&mut self)
-        ensures { self.new ≡ spec.settled self.old.escapes }
+        ensures { self.new ≡ spec.no_directive self.old.escapes }
     {
         self.wanted = Wanted::Token;
         self.defining = None;
@@ -164,11 +169,11 @@ impl<'a> Directives<'a> {
             }
             Word::Hex => {
                 self.wanted = Wanted::Token;
-                self.defining = recoded(self.defining, Coding::Hex);
+                self.defining = with_coding(self.defining, Coding::Hex);
             }
             Word::Decimal => {
                 self.wanted = Wanted::Token;
-                self.defining = recoded(self.defining, Coding::Decimal);
+                self.defining = with_coding(self.defining, Coding::Decimal);
             }
             _ => self.settle(),
         }
@@ -176,7 +181,7 @@ impl<'a> Directives<'a> {
 
     /// Updates the state after two insert characters.
     pub fn after_inserts(&mut self, pair: (char, char))
-        ensures { self.new ≡ spec.settled (with_inserts self.old.escapes pair.0 pair.1) }
+        ensures { self.new ≡ spec.no_directive (with_inserts self.old.escapes pair.0 pair.1) }
     {
         self.escapes.set(pair.0, pair.1);
         self.settle();
@@ -202,7 +207,7 @@ impl<'a> Directives<'a> {
         characters: &[char],
         place: usize,
     ) -> Result<(), ScriptFault>
-        ensures { MatchResult result (λ _. (w : List ℕ) × (spec.value_for self.old.defining characters.now ≡ Some w) × (self.new ≡ spec.settled (spec.defined_by self.old.escapes self.old.defining characters.now))) (λ f. (self.new ≡ self.old) × ((f ≡ ScriptFault.OutOfMemory) ⊎ ((spec.value_for self.old.defining characters.now ≡ None) × (f ≡ ScriptFault.BadCode place)))) }
+        ensures { MatchResult result (λ _. (w : List ℕ) × (spec.value_for self.old.defining characters.now ≡ Some w) × (self.new ≡ spec.no_directive (spec.defined_by self.old.escapes self.old.defining characters.now))) (λ f. (self.new ≡ self.old) × ((f ≡ ScriptFault.OutOfMemory) ⊎ ((spec.value_for self.old.defining characters.now ≡ None) × (f ≡ ScriptFault.BadCode place)))) }
     {
         match self.defining {
             None => {

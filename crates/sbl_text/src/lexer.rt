@@ -43,7 +43,7 @@ fn cut_after<'a>(state: &Directives<'_>, from: &'a str) -> (&'a str, Option<(Sha
     ensures gaps { pieces.AfterGaps (setting_of state.now) (chars from.now) (chars result.0.now) }
     ensures next { MatchOption result.1 (pieces.NoPiece (setting_of state.now) (chars result.0.now)) (λ p. pieces.is_gap p.0 ≡ false × Piece_at (setting_of state.now) p.0 (chars result.0.now) (chars p.1.now)) }
 {
-    past_gaps(state.escapes().inserts(), state.wanted(), from)
+    past_gaps(state.escapes().inserts(), state.next_wanted(), from)
 }
 
 /// Returns the next token of `source` at or after `from`, and the text after it; `None` at the end of the text.
@@ -60,7 +60,7 @@ fn token_after<'a>(
     let start = place_of(source, at);
     match found {
         None => {
-            end_or_fault(state.wanted(), at, start)?;
+            end_or_fault(state.next_wanted(), at, start)?;
             Ok((None, at))
         }
         Some((shape, rest)) => {

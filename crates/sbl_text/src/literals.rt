@@ -70,7 +70,7 @@ fn insert(
     name: &[char],
     place: usize,
 ) -> Result<(), ScriptFault>
-    ensures { MatchResult result (λ _. (w : List ℕ) × (spec.inserted escapes.now name.now ≡ Ok w) × (value.new.items ≡ value.old.items ++ w)) (λ f. (f ≡ ScriptFault.OutOfMemory) ⊎ ((g : spec.Refusal) × (spec.inserted escapes.now name.now ≡ Err g) × (f ≡ g place))) }
+    ensures { MatchResult result (λ _. (w : List ℕ) × (spec.insertion_value escapes.now name.now ≡ Ok w) × (value.new.items ≡ value.old.items ++ w)) (λ f. (f ≡ ScriptFault.OutOfMemory) ⊎ ((g : spec.Refusal) × (spec.insertion_value escapes.now name.now ≡ Err g) × (f ≡ g place))) }
 {
     if is_blank(name) {
         return Ok(());

@@ -96,8 +96,7 @@ fn past_block(mut text: &str) -> Option<&str>
 }
 
 fn sign(text: &str) -> Option<(Shape, &str)>
-    ensures value { MatchOption result (spec.sign_cut (chars text.now) ≡ None) (λ p. spec.sign_cut (chars text.now) ≡ Some (p.0, chars p.1.now)) }
-    ensures within { IfSome result (λ p. length p.1.now < length text.now) }
+    ensures { spec.IsCut text.now (spec.sign_cut (chars text.now)) result }
 {
     match sign_front(text) {
         Some((_, rest)) => Some((Shape::Sign, rest)),
@@ -107,8 +106,7 @@ fn sign(text: &str) -> Option<(Shape, &str)>
 
 fn slash<'a>(text: &'a str, rest: &'a str) -> Option<(Shape, &'a str)>
     requires { length rest.now < length text.now }
-    ensures value { MatchOption result (spec.slash_cut (chars text.now) (chars rest.now) ≡ None) (λ p. spec.slash_cut (chars text.now) (chars rest.now) ≡ Some (p.0, chars p.1.now)) }
-    ensures within { IfSome result (λ p. length p.1.now < length text.now) }
+    ensures { spec.IsCut text.now (spec.slash_cut (chars text.now) (chars rest.now)) result }
 {
     match split_first(rest) {
         Some(('/', behind)) => Some((Shape::LineComment, past(CharKind::Line, behind))),
@@ -123,8 +121,7 @@ fn slash<'a>(text: &'a str, rest: &'a str) -> Option<(Shape, &'a str)>
 /// Returns the shape of the ordinary piece at the start of the text and the text after it, or `None` if there is none.
 #[tactic(auto, unfolding(crate::specs::Scan::cut))]
 pub fn cut(inserts: Option<Inserts>, text: &str) -> Option<(Shape, &str)>
-    ensures value { MatchOption result (spec.cut inserts (chars text.now) ≡ None) (λ p. spec.cut inserts (chars text.now) ≡ Some (p.0, chars p.1.now)) }
-    ensures within { IfSome result (λ p. length p.1.now < length text.now) }
+    ensures { spec.IsCut text.now (spec.cut inserts (chars text.now)) result }
 {
     let (c, rest) = split_first(text)?;
     match start_of(c) {
@@ -143,8 +140,7 @@ pub fn cut(inserts: Option<Inserts>, text: &str) -> Option<(Shape, &str)>
 /// Reads two insert characters or a white space character.
 #[tactic(auto, unfolding(crate::specs::Scan::pair_cut))]
 fn pair_cut(text: &str) -> Option<(Shape, &str)>
-    ensures value { MatchOption result (spec.pair_cut (chars text.now) ≡ None) (λ p. spec.pair_cut (chars text.now) ≡ Some (p.0, chars p.1.now)) }
-    ensures within { IfSome result (λ p. length p.1.now < length text.now) }
+    ensures { spec.IsCut text.now (spec.pair_cut (chars text.now)) result }
 {
     let (a, rest) = split_first(text)?;
     if is_in(CharKind::White, a) {
@@ -161,8 +157,7 @@ fn pair_cut(text: &str) -> Option<(Shape, &str)>
 /// Reads the name of a macro or a white space character.
 #[tactic(auto, unfolding(crate::specs::Scan::name_cut))]
 fn name_cut(text: &str) -> Option<(Shape, &str)>
-    ensures value { MatchOption result (spec.name_cut (chars text.now) ≡ None) (λ p. spec.name_cut (chars text.now) ≡ Some (p.0, chars p.1.now)) }
-    ensures within { IfSome result (λ p. length p.1.now < length text.now) }
+    ensures { spec.IsCut text.now (spec.name_cut (chars text.now)) result }
 {
     let (c, rest) = split_first(text)?;
     if is_in(CharKind::White, c) {
@@ -173,8 +168,7 @@ fn name_cut(text: &str) -> Option<(Shape, &str)>
 }
 
 fn cut_in(inserts: Option<Inserts>, wanted: Wanted, text: &str) -> Option<(Shape, &str)>
-    ensures value { MatchOption result (spec.cut_in inserts wanted (chars text.now) ≡ None) (λ p. spec.cut_in inserts wanted (chars text.now) ≡ Some (p.0, chars p.1.now)) }
-    ensures within { IfSome result (λ p. length p.1.now < length text.now) }
+    ensures { spec.IsCut text.now (spec.cut_in inserts wanted (chars text.now)) result }
 {
     match wanted {
         Wanted::Token => cut(inserts, text),

@@ -118,41 +118,29 @@ fn one(a: char) -> Option<Sign>
     }
 }
 
-fn with_equals(a: char) -> Option<Sign>
-    ensures { result ≡ spec.with_equals a }
-{
-    match a {
-        '=' => Some(Sign::Same),
-        '!' => Some(Sign::Differs),
-        '<' => Some(Sign::AtMost),
-        '>' => Some(Sign::AtLeast),
-        '+' => Some(Sign::PlusEquals),
-        '-' => Some(Sign::MinusEquals),
-        '*' => Some(Sign::StarEquals),
-        '/' => Some(Sign::SlashEquals),
-        _ => None,
-    }
-}
-
 fn two(a: char, b: char) -> Option<Sign>
     ensures { result ≡ spec.two a b }
 {
-    if b == '=' {
-        with_equals(a)
-    } else if a == '<' {
-        match b {
-            '-' => Some(Sign::LessMinus),
-            '+' => Some(Sign::LessPlus),
+    match b {
+        '=' => match a {
+            '=' => Some(Sign::Same),
+            '!' => Some(Sign::Differs),
+            '<' => Some(Sign::AtMost),
+            '>' => Some(Sign::AtLeast),
+            '+' => Some(Sign::PlusEquals),
+            '-' => Some(Sign::MinusEquals),
+            '*' => Some(Sign::StarEquals),
+            '/' => Some(Sign::SlashEquals),
             _ => None,
-        }
-    } else if b == '>' {
-        match a {
+        },
+        '>' => match a {
             '-' => Some(Sign::Arrow),
             '=' => Some(Sign::EqualsGreater),
             _ => None,
-        }
-    } else {
-        None
+        },
+        '-' if a == '<' => Some(Sign::LessMinus),
+        '+' if a == '<' => Some(Sign::LessPlus),
+        _ => None,
     }
 }
 

@@ -3,8 +3,8 @@ use Rattle.std.proofs.Common.{◌≡◌, ◌∙◌, ◌&&◌, ◌||◌, ℕ, Boo
 use Rattle.std.specs.Prelude.{if◌then◌else◌}
 use Rattle.std.specs.List.{list_any}
 use Rattle.std.specs.Str.{bytes_eq}
-use Rattle.sbl_machine.specs.BuiltFrom.{affected, and_built, any_names, built_behind, built_from, built_on, names}
-use Rattle.sbl_semantics.specs.Touched.{Item', Routine, Among, Grouping, same_item}
+use Rattle.sbl_machine.specs.BuiltFrom.{is_affected_by, and_built, any_names, built_behind, built_from, built_on, names}
+use Rattle.sbl_semantics.specs.TouchedItems.{Item', Routine, Among, Grouping, same_item}
 use Rattle.sbl_semantics.specs.Items.{is_among}
 use Rattle.sbl_ast.specs.Source.{Source}
 use Rattle.sbl_ast.specs.Order.{ItemInMode, in_order}
@@ -152,12 +152,12 @@ among_any : (ns : List (List ℕ)) (n : List ℕ) → is_among ns n ≡ list_any
 among_any [] n = refl
 among_any (k ∷ ns) n = if_or (bytes_eq k n) (is_among ns n) ∙ ap (λ (b : Bool). bytes_eq k n || b) (among_any ns n)
 
-affects_one : (s : Source) (m : List ℕ) (u : Item') → affected s (Grouping m) u ≡ list_any (λ k. same_item (Grouping k) u) (built_from m s)
+affects_one : (s : Source) (m : List ℕ) (u : Item') → is_affected_by s (Grouping m) u ≡ list_any (λ k. same_item (Grouping k) u) (built_from m s)
 affects_one s m (Routine n) = sym (none_of (built_from m s))
 affects_one s m (Among n k) = sym (none_of (built_from m s))
 affects_one s m (Grouping n) = among_any (built_from m s) n
 
-affects_is : (s : Source) (m : List ℕ) (us : List Item') → list_any (affected s (Grouping m)) us ≡ list_any (λ k. list_any (same_item (Grouping k)) us) (built_from m s)
+affects_is : (s : Source) (m : List ℕ) (us : List Item') → list_any (is_affected_by s (Grouping m)) us ≡ list_any (λ k. list_any (same_item (Grouping k)) us) (built_from m s)
 affects_is s m [] = sym (none_of (built_from m s))
 affects_is s m (u ∷ us) =
     ap₂ (λ (b c : Bool). b || c) (affects_one s m u) (affects_is s m us)
@@ -167,7 +167,7 @@ or_false : (b : Bool) → (b || false) ≡ b
 or_false true = refl
 or_false false = refl
 
-pub reached_is : (us : List Item') (s : Source) (x : Item') → reached us (in_order s.items) x ≡ list_any (affected s x) us
+pub reached_is : (us : List Item') (s : Source) (x : Item') → reached us (in_order s.items) x ≡ list_any (is_affected_by s x) us
 reached_is us s (Routine n) = routine_is us (in_order s.items) n
 reached_is us s (Among n k) = among_is us (in_order s.items) n k
 reached_is us s (Grouping m) =

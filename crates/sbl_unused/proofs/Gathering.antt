@@ -5,14 +5,14 @@ use Rattle.sbl_amongs.specs.Amongs.{Held, amongs, amongs_of_body, amongs_of_grou
 use Rattle.sbl_ast.specs.Tree.{Command, bracket, simple_, literal_, name_, non_, prefixed, counted, move_, named, splice_, setlimit_, assign_, compare_, compare_values_, among_, Rows, no_rows, row, Others, no_others, joined, Starter, no_starter, starter, Groups, bare, group}
 use Rattle.sbl_ast.specs.View.{RowView}
 use Rattle.sbl_unused.specs.Parts.{groups_held}
-use Rattle.sbl_unused.specs.Gathered.{gathered, gathered_groups, gathered_others, gathered_rows, gathered_starter}
+use Rattle.sbl_unused.specs.GatheredGroups.{gathered_command, gathered_groups, gathered_others, gathered_rows, gathered_starter}
 
 mutual
-  in_command : (c : Command) (d : ℕ) (sofar : List Groups) (rest : List Held) → gathered c sofar ++ groups_held rest ≡ sofar ++ groups_held (amongs c d rest)
+  in_command : (c : Command) (d : ℕ) (sofar : List Groups) (rest : List Held) → gathered_command c sofar ++ groups_held rest ≡ sofar ++ groups_held (amongs c d rest)
   in_command (bracket rs) d sofar rest = in_rows rs (d + 1) sofar rest
   in_command (prefixed p c) d sofar rest = in_command c (d + 1) sofar rest
   in_command (counted n e c) d sofar rest = in_command c (d + 1) sofar rest
-  in_command (setlimit_ b c) d sofar rest = in_command c (d + 1) (gathered b sofar) rest ∙ in_command b (d + 1) sofar (amongs c (d + 1) rest)
+  in_command (setlimit_ b c) d sofar rest = in_command c (d + 1) (gathered_command b sofar) rest ∙ in_command b (d + 1) sofar (amongs c (d + 1) rest)
   in_command (among_ s gs) d sofar rest =
       in_groups gs d (gathered_starter s (sofar ++ gs ∷ [])) rest
       ∙ in_starter s d (sofar ++ gs ∷ []) (amongs_of_groups gs d rest)
@@ -31,13 +31,13 @@ mutual
   in_rows : (rs : Rows) (d : ℕ) (sofar : List Groups) (rest : List Held) → gathered_rows rs sofar ++ groups_held rest ≡ sofar ++ groups_held (amongs_of_rows rs d rest)
   in_rows no_rows d sofar rest = refl
   in_rows (row c os rs) d sofar rest =
-      in_rows rs d (gathered_others os (gathered c sofar)) rest
-      ∙ in_others os d (gathered c sofar) (amongs_of_rows rs d rest)
+      in_rows rs d (gathered_others os (gathered_command c sofar)) rest
+      ∙ in_others os d (gathered_command c sofar) (amongs_of_rows rs d rest)
       ∙ in_command c d sofar (amongs_of_others os d (amongs_of_rows rs d rest))
 
   in_others : (os : Others) (d : ℕ) (sofar : List Groups) (rest : List Held) → gathered_others os sofar ++ groups_held rest ≡ sofar ++ groups_held (amongs_of_others os d rest)
   in_others no_others d sofar rest = refl
-  in_others (joined j c os) d sofar rest = in_others os d (gathered c sofar) rest ∙ in_command c d sofar (amongs_of_others os d rest)
+  in_others (joined j c os) d sofar rest = in_others os d (gathered_command c sofar) rest ∙ in_command c d sofar (amongs_of_others os d rest)
 
   in_starter : (s : Starter) (d : ℕ) (sofar : List Groups) (rest : List Held) → gathered_starter s sofar ++ groups_held rest ≡ sofar ++ groups_held (amongs_of_starter s d rest)
   in_starter no_starter d sofar rest = refl
@@ -47,8 +47,8 @@ mutual
   in_groups (bare es) d sofar rest = refl
   in_groups (group e es rs gs) d sofar rest = in_groups gs d (gathered_rows rs sofar) rest ∙ in_rows rs (d + 1 + 1) sofar (amongs_of_groups gs d rest)
 
-pub gathered_body : (b : RowView) → gathered_others b.1 (gathered b.0 []) ≡ groups_held (amongs_of_body b)
+pub gathered_body : (b : RowView) → gathered_others b.1 (gathered_command b.0 []) ≡ groups_held (amongs_of_body b)
 gathered_body b =
-    sym (append-nil (gathered_others b.1 (gathered b.0 [])))
-    ∙ in_others b.1 1 (gathered b.0 []) []
+    sym (append-nil (gathered_others b.1 (gathered_command b.0 [])))
+    ∙ in_others b.1 1 (gathered_command b.0 []) []
     ∙ in_command b.0 1 [] (amongs_of_others b.1 1 [])

@@ -6,7 +6,7 @@ use Rattle.std.specs.Global.{Vec}
 use Rattle.std.specs.Ordering.{match_ordering}
 use Rattle.std.specs.declared.cmp.Ordering.{Ordering}
 use Rattle.std.specs.declared.cmp.Ordering.TheVariants.{Less, Equal, Greater}
-use Rattle.sbl_semantics.specs.Touched.{item_cmp, item_of}
+use Rattle.sbl_semantics.specs.TouchedItems.{item_cmp, item_of}
 use Rattle.sbl_semantics.specs.contracts.item.ItemOrd.TheImpl.{cmp-value}
 use Rattle.sbl_semantics.specs.declared.item.Item.{Item}
 use Rattle.sbl_unused.proofs.Sets.{same_order}

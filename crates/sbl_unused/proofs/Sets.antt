@@ -13,7 +13,7 @@ use Rattle.std.proofs.lemmas.Map.Text.{is_eq-slice_cmp}
 use Rattle.sbl_bench.proofs.PairFacts.{then_eq}
 use Rattle.sbl_machine.proofs.Order.{inserted}
 use Rattle.sbl_machine.proofs.TouchedOrder.{item_exact}
-use Rattle.sbl_semantics.specs.Touched.{Item', Routine, Among, Grouping, item_cmp, item_of, same_item}
+use Rattle.sbl_semantics.specs.TouchedItems.{Item', Routine, Among, Grouping, item_cmp, item_of, same_item}
 use Rattle.sbl_semantics.specs.contracts.item.ItemOrd.TheImpl.{cmp-value}
 use Rattle.sbl_semantics.specs.declared.item.Item.{Item}
 use Rattle.sbl_semantics.specs.declared.item.Item.TheVariants as code

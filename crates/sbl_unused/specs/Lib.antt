@@ -2,5 +2,5 @@
 pub mod Parts
 pub mod Unused
 -- definitions that functions inside the crate promise each other
-pub mod Gathered
+pub mod GatheredGroups
 pub mod Views

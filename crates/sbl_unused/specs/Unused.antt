@@ -4,7 +4,7 @@ use Rattle.std.specs.List.{flat_map, list_any}
 use Rattle.std.specs.Str.{bytes_eq, encode_utf8_all}
 use Rattle.sbl_bench.specs.Setting.{Setting}
 use Rattle.sbl_machine.specs.BuiltFrom.{meets}
-use Rattle.sbl_semantics.specs.Touched.{Item', Routine, Among, Grouping, same_item}
+use Rattle.sbl_semantics.specs.TouchedItems.{Item', Routine, Among, Grouping, same_item}
 use Rattle.sbl_semantics.specs.Outcome.{events_of}
 use Rattle.sbl_io.specs.Records.{records_text}
 use Rattle.sbl_semantics.specs.Events.{Event', Finds}

@@ -5,7 +5,7 @@ ghost use Rattle.sbl_amongs.specs.Amongs.{amongs_of_body};
 ghost use Rattle.sbl_ast.specs.Tree as trees;
 ghost use Rattle.sbl_ast.specs.View.{view_among, view_command, view_entry, view_groups, view_others, view_row, view_rows};
 ghost use Rattle.sbl_unused.specs.Parts.{groups_held, string_of, strings_of};
-ghost use Rattle.sbl_unused.specs.Gathered.{gathered, gathered_groups, gathered_others, gathered_rows};
+ghost use Rattle.sbl_unused.specs.GatheredGroups.{gathered_command, gathered_groups, gathered_others, gathered_rows};
 ghost use Rattle.sbl_unused.specs.Views.{texts_of, view_amongs};
 
 use sbl_ast::{Among, Command, Entry, Group, Joined, RowOfCommands};
@@ -14,7 +14,7 @@ use std::alloc::{AllocError, Global};
 /// Appends the amongs of a command. Returns `AllocError` if an allocation fails.
 #[cycle(list)]
 fn add_command<'a>(command: &'a Command, all: &mut Vec<&'a Among>) -> Result<(), AllocError>
-    ensures { OnOk result (view_amongs all.new.items ≡ gathered (view_command command.now) (view_amongs all.old.items)) }
+    ensures { OnOk result (view_amongs all.new.items ≡ gathered_command (view_command command.now) (view_amongs all.old.items)) }
 {
     match command {
         Command::Bracket(rows) => add_rows(rows, all),
@@ -32,7 +32,7 @@ fn add_command<'a>(command: &'a Command, all: &mut Vec<&'a Among>) -> Result<(),
 /// An among comes before those in its starter, and these come before those in its groups.
 #[cycle(list)]
 fn add_among<'a>(among: &'a Among, all: &mut Vec<&'a Among>) -> Result<(), AllocError>
-    ensures { OnOk result (view_amongs all.new.items ≡ gathered (trees.among_ (view_among among.now).0 (view_among among.now).1) (view_amongs all.old.items)) }
+    ensures { OnOk result (view_amongs all.new.items ≡ gathered_command (trees.among_ (view_among among.now).0 (view_among among.now).1) (view_amongs all.old.items)) }
 {
     push_among(among, all)?;
     if let Some(rows) = &among.starter {
@@ -63,7 +63,7 @@ fn add_rows<'a>(rows: &'a Vec<RowOfCommands>, all: &mut Vec<&'a Among>) -> Resul
 
 #[cycle(list)]
 fn add_row<'a>(row: &'a RowOfCommands, all: &mut Vec<&'a Among>) -> Result<(), AllocError>
-    ensures { OnOk result (view_amongs all.new.items ≡ gathered_others (view_row row.now).1 (gathered (view_row row.now).0 (view_amongs all.old.items))) }
+    ensures { OnOk result (view_amongs all.new.items ≡ gathered_others (view_row row.now).1 (gathered_command (view_row row.now).0 (view_amongs all.old.items))) }
 {
     add_command(&row.first, all)?;
     add_others(&row.others, all)

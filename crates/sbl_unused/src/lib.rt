@@ -5,7 +5,7 @@ mod amongs;
 mod parts;
 mod takes;
 mod text;
-mod touched;
+mod touched_items;
 mod words;
 
 pub use text::unused_text;

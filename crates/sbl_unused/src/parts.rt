@@ -2,8 +2,8 @@
 
 ghost use Rattle.std.specs.Prelude.{◌≡◌, [], OnOk, IfOk};
 ghost use Rattle.std.specs.BTreeMap.{insert_entry};
-ghost use Rattle.sbl_semantics.specs.Touched.{item_cmp, item_of};
-ghost use Rattle.sbl_script.specs.Parsed.{source_of};
+ghost use Rattle.sbl_semantics.specs.TouchedItems.{item_cmp, item_of};
+ghost use Rattle.sbl_script.specs.ParsedScript.{source_of};
 ghost use Rattle.sbl_ast.specs.View.{view_plain};
 ghost use Rattle.sbl_unused.specs.Parts as spec;
 ghost use Rattle.sbl_unused.specs.Views.{texts_of, view_amongs, view_parts};

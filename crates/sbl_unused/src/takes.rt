@@ -2,8 +2,8 @@
 
 ghost use Rattle.std.specs.Prelude.{◌≡◌, ◌||◌, Bool, List, ℕ, map, OnOk, IfOk};
 ghost use Rattle.std.specs.List.{list_any};
-ghost use Rattle.sbl_bench.specs.Kept.{setting_of};
-ghost use Rattle.sbl_semantics.specs.Touched.{item_of};
+ghost use Rattle.sbl_bench.specs.KeptRuns.{setting_of};
+ghost use Rattle.sbl_semantics.specs.TouchedItems.{item_of};
 ghost use Rattle.sbl_semantics.specs.Events.{event_of};
 ghost use Rattle.sbl_unused.specs.Unused.{Take, same_take, takes_at, takes_from, takes_of};
 ghost use Rattle.sbl_unused.specs.Views.{HasTaken, takes_in, texts_of};
@@ -100,7 +100,7 @@ pub(crate) fn takes_by_words(
 }
 
 /// Returns a copy of an item. Returns `AllocError` if an allocation fails.
-fn copied(alloc: Global, item: &Item) -> Result<Item, AllocError>
+fn item_copy(alloc: Global, item: &Item) -> Result<Item, AllocError>
     ensures { IfOk result (λ copy. item_of copy ≡ item_of item.now) }
 {
     match item {
@@ -120,6 +120,6 @@ pub(crate) fn has_take(
 ) -> Result<bool, AllocError>
     ensures { IfOk result (λ b. b ≡ list_any (same_take (item_of among.now, string.now)) (takes_in takes.now)) }
 {
-    let key = (copied(alloc, among)?, Vec::from_slice(alloc, string)?);
+    let key = (item_copy(alloc, among)?, Vec::from_slice(alloc, string)?);
     Ok(takes.contains(&key))
 }

@@ -3,16 +3,16 @@
 ghost use Rattle.std.specs.Prelude.{◌≡◌, ◌++◌, [], ℕ, List, OnOk, IfOk};
 ghost use Rattle.std.specs.List.{flat_map};
 ghost use Rattle.csv.specs.Records.{fields_of, partial_of};
-ghost use Rattle.sbl_bench.specs.Kept.{setting_of};
+ghost use Rattle.sbl_bench.specs.KeptRuns.{setting_of};
 ghost use Rattle.sbl_bench.specs.Setting.{Setting};
-ghost use Rattle.sbl_semantics.specs.Touched.{item_of};
+ghost use Rattle.sbl_semantics.specs.TouchedItems.{item_of};
 ghost use Rattle.sbl_io.specs.Records.{record_line, records_text};
 ghost use Rattle.sbl_unused.specs.Unused as spec;
 ghost use Rattle.sbl_unused.specs.Views.{HasMet, HasTaken, texts_of, view_parts};
 
 use crate::parts::{Parts, parts_of};
 use crate::takes::{Takes, has_take, takes_by_words};
-use crate::touched::{has_item, met_by_words};
+use crate::touched_items::{has_item, met_by_words};
 use crate::words::words_of;
 use csv::ByteRecord;
 use sbl_bench::Bench;

@@ -10,14 +10,14 @@ use Rattle.sbl_ast.specs.Tree.{bracket, simple_, literal_, name_, non_, prefixed
 use Rattle.sbl_ast.specs.declared.mode.Mode.{Mode}
 use Rattle.sbl_ast.specs.declared.mode.Mode.TheVariants.{Forward, Backward}
 use Rattle.sbl_semantics.specs.Items.{Known, Body, place_of, is_among}
-use Rattle.sbl_semantics.specs.Regions.{Among, among_at, behind, behind_rows, behind_others, behind_starter, first, first_rows, first_others, mode_behind, waits, waits_others}
+use Rattle.sbl_semantics.specs.Regions.{Among, among_at, number_after, number_after_rows, number_after_others, number_after_starter, first, first_rows, first_others, mode_under, waits, waits_others}
 use Rattle.sbl_semantics.specs.Moves.{touch_grouping}
-use Rattle.sbl_semantics.specs.Numbers.{Value, with_value, integer_at, fitted}
-use Rattle.sbl_semantics.specs.Control.{chosen, paid}
+use Rattle.sbl_semantics.specs.Numbers.{Value, with_value, integer_at, value_in_range}
+use Rattle.sbl_semantics.specs.Control.{with_group, pay_first}
 use Rattle.sbl_semantics.specs.Choices.{choice}
 use Rattle.sbl_semantics.specs.State.{State, Ending, Signals, Doing}
 use Rattle.sbl_semantics.specs.Meaning as meaning
-use Rattle.sbl_semantics.specs.Meaning.{Offer, prefixed_does, counted_does, joined_does, limited_does, simple_does, moved_does, assigned_does, compared_does, named_does, edited_does, begins, takes, tried, search}
+use Rattle.sbl_semantics.specs.Meaning.{Offer, prefixed_does, counted_does, joined_does, limited_does, simple_does, moved_does, assigned_does, compared_does, named_does, edited_does, begins, takes, try_each, search}
 use Rattle.sbl_ast.specs.declared.tree.Constant.{Constant}
 use Rattle.sbl_ast.specs.declared.tree.Constant.TheVariants as constants
 use Rattle.sbl_why.specs.RoutineAmongs.{HasAmong, IsIn, IsInGroups, IsInOthers, IsInRows, IsInStarter}
@@ -45,26 +45,26 @@ constant_at ns constants.Len m k s = refl
 module _ (ns : Known) (m : Mode) (k : ℕ) (s : State) where
   mutual
     pub worth_at : (e : trees.Expression) → meaning.worth ns e m (at k s) ≡ meaning.worth ns e m s
-    worth_at (trees.expression p ss) = ap (λ v. meaning.summed ns ss v m (at k s)) (product_at p) ∙ sums_at ss (meaning.product_worth ns p m s)
+    worth_at (trees.expression p ss) = ap (λ v. meaning.value_of_sums ns ss v m (at k s)) (product_at p) ∙ sums_at ss (meaning.product_worth ns p m s)
 
-    sums_at : (ss : trees.Sums) (v : Value) → meaning.summed ns ss v m (at k s) ≡ meaning.summed ns ss v m s
+    sums_at : (ss : trees.Sums) (v : Value) → meaning.value_of_sums ns ss v m (at k s) ≡ meaning.value_of_sums ns ss v m s
     sums_at trees.no_sums v = refl
-    sums_at (trees.sum o p ss) v = ap (λ w. meaning.summed ns ss (meaning.added ns o v w) m (at k s)) (product_at p) ∙ sums_at ss (meaning.added ns o v (meaning.product_worth ns p m s))
+    sums_at (trees.sum o p ss) v = ap (λ w. meaning.value_of_sums ns ss (meaning.value_of_sum ns o v w) m (at k s)) (product_at p) ∙ sums_at ss (meaning.value_of_sum ns o v (meaning.product_worth ns p m s))
 
     product_at : (p : trees.Product) → meaning.product_worth ns p m (at k s) ≡ meaning.product_worth ns p m s
-    product_at (trees.product f ss) = ap (λ v. meaning.multiplied ns ss v m (at k s)) (factor_at f) ∙ scales_at ss (meaning.factor_worth ns f m s)
+    product_at (trees.product f ss) = ap (λ v. meaning.value_of_products ns ss v m (at k s)) (factor_at f) ∙ scales_at ss (meaning.factor_worth ns f m s)
 
-    scales_at : (ss : trees.Scales) (v : Value) → meaning.multiplied ns ss v m (at k s) ≡ meaning.multiplied ns ss v m s
+    scales_at : (ss : trees.Scales) (v : Value) → meaning.value_of_products ns ss v m (at k s) ≡ meaning.value_of_products ns ss v m s
     scales_at trees.no_scales v = refl
-    scales_at (trees.scale o f ss) v = ap (λ w. meaning.multiplied ns ss (meaning.scaled ns o v w) m (at k s)) (factor_at f) ∙ scales_at ss (meaning.scaled ns o v (meaning.factor_worth ns f m s))
+    scales_at (trees.scale o f ss) v = ap (λ w. meaning.value_of_products ns ss (meaning.value_of_product ns o v w) m (at k s)) (factor_at f) ∙ scales_at ss (meaning.value_of_product ns o v (meaning.factor_worth ns f m s))
 
     factor_at : (f : trees.Factor) → meaning.factor_worth ns f m (at k s) ≡ meaning.factor_worth ns f m s
-    factor_at (trees.negated f) = ap (λ v. with_value v (λ x. fitted (neg_ℤ x))) (factor_at f)
+    factor_at (trees.negated f) = ap (λ v. with_value v (λ x. value_in_range (neg_ℤ x))) (factor_at f)
     factor_at (trees.bracketed e) = worth_at e
     factor_at (trees.numeral i) = refl
     factor_at (trees.variable x) = refl
     factor_at (trees.fixed c) = constant_at ns c m k s
-    factor_at (trees.length_of a) = ap (λ cs. fitted (ℤ.pos (length cs))) (text_at ns a k s)
+    factor_at (trees.length_of a) = ap (λ cs. value_in_range (ℤ.pos (length cs))) (text_at ns a k s)
 
 module _ (ns : Known) (class : List ℕ → ℕ → Bool) (bodies : List ℕ → Option Body) where
   module _ (call : List ℕ → Doing) (r : ℕ) (calls : CallsAre ns bodies r call) where
@@ -78,17 +78,17 @@ module _ (ns : Known) (class : List ℕ → ℕ → Bool) (bodies : List ℕ →
     call_good : (x : List ℕ) → GoodDoing (call x)
     call_good x m s = forget ns bodies r (Called ns bodies r x s) (Unended ns bodies r) s (λ n. call x m (at n s)) s.steps (calls x m s)
 
-    search_good : (a : Among) → Has a → GoodDoing (paid (search call a))
+    search_good : (a : Among) → Has a → GoodDoing (pay_first (search call a))
     search_good a p m s = search_paid ns bodies r call calls a m s (λ e. subst (λ i. HasAmong ns bodies i a) (sym e) p) s.steps
 
-    pays : (d : Doing) → GoodDoing d → GoodDoing (paid d)
+    pays : (d : Doing) → GoodDoing d → GoodDoing (pay_first d)
     pays d i = paid_good ns bodies r d i
 
-    ahead_good : (n : Option Among) → ((a : Among) → n ≡ Some a → Has a) → GoodDoing (paid (meaning.search_ahead ns class call n))
+    ahead_good : (n : Option Among) → ((a : Among) → n ≡ Some a → Has a) → GoodDoing (pay_first (meaning.search_ahead ns class call n))
     ahead_good None q = pays (meaning.search_ahead ns class call None) (λ m s. still ns bodies r s s false refl refl refl)
     ahead_good (Some a) q = search_good a (q a refl)
 
-    simple_paid : (n : Option Among) → ((a : Among) → n ≡ Some a → Has a) → (y : Simple) → GoodDoing (paid (simple_does (meaning.search_ahead ns class call n) y))
+    simple_paid : (n : Option Among) → ((a : Among) → n ≡ Some a → Has a) → (y : Simple) → GoodDoing (pay_first (simple_does (meaning.search_ahead ns class call n) y))
     simple_paid n q simples.Substring = ahead_good n q
     simple_paid n q simples.LeftBracket = pays _ (simple_good ns bodies r (meaning.search_ahead ns class call n) simples.LeftBracket tt)
     simple_paid n q simples.RightBracket = pays _ (simple_good ns bodies r (meaning.search_ahead ns class call n) simples.RightBracket tt)
@@ -123,30 +123,30 @@ module _ (ns : Known) (class : List ℕ → ℕ → Bool) (bodies : List ℕ →
     does = meaning.act ns class call
 
     mutual
-      pub act_paid : (t : trees.Command) (w : Mode) (i : ℕ) (v : Bool) (x : Option Among) → ((a : Among) → IsIn a w i t → Has a) → ((a : Among) → x ≡ Some a → Has a) → GoodDoing (paid (does w i v x t))
+      pub act_paid : (t : trees.Command) (w : Mode) (i : ℕ) (v : Bool) (x : Option Among) → ((a : Among) → IsIn a w i t → Has a) → ((a : Among) → x ≡ Some a → Has a) → GoodDoing (pay_first (does w i v x t))
       act_paid (bracket rs) w i v x p q = pays (does w i v x (bracket rs)) (rows_good rs w i v x p q)
       act_paid (simple_ y) w i v x p q = simple_paid x q y
       act_paid (literal_ z) w i v x p q = pays (does w i v x (literal_ z)) (λ m s. match_good ns bodies r z.value m s)
       act_paid (name_ y) w i v x p q = pays (does w i v x (name_ y)) (name_good y)
       act_paid (non_ b y) w i v x p q = pays (does w i v x (non_ b y)) (λ m s. class_good ns bodies r false (class y) m (touch_grouping (place_of (ns kinds.Groupings) y) s))
       act_paid (prefixed y c) w i v x p q =
-          let d = does (mode_behind y w) i v x c in
-          let h : GoodDoing (paid d) = act_paid c (mode_behind y w) i v x p q in
-          pays (does w i v x (prefixed y c)) (prefixed_good ns bodies r y (paid d) h (paid_pays ns bodies r d h))
+          let d = does (mode_under y w) i v x c in
+          let h : GoodDoing (pay_first d) = act_paid c (mode_under y w) i v x p q in
+          pays (does w i v x (prefixed y c)) (prefixed_good ns bodies r y (pay_first d) h (paid_pays ns bodies r d h))
       act_paid (counted y e c) w i v x p q =
           let d = does w i v x c in
-          let h : GoodDoing (paid d) = act_paid c w i v x p q in
+          let h : GoodDoing (pay_first d) = act_paid c w i v x p q in
           pays (does w i v x (counted y e c))
-          (λ m s. by_value s (λ z. counted_does y z (paid d) m) (meaning.worth ns e m s) (λ n. meaning.worth ns e m (at n s)) (λ n. worth_at ns m n s e) (counted_good ns bodies r y (meaning.worth ns e m s) (paid d) h (paid_pays ns bodies r d h) m s))
+          (λ m s. by_value s (λ z. counted_does y z (pay_first d) m) (meaning.worth ns e m s) (λ n. meaning.worth ns e m (at n s)) (λ n. worth_at ns m n s e) (counted_good ns bodies r y (meaning.worth ns e m s) (pay_first d) h (paid_pays ns bodies r d h) m s))
       act_paid (move_ y e) w i v x p q =
           pays (does w i v x (move_ y e)) (λ m s. by_value s (λ z. moved_does y z m) (meaning.worth ns e m s) (λ n. meaning.worth ns e m (at n s)) (λ n. worth_at ns m n s e) (moved_good ns bodies r y (meaning.worth ns e m s) m s))
       act_paid (named y z) w i v x p q = pays (does w i v x (named y z)) (λ m s. named_good ns bodies r y z m s)
       act_paid (splice_ y z) w i v x p q = pays (does w i v x (splice_ y z)) (λ m s. spliced y z m s)
       act_paid (setlimit_ b c) w i v x p q =
-          let d = does w i v (first w c (behind b i) x) b in
-          let e = does w (behind b i) (waits b v) x c in
+          let d = does w i v (first w c (number_after b i) x) b in
+          let e = does w (number_after b i) (waits b v) x c in
           pays (does w i v x (setlimit_ b c))
-          (limited_good ns bodies r (paid d) (paid e) (act_paid b w i v (first w c (behind b i) x) (λ a j. p a (inl j)) (first_is Has c w (behind b i) x (λ a j. p a (inr j)) q)) (act_paid c w (behind b i) (waits b v) x (λ a j. p a (inr j)) q))
+          (limited_good ns bodies r (pay_first d) (pay_first e) (act_paid b w i v (first w c (number_after b i) x) (λ a j. p a (inl j)) (first_is Has c w (number_after b i) x (λ a j. p a (inr j)) q)) (act_paid c w (number_after b i) (waits b v) x (λ a j. p a (inr j)) q))
       act_paid (assign_ y o e) w i v x p q =
           pays (does w i v x (assign_ y o e))
           (λ m s. by_value s (λ z. assigned_does (place_of (ns kinds.Integers) y) o z) (meaning.worth ns e m s) (λ n. meaning.worth ns e m (at n s)) (λ n. worth_at ns m n s e) (assigned_good ns bodies r (place_of (ns kinds.Integers) y) o (meaning.worth ns e m s) s))
@@ -167,30 +167,30 @@ module _ (ns : Known) (class : List ℕ → ℕ → Bool) (bodies : List ℕ →
           let starts = meaning.starter_does ns class call w (suc i) st in
           pays (does w i v x (among_ st gs))
           (λ m s.
-          after_part ns bodies r s (λ n. begins v (search call a) starts m (at n s)) s.steps (λ t. chosen (choice i t) t (λ g. meaning.group_does ns class call w (behind_starter st (suc i)) gs g m t)) (Signals false)
+          after_part ns bodies r s (λ n. begins v (search call a) starts m (at n s)) s.steps (λ t. with_group (choice i t) t (λ g. meaning.group_does ns class call w (number_after_starter st (suc i)) gs g m t)) (Signals false)
           (begins_good ns bodies r v (search call a) starts (search_good a (p a (inl refl))) (starter_good st w (suc i) (λ y j. p y (inr (inl j)))) m s)
-          (chosen_good ns bodies r i (λ g t. meaning.group_does ns class call w (behind_starter st (suc i)) gs g m t) (λ g. groups_good gs w (behind_starter st (suc i)) g (λ y j. p y (inr (inr j))) m))
+          (chosen_good ns bodies r i (λ g t. meaning.group_does ns class call w (number_after_starter st (suc i)) gs g m t) (λ g. groups_good gs w (number_after_starter st (suc i)) g (λ y j. p y (inr (inr j))) m))
           (signals_good ns bodies r false))
 
       rows_good : (rs : trees.Rows) (w : Mode) (i : ℕ) (v : Bool) (x : Option Among) → ((a : Among) → IsInRows a w i rs → Has a) → ((a : Among) → x ≡ Some a → Has a) → GoodDoing (meaning.rows_do ns class call w i v x rs)
       rows_good no_rows w i v x p q m s = still ns bodies r s s true refl refl refl
       rows_good (row c os rs) w i v x p q m s =
-          let x2 = first_rows w rs (behind_others os (behind c i)) x in
-          let x1 = first_others w os (behind c i) x2 in
-          let q2 : (a : Among) → x2 ≡ Some a → Has a = rows_are Has rs w (behind_others os (behind c i)) x (λ a j. p a (inr (inr j))) q in
-          let q1 : (a : Among) → x1 ≡ Some a → Has a = others_are Has os w (behind c i) x2 (λ a j. p a (inr (inl j))) q2 in
-          let d = meaning.others_do ns class call w (behind c i) (waits c v) x2 os (does w i v x1 c) in
-          after_part ns bodies r s (λ n. paid d m (at n s)) s.steps (meaning.rows_do ns class call w (behind_others os (behind c i)) (waits_others os (waits c v)) x rs m) (Signals false)
-          (others_paid os w (behind c i) (waits c v) x2 (does w i v x1 c) (λ a j. p a (inr (inl j))) q2 (act_paid c w i v x1 (λ a j. p a (inl j)) q1) m s)
-          (rows_good rs w (behind_others os (behind c i)) (waits_others os (waits c v)) x (λ a j. p a (inr (inr j))) q m) (signals_good ns bodies r false)
+          let x2 = first_rows w rs (number_after_others os (number_after c i)) x in
+          let x1 = first_others w os (number_after c i) x2 in
+          let q2 : (a : Among) → x2 ≡ Some a → Has a = rows_are Has rs w (number_after_others os (number_after c i)) x (λ a j. p a (inr (inr j))) q in
+          let q1 : (a : Among) → x1 ≡ Some a → Has a = others_are Has os w (number_after c i) x2 (λ a j. p a (inr (inl j))) q2 in
+          let d = meaning.others_do ns class call w (number_after c i) (waits c v) x2 os (does w i v x1 c) in
+          after_part ns bodies r s (λ n. pay_first d m (at n s)) s.steps (meaning.rows_do ns class call w (number_after_others os (number_after c i)) (waits_others os (waits c v)) x rs m) (Signals false)
+          (others_paid os w (number_after c i) (waits c v) x2 (does w i v x1 c) (λ a j. p a (inr (inl j))) q2 (act_paid c w i v x1 (λ a j. p a (inl j)) q1) m s)
+          (rows_good rs w (number_after_others os (number_after c i)) (waits_others os (waits c v)) x (λ a j. p a (inr (inr j))) q m) (signals_good ns bodies r false)
 
-      pub others_paid : (os : trees.Others) (w : Mode) (i : ℕ) (v : Bool) (x : Option Among) (d : Doing) → ((a : Among) → IsInOthers a w i os → Has a) → ((a : Among) → x ≡ Some a → Has a) → GoodDoing (paid d) → GoodDoing (paid (meaning.others_do ns class call w i v x os d))
+      pub others_paid : (os : trees.Others) (w : Mode) (i : ℕ) (v : Bool) (x : Option Among) (d : Doing) → ((a : Among) → IsInOthers a w i os → Has a) → ((a : Among) → x ≡ Some a → Has a) → GoodDoing (pay_first d) → GoodDoing (pay_first (meaning.others_do ns class call w i v x os d))
       others_paid no_others w i v x d p q j = j
       others_paid (joined y c os) w i v x d p q j =
-          let e = does w i v (first_others w os (behind c i) x) c in
-          let q1 : (a : Among) → first_others w os (behind c i) x ≡ Some a → Has a = others_are Has os w (behind c i) x (λ a k. p a (inr k)) q in
-          others_paid os w (behind c i) (waits c v) x (joined_does y (paid d) (paid e)) (λ a k. p a (inr k)) q
-          (pays (joined_does y (paid d) (paid e)) (joined_good ns bodies r y (paid d) (paid e) j (act_paid c w i v (first_others w os (behind c i) x) (λ a k. p a (inl k)) q1)))
+          let e = does w i v (first_others w os (number_after c i) x) c in
+          let q1 : (a : Among) → first_others w os (number_after c i) x ≡ Some a → Has a = others_are Has os w (number_after c i) x (λ a k. p a (inr k)) q in
+          others_paid os w (number_after c i) (waits c v) x (joined_does y (pay_first d) (pay_first e)) (λ a k. p a (inr k)) q
+          (pays (joined_does y (pay_first d) (pay_first e)) (joined_good ns bodies r y (pay_first d) (pay_first e) j (act_paid c w i v (first_others w os (number_after c i) x) (λ a k. p a (inl k)) q1)))
 
       starter_good : (st : trees.Starter) (w : Mode) (i : ℕ) → ((a : Among) → IsInStarter a w i st → Has a) → GoodDoing (meaning.starter_does ns class call w i st)
       starter_good no_starter w i p m s = still ns bodies r s s true refl refl refl
@@ -199,4 +199,4 @@ module _ (ns : Known) (class : List ℕ → ℕ → Bool) (bodies : List ℕ →
       groups_good : (gs : trees.Groups) (w : Mode) (i g : ℕ) → ((a : Among) → IsInGroups a w i gs → Has a) → GoodDoing (meaning.group_does ns class call w i gs g)
       groups_good (bare es) w i g p m s = still ns bodies r s s true refl refl refl
       groups_good (group e es rs gs) w i zero p m s = pays (meaning.rows_do ns class call w i false None rs) (rows_good rs w i false None (λ a j. p a (inl j)) (none_is Has)) m s
-      groups_good (group e es rs gs) w i (suc g) p m s = groups_good gs w (behind_rows rs i) g (λ a j. p a (inr j)) m s
+      groups_good (group e es rs gs) w i (suc g) p m s = groups_good gs w (number_after_rows rs i) g (λ a j. p a (inr j)) m s

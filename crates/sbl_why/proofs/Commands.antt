@@ -21,11 +21,11 @@ use Rattle.sbl_semantics.specs.Items.{Known, Body, place_of}
 use Rattle.sbl_semantics.specs.declared.cursor.SavedCursor.{SavedCursor}
 use Rattle.sbl_semantics.specs.Events.{Event', Puts, with_event}
 use Rattle.sbl_semantics.specs.Moves.{match, next_is, one_of, next, hop, at_mark, to_mark, set_mark, set_boolean}
-use Rattle.sbl_semantics.specs.Numbers.{Value, given, natural, with_value, integer_at}
-use Rattle.sbl_semantics.specs.Slices.{is_slice, replaced, replace, keep, inserted, put_in, left_bracket, right_bracket}
-use Rattle.sbl_semantics.specs.State.{State, Signals, Stops, Doing, ahead, room, at_place, at_difference, to_limit, put_back, step_over, place_after, moved}
+use Rattle.sbl_semantics.specs.Numbers.{Value, continue_with, natural, with_value, integer_at}
+use Rattle.sbl_semantics.specs.Slices.{is_slice, replace_slice, replace, keep, insert_string, put_in, left_bracket, right_bracket}
+use Rattle.sbl_semantics.specs.State.{State, Signals, Stops, Doing, ahead, room, at_place, at_difference, to_limit, put_back, step_over, place_after, move_cursor}
 use Rattle.sbl_semantics.specs.Meaning as meaning
-use Rattle.sbl_semantics.specs.Meaning.{Offer, prefixed_does, counted_does, joined_does, limited_does, simple_does, moved_does, assigned_does, compared_does, named_does, edited_does, begins, takes, tried, search}
+use Rattle.sbl_semantics.specs.Meaning.{Offer, prefixed_does, counted_does, joined_does, limited_does, simple_does, moved_does, assigned_does, compared_does, named_does, edited_does, begins, takes, try_each, search}
 use Rattle.sbl_semantics.specs.declared.fault.RunFault.{RunFault}
 use Rattle.sbl_semantics.specs.declared.fault.RunFault.TheVariants as faults
 use Rattle.sbl_why.specs.Searches.{course}
@@ -99,15 +99,15 @@ module _ (ns : Known) (bodies : List ℕ → Option Body) (r : ℕ) where
   puts s u from to cs e x y = noted_with ns bodies r (Some_end ns bodies r) (Any_refusal ns bodies r) s u true (Puts from to cs) s.steps (λ i d es. refl) (λ run rest. tt) e x y tt
 
   pub next_good : (m : Mode) → Good ns bodies r (next m)
-  next_good Forward s = goes s (moved Forward 1 s) (nat_lt 0 (room Forward s)) refl refl refl
-  next_good Backward s = goes s (moved Backward 1 s) (nat_lt 0 (room Backward s)) refl refl refl
+  next_good Forward s = goes s (move_cursor Forward 1 s) (nat_lt 0 (room Forward s)) refl refl refl
+  next_good Backward s = goes s (move_cursor Backward 1 s) (nat_lt 0 (room Backward s)) refl refl refl
 
   -- ---- the slice and the text
 
   replace_good : (cs : List ℕ) → Good ns bodies r (replace cs)
   replace_good cs s =
-      or_stops s (is_slice s) faults.Slice (λ n. if nat_le (length s.text + length cs - (s.ket - s.bra)) 1024 then Signals true (at n (replaced cs s)) else Stops faults.TooLong (at n s))
-      (or_stops s (nat_le (length s.text + length cs - (s.ket - s.bra)) 1024) faults.TooLong (λ n. Signals true (at n (replaced cs s))) (puts s (replaced cs s) s.bra s.ket cs refl refl refl))
+      or_stops s (is_slice s) faults.Slice (λ n. if nat_le (length s.text + length cs - (s.ket - s.bra)) 1024 then Signals true (at n (replace_slice cs s)) else Stops faults.TooLong (at n s))
+      (or_stops s (nat_le (length s.text + length cs - (s.ket - s.bra)) 1024) faults.TooLong (λ n. Signals true (at n (replace_slice cs s))) (puts s (replace_slice cs s) s.bra s.ket cs refl refl refl))
 
   keep_good : (x : ℕ) → Good ns bodies r (keep x)
   keep_good x s =
@@ -116,8 +116,8 @@ module _ (ns : Known) (bodies : List ℕ → Option Body) (r : ℕ) where
 
   put_in_good : (right : Bool) (cs : List ℕ) → Good ns bodies r (put_in right cs)
   put_in_good right cs s =
-      or_stops s (nat_le (s.cursor + s.beyond) (length s.text)) faults.Cursor (λ n. if nat_le (length s.text + length cs) 1024 then Signals true (at n (inserted right cs s)) else Stops faults.TooLong (at n s))
-      (or_stops s (nat_le (length s.text + length cs) 1024) faults.TooLong (λ n. Signals true (at n (inserted right cs s))) (puts s (inserted right cs s) s.cursor s.cursor cs refl refl refl))
+      or_stops s (nat_le (s.cursor + s.beyond) (length s.text)) faults.Cursor (λ n. if nat_le (length s.text + length cs) 1024 then Signals true (at n (insert_string right cs s)) else Stops faults.TooLong (at n s))
+      (or_stops s (nat_le (length s.text + length cs) 1024) faults.TooLong (λ n. Signals true (at n (insert_string right cs s))) (puts s (insert_string right cs s) s.cursor s.cursor cs refl refl refl))
 
   pub edited_good : (x : Splice) (cs : List ℕ) (m : Mode) → Good ns bodies r (edited_does x cs m)
   edited_good edits.Replace cs m s = replace_good cs s
@@ -140,17 +140,17 @@ module _ (ns : Known) (bodies : List ℕ → Option Body) (r : ℕ) where
   -- ---- moving and testing
 
   pub match_good : (cs : List ℕ) (m : Mode) → Good ns bodies r (match cs m)
-  match_good cs Forward s = goes s (moved Forward (length cs) s) (starts_with nat_eq (ahead Forward s) (read_as Forward cs)) refl refl refl
-  match_good cs Backward s = goes s (moved Backward (length cs) s) (starts_with nat_eq (ahead Backward s) (read_as Backward cs)) refl refl refl
+  match_good cs Forward s = goes s (move_cursor Forward (length cs) s) (starts_with nat_eq (ahead Forward s) (read_as Forward cs)) refl refl refl
+  match_good cs Backward s = goes s (move_cursor Backward (length cs) s) (starts_with nat_eq (ahead Backward s) (read_as Backward cs)) refl refl refl
 
   pub class_good : (wanted : Bool) (has : ℕ → Bool) (m : Mode) → Good ns bodies r (one_of wanted has m)
-  class_good wanted has Forward s = goes s (moved Forward 1 s) (next_is wanted has (slice_get (ahead Forward s) 0)) refl refl refl
-  class_good wanted has Backward s = goes s (moved Backward 1 s) (next_is wanted has (slice_get (ahead Backward s) 0)) refl refl refl
+  class_good wanted has Forward s = goes s (move_cursor Forward 1 s) (next_is wanted has (slice_get (ahead Forward s) 0)) refl refl refl
+  class_good wanted has Backward s = goes s (move_cursor Backward 1 s) (next_is wanted has (slice_get (ahead Backward s) 0)) refl refl refl
 
   hop_good : (o : Option ℕ) (m : Mode) → Good ns bodies r (hop o m)
   hop_good None m s = still s s false refl refl refl
-  hop_good (Some i) Forward s = goes s (moved Forward i s) (nat_le i (room Forward s)) refl refl refl
-  hop_good (Some i) Backward s = goes s (moved Backward i s) (nat_le i (room Backward s)) refl refl refl
+  hop_good (Some i) Forward s = goes s (move_cursor Forward i s) (nat_le i (room Forward s)) refl refl refl
+  hop_good (Some i) Backward s = goes s (move_cursor Backward i s) (nat_le i (room Backward s)) refl refl refl
 
   at_mark_good : (o : Option ℕ) → Good ns bodies r (at_mark o)
   at_mark_good None s = still s s false refl refl refl
@@ -168,12 +168,12 @@ module _ (ns : Known) (bodies : List ℕ → Option Body) (r : ℕ) where
 
   pub assigned_good : (x : ℕ) (o : Assignment) (v : Value) → Good ns bodies r (assigned_does x o v)
   assigned_good x o v s =
-      given_part ns bodies r s s.steps (with_value v (meaning.altered o (integer_at x s))) (λ z n. Signals true (at n (record s { integers = slice_set s.integers x z })))
+      given_part ns bodies r s s.steps (with_value v (meaning.assigned_value o (integer_at x s))) (λ z n. Signals true (at n (record s { integers = slice_set s.integers x z })))
       (λ z. still s (record s { integers = slice_set s.integers x z }) true refl refl refl)
 
   pub compared_good : (o : Comparison) (v w : Value) → Good ns bodies r (compared_does v o w)
   compared_good o v w s =
-      given_part ns bodies r s s.steps v (λ x n. given w (at n s) (λ y. Signals (meaning.is_so o x y) (at n s)))
+      given_part ns bodies r s s.steps v (λ x n. continue_with w (at n s) (λ y. Signals (meaning.is_so o x y) (at n s)))
       (λ x. given_part ns bodies r s s.steps w (λ y n. Signals (meaning.is_so o x y) (at n s)) (λ y. still s s (meaning.is_so o x y) refl refl refl))
 
   -- all but `substring`

@@ -12,8 +12,8 @@ use Rattle.sbl_semantics.specs.Items.{Known, Body}
 use Rattle.sbl_semantics.specs.declared.cursor.SavedCursor.{SavedCursor}
 use Rattle.sbl_semantics.specs.declared.limits.Limits.{Limits}
 use Rattle.sbl_semantics.specs.Moves.{next}
-use Rattle.sbl_semantics.specs.Numbers.{Value, given}
-use Rattle.sbl_semantics.specs.Control.{turns, times, count_of, seeks, found, limits, limited, limit_here, limit_back, backwards_from, backwards_end, chosen, paid}
+use Rattle.sbl_semantics.specs.Numbers.{Value, continue_with}
+use Rattle.sbl_semantics.specs.Control.{turns, times, count_of, seeks, end_search, limits, restore_limit, limit_here, limit_back, backwards_from, backwards_end, with_group, pay_first}
 use Rattle.sbl_semantics.specs.Choices.{choice}
 use Rattle.sbl_semantics.specs.State.{State, Ending, Signals, Stops, Doing, after, then_on, saved_cursor, put_back}
 use Rattle.sbl_semantics.specs.Meaning.{prefixed_does, counted_does, joined_does, limited_does, begins}
@@ -38,19 +38,19 @@ module _ (ns : Known) (bodies : List ℕ → Option Body) (r : ℕ) where
   falls : (f : State → Ending) → Good ns bodies r f → (s : State) (b : Bool) (t : State) → f s ≡ Signals b t → t.steps ≤ s.steps
   falls f h s b t e = falls_by s (λ n. f (at n s)) s.steps (h s).0 (f s) b t (h s).1 (h s).2 e
 
-  pays_by : (d : Doing) (m : Mode) (s u : State) (b : Bool) (most c : ℕ) → most ≡ c + u.steps → paid d m (at (c + 0) s) ≡ Signals b (at 0 u) → u.steps < most
+  pays_by : (d : Doing) (m : Mode) (s u : State) (b : Bool) (most c : ℕ) → most ≡ c + u.steps → pay_first d m (at (c + 0) s) ≡ Signals b (at 0 u) → u.steps < most
   pays_by d m s u b most zero sum e = let none : ⊥ = cc in absurd none
   pays_by d m s u b most (suc c) sum e = omega (arith, sum)
 
-  pays_end : (d : Doing) (m : Mode) (s : State) (most : ℕ) (e : Ending) (i : Ending) (b : Bool) (t : State) → i ≡ e → PartBy ns bodies r (Some_end ns bodies r) (Any_refusal ns bodies r) s.events s.text s.routine (λ n. paid d m (at n s)) most e → i ≡ Signals b t → t.steps < most
+  pays_end : (d : Doing) (m : Mode) (s : State) (most : ℕ) (e : Ending) (i : Ending) (b : Bool) (t : State) → i ≡ e → PartBy ns bodies r (Some_end ns bodies r) (Any_refusal ns bodies r) s.events s.text s.routine (λ n. pay_first d m (at n s)) most e → i ≡ Signals b t → t.steps < most
   pays_end d m s most (Signals c u) i b t e h f =
       let same : t.steps ≡ u.steps = ap steps_in (sym f ∙ e) in
       let less : u.steps < most = pays_by d m s u c most h.6 h.7 (h.8 0 (omega arith)) in
       omega (arith, less, same)
   pays_end d m s most (Stops fault u) i b t e h f = let both : Stops fault u ≡ Signals b t = sym e ∙ f in let none : ⊥ = cc in absurd none
 
-  pub paid_pays : (d : Doing) → GoodIn ns bodies r (paid d) → Pays (paid d)
-  paid_pays d i m s b t e = pays_end d m s s.steps (i m s).0 (paid d m s) b t (i m s).1 (i m s).2 e
+  pub paid_pays : (d : Doing) → GoodIn ns bodies r (pay_first d) → Pays (pay_first d)
+  paid_pays d i m s b t e = pays_end d m s s.steps (i m s).0 (pay_first d m s) b t (i m s).1 (i m s).2 e
 
   module _ (c : Doing) (i : GoodIn ns bodies r c) (p : Pays c) (m : Mode) where
     -- ---- turns
@@ -109,7 +109,7 @@ module _ (ns : Known) (bodies : List ℕ → Option Body) (r : ℕ) where
       back_after t from a b (Stops fault u) e = refl
 
       seeks_after : (s : State) → s.steps < suc k → s.steps < suc l → (e : Ending) → c m s ≡ e
-          → after e (found past m s) (λ f. then_on (put_back m (saved_cursor s) f) (further k past)) ≡ after e (found past m s) (λ f. then_on (put_back m (saved_cursor s) f) (further l past))
+          → after e (end_search past m s) (λ f. then_on (put_back m (saved_cursor s) f) (further k past)) ≡ after e (end_search past m s) (λ f. then_on (put_back m (saved_cursor s) f) (further l past))
       seeks_after s a b (Signals true t) e = refl
       seeks_after s a b (Signals false t) e = let less : t.steps < s.steps = p m s false t e in back_after t (saved_cursor s) (omega (arith, less, a)) (omega (arith, less, b)) (put_back m (saved_cursor s) t) refl
       seeks_after s a b (Stops fault t) e = refl
@@ -139,13 +139,13 @@ module _ (ns : Known) (bodies : List ℕ → Option Body) (r : ℕ) where
       then_part ns bodies r s (λ n. backwards_from (at n s)) s.steps (λ b. after (c Backward b) backwards_end (Signals false)) (to_limit_good ns bodies r Forward (record s { left = s.cursor }))
       (λ b. after_part ns bodies r b (λ n. c Backward (at n b)) b.steps backwards_end (Signals false) (i Backward b) (λ t. place_good ns bodies r t.left t) (signals_good ns bodies r false))
 
-  loop_good : (v : Value) (c : Doing) → GoodIn ns bodies r c → Pays c → (m : Mode) → Good ns bodies r (λ s. given v s (λ z. times (count_of z) c m s))
+  loop_good : (v : Value) (c : Doing) → GoodIn ns bodies r c → Pays c → (m : Mode) → Good ns bodies r (λ s. continue_with v s (λ z. times (count_of z) c m s))
   loop_good v c i p m s = given_part ns bodies r s s.steps v (λ z n. times (count_of z) c m (at n s)) (λ z. times_good c i p m (count_of z) s)
 
   pub counted_good : (x : Count) (v : Value) (c : Doing) → GoodIn ns bodies r c → Pays c → GoodIn ns bodies r (counted_does x v c)
   counted_good counts.Loop v c i p m s = loop_good v c i p m s
   counted_good counts.AtLeast v c i p m s =
-      after_part ns bodies r s (λ n. given v (at n s) (λ z. times (count_of z) c m (at n s))) s.steps (λ t. turns (suc t.steps) c m t) (Signals false) (loop_good v c i p m s) (turns_good c i p m) (signals_good ns bodies r false)
+      after_part ns bodies r s (λ n. continue_with v (at n s) (λ z. times (count_of z) c m (at n s))) s.steps (λ t. turns (suc t.steps) c m t) (Signals false) (loop_good v c i p m s) (turns_good c i p m) (signals_good ns bodies r false)
 
   back_then : (m : Mode) (from : SavedCursor) (b : Doing) → GoodIn ns bodies r b → Good ns bodies r (λ f. then_on (put_back m from f) (b m))
   back_then m from b j f = then_part ns bodies r f (λ n. put_back m from (at n f)) f.steps (b m) (back_good ns bodies r m from f) (j m)
@@ -156,7 +156,7 @@ module _ (ns : Known) (bodies : List ℕ → Option Body) (r : ℕ) where
 
   -- ---- setlimit
 
-  within_good : (m : Mode) (from : Limits) (b : Doing) → GoodIn ns bodies r b → Good ns bodies r (λ u. limited m from (b m u))
+  within_good : (m : Mode) (from : Limits) (b : Doing) → GoodIn ns bodies r b → Good ns bodies r (λ u. restore_limit m from (b m u))
   within_good Forward from b j u =
       after_part ns bodies r u (λ n. b Forward (at n u)) u.steps (λ t. Signals true (limit_back Forward from t)) (λ t. Signals false (limit_back Forward from t)) (j Forward u)
       (λ t. still ns bodies r t (limit_back Forward from t) true refl refl refl) (λ t. still ns bodies r t (limit_back Forward from t) false refl refl refl)
@@ -170,18 +170,18 @@ module _ (ns : Known) (bodies : List ℕ → Option Body) (r : ℕ) where
 
   pub limited_good : (a b : Doing) → GoodIn ns bodies r a → GoodIn ns bodies r b → GoodIn ns bodies r (limited_does a b)
   limited_good a b i j m s =
-      let within : State → Ending = λ u. limited m (limits s) (b m u) in
+      let within : State → Ending = λ u. restore_limit m (limits s) (b m u) in
       after_part ns bodies r s (λ n. a m (at n s)) s.steps (λ t. then_on (put_back m (saved_cursor s) (limit_here m t)) within) (Signals false) (i m s)
       (λ t. then_part ns bodies r t (λ n. put_back m (saved_cursor s) (limit_here m (at n t))) t.steps within (here_good m (saved_cursor s) t) (within_good m (limits s) b j)) (signals_good ns bodies r false)
 
   -- ---- amongs
 
-  pub begins_good : (waits : Bool) (d b : Doing) → GoodIn ns bodies r (paid d) → GoodIn ns bodies r b → GoodIn ns bodies r (begins waits d b)
+  pub begins_good : (waits : Bool) (d b : Doing) → GoodIn ns bodies r (pay_first d) → GoodIn ns bodies r b → GoodIn ns bodies r (begins waits d b)
   begins_good true d b i j m s = still ns bodies r s s true refl refl refl
-  begins_good false d b i j m s = after_part ns bodies r s (λ n. paid d m (at n s)) s.steps (b m) (Signals false) (i m s) (j m) (signals_good ns bodies r false)
+  begins_good false d b i j m s = after_part ns bodies r s (λ n. pay_first d m (at n s)) s.steps (b m) (Signals false) (i m s) (j m) (signals_good ns bodies r false)
 
-  pub chosen_good : (k : ℕ) (go : ℕ → State → Ending) → ((g : ℕ) → Good ns bodies r (go g)) → Good ns bodies r (λ t. chosen (choice k t) t (λ g. go g t))
+  pub chosen_good : (k : ℕ) (go : ℕ → State → Ending) → ((g : ℕ) → Good ns bodies r (go g)) → Good ns bodies r (λ t. with_group (choice k t) t (λ g. go g t))
   chosen_good k go i t = chosen_by (choice k t) where
-    chosen_by : (o : Option ℕ) → Part ns bodies r t (λ n. chosen o (at n t) (λ g. go g (at n t))) t.steps
+    chosen_by : (o : Option ℕ) → Part ns bodies r t (λ n. with_group o (at n t) (λ g. go g (at n t))) t.steps
     chosen_by None = still ns bodies r t t false refl refl refl
     chosen_by (Some g) = i g t

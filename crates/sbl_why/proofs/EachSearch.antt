@@ -8,12 +8,12 @@ use Rattle.sbl_ast.specs.declared.mode.Mode.{Mode}
 use Rattle.sbl_ast.specs.declared.mode.Mode.TheVariants.{Forward}
 use Rattle.sbl_semantics.specs.Fitting.{ahead_at}
 use Rattle.sbl_semantics.specs.Items.{Known, Body, place_of, known_in, class_of, classes_behind, body_named}
-use Rattle.sbl_semantics.specs.Regions.{Among, behind, behind_others, first_others, waits}
+use Rattle.sbl_semantics.specs.Regions.{Among, number_after, number_after_others, first_others, waits}
 use Rattle.sbl_semantics.specs.Events.{Event', Enters, Leaves, Searches, Finds, Puts, with_event}
-use Rattle.sbl_semantics.specs.Control.{found, back_in, enter, leave, paid}
+use Rattle.sbl_semantics.specs.Control.{end_search, back_in, enter, leave, pay_first}
 use Rattle.sbl_semantics.specs.State.{State, Ending, Signals, Stops, Doing, bound_of}
 use Rattle.sbl_semantics.specs.Meaning as meaning
-use Rattle.sbl_semantics.specs.Meaning.{Offer, prefixed_does, counted_does, joined_does, limited_does, simple_does, moved_does, assigned_does, compared_does, named_does, edited_does, begins, takes, tried, search}
+use Rattle.sbl_semantics.specs.Meaning.{Offer, prefixed_does, counted_does, joined_does, limited_does, simple_does, moved_does, assigned_does, compared_does, named_does, edited_does, begins, takes, try_each, search}
 use Rattle.sbl_semantics.specs.declared.fault.RunFault.TheVariants as faults
 use Rattle.sbl_semantics.specs.Outcome.{events_at, events_in, events_of}
 use Rattle.sbl_machine.specs.Why.{text_after}
@@ -32,7 +32,7 @@ module _ (ns : Known) (class : List ℕ → ℕ → Bool) (bodies : List ℕ →
       p = place_of (ns kinds.Routines) x
 
       abbrev begun : State
-      begun = enter p (behind_others b.others (behind b.first 0)) s
+      begun = enter p (number_after_others b.others (number_after b.first 0)) s
 
       abbrev row_run : Doing
       row_run = meaning.row_does ns class call b.mode b.first b.others
@@ -40,15 +40,15 @@ module _ (ns : Known) (class : List ℕ → ℕ → Bool) (bodies : List ℕ →
       abbrev HasHere : Among → Type 0
       HasHere a = HasAmong ns bodies p a
 
-      row_paid : GoodIn ns bodies p (paid row_run)
+      row_paid : GoodIn ns bodies p (pay_first row_run)
       row_paid =
-          let others : (a : Among) → IsInOthers a b.mode (behind b.first 0) b.others → HasHere a = λ a j. (x, b, refl, e, inr j) in
-          let n = first_others b.mode b.others (behind b.first 0) None in
-          others_paid ns class bodies call p (calls p) b.others b.mode (behind b.first 0) (waits b.first false) None (meaning.act ns class call b.mode 0 false n b.first) others (none_is HasHere)
-          (act_paid ns class bodies call p (calls p) b.first b.mode 0 false n (λ a j. (x, b, refl, e, inl j)) (others_are HasHere b.others b.mode (behind b.first 0) None others (none_is HasHere)))
+          let others : (a : Among) → IsInOthers a b.mode (number_after b.first 0) b.others → HasHere a = λ a j. (x, b, refl, e, inr j) in
+          let n = first_others b.mode b.others (number_after b.first 0) None in
+          others_paid ns class bodies call p (calls p) b.others b.mode (number_after b.first 0) (waits b.first false) None (meaning.act ns class call b.mode 0 false n b.first) others (none_is HasHere)
+          (act_paid ns class bodies call p (calls p) b.first b.mode 0 false n (λ a j. (x, b, refl, e, inl j)) (others_are HasHere b.others b.mode (number_after b.first 0) None others (none_is HasHere)))
 
       abbrev run : Family
-      run n = paid row_run m (at n begun)
+      run n = pay_first row_run m (at n begun)
 
       abbrev whole : Family
       whole n = leave s.routine s.choices (run n)
@@ -78,7 +78,7 @@ module _ (ns : Known) (class : List ℕ → ℕ → Bool) (bodies : List ℕ →
       one_out E most before (Searches i k n c) rest h = moment_out E most before i k n c rest h
       one_out E most before (Enters i) rest h = tt
       one_out E most before (Leaves c) rest h = tt
-      one_out E most before (Finds k found) rest h = tt
+      one_out E most before (Finds k end_search) rest h = tt
       one_out E most before (Puts from to put) rest h = tt
 
       each_out : (E : Type 0) (most : ℕ) (before ys es : List Event') → Each ns bodies p E begun.events begun.text begun.routine run most before ys es → Each ns bodies r E s.events s.text s.routine whole most (Enters p ∷ before) ys es
@@ -147,11 +147,11 @@ searches_take_first script levels a m s before e =
     let bodies = body_named items in
     let call = meaning.calls known (class_of (classes_behind items [])) bodies levels in
     let calls = calls_are known (class_of (classes_behind items [])) bodies levels 0 in
-    let found = search_found known bodies 0 call calls a m s s.steps in
-    let h = first_in known bodies 0 call calls a m s found.0 (λ n. search call a m (at n s)) s.steps found.2 in (
+    let end_search = search_found known bodies 0 call calls a m s s.steps in
+    let h = first_in known bodies 0 call calls a m s end_search.0 (λ n. search call a m (at n s)) s.steps end_search.2 in (
       h.0,
-      events_recorded (search call a m s) ∙ ap (λ i. events_in (recorded i)) found.1 ∙ ap events_in (h.1 ∙ ap (add (Searches s.routine a.number m s.cursor ∷ h.0)) e),
-      subst (EndsWith known bodies a.number s.choices (fits a (ahead_at a.mode s.text s.cursor (bound_of m s))) (course h.0)) (sym found.1) h.2,
+      events_recorded (search call a m s) ∙ ap (λ i. events_in (recorded i)) end_search.1 ∙ ap events_in (h.1 ∙ ap (add (Searches s.routine a.number m s.cursor ∷ h.0)) e),
+      subst (EndsWith known bodies a.number s.choices (fits a (ahead_at a.mode s.text s.cursor (bound_of m s))) (course h.0)) (sym end_search.1) h.2,
     )
 
 -- the searches of a run that recorded its events from the start

@@ -6,7 +6,7 @@ use Rattle.sbl_semantics.specs.Items.{Body, Known}
 use Rattle.sbl_semantics.specs.declared.fault.RunFault.{RunFault}
 use Rattle.sbl_semantics.specs.declared.fault.RunFault.TheVariants as faults
 use Rattle.sbl_semantics.specs.Events.{Event', Searches}
-use Rattle.sbl_semantics.specs.Control.{paid}
+use Rattle.sbl_semantics.specs.Control.{pay_first}
 use Rattle.sbl_semantics.specs.State.{State, Ending, Signals, Stops, Doing, after, pay, then_on}
 use Rattle.sbl_ast.specs.declared.mode.Mode.{Mode}
 use Rattle.sbl_why.specs.Searches.{within}
@@ -176,5 +176,5 @@ module _ (ns : Known) (bodies : List ℕ → Option Body) (r : ℕ) where
         goes_on s (λ n. pay n (at n s)) paying (suc c) (λ n u e. ap (λ x. then_on x f) e) grow_paying A B (Some_end ns bodies r) (Any_refusal ns bodies r) true (at c s)
         ([], add_none s.events, refl, refl, (λ i d es. refl), (λ es. tt), 1, omega arith, (λ n l. leaves_one n), tt) (λ n. f (at n s)) (λ n l. pays_one n) (rest c)
 
-  pub paid_good : (d : Doing) → GoodIn ns bodies r d → GoodIn ns bodies r (paid d)
+  pub paid_good : (d : Doing) → GoodIn ns bodies r d → GoodIn ns bodies r (pay_first d)
   paid_good d i m s = paid_x (Some_end ns bodies r) (Any_refusal ns bodies r) s (d m) (λ c. i m (at c s)) tt s.steps

@@ -7,7 +7,7 @@ use Rattle.sbl_semantics.specs.Items.{Body, Known}
 use Rattle.sbl_semantics.specs.declared.fault.RunFault.{RunFault}
 use Rattle.sbl_semantics.specs.declared.fault.RunFault.TheVariants as faults
 use Rattle.sbl_semantics.specs.Events.{Event', Enters, Leaves, Searches, Finds, Puts, with_event}
-use Rattle.sbl_semantics.specs.Numbers.{Value, given}
+use Rattle.sbl_semantics.specs.Numbers.{Value, continue_with}
 use Rattle.sbl_semantics.specs.State.{State, Ending, Signals, Stops, Doing, bound_of}
 use Rattle.sbl_why.specs.RoutineAmongs.{HasAmong}
 use Rattle.sbl_semantics.specs.Regions.{Among}
@@ -184,7 +184,7 @@ module _ (ns : Known) (bodies : List ℕ → Option Body) (r : ℕ) where
   if_part A B s most true x y h i = h
   if_part A B s most false x y h i = i
 
-  pub given_part : (s : State) (most : ℕ) (v : Value) (go : ℤ → Family) → ((z : ℤ) → Part s (go z) most) → Part s (λ n. given v (at n s) (λ z. go z n)) most
+  pub given_part : (s : State) (most : ℕ) (v : Value) (go : ℤ → Family) → ((z : ℤ) → Part s (go z) most) → Part s (λ n. continue_with v (at n s) (λ z. go z n)) most
   given_part s most (Ok z) go h = h z
   given_part s most (Err fault) go h = stop s s fault most refl
 

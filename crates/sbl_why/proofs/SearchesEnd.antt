@@ -7,7 +7,7 @@ use Rattle.std.proofs.lemmas.Bool.{lt-ltb, true≢false}
 use Rattle.std.proofs.lemmas.Grind.{flat_map-append}
 use Rattle.std.proofs.lemmas.List.Recursion.{is_position_or_len}
 use Rattle.sbl_semantics.specs.Meaning as meaning
-use Rattle.sbl_semantics.specs.Meaning.{Offer, offering, offers, search, takes, tried}
+use Rattle.sbl_semantics.specs.Meaning.{Offer, offering, offers, search, takes, try_each}
 use Rattle.sbl_semantics.specs.Items.{Body, Known}
 use Rattle.sbl_semantics.specs.Regions.{Among}
 use Rattle.sbl_compiler.proofs.SoundItems.{less_suc}
@@ -21,7 +21,7 @@ use Rattle.sbl_why.specs.RoutineAmongs.{HasAmong}
 use Rattle.sbl_why.specs.Searches.{Call, Course, EndsBy, EndsWith, TakesFirst, condition_calls, course, fits, is_conditional, no_offer, refusals, call_of, string_of, with_calls}
 use Rattle.std.proofs.Math.Path.{fun_ext}
 use Rattle.sbl_semantics.specs.declared.fault.RunFault.TheVariants as faults
-use Rattle.sbl_semantics.specs.Control.{paid}
+use Rattle.sbl_semantics.specs.Control.{pay_first}
 use Rattle.sbl_ast.specs.declared.mode.Mode.TheVariants.{Forward, Backward}
 use Rattle.sbl_why.proofs.Parts.{Each, Ends, Family, Moment, Part, PartBy, PartX, Refused, add, add_add, add_none, at, noted_with, part_same, recorded, signals_good, with_one}
 use Rattle.sbl_why.proofs.Onward.{Grows, added_by, after_x, each_shifts, good_grows, grows_by, paid_x}
@@ -170,9 +170,9 @@ module _ (ns : Known) (bodies : List ℕ → Option Body) (r : ℕ) where
           subst (λ x. EndsWith ns bodies k choices os x (Signals c v)) (sym (ap (λ x. with_calls cs (course x)) (append_assoc ys zs es) ∙ ap (with_calls cs) (h.1 (zs ++ es)) ∙ with_both cs cs' (course (zs ++ es)))) (q (h.0 ∙ e) es))
           (λ zs q. ap (λ c. c.end) (h.1 zs) ∙ q) (good u)
 
-    called_then : (cs : List Call) (n : List ℕ) (f g : State → Ending) → Finds_by (cs ++ call_of ns bodies n true (bodies n)) f → Finds_by (cs ++ call_of ns bodies n false (bodies n)) g → (m : Mode) → Finds_by cs (λ a. after (paid (call n) m a) f g)
+    called_then : (cs : List Call) (n : List ℕ) (f g : State → Ending) → Finds_by (cs ++ call_of ns bodies n true (bodies n)) f → Finds_by (cs ++ call_of ns bodies n false (bodies n)) g → (m : Mode) → Finds_by cs (λ a. after (pay_first (call n) m a) f g)
     called_then cs n f g on_t on_f m a =
-        after_x ns bodies r (Called n a) Stuck (Found cs a) Stuck a (λ j. paid (call n) m (at j a)) a.steps f g
+        after_x ns bodies r (Called n a) Stuck (Found cs a) Stuck a (λ j. pay_first (call n) m (at j a)) a.steps f g
         (grow (cs ++ call_of ns bodies n true (bodies n)) f on_t) (grow (cs ++ call_of ns bodies n false (bodies n)) g on_f)
         (call_on cs n a true f on_t) (call_on cs n a false g on_f) (λ ys b. b) (paid_x ns bodies r (Called n a) Stuck a (call n m) (λ c. calls n m (at c a)) refl a.steps)
 
@@ -201,13 +201,13 @@ module _ (ns : Known) (bodies : List ℕ → Option Body) (r : ℕ) where
     -- the entries that fit, one length after another
     module _ (offers : List Offer) (w m : Mode) (from : State) (x : List ℕ) where
       abbrev Tries : ℕ → Type 0
-      Tries l = (passed : List Offer) → os ≡ passed ++ fit_below w offers x l → list_all (λ y. is_conditional y.condition) passed ≡ true → Finds_by (refusals ns bodies passed) (tried call k offers w m from x l)
+      Tries l = (passed : List Offer) → os ≡ passed ++ fit_below w offers x l → list_all (λ y. is_conditional y.condition) passed ≡ true → Finds_by (refusals ns bodies passed) (try_each call k offers w m from x l)
 
       tries_one : (l : ℕ) → Tries l → (o : Option Offer) (passed : List Offer) → os ≡ passed ++ with_offer o (fit_below w offers x l) → list_all (λ y. is_conditional y.condition) passed ≡ true
-          → Finds_by (refusals ns bodies passed) (λ t. takes call k o m from t (tried call k offers w m from x l))
+          → Finds_by (refusals ns bodies passed) (λ t. takes call k o m from t (try_each call k offers w m from x l))
       tries_one l go None passed split c = go passed split c
       tries_one l go (Some o) passed split c =
-          one_tried passed o (fit_below w offers x l) split c m from (tried call k offers w m from x l)
+          one_tried passed o (fit_below w offers x l) split c m from (try_each call k offers w m from x l)
           (λ d. go (passed ++ (o ∷ [])) (split ∙ sym (append_assoc passed (o ∷ []) (fit_below w offers x l))) (all_both passed o c d))
 
       pub tries_all : (l : ℕ) → Tries l
@@ -222,7 +222,7 @@ module _ (ns : Known) (bodies : List ℕ → Option Body) (r : ℕ) where
     take_same i None m from n next next' t e = ap (λ f. f t) e
     take_same i (Some o) m from n next next' t e = ap (takes call i (Some o) m from t) e
 
-    tried_same : (i : ℕ) (os : List Offer) (w m : Mode) (from : State) (n : ℕ) (x : List ℕ) (l : ℕ) (t : State) → tried call i os w m (at n from) x l t ≡ tried call i os w m from x l t
+    tried_same : (i : ℕ) (os : List Offer) (w m : Mode) (from : State) (n : ℕ) (x : List ℕ) (l : ℕ) (t : State) → try_each call i os w m (at n from) x l t ≡ try_each call i os w m from x l t
     tried_same i os w m from n x zero t = refl
     tried_same i os w m from n x (suc l) t = take_same i (offering w (take l x) os) m from n _ _ t (fun_ext (tried_same i os w m from n x l))
 
@@ -241,7 +241,7 @@ module _ (ns : Known) (bodies : List ℕ → Option Body) (r : ℕ) where
     text_ahead = ahead_at a.mode s.text s.cursor (bound_of m s)
 
     abbrev trying : List ℕ → State → ℕ → Ending
-    trying x from n = tried call a.number (offers 0 a.groups) a.mode m from x (suc (length x)) (at n begun)
+    trying x from n = try_each call a.number (offers 0 a.groups) a.mode m from x (suc (length x)) (at n begun)
 
     search_at : (n : ℕ) → trying text_ahead begun n ≡ search call a m (at n s)
     search_at n =

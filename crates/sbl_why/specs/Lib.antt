@@ -6,3 +6,4 @@ pub mod RoutineAmongs
 pub mod Searches
 -- definitions that functions inside the crate promise each other
 pub mod Views
+pub mod Places

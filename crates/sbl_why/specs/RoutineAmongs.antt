@@ -1,7 +1,7 @@
 -- The amongs of a routine.
 use Rattle.std.specs.Prelude.{◌≡◌, ◌⊎◌, ℕ, suc, List, Option, Some}
 use Rattle.sbl_semantics.specs.Items.{Body, Known, place_of}
-use Rattle.sbl_semantics.specs.Regions.{Among, among_at, behind, behind_others, behind_rows, behind_starter, mode_behind}
+use Rattle.sbl_semantics.specs.Regions.{Among, among_at, number_after, number_after_others, number_after_rows, number_after_starter, mode_under}
 use Rattle.sbl_ast.specs.Tree as trees
 use Rattle.sbl_ast.specs.Tree.{bracket, simple_, literal_, name_, non_, prefixed, counted, move_, named, splice_, setlimit_, assign_, compare_, compare_values_, among_, no_rows, row, no_others, joined, no_starter, starter, bare, group}
 use Rattle.sbl_ast.specs.declared.tree.DeclarationKind.TheVariants as kinds
@@ -11,10 +11,10 @@ use Rattle.sbl_ast.specs.declared.mode.Mode.{Mode}
 abbrev mutual
   pub IsIn : Among → Mode → ℕ → trees.Command → Type 0
   IsIn a r k (bracket rs) = IsInRows a r k rs
-  IsIn a r k (prefixed x c) = IsIn a (mode_behind x r) k c
+  IsIn a r k (prefixed x c) = IsIn a (mode_under x r) k c
   IsIn a r k (counted x e c) = IsIn a r k c
-  IsIn a r k (setlimit_ b c) = IsIn a r k b ⊎ IsIn a r (behind b k) c
-  IsIn a r k (among_ st gs) = (a ≡ among_at r k gs) ⊎ (IsInStarter a r (suc k) st ⊎ IsInGroups a r (behind_starter st (suc k)) gs)
+  IsIn a r k (setlimit_ b c) = IsIn a r k b ⊎ IsIn a r (number_after b k) c
+  IsIn a r k (among_ st gs) = (a ≡ among_at r k gs) ⊎ (IsInStarter a r (suc k) st ⊎ IsInGroups a r (number_after_starter st (suc k)) gs)
   IsIn a r k (simple_ x) = ⊥
   IsIn a r k (literal_ q) = ⊥
   IsIn a r k (name_ n) = ⊥
@@ -28,11 +28,11 @@ abbrev mutual
 
   pub IsInRows : Among → Mode → ℕ → trees.Rows → Type 0
   IsInRows a r k no_rows = ⊥
-  IsInRows a r k (row c os rs) = IsIn a r k c ⊎ (IsInOthers a r (behind c k) os ⊎ IsInRows a r (behind_others os (behind c k)) rs)
+  IsInRows a r k (row c os rs) = IsIn a r k c ⊎ (IsInOthers a r (number_after c k) os ⊎ IsInRows a r (number_after_others os (number_after c k)) rs)
 
   pub IsInOthers : Among → Mode → ℕ → trees.Others → Type 0
   IsInOthers a r k no_others = ⊥
-  IsInOthers a r k (joined j c os) = IsIn a r k c ⊎ IsInOthers a r (behind c k) os
+  IsInOthers a r k (joined j c os) = IsIn a r k c ⊎ IsInOthers a r (number_after c k) os
 
   pub IsInStarter : Among → Mode → ℕ → trees.Starter → Type 0
   IsInStarter a r k no_starter = ⊥
@@ -40,11 +40,11 @@ abbrev mutual
 
   pub IsInGroups : Among → Mode → ℕ → trees.Groups → Type 0
   IsInGroups a r k (bare es) = ⊥
-  IsInGroups a r k (group e es rs gs) = IsInRows a r k rs ⊎ IsInGroups a r (behind_rows rs k) gs
+  IsInGroups a r k (group e es rs gs) = IsInRows a r k rs ⊎ IsInGroups a r (number_after_rows rs k) gs
 
 -- an among is one of those in a routine's body
 abbrev pub IsInBody : Among → Body → Type 0
-IsInBody a b = IsIn a b.mode 0 b.first ⊎ IsInOthers a b.mode (behind b.first 0) b.others
+IsInBody a b = IsIn a b.mode 0 b.first ⊎ IsInOthers a b.mode (number_after b.first 0) b.others
 
 -- the routine with this number has this among, given the names of the script and the bodies of its routines
 abbrev pub HasAmong : Known → (List ℕ → Option Body) → ℕ → Among → Type 0

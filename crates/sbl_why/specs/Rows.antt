@@ -3,7 +3,7 @@ use Rattle.std.specs.Prelude.{ℕ, zero, suc, ◌-◌, Bool, true, false, List, 
 use Rattle.std.specs.Str.{encode_utf8_all}
 use Rattle.sbl_bench.specs.Setting.{Setting}
 use Rattle.sbl_semantics.specs.Outcome.{Outcome', Stem, Refused, run_of, events_of}
-use Rattle.sbl_semantics.specs.Touched.{names_of}
+use Rattle.sbl_semantics.specs.TouchedItems.{names_of}
 use Rattle.sbl_io.specs.Records.{records_text}
 use Rattle.sbl_semantics.specs.Events.{Event', Enters, Leaves, Searches, Finds, Puts}
 use Rattle.sbl_semantics.specs.Names.{name_of}
@@ -44,8 +44,8 @@ rows_from names m (e ∷ events) = row_of names m e ∷ rows_from names (after e
 abbrev pub max_events : ℕ
 max_events = 10000
 
-abbrev pub shown : {X : Type 0} → List X → List X
-shown events = take max_events events
+abbrev pub first_events : {X : Type 0} → List X → List X
+first_events events = take max_events events
 
 -- how many events have no row
 abbrev pub more_rows : ℕ → List (List (List ℕ))
@@ -60,7 +60,7 @@ outcome_row (Refused fault) = codes "refused" ∷ name_of fault ∷ []
 -- row for the outcome.
 abbrev pub why_rows : List (List ℕ) → List ℕ → List Event' → Outcome' → List (List (List ℕ))
 why_rows names word events outcome =
-    rows_from names (at_start word) (shown events) ++ (more_rows (length events - length (shown events)) ++ outcome_row outcome ∷ [])
+    rows_from names (at_start word) (first_events events) ++ (more_rows (length events - length (first_events events)) ++ outcome_row outcome ∷ [])
 
 -- the rows of a fresh run of a word under a script and a limit
 abbrev pub why_text : Setting → List ℕ → List ℕ

@@ -1,11 +1,11 @@
 //! The rows of the integer variables at the end of a run.
 ghost use Rattle.std.specs.Prelude.{◌≡◌, ◌++◌, ◌∷◌, [], IfErr, IfOk, None, Some, Err, OnOk, map, slice_index_or, string_bytes};
-ghost use Rattle.sbl_bench.specs.Kept.{setting_of};
+ghost use Rattle.sbl_bench.specs.KeptRuns.{setting_of};
 ghost use Rattle.sbl_bench.specs.Whys.{refusal_of_why};
 ghost use Rattle.sbl_bench.specs.declared.fault.EditFault.{EditFault as AnyFault};
 ghost use Rattle.sbl_semantics.specs.Items.{known_in, names_by};
 ghost use Rattle.sbl_io.specs.Records.{record_line, records_text};
-ghost use Rattle.sbl_script.specs.Parsed.{source_of};
+ghost use Rattle.sbl_script.specs.ParsedScript.{source_of};
 ghost use Rattle.sbl_ast.specs.Order.{in_order, view_in_mode};
 ghost use Rattle.sbl_ast.specs.View.{view_plain};
 ghost use Rattle.sbl_ast.specs.declared.tree.DeclarationKind.TheVariants as kinds;
@@ -103,14 +103,10 @@ fn push_value(
 }
 
 /// Appends the lines of integer variables. Returns `AllocError` if an allocation fails.
-fn push_values(
-    alloc: Global,
-    out: &mut Vec<u8>,
-    names: &[String],
-    values: &[i32],
-) -> Result<(), AllocError>
+fn push_values(out: &mut Vec<u8>, names: &[String], values: &[i32]) -> Result<(), AllocError>
     ensures { OnOk result (out.new.items ≡ out.old.items ++ records_text (spec.value_rows (map string_bytes names.now) 0 values.now)) }
 {
+    let alloc = *out.allocator();
     for (number, value) in values.iter().enumerate() {
         push_value(alloc, out, names, number, *value)?;
     }
@@ -134,6 +130,6 @@ pub fn integers_text(alloc: Global, bench: &Bench, word: &[char]) -> Result<Vec<
     let names = integer_names(alloc, bench.script())?;
     let mut out = Vec::new(alloc);
     push_steps(alloc, &mut out, why.used)?;
-    push_values(alloc, &mut out, &names, &why.integers)?;
+    push_values(&mut out, &names, &why.integers)?;
     Ok(out)
 }

@@ -5,6 +5,7 @@ mod integers;
 pub mod laws;
 mod moment;
 mod rows;
+mod slices;
 mod text;
 
 pub use integers::integers_text;

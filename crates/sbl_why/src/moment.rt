@@ -5,6 +5,7 @@ ghost use Rattle.sbl_semantics.specs.Events.{event_of};
 ghost use Rattle.sbl_why.specs.Moments as spec;
 ghost use Rattle.sbl_why.specs.Views.{view_search};
 
+use crate::slices::first;
 use sbl_ast::Mode;
 use sbl_interpreter::Event;
 use std::alloc::{AllocError, Global};
@@ -40,17 +41,6 @@ impl Model for Moment {
     ghost view = { λ m. record { routines = m.routines.items; searches = map view_search m.searches.items; text = m.text.items } };
 }
 
-/// Returns the first characters of a text, at most `number`.
-fn first(text: &[char], number: usize) -> &[char]
-    ensures { result.now ≡ take number text.now }
-{
-    if number < text.len() {
-        &text[..number]
-    } else {
-        text
-    }
-}
-
 /// Returns the characters of a text after the first `number`.
 fn rest(text: &[char], number: usize) -> &[char]
     ensures { result.now ≡ drop number text.now }
@@ -83,7 +73,7 @@ fn nearest(mode: Mode, number: usize, ahead: &[char]) -> &[char]
 }
 
 /// Returns a text with the characters between two offsets replaced. Returns `AllocError` if an allocation fails.
-fn spliced(
+fn splice_characters(
     alloc: Global,
     text: &[char],
     from: usize,
@@ -128,7 +118,7 @@ impl Moment {
                 self.searches.pop();
             }
             Event::Puts(from, to, put) => {
-                self.text = spliced(self.alloc, &self.text, *from, *to, put)?;
+                self.text = splice_characters(self.alloc, &self.text, *from, *to, put)?;
             }
         }
         Ok(())

@@ -1,11 +1,12 @@
 //! The row of an event.
 ghost use Rattle.std.specs.Prelude.{◌≡◌, ◌++◌, ◌∷◌, [], OnOk, decimal};
 ghost use Rattle.csv.specs.Records.{fields_of, partial_of};
-ghost use Rattle.sbl_bench.specs.Kept.{setting_of};
+ghost use Rattle.sbl_bench.specs.KeptRuns.{setting_of};
 ghost use Rattle.sbl_semantics.specs.Outcome.{outcome_of};
 ghost use Rattle.sbl_io.specs.Records.{record_line, records_text};
 ghost use Rattle.sbl_semantics.specs.Events.{Finds, event_of};
 ghost use Rattle.sbl_why.specs.Moments.{after};
+ghost use Rattle.sbl_why.specs.Places.{names_at};
 ghost use Rattle.sbl_why.specs.Views.{fields_after, fields_before};
 ghost use Rattle.sbl_why.specs.Rows as spec;
 
@@ -27,39 +28,6 @@ fn push_number(alloc: Global, csv_record: &mut ByteRecord, number: usize) -> Res
     csv_record.push_field(digits.as_bytes())
 }
 
-/// Appends how deep the run is, and the name of its routine. Returns `AllocError` if an allocation fails.
-fn push_place(
-    alloc: Global,
-    csv_record: &mut ByteRecord,
-    bench: &Bench,
-    moment: &Moment,
-) -> Result<(), AllocError>
-    requires { partial_of csv_record.old ≡ [] }
-    ensures fields { OnOk result (fields_of csv_record.new ≡ fields_of csv_record.old ++ spec.place_fields (spec.routine_names (setting_of bench.now)) moment.now) }
-    ensures partial { OnOk result (partial_of csv_record.new ≡ []) }
-{
-    push_number(alloc, csv_record, moment.depth())?;
-    csv_record.push_field(bench.routine_name(moment.routine()).as_bytes())
-}
-
-/// Appends the place of the run, and the number of an among. Returns `AllocError` if an allocation fails.
-fn push_among(
-    alloc: Global,
-    csv_record: &mut ByteRecord,
-    bench: &Bench,
-    moment: &Moment,
-    among: usize,
-) -> Result<(), AllocError>
-    requires { partial_of csv_record.old ≡ [] }
-    ensures fields { OnOk result (fields_of csv_record.new ≡ fields_of csv_record.old ++ spec.among_fields (spec.routine_names (setting_of bench.now)) moment.now among) }
-    ensures partial { OnOk result (partial_of csv_record.new ≡ []) }
-{
-    push_place(alloc, csv_record, bench, moment)?;
-    let number = among as u128 + 1;
-    let digits = format!(in alloc; "{number}")?;
-    csv_record.push_field(digits.as_bytes())
-}
-
 /// Appends a signal. Returns `AllocError` if an allocation fails.
 fn push_signal(csv_record: &mut ByteRecord, signal: bool) -> Result<(), AllocError>
     requires { partial_of csv_record.old ≡ [] }
@@ -73,86 +41,114 @@ fn push_signal(csv_record: &mut ByteRecord, signal: bool) -> Result<(), AllocErr
     }
 }
 
-/// Appends the end of the search of an among to an empty record: the string of this many characters that it takes, or that it
-/// takes none. Returns `AllocError` if an allocation fails.
-fn push_end(
+/// Where a run is: the bench, and the moment.
+#[derive(Clone, Copy)]
+struct Place<'a> {
     alloc: Global,
-    csv_record: &mut ByteRecord,
-    bench: &Bench,
-    moment: &Moment,
-    among: usize,
-    length: Option<usize>,
-) -> Result<(), AllocError>
-    requires empty { fields_of csv_record.old ≡ [] }
-    requires whole { partial_of csv_record.old ≡ [] }
-    ensures fields { OnOk result (fields_of csv_record.new ≡ spec.row_of (spec.routine_names (setting_of bench.now)) moment.now (Finds among length)) }
-    ensures partial { OnOk result (partial_of csv_record.new ≡ []) }
-{
-    let Some(length) = length else {
-        csv_record.push_field(b"none")?;
-        return push_among(alloc, csv_record, bench, moment, among);
-    };
-    csv_record.push_field(b"taken")?;
-    push_among(alloc, csv_record, bench, moment, among)?;
-    push_text(
-        &mut String::new(alloc),
-        csv_record,
-        moment.string_taken(length),
-    )
+    bench: &'a Bench,
+    moment: &'a Moment,
 }
 
-/// Appends what the row of an event has of the time before it to an empty record. Returns `AllocError` if an allocation fails.
-fn fill_before(
-    alloc: Global,
-    csv_record: &mut ByteRecord,
-    bench: &Bench,
-    moment: &Moment,
-    event: &Event,
-) -> Result<(), AllocError>
-    requires empty { fields_of csv_record.old ≡ [] }
-    requires whole { partial_of csv_record.old ≡ [] }
-    ensures fields { OnOk result (fields_of csv_record.new ≡ fields_before (spec.routine_names (setting_of bench.now)) moment.now (event_of event.now)) }
-    ensures partial { OnOk result (partial_of csv_record.new ≡ []) }
-{
-    match event {
-        Event::Enters(_) => csv_record.push_field(b"call"),
-        Event::Leaves(signal) => {
-            csv_record.push_field(b"return")?;
-            push_place(alloc, csv_record, bench, moment)?;
-            push_signal(csv_record, *signal)
-        }
-        Event::Searches { among, .. } => {
-            csv_record.push_field(b"search")?;
-            push_among(alloc, csv_record, bench, moment, *among)
-        }
-        Event::Finds(among, length) => {
-            push_end(alloc, csv_record, bench, moment, *among, *length)
-        }
-        Event::Puts(from, to, put) => {
-            csv_record.push_field(b"put")?;
-            push_place(alloc, csv_record, bench, moment)?;
-            push_number(alloc, csv_record, *from)?;
-            push_number(alloc, csv_record, *to)?;
-            push_text(&mut String::new(alloc), csv_record, put)
+impl<'a> Place<'a> {
+    /// Returns where a run is that is at this moment.
+    fn new(alloc: Global, bench: &'a Bench, moment: &'a Moment) -> Place<'a>
+        ensures names { names_at result ≡ spec.routine_names (setting_of bench.now) }
+        ensures moment { result.moment.now ≡ moment.now }
+    {
+        Place {
+            alloc,
+            bench,
+            moment,
         }
     }
-}
 
-/// Appends what the row of an event has of the time after it. Returns `AllocError` if an allocation fails.
-fn fill_after(
-    alloc: Global,
-    csv_record: &mut ByteRecord,
-    bench: &Bench,
-    moment: &Moment,
-    event: &Event,
-) -> Result<(), AllocError>
-    requires { partial_of csv_record.old ≡ [] }
-    ensures fields { OnOk result (fields_of csv_record.new ≡ fields_of csv_record.old ++ fields_after (spec.routine_names (setting_of bench.now)) moment.now (event_of event.now)) }
-{
-    match event {
-        Event::Enters(_) => push_place(alloc, csv_record, bench, moment),
-        Event::Puts(_, _, _) => push_text(&mut String::new(alloc), csv_record, moment.text()),
-        _ => Ok(()),
+    /// Appends how deep the run is, and the name of its routine. Returns `AllocError` if an allocation fails.
+    fn push(&self, csv_record: &mut ByteRecord) -> Result<(), AllocError>
+        requires { partial_of csv_record.old ≡ [] }
+        ensures fields { OnOk result (fields_of csv_record.new ≡ fields_of csv_record.old ++ spec.place_fields (names_at self.now) self.now.moment.now) }
+        ensures partial { OnOk result (partial_of csv_record.new ≡ []) }
+    {
+        push_number(self.alloc, csv_record, self.moment.depth())?;
+        let name = self.bench.routine_name(self.moment.routine());
+        csv_record.push_field(name.as_bytes())
+    }
+
+    /// Appends the place of the run, and the number of an among. Returns `AllocError` if an allocation fails.
+    fn push_among(&self, csv_record: &mut ByteRecord, among: usize) -> Result<(), AllocError>
+        requires { partial_of csv_record.old ≡ [] }
+        ensures fields { OnOk result (fields_of csv_record.new ≡ fields_of csv_record.old ++ spec.among_fields (names_at self.now) self.now.moment.now among) }
+        ensures partial { OnOk result (partial_of csv_record.new ≡ []) }
+    {
+        self.push(csv_record)?;
+        let number = among as u128 + 1;
+        let digits = format!(in self.alloc; "{number}")?;
+        csv_record.push_field(digits.as_bytes())
+    }
+
+    /// Appends the end of the search of an among to an empty record: the string of this many characters that it takes, or that it
+    /// takes none. Returns `AllocError` if an allocation fails.
+    fn push_end(
+        &self,
+        csv_record: &mut ByteRecord,
+        among: usize,
+        length: Option<usize>,
+    ) -> Result<(), AllocError>
+        requires empty { fields_of csv_record.old ≡ [] }
+        requires whole { partial_of csv_record.old ≡ [] }
+        ensures fields { OnOk result (fields_of csv_record.new ≡ spec.row_of (names_at self.now) self.now.moment.now (Finds among length)) }
+        ensures partial { OnOk result (partial_of csv_record.new ≡ []) }
+    {
+        let Some(length) = length else {
+            csv_record.push_field(b"none")?;
+            return self.push_among(csv_record, among);
+        };
+        csv_record.push_field(b"taken")?;
+        self.push_among(csv_record, among)?;
+        let string = self.moment.string_taken(length);
+        push_text(&mut String::new(self.alloc), csv_record, string)
+    }
+
+    /// Appends what the row of an event has of the time before it to an empty record. Returns `AllocError` if an allocation fails.
+    fn fill_before(&self, csv_record: &mut ByteRecord, event: &Event) -> Result<(), AllocError>
+        requires empty { fields_of csv_record.old ≡ [] }
+        requires whole { partial_of csv_record.old ≡ [] }
+        ensures fields { OnOk result (fields_of csv_record.new ≡ fields_before (names_at self.now) self.now.moment.now (event_of event.now)) }
+        ensures partial { OnOk result (partial_of csv_record.new ≡ []) }
+    {
+        match event {
+            Event::Enters(_) => csv_record.push_field(b"call"),
+            Event::Leaves(signal) => {
+                csv_record.push_field(b"return")?;
+                self.push(csv_record)?;
+                push_signal(csv_record, *signal)
+            }
+            Event::Searches { among, .. } => {
+                csv_record.push_field(b"search")?;
+                self.push_among(csv_record, *among)
+            }
+            Event::Finds(among, length) => self.push_end(csv_record, *among, *length),
+            Event::Puts(from, to, put) => {
+                csv_record.push_field(b"put")?;
+                self.push(csv_record)?;
+                push_number(self.alloc, csv_record, *from)?;
+                push_number(self.alloc, csv_record, *to)?;
+                push_text(&mut String::new(self.alloc), csv_record, put)
+            }
+        }
+    }
+
+    /// Appends what the row of an event has of the time after it. Returns `AllocError` if an allocation fails.
+    fn fill_after(&self, csv_record: &mut ByteRecord, event: &Event) -> Result<(), AllocError>
+        requires { partial_of csv_record.old ≡ [] }
+        ensures { OnOk result (fields_of csv_record.new ≡ fields_of csv_record.old ++ fields_after (names_at self.now) self.now.moment.now (event_of event.now)) }
+    {
+        match event {
+            Event::Enters(_) => self.push(csv_record),
+            Event::Puts(_, _, _) => {
+                push_text(&mut String::new(self.alloc), csv_record, self.moment.text())
+            }
+            _ => Ok(()),
+        }
     }
 }
 
@@ -168,9 +164,9 @@ pub(crate) fn push_event(
     ensures after { OnOk result (moment.new ≡ after (event_of event.now) moment.old) }
 {
     let mut csv_record = ByteRecord::new(alloc);
-    fill_before(alloc, &mut csv_record, bench, moment, event)?;
+    Place::new(alloc, bench, moment).fill_before(&mut csv_record, event)?;
     moment.pass(event)?;
-    fill_after(alloc, &mut csv_record, bench, moment, event)?;
+    Place::new(alloc, bench, moment).fill_after(&mut csv_record, event)?;
     push_line(alloc, out, &csv_record)
 }
 

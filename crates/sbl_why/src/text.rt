@@ -1,6 +1,6 @@
 //! The text of the rows that tell why a word has its stem.
 ghost use Rattle.std.specs.Prelude.{◌≡◌, ◌++◌, ◌∷◌, [], IfErr, IfOk, None, Some, Err, map, take};
-ghost use Rattle.sbl_bench.specs.Kept.{setting_of};
+ghost use Rattle.sbl_bench.specs.KeptRuns.{setting_of};
 ghost use Rattle.sbl_bench.specs.Whys.{refusal_of_why};
 ghost use Rattle.sbl_bench.specs.declared.fault.EditFault.{EditFault as AnyFault};
 ghost use Rattle.sbl_semantics.specs.Outcome.{outcome_of};
@@ -11,6 +11,7 @@ ghost use Rattle.sbl_why.specs.Rows as spec;
 
 use crate::moment::Moment;
 use crate::rows::{push_event, push_more, push_outcome};
+use crate::slices::first;
 use sbl_bench::{Bench, EditFault};
 use sbl_interpreter::Event;
 use sbl_machine::Why;
@@ -34,17 +35,6 @@ fn event_lines(
         push_event(alloc, &mut out, bench, &mut moment, event)?;
     }
     Ok(out)
-}
-
-/// Returns the first events, at most `number`.
-fn first(events: &[Event], number: usize) -> &[Event]
-    ensures { result.now ≡ take number events.now }
-{
-    if number < events.len() {
-        &events[..number]
-    } else {
-        events
-    }
 }
 
 /// Returns the lines of a run on a word. Returns `AllocError` if an allocation fails.

@@ -1,17 +1,12 @@
--- The argument of a line, and the number above 0 in it.
-use Rattle.std.proofs.Common.{◌≡◌, ◌≢◌, ◌==◌, codes, ◌∙◌, ◌+◌, ◌≤◌, ◌<◌, ℕ, zero, suc, true, false, List, [], ◌∷◌, Option, Some, None, length, drop, get_or, min, refl, sym, ap, arith}
+-- The argument of a line, and a line alone.
+use Rattle.std.proofs.Common.{◌≡◌, ◌≢◌, ◌==◌, codes, ◌∙◌, ◌+◌, ◌<◌, ℕ, zero, suc, true, false, List, [], ◌∷◌, Option, Some, length, drop, get_or, refl, sym, ap, arith}
 use Rattle.std.proofs.lemmas.List.Sums.{position_or_len_is}
 use Rattle.std.proofs.lemmas.List.{drop_all}
-use Rattle.std.specs.Option.{option_and_then}
-use Rattle.sbl_text.specs.Classes.{is_digit}
-use Rattle.sbl_text.specs.Tokens.{digits_value}
-use Rattle.sbl_sessions.specs.Numbers.{max_number}
 use Rattle.std.specs.Str.{bytes_eq, is_utf8}
 use Rattle.sbl_sessions.specs.Commands.{line_command}
-use Rattle.sbl_work.specs.Commands.{Echo, Nothing, Session, alone_command, count_in, is_comment, positive, text_command}
+use Rattle.sbl_work.specs.Commands.{Echo, Nothing, Session, alone_command, is_comment, positive, text_command}
 use Rattle.sbl_sessions.specs.Words.{argument, command_word, is_space}
 use Rattle.sbl_sessions.proofs.CommandFacts.{NoSpace}
-use Rattle.sbl_sessions.proofs.NumberFacts.{Reads, reads_all, reads_no}
 
 -- ---- the argument
 
@@ -51,27 +46,3 @@ pub is_no_text : (file : Option (List ℕ)) (line : List ℕ) → is_comment lin
     → Session (line_command line) ≡ alone_command file line
 unfolding alone_command
 is_no_text file line other silent bytes = rw (other, silent, bytes) refl
-
--- ---- the number
-
-counts : (n : ℕ) → n ≢ 0 → Some n ≡ positive n
-counts zero some = absurd (some refl)
-counts (suc n) some = refl
-
--- no digits write 0
-empty : (i n : ℕ) → Reads [] i n → n ≤ max_number → n ≡ 0
-empty i n so fits =
-    let value : min n max_number ≡ min 0 max_number = sym (ap (λ (t : List ℕ). min (digits_value n t) max_number) (drop_all i [] (omega arith))) ∙ so.value in
-    omega (arith, value, fits)
-
-pub counts_all : (text : List ℕ) (i n : ℕ) → length text ≤ i → n ≢ 0 → n ≤ max_number → Reads text i n → Some n ≡ count_in text
-counts_all [] i n all some fits so = absurd (some (empty i n so fits))
-counts_all (c ∷ text) i n all some fits so = counts n some ∙ ap (option_and_then positive) (reads_all (c ∷ text) i n (λ e. cc e) all fits so)
-
-pub counts_zero : (text : List ℕ) (i n : ℕ) → length text ≤ i → n ≡ 0 → Reads text i n → None ≡ count_in text
-counts_zero [] i n all none so = refl
-counts_zero (c ∷ text) i n all none so =
-    ap (λ (m : ℕ). positive m) (sym none) ∙ ap (option_and_then positive) (reads_all (c ∷ text) i n (λ e. cc e) all (omega (arith, none)) so)
-
-pub counts_no : (text : List ℕ) (i : ℕ) → i < length text → is_digit (get_or text i 0) ≡ false → None ≡ count_in text
-counts_no text i within other = ap (option_and_then positive) (reads_no text i within other)

@@ -2,6 +2,8 @@
 use Rattle.std.proofs.Common.{◌≡◌, ◌⊎◌, inl, inr, ◌<◌, ◌≤◌, ℕ, Bool, true, false, List, [], Option, Some, None, Result, Ok, Err, if◌then◌else◌, length, nat_lt, codes, refl, sym, ap, subst, arith}
 use Rattle.std.proofs.lemmas.Bool.Decides.{nat_tests}
 use Rattle.std.specs.Option.{is_some}
+use Rattle.std.specs.Prelude.{IfErr, IfOk, MatchResult, Vec}
+use Rattle.std.specs.declared.alloc.Global.{Global}
 use Rattle.std.proofs.lemmas.Str.{IsUtf8-from_is_utf8, is_utf8-from_IsUtf8}
 use Rattle.std.specs.Str.{IsUtf8, bytes_eq, is_utf8}
 use Rattle.sbl_bench.specs.Contents.{Contents}
@@ -9,7 +11,7 @@ use Rattle.sbl_bench.specs.Edits.{Edits, Whole}
 use Rattle.sbl_bench.specs.declared.fault.EditFault.{EditFault}
 use Rattle.sbl_bench.specs.declared.fault.EditFault.TheVariants as fault
 use Rattle.sbl_script.specs.Edits.{ScriptEdit}
-use Rattle.sbl_sessions.specs.Answers.{BlockRefused, Enough, edit_text, ended}
+use Rattle.sbl_sessions.specs.Answers.{BlockRefused, Enough, edit_text, with_line_feed}
 use Rattle.sbl_sessions.specs.Block.{made_text, max_script}
 use Rattle.sbl_sessions.specs.CommandViews.{FindsTarget, IsReply}
 use Rattle.sbl_sessions.specs.Commands.{target_of, text_of_block}
@@ -21,7 +23,7 @@ use Rattle.sbl_work.specs.Commands as command
 use Rattle.sbl_work.specs.Commands.{WorkCommand, alone_command, block_command, families_command, is_replace, part_command, replace_command}
 use Rattle.sbl_desk.specs.Desks.{State}
 use Rattle.sbl_desk.specs.Editing.{Replaces}
-use Rattle.sbl_work.specs.Replies.{IsWorkReply, TellsReport, not_text_text}
+use Rattle.sbl_work.specs.Replies.{IsWorkReply, TellsReport, not_text_text, rows_or_fault}
 use Rattle.sbl_work.specs.ReplyViews.{IsFamiliesAnswer, IsFileAnswer, IsPartResult, IsTextResult, IsWorkAnswer, NamesText}
 use Rattle.sbl_desk.proofs.Refusing.{nothing_tried}
 
@@ -47,6 +49,19 @@ no_utf8 bytes not = by (is_utf8 bytes) refl
 pub save_memory : (s : Contents) (d : State) (line : List ℕ) (r : Reply) → alone_command (Some []) line ≡ command.Saved → IsReply r (edit_text (Some fault.OutOfMemory)) → IsFileAnswer s d line r s d
 save_memory s d line r is shown = (Some [], same_command s s d d command.Saved (alone_command (Some []) line) r (sym is) (edit_text (Some fault.OutOfMemory), shown, inr (refl, refl, refl)))
 
+-- ---- the rows on a run
+
+-- the reply has the rows, or the fault of the word, or an allocation failed
+pub rows_told : (o : Option EditFault) (expected : List ℕ) (rows : Result (Vec ℕ Global) EditFault) (r : Reply) → IfOk rows (λ text. text.items ≡ expected)
+    → ((f : EditFault) → o ≡ Some f → rows ≡ Err f) → (o ≡ None → IfErr rows (λ f. f ≡ fault.OutOfMemory)) → MatchResult rows (λ text. IsReply r text.items) (λ f. IsReply r (edit_text (Some f)))
+    → IsReply r (rows_or_fault o expected) ⊎ IsReply r (edit_text (Some fault.OutOfMemory))
+rows_told None expected (Ok text) r is refused memory shown = inl (subst (IsReply r) is shown)
+rows_told None expected (Err f) r is refused memory shown = inr (subst (λ (g : EditFault). IsReply r (edit_text (Some g))) (memory refl) shown)
+rows_told (Some f) expected (Ok text) r is refused memory shown = absurd (cc (refused f refl))
+rows_told (Some f) expected (Err g) r is refused memory shown =
+    let same : g ≡ f = cc (refused f refl) in
+    inl (subst (λ (h : EditFault). IsReply r (edit_text (Some h))) same shown)
+
 -- ---- a whole script
 
 -- a text that is too long is refused for that
@@ -66,8 +81,8 @@ replace_good s t d e line lines result r good so shown = rw good (edit_text (fau
 
 -- `replace` with an argument
 pub replace_bad : (s : Contents) (d : State) (line : List ℕ) (lines : List (List ℕ)) (r : Reply) → bytes_eq line (codes "replace") ≡ false
-    → IsReply r (ended (codes "no 52 BadCommand")) → IsWorkAnswer s d (replace_command line lines) r s d
-replace_bad s d line lines r bad shown = rw bad (ended (codes "no 52 BadCommand"), shown, ((Enough, (refl, refl)), inl (refl, refl)))
+    → IsReply r (with_line_feed (codes "no 52 BadCommand")) → IsWorkAnswer s d (replace_command line lines) r s d
+replace_bad s d line lines r bad shown = rw bad (with_line_feed (codes "no 52 BadCommand"), shown, ((Enough, (refl, refl)), inl (refl, refl)))
 
 -- ---- the text of a block
 
@@ -86,11 +101,11 @@ part_memory s d what (Ok text) = inr (refl, refl, refl)
 part_memory s d what (Err f) = ((BlockRefused, (refl, refl)), inl (refl, refl))
 
 -- the line is bad
-pub part_bad : (s : Contents) (d : State) (line : List ℕ) (lines : List (List ℕ)) (r : Reply) → FindsTarget (Ok None) line → IsReply r (ended (codes "no 52 BadCommand"))
+pub part_bad : (s : Contents) (d : State) (line : List ℕ) (lines : List (List ℕ)) (r : Reply) → FindsTarget (Ok None) line → IsReply r (with_line_feed (codes "no 52 BadCommand"))
     → IsWorkAnswer s d (part_command (target_of line) (text_of_block lines)) r s d
 part_bad s d line lines r finds shown =
     same_command s s d d (part_command None (text_of_block lines)) (part_command (target_of line) (text_of_block lines)) r (ap (λ (o : Option ScriptEdit). part_command o (text_of_block lines)) finds)
-    (ended (codes "no 52 BadCommand"), shown, ((Enough, (refl, refl)), inl (refl, refl)))
+    (with_line_feed (codes "no 52 BadCommand"), shown, ((Enough, (refl, refl)), inl (refl, refl)))
 
 -- an allocation for the name of the line failed
 pub part_name : (s : Contents) (d : State) (line : List ℕ) (lines : List (List ℕ)) (r : Reply) → is_some (target_of line) ≡ true → IsReply r (edit_text (Some fault.OutOfMemory))

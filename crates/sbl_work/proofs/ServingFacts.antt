@@ -12,7 +12,7 @@ use Rattle.std.proofs.KnownBytes.{Appends-trans}
 use Rattle.sbl_bench.specs.Contents.{Contents}
 use Rattle.sbl_io.proofs.Bytes.{took-kept, took-none, took-trans}
 use Rattle.sbl_io.specs.Faults.{serve_fault_of}
-use Rattle.sbl_io.specs.Held.{AllFit, BeginsLong, BreaksOff, GivesLine, Took, TookWhole}
+use Rattle.sbl_io.specs.HeldInput.{AllFit, BeginsLong, BreaksOff, GivesLine, Took, TookWhole}
 use Rattle.sbl_io.specs.declared.faults.LineFault.{LineFault}
 use Rattle.sbl_io.specs.declared.faults.LineFault.TheVariants as read
 use Rattle.sbl_io.specs.declared.faults.ServeFault.{ServeFault}

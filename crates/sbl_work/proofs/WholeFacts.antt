@@ -4,7 +4,7 @@ use Rattle.sbl_bench.specs.Contents.{Contents}
 use Rattle.sbl_io.specs.declared.faults.ServeFault.{ServeFault}
 use Rattle.sbl_desk.specs.Desks.{State}
 use Rattle.sbl_work.specs.Serving.{IsWork}
-use Rattle.sbl_work.specs.WholeWork.{IsOpened, IsWholeWork, WorksFrom, WorksOrMemory, first_desk}
+use Rattle.sbl_work.specs.WholeWork.{IsOpened, IsWholeWork, WorksOrMemory, first_desk}
 
 -- work goes on from the desk at the start
 pub works_from : (Ends : Result (Unit {0}) ServeFault → Type 0) (bytes text prompt : List ℕ) (a b h i : Option (List ℕ)) (s t : Contents) (d e : State) (r : Result (Unit {0}) ServeFault)
@@ -13,15 +13,13 @@ works_from Ends bytes text prompt a b h i s t d e r same desk work ends =
     inl (t, e, subst (λ (y : State). IsWork prompt a b h i s y t e r) (desk ∙ ap (first_desk s) same) work, ends)
 
 -- work ends with a fault
-pub whole_fault : (Ends : Result (Unit {0}) ServeFault → Type 0) (external bytes prompt shown : List ℕ) (a b h i : Option (List ℕ)) (s : Contents) (f : ServeFault)
-    → IsOpened external bytes s → shown ≡ prompt → WorksOrMemory Ends bytes shown a b h i s (Err f) → IsWholeWork Ends external prompt a b h i 1
-whole_fault Ends external bytes prompt shown a b h i s f opened same (inl p) =
-    inr (bytes, s, Err f, opened, subst (λ (x : List ℕ). WorksFrom Ends bytes x a b h i s (Err f)) same p, refl)
-whole_fault Ends external bytes prompt shown a b h i s f opened same (inr p) = inl (refl, p.1)
+pub whole_fault : (Ends : Result (Unit {0}) ServeFault → Type 0) (external bytes prompt : List ℕ) (a b h i : Option (List ℕ)) (s : Contents) (f : ServeFault)
+    → IsOpened external bytes s → WorksOrMemory Ends bytes prompt a b h i s (Err f) → IsWholeWork Ends external prompt a b h i 1
+whole_fault Ends external bytes prompt a b h i s f opened (inl p) = inr (bytes, s, Err f, opened, p, refl)
+whole_fault Ends external bytes prompt a b h i s f opened (inr p) = inl (refl, p.1)
 
 -- work ends without a fault
-pub whole_end : (Ends : Result (Unit {0}) ServeFault → Type 0) (external bytes prompt shown : List ℕ) (a b h i : Option (List ℕ)) (s : Contents) (u : Unit {0})
-    → IsOpened external bytes s → shown ≡ prompt → WorksOrMemory Ends bytes shown a b h i s (Ok u) → IsWholeWork Ends external prompt a b h i 0
-whole_end Ends external bytes prompt shown a b h i s u opened same (inl p) =
-    inr (bytes, s, Ok u, opened, subst (λ (x : List ℕ). WorksFrom Ends bytes x a b h i s (Ok u)) same p, refl)
-whole_end Ends external bytes prompt shown a b h i s u opened same (inr (e, rest)) = absurd cc
+pub whole_end : (Ends : Result (Unit {0}) ServeFault → Type 0) (external bytes prompt : List ℕ) (a b h i : Option (List ℕ)) (s : Contents) (u : Unit {0})
+    → IsOpened external bytes s → WorksOrMemory Ends bytes prompt a b h i s (Ok u) → IsWholeWork Ends external prompt a b h i 0
+whole_end Ends external bytes prompt a b h i s u opened (inl p) = inr (bytes, s, Ok u, opened, p, refl)
+whole_end Ends external bytes prompt a b h i s u opened (inr (e, rest)) = absurd cc

@@ -1,7 +1,7 @@
 -- The reply to the current line of work, with the block that it asks for.
 use Rattle.std.specs.Prelude.{◌≡◌, ℕ, true, List, Option}
 use Rattle.sbl_bench.specs.Contents.{Contents}
-use Rattle.sbl_io.specs.Held.{AllFit, Took}
+use Rattle.sbl_io.specs.HeldInput.{AllFit, Took}
 use Rattle.sbl_io.specs.declared.faults.ServeFault.{ServeFault}
 use Rattle.sbl_sessions.specs.Block.{BlockLines, Breaks}
 use Rattle.sbl_sessions.specs.Requests.{HasBlock, block_lines}

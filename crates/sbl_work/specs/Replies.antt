@@ -7,7 +7,7 @@ use Rattle.sbl_bench.specs.Whys.{refusal_of_why}
 use Rattle.sbl_bench.specs.declared.fault.EditFault.{EditFault}
 use Rattle.sbl_bench.specs.declared.fault.EditFault.TheVariants as edit
 use Rattle.sbl_script.specs.Edits.{ScriptEdit}
-use Rattle.sbl_sessions.specs.Answers.{edit_text, ended}
+use Rattle.sbl_sessions.specs.Answers.{edit_text, with_line_feed}
 use Rattle.sbl_sessions.specs.CommandViews.{IsTextAnswer}
 use Rattle.sbl_sessions.specs.Edits.{fault_in}
 use Rattle.sbl_unused.specs.Unused as unused
@@ -32,19 +32,19 @@ turn_text nothing (Err fault.Nothing) = nothing
 turn_text nothing (Err (fault.Edit f)) = edit_text (Some f)
 
 abbrev pub undo_text : Result (Unit {0}) HistoryFault → List ℕ
-undo_text result = turn_text (ended (codes "no 54 NothingToUndo")) result
+undo_text result = turn_text (with_line_feed (codes "no 54 NothingToUndo")) result
 
 abbrev pub redo_text : Result (Unit {0}) HistoryFault → List ℕ
-redo_text result = turn_text (ended (codes "no 55 NothingToRedo")) result
+redo_text result = turn_text (with_line_feed (codes "no 55 NothingToRedo")) result
 
 abbrev pub bad_number_text : List ℕ
-bad_number_text = ended (codes "no 56 BadNumber")
+bad_number_text = with_line_feed (codes "no 56 BadNumber")
 
 abbrev pub no_file_text : List ℕ
-no_file_text = ended (codes "no 57 NoFile")
+no_file_text = with_line_feed (codes "no 57 NoFile")
 
 abbrev pub not_text_text : List ℕ
-not_text_text = ended (codes "no 75 NotText")
+not_text_text = with_line_feed (codes "no 75 NotText")
 
 -- the reply to families in these bytes
 abbrev pub families_reply_text : Contents → List ℕ → List ℕ
@@ -113,4 +113,4 @@ IsWorkReply s d (Integers word) text t e = TellsReport (integers_reply_text s wo
 IsWorkReply s d (Show name) text t e = IsDefinitionReply (definition_text s.setting.script name) s d text t e
 IsWorkReply s d Saved text t e = TellsReport (edit_text None) s d text t e
 IsWorkReply s d NoFile text t e = TellsAlone no_file_text s d text t e
-IsWorkReply s d (Echo echoed) text t e = TellsReport (ended echoed) s d text t e
+IsWorkReply s d (Echo echoed) text t e = TellsReport (with_line_feed echoed) s d text t e

@@ -4,7 +4,7 @@ use Rattle.std.specs.Io.KnownBytes.{Appends, IsAtEnd}
 use Rattle.std.specs.List.{All, flat_map}
 use Rattle.std.specs.Str.{bytes_eq}
 use Rattle.sbl_bench.specs.Contents.{Contents}
-use Rattle.sbl_io.specs.Held.{AllFit, GivesLine, Took, TookWhole}
+use Rattle.sbl_io.specs.HeldInput.{AllFit, GivesLine, Took, TookWhole}
 use Rattle.sbl_io.specs.LinesOf.{max_line}
 use Rattle.sbl_io.specs.declared.faults.ServeFault.{ServeFault}
 use Rattle.sbl_io.specs.declared.faults.ServeFault.TheVariants as fault

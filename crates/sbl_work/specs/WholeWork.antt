@@ -1,6 +1,6 @@
 -- What the whole of work reads and writes: the two files are read, and then the lines of the input get their replies.
 use Rattle.std.specs.Prelude.{◌≡◌, ◌⊎◌, ℕ, List, [], Option, Some, None, Result, Ok, Err}
-use Rattle.sbl_bench.specs.Contents.{Contents, opened, opening_fault}
+use Rattle.sbl_bench.specs.Contents.{Contents, opening_contents, opening_fault}
 use Rattle.sbl_io.specs.declared.faults.ServeFault.{ServeFault}
 use Rattle.sbl_io.specs.declared.faults.ServeFault.TheVariants as fault
 use Rattle.sbl_ast.specs.Source.{Source}
@@ -14,7 +14,7 @@ pub record IsOpened (external bytes : List ℕ) (s : Contents) : Type 0 where
   pub words : List (List ℕ)
   pub is_script : IsScriptOf bytes external script
   pub are_words : opening_fault [] words ≡ None
-  pub bench : s ≡ opened script words
+  pub bench : s ≡ opening_contents script words
 
 -- the desk at the start: these bytes are its text, nothing can be undone or redone, and the mark is set
 abbrev pub first_desk : Contents → List ℕ → State

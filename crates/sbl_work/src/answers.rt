@@ -1,11 +1,9 @@
 //! The replies to lines without a block.
 ghost use Rattle.std.specs.Prelude.{◌≡◌, IfOk};
 ghost use Rattle.std.specs.Str.{chars};
-ghost use Rattle.sbl_bench.specs.Kept.{contents_of};
+ghost use Rattle.sbl_bench.specs.KeptRuns.{contents_of};
 ghost use Rattle.sbl_io.specs.LinesOf.{lines_of};
-ghost use Rattle.sbl_sessions.specs.Answers.{ended};
-ghost use Rattle.sbl_sessions.specs.Block.{made_text};
-ghost use Rattle.sbl_sessions.specs.Commands.{line_command};
+ghost use Rattle.sbl_sessions.specs.{Answers.with_line_feed, Block.made_text, Commands.line_command};
 ghost use Rattle.sbl_work.specs.Commands as spec;
 ghost use Rattle.sbl_desk.specs.Desks.{State, state_of};
 ghost use Rattle.sbl_work.specs.ReplyViews.{IsWorkAnswer, view_file};
@@ -137,7 +135,7 @@ fn show(alloc: Global, bench: &Bench, name: &str) -> Reply
 }
 
 /// Returns the reply to `save`.
-fn saved(bench: &Bench, file: Option<&[u8]>) -> Reply
+fn save_reply(bench: &Bench, file: Option<&[u8]>) -> Reply
     ensures { (d : State) → IsWorkAnswer (contents_of bench.now) d (spec.with_file (λ bytes. spec.Saved) (view_file file.entry)) result (contents_of bench.now) d }
 {
     match file {
@@ -148,7 +146,7 @@ fn saved(bench: &Bench, file: Option<&[u8]>) -> Reply
 
 /// Returns a text and a line feed.
 fn echo_text(alloc: Global, text: &[u8]) -> Result<Vec<u8>, AllocError>
-    ensures { IfOk result (λ line. line.items ≡ ended text.now) }
+    ensures { IfOk result (λ line. line.items ≡ with_line_feed text.now) }
 {
     let mut line = Vec::from_slice(alloc, text)?;
     line.extend_from_slice(b"\n")?;
@@ -203,7 +201,7 @@ pub fn answer_line(
         Request::Why(word) => why(alloc, bench, word),
         Request::Integers(word) => integers(alloc, bench, word),
         Request::Show(name) => show(alloc, bench, name),
-        Request::Save(_) => saved(bench, file),
+        Request::Save(_) => save_reply(bench, file),
         Request::Echo(text) => echo(alloc, bench, text),
         Request::Help => Reply::Fixed(""),
         Request::Session => session(alloc, desk, bench, line),

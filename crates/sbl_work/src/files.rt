@@ -1,6 +1,6 @@
 //! The files of work: the script and the words, and files that the script is saved in.
 ghost use Rattle.std.specs.Prelude.{IfOk, string_bytes};
-ghost use Rattle.sbl_bench.specs.Kept.{contents_of};
+ghost use Rattle.sbl_bench.specs.KeptRuns.{contents_of};
 ghost use Rattle.sbl_work.specs.WholeWork.{IsOpened};
 
 use crate::words::words_in;

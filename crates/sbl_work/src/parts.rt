@@ -2,7 +2,7 @@
 ghost use Rattle.std.specs.Prelude.{◌≡◌, ℕ, List, Some, codes};
 ghost use Rattle.std.specs.Str.{bytes_eq};
 ghost use Rattle.sbl_bench.specs.Edits.{Whole};
-ghost use Rattle.sbl_bench.specs.Kept.{contents_of};
+ghost use Rattle.sbl_bench.specs.KeptRuns.{contents_of};
 ghost use Rattle.sbl_sessions.specs.Block.{HoldsText, made_text};
 ghost use Rattle.sbl_sessions.specs.CommandViews.{FindsTarget, view_target};
 ghost use Rattle.sbl_sessions.specs.Commands.{target_of, text_of_block};

@@ -43,24 +43,27 @@ pub(crate) fn memory_reply(answer: Result<(), AllocError>) -> Reply
     }
 }
 
+/// Returns the reply to what undoes or redoes an edit; the text is that for no such edit.
+fn turn_reply(answer: Result<(), HistoryFault>, nothing: &'static str) -> Reply
+    ensures { IsReply result (spec.turn_text nothing.now answer) }
+{
+    match answer {
+        Ok(()) => edit_reply(Ok(())),
+        Err(HistoryFault::Nothing) => Reply::Fixed(nothing),
+        Err(HistoryFault::Edit(fault)) => edit_reply(Err(fault)),
+    }
+}
+
 /// Returns the reply to `undo`.
 pub(crate) fn undo_reply(answer: Result<(), HistoryFault>) -> Reply
     ensures { IsReply result (spec.undo_text answer) }
 {
-    match answer {
-        Ok(()) => edit_reply(Ok(())),
-        Err(HistoryFault::Nothing) => Reply::Fixed(NOTHING_TO_UNDO),
-        Err(HistoryFault::Edit(fault)) => edit_reply(Err(fault)),
-    }
+    turn_reply(answer, NOTHING_TO_UNDO)
 }
 
 /// Returns the reply to `redo`.
 pub(crate) fn redo_reply(answer: Result<(), HistoryFault>) -> Reply
     ensures { IsReply result (spec.redo_text answer) }
 {
-    match answer {
-        Ok(()) => edit_reply(Ok(())),
-        Err(HistoryFault::Nothing) => Reply::Fixed(NOTHING_TO_REDO),
-        Err(HistoryFault::Edit(fault)) => edit_reply(Err(fault)),
-    }
+    turn_reply(answer, NOTHING_TO_REDO)
 }

@@ -5,7 +5,7 @@ ghost use Rattle.sbl_sessions.specs.Words as words;
 ghost use Rattle.sbl_work.specs.Commands as spec;
 ghost use Rattle.sbl_work.specs.ReplyViews.{FindsBlock, view_request};
 
-use sbl_sessions::{Target, block_word, target_of};
+use sbl_sessions::{Target, block_word, number_in, target_of};
 use std::alloc::{AllocError, Global};
 
 /// What a line without a block asks for.
@@ -19,14 +19,14 @@ pub(crate) enum Request<'a> {
     Undo,
     /// Redoes an edit.
     Redo,
+    /// Writes the script to a file.
+    Save(&'a str),
     /// Sets the mark.
     Mark,
     /// Reports what differs from the mark.
     Changes,
     /// Reports figures of the rows and classes.
     Stats,
-    /// Reports what no word uses.
-    Unused,
     /// Reports the largest classes.
     Largest(&'a str),
     /// Reports on the families of a file.
@@ -35,10 +35,10 @@ pub(crate) enum Request<'a> {
     Why(&'a str),
     /// Reports the steps of a run of a word and the integer variables at its end.
     Integers(&'a str),
+    /// Reports what no word uses.
+    Unused,
     /// Reports a definition.
     Show(&'a str),
-    /// Writes the script to a file.
-    Save(&'a str),
     /// Writes a text.
     Echo(&'a [u8]),
     /// Reports nothing.
@@ -133,31 +133,17 @@ pub(crate) fn request_of(line: &[u8]) -> Request<'_>
 fn text_request(line: &str) -> Request<'_>
     ensures { (file : Option (List ℕ)) → view_request file line.now result ≡ spec.text_command file line.now }
 {
-    if line == "reload" {
-        return Request::Reload;
+    match line {
+        "reload" => Request::Reload,
+        "undo" => Request::Undo,
+        "redo" => Request::Redo,
+        "mark" => Request::Mark,
+        "changes" => Request::Changes,
+        "stats" => Request::Stats,
+        "unused" => Request::Unused,
+        "help" => Request::Help,
+        _ => word_request(line),
     }
-    if line == "undo" {
-        return Request::Undo;
-    }
-    if line == "redo" {
-        return Request::Redo;
-    }
-    if line == "mark" {
-        return Request::Mark;
-    }
-    if line == "changes" {
-        return Request::Changes;
-    }
-    if line == "stats" {
-        return Request::Stats;
-    }
-    if line == "unused" {
-        return Request::Unused;
-    }
-    if line == "help" {
-        return Request::Help;
-    }
-    word_request(line)
 }
 
 /// Returns what a line that is UTF-8 asks for by its command word.
@@ -168,28 +154,15 @@ fn word_request(line: &str) -> Request<'_>
         Some((word, argument)) => (word, argument),
         None => (line, ""),
     };
-    if word == "largest" {
-        return Request::Largest(argument);
+    match word {
+        "largest" => Request::Largest(argument),
+        "families" => Request::Families(argument),
+        "why" | "events" => Request::Why(argument),
+        "integers" => Request::Integers(argument),
+        "show" => Request::Show(argument),
+        "save" => Request::Save(argument),
+        _ => Request::Session,
     }
-    if word == "families" {
-        return Request::Families(argument);
-    }
-    if word == "why" {
-        return Request::Why(argument);
-    }
-    if word == "events" {
-        return Request::Why(argument);
-    }
-    if word == "integers" {
-        return Request::Integers(argument);
-    }
-    if word == "show" {
-        return Request::Show(argument);
-    }
-    if word == "save" {
-        return Request::Save(argument);
-    }
-    Request::Session
 }
 
 /// Returns the number above 0 that decimal digits write, and `usize::MAX` for each larger number; `None` if the bytes are not
@@ -197,17 +170,8 @@ fn word_request(line: &str) -> Request<'_>
 pub(crate) fn count_in(digits: &[u8]) -> Option<usize>
     ensures { result ≡ spec.count_in digits.now }
 {
-    let mut number: usize = 0;
-    for i in 0..digits.len() {
-        if !digits[i].is_ascii_digit() {
-            return None;
-        }
-        number = number
-            .saturating_mul(10)
-            .saturating_add(usize::from(digits[i] - b'0'));
+    match number_in(digits)? {
+        0 => None,
+        number => Some(number as usize),
     }
-    if number == 0 {
-        return None;
-    }
-    Some(number)
 }

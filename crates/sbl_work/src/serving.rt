@@ -1,16 +1,13 @@
 //! Work: each request gets its reply before the next line is read.
 
 ghost use Rattle.std.specs.Io.KnownBytes.{Appends};
-ghost use Rattle.std.specs.Prelude.{◌≡◌, ◌≤◌, ℕ, List, [], IfErr, IfOk, None, OnOk, Some, Err, string_bytes, take};
-ghost use Rattle.sbl_bench.specs.Kept.{contents_of};
+ghost use Rattle.std.specs.Prelude.{◌≡◌, ◌≤◌, ℕ, List, IfErr, IfOk, None, OnOk, string_bytes, take};
+ghost use Rattle.sbl_bench.specs.KeptRuns.{contents_of};
 ghost use Rattle.sbl_io.specs.Devices.{HasStopped, WritesInTime};
-ghost use Rattle.sbl_io.specs.Held.{KeepsTime, Reading, fault_of, input_of, line_of};
-ghost use Rattle.sbl_sessions.specs.CommandViews.{IsReply};
-ghost use Rattle.sbl_sessions.specs.Session.{Ends};
-ghost use Rattle.sbl_work.specs.Answering.{BreaksWork, IsWorkAnswered};
-ghost use Rattle.sbl_work.specs.Commands as spec;
+ghost use Rattle.sbl_io.specs.HeldInput.{KeepsTime, Reading, fault_of, input_of, line_of};
+ghost use Rattle.sbl_sessions.specs.{CommandViews.IsReply, Session.Ends};
 ghost use Rattle.sbl_desk.specs.Desks.{state_of};
-ghost use Rattle.sbl_work.specs.ReplyViews.{IsFileAnswer};
+ghost use Rattle.sbl_work.specs.{Answering.BreaksWork, Answering.IsWorkAnswered, ReplyViews.IsFileAnswer};
 ghost use Rattle.sbl_work.specs.Serving as serving;
 ghost use Rattle.sbl_work.specs.Serving.{IsWork, with_prompt};
 ghost use Rattle.sbl_work.specs.WholeWork.{IsWholeWork, WorksOrMemory, status_of};
@@ -24,7 +21,7 @@ use sbl_bench::{Bench, EditFault};
 use sbl_desk::Desk;
 use sbl_io::{Lines, ServeFault, Sink, Source, write_all};
 use sbl_sessions::{LoadFault, Reply, read_block, write_reply};
-use std::alloc::Global;
+use std::alloc::{AllocError, Global};
 use std::fs;
 use std::hash::RandomState;
 use std::rt::Files;
@@ -43,58 +40,16 @@ struct Folder<'a, F> {
     seen: Vec<u8>,
 }
 
-/// Replaces the script by what its file has now, and returns the reply.
-fn reload<F: Files + AllocGlobal>(
+/// Writes the text of the script in force to a file, and returns whether it was written. Returns `AllocError` if an allocation for
+/// the text fails.
+fn save_text<F: Files + AllocGlobal>(
     folder: &mut Folder<'_, F>,
-    desk: &mut Desk,
-    bench: &mut Bench,
-    alloc: Global,
-    line: &[u8],
-) -> Reply
-    ensures { IsFileAnswer (contents_of bench.old) (state_of desk.old) line.now result (contents_of bench.new) (state_of desk.new) }
-{
-    let Ok(bytes) = fs::read(folder.files, folder.paths.script.as_str()) else {
-        return answer_line(alloc, desk, bench, line, None);
-    };
-    let reply = answer_line(alloc, desk, bench, line, Some(bytes.as_slice()));
-    folder.seen = bytes;
-    reply
-}
-
-/// Reports on the families of a file.
-fn families<F: Files + AllocGlobal>(
-    folder: &Folder<'_, F>,
-    desk: &mut Desk,
-    bench: &mut Bench,
-    alloc: Global,
-    line: &[u8],
+    desk: &Desk,
+    bench: &Bench,
     path: &str,
-) -> Reply
-    ensures { IsFileAnswer (contents_of bench.old) (state_of desk.old) line.now result (contents_of bench.new) (state_of desk.new) }
-{
-    match fs::read(folder.files, path) {
-        Ok(bytes) => answer_line(alloc, desk, bench, line, Some(bytes.as_slice())),
-        Err(_) => answer_line(alloc, desk, bench, line, None),
-    }
-}
-
-/// Writes the text of the script in force to a file, and returns the reply to the line, which is `save` with the path of this file.
-fn save_as<F: Files + AllocGlobal>(
-    folder: &mut Folder<'_, F>,
-    desk: &mut Desk,
-    bench: &mut Bench,
-    alloc: Global,
-    line: &[u8],
-    path: &str,
-) -> Reply
-    ensures { spec.alone_command (Some []) line.now ≡ spec.Saved → IsFileAnswer (contents_of bench.old) (state_of desk.old) line.now result (contents_of bench.new) (state_of desk.new) }
-{
-    let Ok(text) = desk.text(bench) else {
-        return edit_reply(Err(EditFault::OutOfMemory));
-    };
-    let is_saved = save(folder.files, folder.paths, &mut folder.seen, path, text);
-    let file = if is_saved { Some(b"".as_slice()) } else { None };
-    answer_line(alloc, desk, bench, line, file)
+) -> Result<bool, AllocError> {
+    let text = desk.text(bench)?;
+    Ok(save(folder.files, folder.paths, &mut folder.seen, path, text))
 }
 
 /// Makes the edit or the report that a line without a block asks for, and returns the reply.
@@ -108,9 +63,23 @@ fn answer_alone<F: Files + AllocGlobal>(
     ensures { IsFileAnswer (contents_of bench.old) (state_of desk.old) line.now result (contents_of bench.new) (state_of desk.new) }
 {
     match request_of(line) {
-        Request::Reload => reload(folder, desk, bench, alloc, line),
-        Request::Families(path) => families(folder, desk, bench, alloc, line, path),
-        Request::Save(path) => save_as(folder, desk, bench, alloc, line, path),
+        Request::Reload => match fs::read(folder.files, folder.paths.script.as_str()) {
+            Ok(bytes) => {
+                let reply = answer_line(alloc, desk, bench, line, Some(bytes.as_slice()));
+                folder.seen = bytes;
+                reply
+            }
+            Err(_) => answer_line(alloc, desk, bench, line, None),
+        },
+        Request::Families(path) => match fs::read(folder.files, path) {
+            Ok(bytes) => answer_line(alloc, desk, bench, line, Some(bytes.as_slice())),
+            Err(_) => answer_line(alloc, desk, bench, line, None),
+        },
+        Request::Save(path) => match save_text(folder, desk, bench, path) {
+            Ok(true) => answer_line(alloc, desk, bench, line, Some(b"".as_slice())),
+            Ok(false) => answer_line(alloc, desk, bench, line, None),
+            Err(_) => edit_reply(Err(EditFault::OutOfMemory)),
+        },
         _ => answer_line(alloc, desk, bench, line, None),
     }
 }
@@ -227,17 +196,17 @@ fn work_on<F: Files + AllocGlobal, R: Source + Drop, W: Sink>(
     files: &F,
     keys: RandomState,
     paths: &Paths,
-    prompts: bool,
+    prompt: &[u8],
     lines: &mut Lines<R>,
     writer: &mut W,
 ) -> Result<(), OpenFault>
-    ensures works { fault_of lines.old ≡ None → IsWholeWork (Ends R.tally W.tally lines.old lines.new writer.old writer.new) (string_bytes paths.now.external) (serving.prompt_of prompts) (input_of R.left lines.old) (input_of R.left lines.new) (W.held writer.old) (W.held writer.new) (status_of result) }
+    ensures works { fault_of lines.old ≡ None → IsWholeWork (Ends R.tally W.tally lines.old lines.new writer.old writer.new) (string_bytes paths.now.external) prompt.now (input_of R.left lines.old) (input_of R.left lines.new) (W.held writer.old) (W.held writer.new) (status_of result) }
     ensures reads_in_time { KeepsTime R.tally lines.old lines.new }
     ensures writes_in_time { WritesInTime W.tally writer.old writer.new }
 {
     let (mut bench, seen) = open(files, keys, paths)?;
     let mut folder = Folder { files, paths, seen };
-    let served = serve_bench(&mut folder, &mut bench, prompt_of(prompts), lines, writer);
+    let served = serve_bench(&mut folder, &mut bench, prompt, lines, writer);
     bench.leak();
     match served {
         Ok(()) => Ok(()),
@@ -267,7 +236,7 @@ pub fn work<F: Files + AllocGlobal, R: Source + Drop, W: Sink, E: Sink>(
     ensures writes_in_time { WritesInTime W.tally writer.old writer.new }
     ensures errors_in_time { WritesInTime E.tally errors.old errors.new }
 {
-    match work_on(files, keys, paths, prompts, lines, writer) {
+    match work_on(files, keys, paths, prompt_of(prompts), lines, writer) {
         Ok(()) => 0,
         Err(fault) => {
             write_fault(lines.alloc(), errors, &fault);

@@ -1,7 +1,7 @@
 //! The reports of a run of a word.
-ghost use Rattle.std.specs.Prelude.{◌≡◌, ◌⊎◌, IfOk, Some};
+ghost use Rattle.std.specs.Prelude.{◌≡◌, ◌⊎◌, IfOk, MatchResult, Some};
 ghost use Rattle.std.specs.Str.{chars};
-ghost use Rattle.sbl_bench.specs.Kept.{contents_of};
+ghost use Rattle.sbl_bench.specs.KeptRuns.{contents_of};
 ghost use Rattle.sbl_sessions.specs.Answers.{edit_text};
 ghost use Rattle.sbl_sessions.specs.CommandViews.{IsReply};
 ghost use Rattle.sbl_work.specs.Replies.{integers_reply_text, why_reply_text};
@@ -21,42 +21,32 @@ fn characters_of(alloc: Global, text: &str) -> Result<Vec<char>, AllocError>
     Ok(characters)
 }
 
-/// Returns the reply with the rows that tell why a word has its stem, or with the fault of the word.
-fn rows_reply(alloc: Global, bench: &Bench, word: &[char]) -> Reply
-    ensures { IsReply result (why_reply_text (contents_of bench.now) word.now) ⊎ IsReply result (edit_text (Some EditFault.OutOfMemory)) }
+/// Returns the reply with the rows on a run of a word, or with the fault of the word.
+fn rows_reply(rows: Result<Vec<u8>, EditFault>) -> Reply
+    ensures { MatchResult rows (λ text. IsReply result text.items) (λ fault. IsReply result (edit_text (Some fault))) }
 {
-    match why_text(alloc, bench, word) {
+    match rows {
         Ok(text) => Reply::Report(text),
         Err(fault) => edit_reply(Err(fault)),
     }
 }
 
-/// Returns the reply to `why`.
+/// Returns the reply to `why`: the rows that tell why a word has its stem.
 pub(crate) fn why_reply(alloc: Global, bench: &Bench, word: &str) -> Reply
     ensures { IsReply result (why_reply_text (contents_of bench.now) (chars word.now)) ⊎ IsReply result (edit_text (Some EditFault.OutOfMemory)) }
 {
     match characters_of(alloc, word) {
-        Ok(characters) => rows_reply(alloc, bench, &characters),
+        Ok(characters) => rows_reply(why_text(alloc, bench, &characters)),
         Err(_) => edit_reply(Err(EditFault::OutOfMemory)),
     }
 }
 
-/// Returns the reply with the rows of the steps of a run and of the integer variables at its end, or with the fault of the word.
-fn integer_rows_reply(alloc: Global, bench: &Bench, word: &[char]) -> Reply
-    ensures { IsReply result (integers_reply_text (contents_of bench.now) word.now) ⊎ IsReply result (edit_text (Some EditFault.OutOfMemory)) }
-{
-    match integers_text(alloc, bench, word) {
-        Ok(text) => Reply::Report(text),
-        Err(fault) => edit_reply(Err(fault)),
-    }
-}
-
-/// Returns the reply to `integers`.
+/// Returns the reply to `integers`: the rows of the steps of a run and of the integer variables at its end.
 pub(crate) fn integers_reply(alloc: Global, bench: &Bench, word: &str) -> Reply
     ensures { IsReply result (integers_reply_text (contents_of bench.now) (chars word.now)) ⊎ IsReply result (edit_text (Some EditFault.OutOfMemory)) }
 {
     match characters_of(alloc, word) {
-        Ok(characters) => integer_rows_reply(alloc, bench, &characters),
+        Ok(characters) => rows_reply(integers_text(alloc, bench, &characters)),
         Err(_) => edit_reply(Err(EditFault::OutOfMemory)),
     }
 }

@@ -7,7 +7,7 @@ use Rattle.sbl_bench.specs.Contents.{Contents}
 use Rattle.sbl_bench.specs.declared.fault.EditFault.TheVariants as edit
 use Rattle.sbl_check.specs.Differences.{IsChecked}
 use Rattle.sbl_ast.specs.Source.{Source}
-use Rattle.sbl_sessions.specs.Loaded.{IsLoaded, ReadsScript, TookSource}
+use Rattle.sbl_sessions.specs.Loading.{IsLoaded, ReadsScript, TookSource}
 use Rattle.sbl_sessions.specs.Session.{IsSession}
 use Rattle.sbl_sessions.specs.declared.faults.LoadFault.{LoadFault}
 use Rattle.sbl_sessions.specs.declared.faults.LoadFault.TheVariants.{Input, Open, Script}
@@ -17,7 +17,7 @@ use Rattle.sbl_sessions.proofs.LoadFacts.{script_unread}
 use Rattle.snowbench.specs.WholeCheck.{ChecksLists, IsWholeCheck, ReadsExpected, ReadsWords, list_text}
 use Rattle.snowbench.specs.WholeSession.{IsWholeSession, as_load}
 use Rattle.sbl_filter.specs.Filter.{IsFiltered}
-use Rattle.snowbench.specs.Stemmed.{IsStemmed}
+use Rattle.snowbench.specs.StemmedRows.{IsStemmed}
 use Rattle.snowbench.specs.Program.{IsAnswer, IsReported, IsWritten, fault_line}
 use Rattle.snowbench.specs.declared.command_line.Verb.{Verb}
 use Rattle.snowbench.specs.declared.command_line.Verb.TheVariants as verb

@@ -6,14 +6,14 @@ use Rattle.std.specs.Str.{is_utf8}
 use Rattle.sbl_bench.specs.Contents.{Contents}
 use Rattle.sbl_check.specs.Differences.{IsChecked, ending, line_fault, pair_fault}
 use Rattle.sbl_ast.specs.Source.{Source}
-use Rattle.sbl_sessions.specs.Loaded as load
-use Rattle.sbl_sessions.specs.Loaded.{AfterSource, IsLoaded, ReadsScript, WordLines}
+use Rattle.sbl_sessions.specs.Loading as load
+use Rattle.sbl_sessions.specs.Loading.{AfterSource, IsLoaded, ReadsScript, WordLines}
 use Rattle.sbl_sessions.specs.Block.{BlockLines, Breaks}
 use Rattle.sbl_sessions.specs.Session.{Ends}
 use Rattle.sbl_sessions.specs.declared.faults.LoadFault.{LoadFault}
 use Rattle.sbl_sessions.specs.declared.faults.LoadFault.TheVariants.{Input}
 use Rattle.sbl_io.specs.Devices.{HasStopped, Tally}
-use Rattle.sbl_io.specs.Held.{HasCause, HasReason, fault_of, reads_bound}
+use Rattle.sbl_io.specs.HeldInput.{HasCause, HasReason, fault_of, reads_bound}
 use Rattle.sbl_io.specs.LinesOf.{max_line}
 use Rattle.sbl_io.specs.declared.lines.Lines.{Lines}
 use Rattle.sbl_io.specs.declared.faults.LineFault.{LineFault}

@@ -1,7 +1,7 @@
 -- Why a part of the program ends with a fault, and that its reads and writes are in time.
 use Rattle.std.specs.Prelude.{◌≡◌, None, Result, IfErr}
 use Rattle.sbl_io.specs.Devices.{Tally, WritesInTime}
-use Rattle.sbl_io.specs.Held.{KeepsTime, fault_of}
+use Rattle.sbl_io.specs.HeldInput.{KeepsTime, fault_of}
 use Rattle.sbl_io.specs.declared.lines.Lines.{Lines}
 use Rattle.sbl_sessions.specs.declared.faults.LoadFault.{LoadFault}
 use Rattle.snowbench.specs.Program.{HasReasons}

@@ -14,8 +14,8 @@ abbrev pub verb_app : Text → App
 verb_app name = with_rule (new_app name) external
 
 -- an argument by its position: a file that may be given, `new_rule name`, or one that has to be given
-abbrev pub required : Text → Rule
-required name = record (new_rule name) { required = true }
+abbrev pub required_rule : Text → Rule
+required_rule name = record (new_rule name) { required = true }
 
 -- `--NAME`: an option without a value
 abbrev pub flag : Text → Rule
@@ -23,7 +23,7 @@ flag name = record (new_rule name) { long = Some name; action = Some SetTrue }
 
 -- `run` has three files
 abbrev pub run_app : App
-run_app = with_rule (with_rule (with_rule (with_rule (verb_app (codes "run")) (required (codes "SCRIPT"))) (new_rule (codes "WORDS"))) (new_rule (codes "COMMANDS"))) (flag (codes "strict"))
+run_app = with_rule (with_rule (with_rule (with_rule (verb_app (codes "run")) (required_rule (codes "SCRIPT"))) (new_rule (codes "WORDS"))) (new_rule (codes "COMMANDS"))) (flag (codes "strict"))
 
 -- `session` and `stem` have flags
 abbrev pub session_app : App
@@ -42,7 +42,7 @@ check_app = with_rule (with_rule (with_rule (with_rule (verb_app (codes "check")
 
 -- `work` has two files, and the faces of its answers
 abbrev pub work_app : App
-work_app = with_rule (with_rule (with_rule (with_rule (verb_app (codes "work")) (required (codes "SCRIPT"))) (new_rule (codes "WORDS"))) (flag (codes "rows"))) (flag (codes "text"))
+work_app = with_rule (with_rule (with_rule (with_rule (verb_app (codes "work")) (required_rule (codes "SCRIPT"))) (new_rule (codes "WORDS"))) (flag (codes "rows"))) (flag (codes "text"))
 
 -- the program itself
 abbrev pub top : App

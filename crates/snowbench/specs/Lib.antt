@@ -1,5 +1,5 @@
 -- what the contracts of public calls rest on
-pub mod Stemmed
+pub mod StemmedRows
 pub mod WholeSession
 pub mod WholeCheck
 pub mod Program

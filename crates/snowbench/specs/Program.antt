@@ -6,11 +6,11 @@ use Rattle.snowbench.specs.declared.command_line.Verb.TheVariants.{Session, Stem
 use Rattle.sbl_sessions.specs.declared.faults.LoadFault.{LoadFault}
 use Rattle.sbl_sessions.specs.declared.faults.LoadFault.TheVariants.{Input}
 use Rattle.sbl_io.specs.Devices.{HasStopped, Tally}
-use Rattle.sbl_io.specs.Held.{HasCause}
+use Rattle.sbl_io.specs.HeldInput.{HasCause}
 use Rattle.sbl_io.specs.declared.lines.Lines.{Lines}
 use Rattle.sbl_io.specs.declared.faults.ServeFault.TheVariants as fault
 use Rattle.sbl_filter.specs.Filter.{IsFiltered}
-use Rattle.snowbench.specs.Stemmed.{IsStemmed}
+use Rattle.snowbench.specs.StemmedRows.{IsStemmed}
 use Rattle.snowbench.specs.WholeCheck.{IsWholeCheck}
 use Rattle.snowbench.specs.WholeSession.{IsWholeSession}
 

@@ -2,7 +2,7 @@
 use Rattle.std.specs.Prelude.{◌≡◌, ◌⊎◌, ℕ, List, [], Option, Result, Ok, Err}
 use Rattle.std.specs.Io.KnownBytes.{Appends}
 use Rattle.sbl_bench.specs.Contents.{Contents}
-use Rattle.sbl_sessions.specs.Loaded.{IsLoaded}
+use Rattle.sbl_sessions.specs.Loading.{IsLoaded}
 use Rattle.sbl_sessions.specs.Session.{IsSession}
 use Rattle.sbl_sessions.specs.declared.faults.LoadFault.{LoadFault}
 use Rattle.sbl_sessions.specs.declared.faults.LoadFault.TheVariants.{Input}

@@ -3,12 +3,12 @@ ghost use Rattle.std.specs.Prelude.{◌≡◌, ◌≤◌, ◌++◌, ◌∷◌, [
 ghost use Rattle.std.specs.Fmt.InlineText.{inline_text};
 ghost use Rattle.sbl_io.specs.Devices.{WritesInTime};
 ghost use Rattle.sbl_io.specs.Faults.{left_by};
-ghost use Rattle.sbl_io.specs.Held.{KeepsTime, HasReason, fault_of, input_of, reads_bound};
-ghost use Rattle.sbl_script.specs.Parsed.{source_of};
+ghost use Rattle.sbl_io.specs.HeldInput.{KeepsTime, HasReason, fault_of, input_of, reads_bound};
+ghost use Rattle.sbl_script.specs.ParsedScript.{source_of};
 ghost use Rattle.sbl_sessions.specs.declared.faults.LoadFault.{LoadFault};
 ghost use Rattle.snowbench.specs.Answering.{Answering};
 ghost use Rattle.snowbench.specs.Program.{HasReasons, IsAnswer, IsReported, fault_line};
-ghost use Rattle.snowbench.specs.Stemmed.{IsStemmed};
+ghost use Rattle.snowbench.specs.StemmedRows.{IsStemmed};
 ghost use Rattle.snowbench.specs.WholeCheck.{ChecksLists, IsWholeCheck, ReadsExpected, ReadsWords};
 ghost use Rattle.snowbench.specs.WholeSession.{IsWholeSession};
 

@@ -5,7 +5,7 @@ use crate::talk::{Lead, Talk};
 use crate::watching::{Context, Quiet, Watched, file_text};
 use sbl_diagnostics::fault_of;
 use sbl_work::{Paths, work};
-use snowbench::{CommandLine, Device, Face, Lines};
+use snowbench::{CommandLine, Device, Face, Lines, Sink, Source};
 use std::alloc::{AllocError, Global};
 use std::cell::RefCell;
 use std::fs;
@@ -61,6 +61,20 @@ pub(crate) fn start_work(rt: &HostRuntime, command_line: CommandLine) -> u8 {
     }
 }
 
+/// Works over a reader and two writers, and returns the exit status.
+fn work_over<R: Source + Drop, W: Sink, E: Sink>(
+    rt: &HostRuntime,
+    keys: RandomState,
+    paths: &Paths,
+    prompts: bool,
+    reader: R,
+    writer: &mut W,
+    errors: &mut E,
+) -> Result<u8, AllocError> {
+    let mut lines = Lines::new(rt.alloc(), reader)?;
+    Ok(work(rt, keys, paths, prompts, &mut lines, writer, errors))
+}
+
 /// Works without places, and returns the exit status.
 fn work_in_rows(
     rt: &HostRuntime,
@@ -68,18 +82,10 @@ fn work_in_rows(
     paths: &Paths,
     prompts: bool,
 ) -> Result<u8, AllocError> {
-    let mut lines = Lines::new(rt.alloc(), Device::new(rt.stdin()))?;
+    let reader = Device::new(rt.stdin());
     let mut writer = Device::new(rt.stdout());
     let mut errors = Device::new(rt.stderr());
-    Ok(work(
-        rt,
-        keys,
-        paths,
-        prompts,
-        &mut lines,
-        &mut writer,
-        &mut errors,
-    ))
+    work_over(rt, keys, paths, prompts, reader, &mut writer, &mut errors)
 }
 
 /// Works, shows the place of each fault of a script or of a block, and returns the exit status.
@@ -96,19 +102,10 @@ fn work_in_text(
         script: Some(paths.script.as_str()),
         prompts,
     };
-    let reader = Watched::new(rt, context, rt.stdin(), talk)?;
-    let mut lines = Lines::new(rt.alloc(), Device::new(reader))?;
+    let reader = Device::new(Watched::new(rt, context, rt.stdin(), talk)?);
     let mut writer = Device::new(Quiet::new(rt.stdout(), talk));
     let mut errors = Device::new(Vec::new(rt.alloc()));
-    let status = work(
-        rt,
-        keys,
-        paths,
-        prompts,
-        &mut lines,
-        &mut writer,
-        &mut errors,
-    );
+    let status = work_over(rt, keys, paths, prompts, reader, &mut writer, &mut errors)?;
     print_end(rt, paths, &errors.into_inner())?;
     Ok(status)
 }

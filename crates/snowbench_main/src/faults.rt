@@ -2,7 +2,7 @@
 
 use crate::blocks::{after_point, long_line, point_line};
 use crate::file_names::{FileNames, STANDARD_INPUT, file_name};
-use crate::messages::counted;
+use crate::messages::count_and_word;
 use crate::run_result::RunResult;
 use sbl_bench::MAX_WORD_LENGTH;
 use sbl_diagnostics::{fault_of, offset_of_byte, push_conversion, push_named, script_fault_text};
@@ -34,7 +34,7 @@ pub(crate) fn run_fault_text(
         return format!(in alloc; "  {}", cut_text(command_line.verb, input)).map(Some);
     }
     if command_line.verb == Verb::Filter && (said == NOT_TEXT || said == TOO_LONG) {
-        let rows = counted(alloc, ended.rows, "row", "rows")?;
+        let rows = count_and_word(alloc, ended.rows, "row", "rows")?;
         return format!(in alloc; "  it is the word after {rows}").map(Some);
     }
     if said == NOT_TEXT {

@@ -16,7 +16,7 @@ pub(crate) const NO_MEMORY: &str = "snowbench: 49 OutOfMemory";
 pub(crate) const NO_KEYS: &str = "error: the system gives no random numbers\n";
 
 /// Returns a number with commas between thousands, and the word for one or for more.
-pub(crate) fn counted(
+pub(crate) fn count_and_word(
     alloc: Global,
     number: u64,
     one: &str,

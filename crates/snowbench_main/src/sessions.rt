@@ -3,7 +3,7 @@
 use crate::blocks::{compose, line_count, point_line, script_block};
 use crate::faults::{hint, run_fault_text};
 use crate::file_names::{FileNames, STANDARD_INPUT, file_name};
-use crate::messages::{FAILED, NO_KEYS, REFUSED, counted, fail_memory, print_line};
+use crate::messages::{FAILED, NO_KEYS, REFUSED, count_and_word, fail_memory, print_line};
 use crate::run_result::RunResult;
 use crate::streams::{Front, Kept, Output};
 use crate::talk::{Lead, Talk};
@@ -344,8 +344,8 @@ fn check_input(rt: &HostRuntime, names: FileNames<'_>, stems: &str) -> Result<(V
 
 /// Returns how many words there are, and how many differ.
 fn counts_text(alloc: Global, words: u64, rows: u64) -> Result<String, AllocError> {
-    let words = counted(alloc, words, "word", "words")?;
-    let rows = counted(alloc, rows, "differs", "differ")?;
+    let words = count_and_word(alloc, words, "word", "words")?;
+    let rows = count_and_word(alloc, rows, "differs", "differ")?;
     format!(in alloc; "{words}, {rows}")
 }
 
@@ -357,8 +357,8 @@ fn lengths_text(
     stems: &str,
     other: u64,
 ) -> Result<String, AllocError> {
-    let count = counted(alloc, count, "line", "lines")?;
-    let other = counted(alloc, other, "line", "lines")?;
+    let count = count_and_word(alloc, count, "line", "lines")?;
+    let other = count_and_word(alloc, other, "line", "lines")?;
     format!(in alloc;
         "snowbench: {words} has {count} and {stems} has {other}: each word needs its stem"
     )

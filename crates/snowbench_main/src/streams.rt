@@ -64,15 +64,11 @@ impl<R: Read> Read for Front<'_, R> {
     ghost remaining = { λ f. R.remaining f.inner };
 
     fn read(&mut self, buf: &mut [u8]) -> io::Result<usize> {
-        match self.inner.read(buf) {
-            Ok(count) => {
-                if let Ok(mut kept) = self.kept.try_borrow_mut() {
-                    kept.keep(&buf[..count]);
-                }
-                Ok(count)
-            }
-            Err(error) => Err(error),
+        let count = self.inner.read(buf)?;
+        if let Ok(mut kept) = self.kept.try_borrow_mut() {
+            kept.keep(&buf[..count]);
         }
+        Ok(count)
     }
 }
 
@@ -117,6 +113,24 @@ struct Seen {
 impl Seen {
     /// Notes more bytes of the lines.
     fn note(&mut self, bytes: &[u8]) {
+        let is_outside = self.part == LinePart::Nothing || self.part == LinePart::Other;
+        if is_outside && !has_blank(bytes) {
+            self.note_rows(bytes);
+        } else {
+            self.note_each(bytes);
+        }
+    }
+
+    /// Notes bytes without a blank, before which no refusal has begun. A refusal has a blank, so no line in them is one.
+    fn note_rows(&mut self, bytes: &[u8]) {
+        let last_feed = bytes.iter().rposition(|byte| *byte == b'\n');
+        let (lines, rest) = bytes.split_at(last_feed.unwrap_or(0));
+        self.lines = self.lines.saturating_add(feed_count(lines));
+        self.note_each(rest);
+    }
+
+    /// Notes more bytes of the lines, one after another.
+    fn note_each(&mut self, bytes: &[u8]) {
         for byte in bytes {
             if *byte == b'\n' {
                 self.has_refusal = self.has_refusal || self.part == LinePart::Name;
@@ -127,6 +141,36 @@ impl Seen {
             }
         }
     }
+}
+
+// Both go through all bytes, which takes a part of the time of a search that may stop.
+
+/// Returns whether one of the bytes is a blank.
+fn has_blank(bytes: &[u8]) -> bool {
+    let mut has_blank = false;
+    for byte in bytes {
+        has_blank |= *byte == b' ';
+    }
+    has_blank
+}
+
+/// Returns the number of line feeds. It is counted by parts that are short enough for a count in one byte, which takes the least
+/// time.
+fn feed_count(bytes: &[u8]) -> u64 {
+    let mut count: u64 = 0;
+    for part in bytes.chunks(255) {
+        count = count.wrapping_add(u64::from(short_feed_count(part)));
+    }
+    count
+}
+
+/// Returns the number of line feeds among at most 255 bytes.
+fn short_feed_count(bytes: &[u8]) -> u8 {
+    let mut count: u8 = 0;
+    for byte in bytes {
+        count = count.wrapping_add(u8::from(*byte == b'\n'));
+    }
+    count
 }
 
 /// A writer, and what the lines written to it were.

@@ -57,7 +57,7 @@ fn push(kept: &mut Vec<u8>, bytes: &[u8]) -> bool {
 }
 
 /// Returns the line without its end.
-fn chomped(line: &[u8]) -> &[u8] {
+fn cut_end(line: &[u8]) -> &[u8] {
     match line.split_last() {
         Some((b'\r', rest)) => rest,
         _ => line,
@@ -165,7 +165,7 @@ impl Talk {
     /// Notes the end of a line.
     fn note_line(&mut self) {
         self.rows = self.rows.saturating_add(1);
-        let is_point = chomped(&self.line) == b".".as_slice();
+        let is_point = cut_end(&self.line) == b".".as_slice();
         match self.next {
             Next::Script if is_point => self.next = Next::Words,
             Next::Words if is_point => self.begin_commands(),
@@ -176,7 +176,7 @@ impl Talk {
                 self.reply.clear();
             }
             Next::Block => {
-                let is_kept = push(&mut self.block, chomped(&self.line))
+                let is_kept = push(&mut self.block, cut_end(&self.line))
                     && push(&mut self.block, b"\n");
                 self.is_lost = self.is_lost || !is_kept;
             }
@@ -196,7 +196,7 @@ impl Talk {
         self.reply.clear();
         self.command.clear();
         self.block.clear();
-        self.is_lost = !push(&mut self.command, chomped(&self.line));
+        self.is_lost = !push(&mut self.command, cut_end(&self.line));
         self.has_block = asks_block(self.alloc, self.lead, &self.command);
         if self.has_block {
             self.next = Next::Block;

@@ -244,15 +244,11 @@ impl<W: Write> Write for Quiet<'_, W> {
                 return Ok(buf.len());
             }
         }
-        match self.inner.write(buf) {
-            Ok(count) => {
-                if let Ok(mut talk) = self.talk.try_borrow_mut() {
-                    talk.note_output(&buf[..count]);
-                }
-                Ok(count)
-            }
-            Err(error) => Err(error),
+        let count = self.inner.write(buf)?;
+        if let Ok(mut talk) = self.talk.try_borrow_mut() {
+            talk.note_output(&buf[..count]);
         }
+        Ok(count)
     }
 
     fn flush(&mut self) -> io::Result<()> {

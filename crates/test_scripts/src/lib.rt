@@ -46,7 +46,7 @@ pub fn with_line_feeds(alloc: Global, text: &str) -> Result<String, AllocError> 
 }
 
 /// Returns the texts of these values, each with a semicolon. Returns `AllocError` if an allocation fails.
-pub fn printed<T: Display>(alloc: Global, values: &[T]) -> Result<String, AllocError> {
+pub fn print_values<T: Display>(alloc: Global, values: &[T]) -> Result<String, AllocError> {
     let mut text = String::new(alloc);
     for value in values {
         text.push_str(format!(in alloc; "{value};")?.as_str())?;

@@ -13,7 +13,7 @@ use std::hash::RandomState;
 use std::process::Abort;
 use std::test::Fail;
 use test_devices::SameBytes;
-use test_scripts::{PREFIXES, printed};
+use test_scripts::{PREFIXES, print_values};
 
 /// A bench over this script and these words.
 pub(crate) fn bench_of(alloc: Global, script: &str, words: &[&str]) -> Result<Bench, Fail> {
@@ -116,14 +116,14 @@ fn a_refused_growth_changes_nothing(rt: HostRuntime) -> Result<(), Fail> {
 fn faults_are_printed_with_their_numbers(rt: HostRuntime) -> Result<(), Fail> {
     let words = [Present, Absent, EmptyWord, WordTooLong, Full];
     let want = "40 Present;41 Absent;42 EmptyWord;43 WordTooLong;44 Full;";
-    assert_eq!(rt; printed(rt.alloc(), &words)?.as_str(), want);
+    assert_eq!(rt; print_values(rt.alloc(), &words)?.as_str(), want);
     let edits = [NoRoutine, NoAmong, AmongCount, NoGrouping, BadLimit];
     let want = "45 NoRoutine;46 NoAmong;47 AmongCount;53 NoGrouping;51 BadLimit;";
-    assert_eq!(rt; printed(rt.alloc(), &edits)?.as_str(), want);
+    assert_eq!(rt; print_values(rt.alloc(), &edits)?.as_str(), want);
     let undeclared = EditFault::Script(ScriptFault::Undeclared { item: 2 });
     let no_external = EditFault::Script(ScriptFault::NoExternal);
     let others = [undeclared, no_external, OutOfMemory, MeterFull];
     let want = "48 Undeclared;48 NoExternal;49 OutOfMemory;50 MeterFull;";
-    assert_eq!(rt; printed(rt.alloc(), &others)?.as_str(), want);
+    assert_eq!(rt; print_values(rt.alloc(), &others)?.as_str(), want);
     Ok(())
 }

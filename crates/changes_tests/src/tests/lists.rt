@@ -1,6 +1,6 @@
 //! Rows, and changes as text.
 
-use sbl_changes::{ChangeRow, FamilyRow, StemClass, WordOutcome, WordRow};
+use sbl_changes::{ChangeRow, FamilyRow, PairCounts, StemClass, WordOutcome, WordRow};
 use std::alloc::{AllocError, Global};
 
 /// A row with its own characters.
@@ -152,8 +152,8 @@ fn put_change(text: &mut String, change: &ChangeRow<'_>) -> Result<(), AllocErro
             put_outcome(text, before)?;
             put_outcome(text, after)
         }
-        ChangeRow::Split { stem, into } => put_row(text, "split", stem, into),
-        ChangeRow::Merged { stem, from } => put_row(text, "merged", stem, from),
+        ChangeRow::Split(class) => put_row(text, "split", class.stem, &class.members),
+        ChangeRow::Merged(class) => put_row(text, "merged", class.stem, &class.members),
         ChangeRow::Renamed { from, to } => put_row(text, "renamed", from, &[*to]),
     }
 }
@@ -186,13 +186,14 @@ pub(crate) fn shown_classes(
 fn put_family_row(alloc: Global, text: &mut String, row: &FamilyRow<'_>) -> Result<(), AllocError> {
     match row {
         FamilyRow::Under { word, stems } => put_row(text, "under", word, stems),
-        FamilyRow::Over { stem, words } => put_row(text, "over", stem, words),
-        FamilyRow::Pairs {
-            within,
-            apart,
-            across,
-            joined,
-        } => {
+        FamilyRow::Over(class) => put_row(text, "over", class.stem, &class.members),
+        FamilyRow::Pairs(counts) => {
+            let PairCounts {
+                within,
+                apart,
+                across,
+                joined,
+            } = *counts;
             let row = format!(in alloc; "pairs,{within},{apart},{across},{joined}")?;
             text.push_str(row.as_str())
         }

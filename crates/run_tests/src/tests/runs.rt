@@ -65,13 +65,24 @@ pub(crate) fn has_used(rt: &impl Abort, alloc: Global, used: u64, row: &str) -> 
     Ok(())
 }
 
+/// A row that is tried, and the machine of its script.
+#[derive(Drop)]
+pub(crate) struct Trial<'a, S> {
+    pub(crate) alloc: Global,
+    pub(crate) machine: &'a Machine<S>,
+    pub(crate) row: &'a str,
+}
+
+impl<'a, S> Trial<'a, S> {
+    /// The parts of the trial.
+    pub(crate) fn parts(&self) -> (Global, &'a Machine<S>, &'a str) {
+        (self.alloc, self.machine, self.row)
+    }
+}
+
 /// Makes the run of a row: the word, the limit of steps, what the run gives, and the steps that it uses.
-fn run_row<S: AmongSearch>(
-    rt: &impl Abort,
-    alloc: Global,
-    machine: &Machine<S>,
-    row: &str,
-) -> Result<(), Fail> {
+fn run_row<S: AmongSearch>(rt: &impl Abort, trial: Trial<'_, S>) -> Result<(), Fail> {
+    let (alloc, machine, row) = trial.parts();
     let word = word_in(rt, alloc, row)?;
     let mut meter = Meter::new();
     let ran = machine.run(alloc, &mut meter, &word, limit_in(row))?;
@@ -101,10 +112,15 @@ pub(crate) fn ask<S: AmongSearch>(
 ) -> Result<(), Fail> {
     for (script, row) in with_scripts(alloc, rows)? {
         let machine: Machine<S> = machine_named(alloc, script)?;
+        let trial = Trial {
+            alloc,
+            machine: &machine,
+            row,
+        };
         let done = match asked {
-            Asked::Outcome => run_row(rt, alloc, &machine, row),
-            Asked::Items => touches(rt, alloc, &machine, row),
-            Asked::Events => does(rt, alloc, &machine, row),
+            Asked::Outcome => run_row(rt, trial),
+            Asked::Items => touches(rt, trial),
+            Asked::Events => does(rt, trial),
         };
         machine.discard();
         done?;

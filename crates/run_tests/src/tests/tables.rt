@@ -6,7 +6,7 @@ use sbl_machine::{AmongSearch, LinkedTable, PlainTable, RunStop};
 use std::alloc::{AllocError, Global};
 use std::process::Abort;
 use std::test::Fail;
-use test_scripts::printed;
+use test_scripts::print_values;
 
 fn table_of<S: AmongSearch>(alloc: Global, mode: Mode, strings: &[&str]) -> Result<S, AllocError> {
     let mut all = Vec::new(alloc);
@@ -48,8 +48,8 @@ fn a_table_finds_the_longest_and_then_the_next_shorter(rt: HostRuntime) -> Resul
 fn faults_of_runs_are_printed_with_their_numbers(rt: HostRuntime) -> Result<(), Fail> {
     let faults = [Steps, Depth, Slice, Cursor, Integer, Divide, TooLong];
     let want = "60 Steps;61 Depth;62 Slice;63 Cursor;64 Integer;65 Divide;66 TooLong;";
-    assert_eq!(rt; printed(rt.alloc(), &faults)?.as_str(), want);
-    let stop = printed(rt.alloc(), &[RunStop::MeterFull])?;
+    assert_eq!(rt; print_values(rt.alloc(), &faults)?.as_str(), want);
+    let stop = print_values(rt.alloc(), &[RunStop::MeterFull])?;
     assert_eq!(rt; stop.as_str(), "50 MeterFull;");
     Ok(())
 }

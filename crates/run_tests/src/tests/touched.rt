@@ -1,6 +1,6 @@
 //! What runs touch, by names and by numbers.
 
-use crate::tests::runs::{Asked, ask, has_used, limit_in, word_in};
+use crate::tests::runs::{Asked, Trial, ask, has_used, limit_in, word_in};
 use sbl_machine::{AmongSearch, Item, Machine, Meter, Table, Touch};
 use std::alloc::{AllocError, Global};
 use std::collections::BTreeSet;
@@ -33,20 +33,16 @@ fn are_items<S: AmongSearch>(
     let items = machine.items(alloc, touches)?;
     assert_eq!(rt; &items, wanted);
     for item in items.iter() {
-        assert!(rt; machine.touched(touches, item));
+        assert!(rt; machine.is_among_touches(touches, item));
     }
     let other = Item::Routine(String::from_str(alloc, "nowhere")?);
-    assert!(rt; !machine.touched(touches, &other));
+    assert!(rt; !machine.is_among_touches(touches, &other));
     Ok(())
 }
 
 /// Runs a machine over a word twice: the numbers of what is touched say the same as the names.
-pub(crate) fn touches<S: AmongSearch>(
-    rt: &impl Abort,
-    alloc: Global,
-    machine: &Machine<S>,
-    row: &str,
-) -> Result<(), Fail> {
+pub(crate) fn touches<S: AmongSearch>(rt: &impl Abort, trial: Trial<'_, S>) -> Result<(), Fail> {
+    let (alloc, machine, row) = trial.parts();
     let (word, limit) = (word_in(rt, alloc, row)?, limit_in(row));
     let mut meter = Meter::new();
     let ran = machine.run(alloc, &mut meter, &word, limit)?;

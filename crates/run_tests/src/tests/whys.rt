@@ -1,6 +1,6 @@
 //! What a run does, event by event, and what it leaves in the integer variables.
 
-use crate::tests::runs::{Asked, ask, limit_in, machine_of, outcome_text, word_in};
+use crate::tests::runs::{Asked, Trial, ask, limit_in, machine_of, outcome_text, word_in};
 use sbl_ast::Mode;
 use sbl_machine::{AmongSearch, Event, Machine, Meter, Outcome, Table};
 use sbl_script::Script;
@@ -51,12 +51,8 @@ fn integers_text(alloc: Global, integers: &[i32]) -> Result<String, AllocError> 
 
 /// Holds what a run does, and that the run without events is the same. A row has the word, the limit of steps, the fault that refuses
 /// the run if one does, the integers at the end or at the refusal, and the events (empty: not asked).
-pub(crate) fn does<S: AmongSearch>(
-    rt: &impl Abort,
-    alloc: Global,
-    machine: &Machine<S>,
-    row: &str,
-) -> Result<(), Fail> {
+pub(crate) fn does<S: AmongSearch>(rt: &impl Abort, trial: Trial<'_, S>) -> Result<(), Fail> {
+    let (alloc, machine, row) = trial.parts();
     let (word, limit) = (word_in(rt, alloc, row)?, limit_in(row));
     let why = machine.why(alloc, &word, limit)?;
     let fault = match &why.outcome {
@@ -117,7 +113,12 @@ fn after_an_edit_the_integers_are_those_of_the_new_body(rt: HostRuntime) -> Resu
     let edited = script.with_routine(alloc, "stem", "( $m = 3 $n -= 1 )");
     script.discard();
     let machine: Machine<Table> = machine_of(alloc, edited?)?;
-    let done = does(&rt, alloc, &machine, "ab|1000||-1 3 0|");
+    let trial = Trial {
+        alloc,
+        machine: &machine,
+        row: "ab|1000||-1 3 0|",
+    };
+    let done = does(&rt, trial);
     machine.discard();
     done
 }

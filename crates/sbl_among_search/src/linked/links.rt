@@ -12,29 +12,10 @@ use sbl_ast::Mode;
 use std::alloc::{AllocError, Global};
 use std::cmp::Reverse;
 
-/// Returns the number of the longest string with fewer than `below` characters that is a prefix of the text read.
-pub fn best_of(
-    rows: &[(Vec<char>, Reverse<usize>)],
-    links: &[Option<usize>],
-    direction: Mode,
-    part: &[char],
-    below: usize,
-) -> Option<usize>
-    requires down { GoDown links.now }
-    requires long { length links.now ≡ length rows.now }
-    requires rise { Rise (texts_of rows.now) }
-    ensures { (strings : List (List ℕ)) → IsLinked strings rows.now links.now → IsBest strings (read_as direction part.now) below result }
-{
-    // The mode is a constant in each arm, so that the search is compiled once for each mode.
-    match direction {
-        Mode::Forward => best_in(rows, links, Mode::Forward, part, below),
-        Mode::Backward => best_in(rows, links, Mode::Backward, part, below),
-    }
-}
-
-// Does the same for a mode that the caller passes as a constant.
+/// Returns the number of the longest string with fewer than `below` characters that is a prefix of the text read. The
+/// caller passes a constant mode, so that the search is compiled once for each mode.
 #[inline(always)]
-fn best_in(
+pub fn best_of(
     rows: &[(Vec<char>, Reverse<usize>)],
     links: &[Option<usize>],
     direction: Mode,

@@ -17,13 +17,13 @@ pub fn rows_of(
 ) -> Result<Vec<(Vec<char>, Reverse<usize>)>, AllocError>
     ensures { IfOk result (λ rows. AreRows (read_all direction (map (λ v. v.items) strings.now)) (texts_of rows.items) (numbers_of rows.items)) }
 {
-    let mut rows = numbered(alloc, strings, direction)?;
+    let mut rows = rows_by_number(alloc, strings, direction)?;
     rows.sort()?;
     Ok(rows)
 }
 
 // Returns the same rows in the order of their numbers.
-fn numbered(
+fn rows_by_number(
     alloc: Global,
     strings: &[Vec<char>],
     direction: Mode,

@@ -3,12 +3,12 @@
 ghost use Rattle.std.specs.Prelude.{◌≡◌, ◌<◌, map, IfOk};
 ghost use Rattle.sbl_char_class.specs.CharacterClasses.{members};
 ghost use Rattle.sbl_interpreter.specs.Actions.{acts};
-ghost use Rattle.sbl_semantics.specs.Control.{paid};
-ghost use Rattle.sbl_semantics.specs.Numbers.{given, natural};
+ghost use Rattle.sbl_semantics.specs.Control.{pay_first};
+ghost use Rattle.sbl_semantics.specs.Numbers.{continue_with, natural};
 ghost use Rattle.sbl_interpreter.specs.Arithmetic.{value};
 ghost use Rattle.sbl_semantics.specs.Moves.{hop, at_mark, to_mark};
 ghost use Rattle.sbl_program.specs.ProgramOf.{view_action, view_number};
-ghost use Rattle.sbl_interpreter.specs.Kept.{Follows};
+ghost use Rattle.sbl_interpreter.specs.Endings.{Follows};
 
 use crate::halt::Halt;
 use crate::state::State;
@@ -52,7 +52,7 @@ impl State {
         mode: Mode,
         action: &Action,
     ) -> Result<bool, Halt>
-        ensures follows { Follows result self.new (paid (acts (map members groupings.now) (view_action action.now)) mode self.old) }
+        ensures follows { Follows result self.new (pay_first (acts (map members groupings.now) (view_action action.now)) mode self.old) }
         ensures fewer { IfOk result (λ _. self.new.steps < self.old.steps) }
     {
         self.pay()?;
@@ -141,30 +141,30 @@ impl State {
     // `hop`: moves over as many characters as an expression says. Returns a fault if the expression has one.
     #[inline(never)]
     fn hop_by(&mut self, mode: Mode, expression: &Arithmetic) -> Result<bool, Halt>
-        ensures follows { Follows result self.new (given (value (view_number expression.now) mode self.old) self.old (λ z. hop (natural z) mode self.old)) }
+        ensures follows { Follows result self.new (continue_with (value (view_number expression.now) mode self.old) self.old (λ z. hop (natural z) mode self.old)) }
         ensures same_steps { IfOk result (λ _. self.new.steps ≡ self.old.steps) }
     {
-        let number = self.value(mode, expression)?;
+        let number = self.value_here(mode, expression)?;
         Ok(self.hop(mode, natural(number)))
     }
 
     // `atmark`: returns whether the cursor is at the value of an expression. Returns a fault if the expression has one.
     #[inline(never)]
     fn is_at_value(&mut self, mode: Mode, expression: &Arithmetic) -> Result<bool, Halt>
-        ensures follows { Follows result self.new (given (value (view_number expression.now) mode self.old) self.old (λ z. at_mark (natural z) self.old)) }
+        ensures follows { Follows result self.new (continue_with (value (view_number expression.now) mode self.old) self.old (λ z. at_mark (natural z) self.old)) }
         ensures same_steps { IfOk result (λ _. self.new.steps ≡ self.old.steps) }
     {
-        let place = self.value(mode, expression)?;
+        let place = self.value_here(mode, expression)?;
         Ok(self.is_at_mark(natural(place)))
     }
 
     // `tomark`: moves the cursor to the value of an expression. Returns a fault if the expression has one.
     #[inline(never)]
     fn to_value(&mut self, mode: Mode, expression: &Arithmetic) -> Result<bool, Halt>
-        ensures follows { Follows result self.new (given (value (view_number expression.now) mode self.old) self.old (λ z. to_mark (natural z) mode self.old)) }
+        ensures follows { Follows result self.new (continue_with (value (view_number expression.now) mode self.old) self.old (λ z. to_mark (natural z) mode self.old)) }
         ensures same_steps { IfOk result (λ _. self.new.steps ≡ self.old.steps) }
     {
-        let place = self.value(mode, expression)?;
+        let place = self.value_here(mode, expression)?;
         Ok(self.to_mark(mode, natural(place)))
     }
 }

@@ -2,15 +2,15 @@
 
 ghost use Rattle.std.specs.Prelude.{◌≡◌, ◌≤◌, ◌-◌, ℕ, Option, None, length, replicate, IfOk};
 ghost use Rattle.sbl_semantics.specs.Fitting.{ahead_at};
-ghost use Rattle.sbl_interpreter.specs.Kept.{Leads};
+ghost use Rattle.sbl_interpreter.specs.Endings.{Leads};
 ghost use Rattle.sbl_semantics.specs.State.{max_text_length};
 ghost use Rattle.sbl_semantics.specs.Control.{limits, limit_here, limit_back, backwards_from, backwards_end, back_in, enter};
 ghost use Rattle.sbl_semantics.specs.Moves.{touch_grouping};
 ghost use Rattle.sbl_semantics.specs.Choices.{choose, choice, take_none, take_string, touch_among};
 ghost use Rattle.sbl_interpreter.specs.Search.{bound_in};
 
+use crate::choices::Choices;
 use crate::halt::Halt;
-use crate::slots::Slots;
 use crate::state::State;
 use sbl_ast::Mode;
 use sbl_semantics::{Event, Limits, Touch};
@@ -147,7 +147,7 @@ impl State {
     pub fn choice(&self, among: usize) -> Option<usize>
         ensures { result ≡ choice among self.now }
     {
-        self.choices.get(among).copied()
+        self.choices.get(among)
     }
 
     /// Begins a search of an among of the current routine, after it is paid. It touches the among. Returns `AllocError`
@@ -191,52 +191,28 @@ impl State {
     /// Starts a call of the routine with this number, which has this many amongs. Touches the routine and returns the
     /// choices of the caller. The time does not depend on how many amongs there are. Returns `AllocError` if an allocation fails or the number is above `u32::MAX`.
     #[inline(always)]
-    pub fn enter(&mut self, routine: usize, amongs: usize) -> Result<Slots<usize>, AllocError>
+    pub fn enter(&mut self, routine: usize, amongs: usize) -> Result<Choices, AllocError>
         ensures kept { IfOk result (λ kept. kept ≡ self.old.choices) }
         ensures entered { IfOk result (λ _. self.new ≡ enter routine amongs self.old) }
     {
         self.touched.enter(routine)?;
-        let fresh = if amongs == 0 {
-            Slots::new(*self.text.allocator())
-        } else {
-            self.fresh_choices(amongs)
-        };
+        let alloc = *self.text.allocator();
+        let fresh = Choices::open(alloc, &mut self.spares, amongs)?;
         self.routine = routine;
         let kept = mem::replace(&mut self.choices, fresh);
         self.note_event(Event::Enters(routine))?;
         Ok(kept)
     }
 
-    // Returns this many choices, all still open, in the memory of an ended call if there is one.
-    fn fresh_choices(&mut self, amongs: usize) -> Slots<usize>
-        ensures fresh { result ≡ replicate amongs None }
-        ensures same { self.new ≡ self.old }
-    {
-        let mut fresh = match self.spares.pop() {
-            None => Slots::new(*self.text.allocator()),
-            Some(spare) => spare,
-        };
-        fresh.reset(amongs);
-        fresh
-    }
-
     /// Ends a call with this signal and restores the number and the choices of the caller. Returns `AllocError` if an
     /// allocation fails.
     #[inline(always)]
-    pub fn leave(
-        &mut self,
-        caller: usize,
-        kept: Slots<usize>,
-        signal: bool,
-    ) -> Result<(), AllocError>
+    pub fn leave(&mut self, caller: usize, kept: Choices, signal: bool) -> Result<(), AllocError>
         ensures { IfOk result (λ _. self.new ≡ back_in caller kept signal self.old) }
     {
         self.routine = caller;
         let used = mem::replace(&mut self.choices, kept);
-        if 0 < used.count() {
-            // If there is no room for it, it is freed.
-            let _ = self.spares.push(used);
-        }
+        used.end(&mut self.spares);
         self.note_event(Event::Leaves(signal))
     }
 }

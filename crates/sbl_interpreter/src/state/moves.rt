@@ -5,7 +5,7 @@ ghost use Rattle.std.specs.List.{starts_with};
 ghost use Rattle.sbl_char_class.specs.CharacterClasses.{members};
 ghost use Rattle.sbl_char_class.specs.Terms.{class_at};
 ghost use Rattle.sbl_semantics.specs.Fitting.{read_as};
-ghost use Rattle.sbl_semantics.specs.State.{Signals, ahead, room, moved};
+ghost use Rattle.sbl_semantics.specs.State.{Signals, ahead, room, move_cursor};
 ghost use Rattle.sbl_program.specs.ProgramOf.{view_text};
 ghost use Rattle.sbl_interpreter.specs.Arithmetic.{characters};
 ghost use Rattle.sbl_semantics.specs.Moves.{match, next_is, one_of, next, hop, at_limit, set_mark, at_mark, to_mark, set_boolean, test_boolean};
@@ -33,7 +33,7 @@ impl State {
     #[inline(always)]
     fn advance(&mut self, mode: Mode, n: usize)
         requires { n ≤ room mode self.old }
-        ensures { self.new ≡ moved mode n self.old }
+        ensures { self.new ≡ move_cursor mode n self.old }
     {
         match mode {
             Mode::Forward => self.cursor += n,

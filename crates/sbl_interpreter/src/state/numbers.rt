@@ -2,12 +2,12 @@
 
 ghost use Rattle.std.specs.Prelude.{◌≡◌, ◌<◌, ℤ, pos, length, map, Ok, SomeIff, FitsSigned, IfOk};
 ghost use Rattle.std.specs.Int.{w32};
-ghost use Rattle.sbl_interpreter.specs.Arithmetic.{value, changed, holds, assign, compare};
-ghost use Rattle.sbl_semantics.specs.Numbers.{with_both, fitted, divided, limit_value, integer_at, natural};
+ghost use Rattle.sbl_interpreter.specs.Arithmetic.{value, changed_value, holds, assign, compare};
+ghost use Rattle.sbl_semantics.specs.Numbers.{with_both, value_in_range, rounded_quotient, limit_value, integer_at, natural};
 ghost use Rattle.sbl_program.specs.ProgramOf.{view_added, view_number, view_scaled};
 ghost use Rattle.sbl_interpreter.specs.Rows.{product_of, scales_to, sum_of, sums_to};
 ghost use Rattle.sbl_semantics.specs.Control.{count_of};
-ghost use Rattle.sbl_interpreter.specs.Kept.{Leads, Follows};
+ghost use Rattle.sbl_interpreter.specs.Endings.{Leads, Follows};
 
 use crate::halt::Halt;
 use crate::state::State;
@@ -24,17 +24,17 @@ impl State {
         ensures { result ≡ value (view_number expression.now) mode self.now }
     {
         match expression {
-            Arithmetic::Number(number) => counted(*number as usize),
+            Arithmetic::Number(number) => count_as_number(*number as usize),
             Arithmetic::Integer(number) => Ok(self.integer(*number)),
-            Arithmetic::Cursor => counted(self.cursor),
+            Arithmetic::Cursor => count_as_number(self.cursor),
             Arithmetic::Limit => self.limit_value(mode),
-            Arithmetic::Length => counted(self.text.len()),
-            Arithmetic::LengthOf(term) => counted(self.characters(term).len()),
+            Arithmetic::Length => count_as_number(self.text.len()),
+            Arithmetic::LengthOf(term) => count_as_number(self.characters(term).len()),
             Arithmetic::Greatest => Ok(i32::MAX),
             Arithmetic::Least => Ok(i32::MIN),
             Arithmetic::Negative(inner) => {
                 let x = self.value(mode, inner)?;
-                fitted(x.checked_neg())
+                value_in_range(x.checked_neg())
             }
             Arithmetic::Sum { first, others } => {
                 let start = self.value(mode, first)?;
@@ -44,6 +44,19 @@ impl State {
                 let start = self.value(mode, first)?;
                 self.product(mode, start, others)
             }
+        }
+    }
+
+    // Returns the value of an expression as `value` does. A number, a variable and the cursor need no call.
+    #[inline(always)]
+    pub(crate) fn value_here(&self, mode: Mode, expression: &Arithmetic) -> Result<i32, RunFault>
+        ensures { result ≡ value (view_number expression.now) mode self.now }
+    {
+        match expression {
+            Arithmetic::Number(number) => count_as_number(*number as usize),
+            Arithmetic::Integer(number) => Ok(self.integer(*number)),
+            Arithmetic::Cursor => count_as_number(self.cursor),
+            _ => self.value(mode, expression),
         }
     }
 
@@ -106,7 +119,7 @@ impl State {
                 let beyond = self.beyond as i32;
                 Ok(length - beyond)
             }
-            Mode::Backward => counted(self.left),
+            Mode::Backward => count_as_number(self.left),
         }
     }
 
@@ -123,8 +136,8 @@ impl State {
         ensures leads { Leads result self.new (assign number change (view_number expression.now) mode self.old) }
         ensures same_steps { IfOk result (λ _. self.new.steps ≡ self.old.steps) }
     {
-        let y = self.value(mode, expression)?;
-        let new = changed(change, self.integer(number), y)?;
+        let y = self.value_here(mode, expression)?;
+        let new = changed_value(change, self.integer(number), y)?;
         set_integer(&mut self.integers, number, new)?;
         Ok(())
     }
@@ -140,15 +153,15 @@ impl State {
     ) -> Result<bool, Halt>
         ensures { Follows result self.now (compare (view_number left.now) relation (view_number right.now) mode self.now) }
     {
-        let x = self.value(mode, left)?;
-        let y = self.value(mode, right)?;
+        let x = self.value_here(mode, left)?;
+        let y = self.value_here(mode, right)?;
         Ok(holds(relation, x, y))
     }
 }
 
 // Returns the number, or `Integer` if it is out of range.
-fn fitted(number: Option<i32>) -> Result<i32, RunFault>
-    ensures { (z : ℤ) → SomeIff number (FitsSigned w32 z) z → result ≡ fitted z }
+fn value_in_range(number: Option<i32>) -> Result<i32, RunFault>
+    ensures { (z : ℤ) → SomeIff number (FitsSigned w32 z) z → result ≡ value_in_range z }
 {
     match number {
         None => Err(RunFault::Integer),
@@ -157,8 +170,8 @@ fn fitted(number: Option<i32>) -> Result<i32, RunFault>
 }
 
 // Returns a count of characters as a number, or `Integer` if it is out of range.
-fn counted(n: usize) -> Result<i32, RunFault>
-    ensures { result ≡ fitted (pos n) }
+fn count_as_number(n: usize) -> Result<i32, RunFault>
+    ensures { result ≡ value_in_range (pos n) }
 {
     if n < 0x8000_0000 {
         Ok(n as i32)
@@ -172,8 +185,8 @@ fn sum_of(operator: Additive, x: i32, y: i32) -> Result<i32, RunFault>
     ensures { result ≡ sum_of operator x y }
 {
     match operator {
-        Additive::Plus => fitted(x.checked_add(y)),
-        Additive::Minus => fitted(x.checked_sub(y)),
+        Additive::Plus => value_in_range(x.checked_add(y)),
+        Additive::Minus => value_in_range(x.checked_sub(y)),
     }
 }
 
@@ -182,31 +195,31 @@ fn product_of(operator: Multiplicative, x: i32, y: i32) -> Result<i32, RunFault>
     ensures { result ≡ product_of operator x y }
 {
     match operator {
-        Multiplicative::Times => fitted(x.checked_mul(y)),
-        Multiplicative::Over => divided(x, y),
+        Multiplicative::Times => value_in_range(x.checked_mul(y)),
+        Multiplicative::Over => rounded_quotient(x, y),
     }
 }
 
 // Returns a quotient, rounded towards zero.
-fn divided(x: i32, y: i32) -> Result<i32, RunFault>
-    ensures { result ≡ divided x y }
+fn rounded_quotient(x: i32, y: i32) -> Result<i32, RunFault>
+    ensures { result ≡ rounded_quotient x y }
 {
     if y == 0 {
         return Err(RunFault::Divide);
     }
-    fitted(x.checked_div(y))
+    value_in_range(x.checked_div(y))
 }
 
 // Returns the new value of an integer variable.
-fn changed(change: Change, x: i32, y: i32) -> Result<i32, RunFault>
-    ensures { result ≡ changed change x y }
+fn changed_value(change: Change, x: i32, y: i32) -> Result<i32, RunFault>
+    ensures { result ≡ changed_value change x y }
 {
     match change {
         Change::Becomes => Ok(y),
-        Change::Plus => fitted(x.checked_add(y)),
-        Change::Minus => fitted(x.checked_sub(y)),
-        Change::Times => fitted(x.checked_mul(y)),
-        Change::Over => divided(x, y),
+        Change::Plus => value_in_range(x.checked_add(y)),
+        Change::Minus => value_in_range(x.checked_sub(y)),
+        Change::Times => value_in_range(x.checked_mul(y)),
+        Change::Over => rounded_quotient(x, y),
     }
 }
 

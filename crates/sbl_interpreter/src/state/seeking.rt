@@ -3,9 +3,9 @@
 ghost use Rattle.std.specs.Prelude.{◌≡◌, ◌<◌, ◌≤◌, map, suc, IfOk};
 ghost use Rattle.sbl_char_class.specs.CharacterClasses.{members};
 ghost use Rattle.sbl_char_class.specs.Terms.{class_at};
-ghost use Rattle.sbl_interpreter.specs.Kept.{Follows};
+ghost use Rattle.sbl_interpreter.specs.Endings.{Follows};
 ghost use Rattle.sbl_interpreter.specs.Actions.{test_grouping};
-ghost use Rattle.sbl_semantics.specs.Control.{paid, seeks};
+ghost use Rattle.sbl_semantics.specs.Control.{pay_first, seeks};
 
 use crate::halt::Halt;
 use crate::state::State;
@@ -40,7 +40,7 @@ impl State {
         number: usize,
         wanted: bool,
     ) -> Result<bool, Halt>
-        ensures follows { Follows result self.new (paid (test_grouping wanted (class_at (map members classes.now) number) number) mode self.old) }
+        ensures follows { Follows result self.new (pay_first (test_grouping wanted (class_at (map members classes.now) number) number) mode self.old) }
         ensures fewer { IfOk result (λ _. self.new.steps < self.old.steps) }
     {
         self.pay()?;
@@ -49,6 +49,7 @@ impl State {
 
     /// Tests the grouping with this number at the cursor and further on, up to the first t. The cursor stays after the
     /// match if `past`, and else goes before it.
+    #[inline(always)]
     pub(crate) fn seek_one(
         &mut self,
         past: bool,
@@ -57,7 +58,7 @@ impl State {
         number: usize,
         wanted: bool,
     ) -> Result<bool, Halt>
-        ensures follows { Follows result self.new (seeks (suc self.old.steps) past (paid (test_grouping wanted (class_at (map members classes.now) number) number)) mode self.old) }
+        ensures follows { Follows result self.new (seeks (suc self.old.steps) past (pay_first (test_grouping wanted (class_at (map members classes.now) number) number)) mode self.old) }
         ensures no_more { IfOk result (λ _. self.new.steps ≤ self.old.steps) }
     {
         loop {

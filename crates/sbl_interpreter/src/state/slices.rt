@@ -2,10 +2,10 @@
 
 ghost use Rattle.std.specs.Prelude.{◌≡◌, ◌+◌, ◌≤◌, ◌<◌, ◌^◌, [], length, IfOk};
 ghost use Rattle.std.specs.List.{splice};
-ghost use Rattle.sbl_semantics.specs.Slices.{left_bracket, right_bracket, is_slice, shifted, replace, keep, pushed, put_in, insert, attach};
+ghost use Rattle.sbl_semantics.specs.Slices.{left_bracket, right_bracket, is_slice, cursor_after_splice, replace, keep, end_after_insertion, put_in, insert, attach};
 ghost use Rattle.sbl_program.specs.ProgramOf.{view_text};
 ghost use Rattle.sbl_interpreter.specs.Arithmetic.{characters};
-ghost use Rattle.sbl_interpreter.specs.Kept.{Leads};
+ghost use Rattle.sbl_interpreter.specs.Endings.{Leads};
 
 use crate::halt::Halt;
 use crate::state::variables::set_string;
@@ -46,7 +46,7 @@ impl State {
 
     // Returns the text with a part of it replaced by a string. The state is unchanged. Returns `AllocError` if an
     // allocation fails.
-    fn spliced(
+    fn splice_term(
         &mut self,
         from: usize,
         to: usize,
@@ -59,7 +59,7 @@ impl State {
     {
         let alloc = *self.text.allocator();
         let buffer = mem::replace(&mut self.spare, Vec::new(alloc));
-        spliced(buffer, &self.text, from, to, self.characters(term))
+        splice_into(buffer, &self.text, from, to, self.characters(term))
     }
 
     /// `delete`: removes the characters of the slice. Returns `Slice` if there is no valid slice, and `OutOfMemory` if
@@ -74,7 +74,7 @@ impl State {
         }
         let alloc = *self.text.allocator();
         let buffer = mem::replace(&mut self.spare, Vec::new(alloc));
-        let made = spliced(buffer, &self.text, self.bra, self.ket, &[])?;
+        let made = splice_into(buffer, &self.text, self.bra, self.ket, &[])?;
         self.note_event(Event::Puts(self.bra, self.ket, Vec::new(alloc)))?;
         self.spare = mem::replace(&mut self.text, made);
         self.cursor = shift(self.cursor, self.bra, self.ket, 0);
@@ -97,7 +97,7 @@ impl State {
         if length > MAX_TEXT_LENGTH || self.text.len() + length - gone > MAX_TEXT_LENGTH {
             return Err(Halt::TooLong);
         }
-        let made = self.spliced(self.bra, self.ket, term)?;
+        let made = self.splice_term(self.bra, self.ket, term)?;
         self.note_put(self.bra, self.ket, term)?;
         self.spare = mem::replace(&mut self.text, made);
         self.cursor = shift(self.cursor, self.bra, self.ket, length);
@@ -133,7 +133,7 @@ impl State {
         if length > MAX_TEXT_LENGTH || self.text.len() + length > MAX_TEXT_LENGTH {
             return Err(Halt::TooLong);
         }
-        let made = self.spliced(self.cursor, self.cursor, term)?;
+        let made = self.splice_term(self.cursor, self.cursor, term)?;
         self.note_put(self.cursor, self.cursor, term)?;
         self.spare = mem::replace(&mut self.text, made);
         self.bra = push(length, self.cursor, self.bra);
@@ -174,7 +174,7 @@ impl State {
 fn shift(cursor: usize, bra: usize, ket: usize, length: usize) -> usize
     requires small { cursor + length < 2 ^ 32 }
     requires ordered { bra ≤ ket }
-    ensures { result ≡ shifted length bra ket cursor }
+    ensures { result ≡ cursor_after_splice length bra ket cursor }
 {
     if ket <= cursor {
         cursor + length - (ket - bra)
@@ -188,13 +188,13 @@ fn shift(cursor: usize, bra: usize, ket: usize, length: usize) -> usize
 // Returns where an end of the slice goes if this many characters are inserted at an offset.
 fn push(length: usize, at: usize, place: usize) -> usize
     requires { length + place < 2 ^ 32 }
-    ensures { result ≡ pushed length at place }
+    ensures { result ≡ end_after_insertion length at place }
 {
     if at <= place { place + length } else { place }
 }
 
 // Returns a text with a part of it replaced by a string, made in `buffer`. Returns `AllocError` if an allocation fails.
-fn spliced(
+fn splice_into(
     mut buffer: Vec<char>,
     text: &[char],
     from: usize,

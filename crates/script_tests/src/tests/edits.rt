@@ -8,7 +8,7 @@ use sbl_script::{Script, ScriptEditFault, ScriptFault};
 use std::alloc::{AllocError, Global};
 use std::process::Abort;
 use std::test::Fail;
-use test_scripts::{FRONT, PLURALS, PORTER, field, printed, with_line_feeds, with_scripts};
+use test_scripts::{FRONT, PLURALS, PORTER, field, print_values, with_line_feeds, with_scripts};
 
 /// What an edit replaces: the body of a routine, an among of a routine, or the terms of a grouping.
 #[derive(Clone, Copy, Debug)]
@@ -209,6 +209,6 @@ fn faults_of_edits_are_printed_with_their_numbers(rt: HostRuntime) -> Result<(),
     ];
     let want =
         "45 NoRoutine;46 NoAmong;47 AmongCount;48 10 Undeclared in item 2;49 OutOfMemory;53 NoGrouping;";
-    assert_eq!(rt; printed(rt.alloc(), &faults)?.as_str(), want);
+    assert_eq!(rt; print_values(rt.alloc(), &faults)?.as_str(), want);
     Ok(())
 }

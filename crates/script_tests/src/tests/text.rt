@@ -6,7 +6,7 @@ use sbl_text::{
 };
 use std::alloc::{AllocError, Global};
 use std::test::Fail;
-use test_scripts::printed;
+use test_scripts::print_values;
 
 /// A token as its kind, its first byte, the byte after it, and its value if it has one.
 fn token_text(alloc: Global, token: &Token<'_>) -> Result<String, AllocError> {
@@ -180,7 +180,7 @@ fn faults_are_printed_with_number_and_place(rt: HostRuntime) -> Result<(), Fail>
         ScriptFault::NestedBackwards { item: 6 },
         ScriptFault::OutOfProfile { place: 9 },
     ];
-    assert_eq!(rt; printed(rt.alloc(), &placed)?.as_str(), PLACED);
+    assert_eq!(rt; print_values(rt.alloc(), &placed)?.as_str(), PLACED);
     let others = [
         ScriptFault::NoExternal,
         ScriptFault::NotUtf8,
@@ -188,7 +188,7 @@ fn faults_are_printed_with_number_and_place(rt: HostRuntime) -> Result<(), Fail>
         ScriptFault::OutOfMemory,
     ];
     let want = "21 NoExternal;23 NotUtf8;24 ScriptTooLong;49 OutOfMemory;";
-    assert_eq!(rt; printed(rt.alloc(), &others)?.as_str(), want);
+    assert_eq!(rt; print_values(rt.alloc(), &others)?.as_str(), want);
     Ok(())
 }
 

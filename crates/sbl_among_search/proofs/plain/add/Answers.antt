@@ -6,4 +6,4 @@ pub returns : goal.returns
 returns c =
     let g = λ (v : Vec ℕ Global). v.items in
     let old = c.args.copies.now.items in
-    ap (map g) c.in_ok-push.ensures.items ∙ map-append g old (c.in_ok-copied.field-0 ∷ []) ∙ ap (λ w. map g old ++ (w ∷ [])) c.in_ok-copied.ensures
+    ap (map g) c.in_ok-push.ensures.items ∙ map-append g old (c.in_ok-copy_string.field-0 ∷ []) ∙ ap (λ w. map g old ++ (w ∷ [])) c.in_ok-copy_string.ensures

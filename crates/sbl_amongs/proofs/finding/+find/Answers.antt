@@ -43,14 +43,14 @@ in_groups-returns-in-There t c =
     let front = p.at_front view.view_group c.args.groups.now.items c.deref-group-items.result.now c.loop-group.group-index c.group-item.result c.deref-group-items.ensures.value c.loop-group-test.true c.group-item.is in
     let one : view.GroupView = record { first = view.view_entry (out-Group c.group-item.result).first; others = map view.view_entry (out-Group c.group-item.result).others.items; rows = view.view_rows (out-Group c.group-item.result).rows.items } in
     let whole = front ∙ ap (λ (y : view.GroupView). y ∷ map view.view_group (drop (c.loop-group.group-index + 1) c.args.groups.now.items)) (views.seen_group c.group-item.result) in
-    f.groups_there c.in-There.depth c.in-There.among c.loop-group.behind c.args.number c.args.depth c.saturating_add-inside.result one _ _ (map view.view_group c.args.groups.now.items) whole c.saturating_add-inside.ensures c.loop-group.invariant c.in-There.ensures
+    f.groups_there c.in-There.depth c.in-There.among c.loop-group.behind c.args.number c.args.depth c.saturating_add.result one _ _ (map view.view_group c.args.groups.now.items) whole c.saturating_add.ensures c.loop-group.invariant c.in-There.ensures
 
 pub in_groups-loop-group-preserved : goal.in_groups-loop-group-preserved
 in_groups-loop-group-preserved t c =
     let front = p.at_front view.view_group c.args.groups.now.items c.deref-group-items.result.now c.loop-group.group-index c.group-item.result c.deref-group-items.ensures.value c.loop-group-test.true c.group-item.is in
     let one : view.GroupView = record { first = view.view_entry (out-Group c.group-item.result).first; others = map view.view_entry (out-Group c.group-item.result).others.items; rows = view.view_rows (out-Group c.group-item.result).rows.items } in
     let whole = front ∙ ap (λ (y : view.GroupView). y ∷ map view.view_group (drop (c.loop-group.group-index + 1) c.args.groups.now.items)) (views.seen_group c.group-item.result) in
-    f.groups_next c.loop-group.behind c.args.number c.in-Behind.next c.args.depth c.saturating_add-inside.result one _ _ (map view.view_group c.args.groups.now.items) whole c.saturating_add-inside.ensures c.loop-group.invariant c.in-Behind.ensures
+    f.groups_next c.loop-group.behind c.args.number c.in-Behind.next c.args.depth c.saturating_add.result one _ _ (map view.view_group c.args.groups.now.items) whole c.saturating_add.ensures c.loop-group.invariant c.in-Behind.ensures
 
 pub in_others-returns-in-There : goal.in_others-returns-in-There
 in_others-returns-in-There t c =

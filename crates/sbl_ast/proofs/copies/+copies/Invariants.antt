@@ -8,5 +8,5 @@ invariant-copy_rows-loop-row l = map view_row l.copies.items ++ map view_row (dr
 abbrev pub invariant-copy_groups-loop-group : goal.invariant-copy_groups-loop-group
 invariant-copy_groups-loop-group l = map view_group l.copies.items ++ map view_group (drop l.group-index l.groups.items) ≡ map view_group l.groups.items
 
-abbrev pub invariant-copy_others-loop-joined : goal.invariant-copy_others-loop-joined
-invariant-copy_others-loop-joined l = map view_joined l.copies.items ++ map view_joined (drop l.joined-index l.others.items) ≡ map view_joined l.others.items
+abbrev pub invariant-copy_others-loop-other : goal.invariant-copy_others-loop-other
+invariant-copy_others-loop-other l = map view_joined l.copies.items ++ map view_joined (drop l.other-index l.others.items) ≡ map view_joined l.others.items

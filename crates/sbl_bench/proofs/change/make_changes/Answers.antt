@@ -4,7 +4,7 @@ use Rattle.std.proofs.lemmas.List.{length-map}
 use Rattle.std.specs.Str.{bytes_eq}
 use Rattle.sbl_bench.specs.Last.{Follows, last_changes, word_found, word_run}
 use Rattle.sbl_bench.specs.Changes.{is_changed}
-use Rattle.sbl_bench.specs.Kept.{KeptWord}
+use Rattle.sbl_bench.specs.KeptRuns.{KeptWord}
 use Rattle.sbl_bench.specs.Pairs.{Text, find}
 use Rattle.sbl_bench.specs.declared.change.Change.{Change}
 use Rattle.sbl_bench.proofs.ChangeFacts.{all_fresh, fresh_list, words_kept, written}

@@ -17,6 +17,7 @@ returns-in_err-push_change-in-Ok-clause-some c =
     let n = c.loop-word.invariant.more in
     let t = c.loop-word-test.true in
     let d = length-drop c.loop-word.word-index c.args.words.now in
+    let s = c.keep.ensures.meter in
     on_err c.from_residual-in_err-push_change-in-Ok.result (c.trace.new.meter - c.args.meter.now, omega arith, omega arith)
 
 pub returns-in_err-last-in-Ok-clause-some : goal.returns-in_err-last-in-Ok-clause-some
@@ -26,4 +27,5 @@ returns-in_err-last-in-Ok-clause-some c =
     let n = c.loop-word.invariant.more in
     let t = c.loop-word-test.true in
     let d = length-drop c.loop-word.word-index c.args.words.now in
+    let s = c.keep.ensures.meter in
     on_err c.from_residual.result (c.trace.new.meter - c.args.meter.now, omega arith, omega arith)

@@ -1,5 +1,5 @@
 use Rattle.std.proofs.Common.{drop, List}
-use Rattle.sbl_bench.specs.Kept.{KeptWord}
+use Rattle.sbl_bench.specs.KeptRuns.{KeptWord}
 use Rattle.sbl_bench.specs.Last.{Follows}
 use Rattle.sbl_bench.specs.Pairs.{ArePaired}
 use Rattle.sbl_bench.proofs.Following.{AreFollowedSoFar}

@@ -2,7 +2,7 @@ use Rattle.std.proofs.Common.{◌≡◌, ◌∙◌, ◌||◌, Bool, length, ap, 
 use Rattle.std.specs.Str.{bytes_eq}
 use Rattle.sbl_changes.specs.Changes.{is_one}
 use Rattle.sbl_changes.specs.Rows.{texts_of}
-use Rattle.sbl_changes.specs.Known.{has_text}
+use Rattle.sbl_changes.specs.KnownOutcomes.{has_text}
 use Rattle.sbl_changes.proofs.SetFacts.{and_one, one_text, text_inserted}
 use Rattle.sbl_changes.proofs.class_changes.insert_if_one.Goals as goal
 

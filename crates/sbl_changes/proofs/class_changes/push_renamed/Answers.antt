@@ -1,14 +1,12 @@
-use Rattle.std.proofs.Common.{◌∙◌, ◌++◌, ap}
-use Rattle.std.specs.Option.{option_to_list}
+use Rattle.std.proofs.Common.{ap}
 use Rattle.sbl_changes.specs.Changes as spec
-use Rattle.sbl_changes.specs.Changes.{view_changes}
-use Rattle.sbl_changes.specs.Grouping.{view_class, view_classes}
+use Rattle.sbl_changes.specs.Views.{view_change, view_class, view_classes}
 use Rattle.sbl_changes.proofs.Loops.{step}
 use Rattle.sbl_changes.proofs.class_changes.push_renamed.Goals as goal
 
 pub loop-class-preserved : goal.loop-class-preserved
 loop-class-preserved c =
-    step (λ d. spec.renamed (view_classes c.args.now.now) d d.members) view_class c.args.before.now c.loop-class.class-index c.class-item.result c.class-item.result
-    _ _ _ c.loop-class-test.true c.class-item.is
-    (c.in_ok-push_some.ensures ∙ ap (λ o. view_changes c.loop-class.changes.items ++ option_to_list o) (c.renamed.ensures (view_classes c.args.now.now) (λ q. ap (λ h. h q) c.in_ok-from_one.ensures)))
+    step (λ d. spec.class_renaming (view_classes c.args.now.now) d d.members) view_class view_change c.args.before.now c.loop-class.class-index c.class-item.result c.class-item.result
+    _ _ _ _ c.loop-class-test.true c.class-item.is c.in_ok-push_some.ensures
+    (c.class_renaming.ensures (view_classes c.args.now.now) (λ q. ap (λ h. h q) c.in_ok-from_one.ensures))
     c.loop-class.invariant

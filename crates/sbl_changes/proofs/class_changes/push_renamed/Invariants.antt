@@ -8,5 +8,5 @@ use Rattle.sbl_changes.proofs.class_changes.push_renamed.Given as goal
 -- the changes so far, and those of the classs still to come
 abbrev pub invariant-loop-class : goal.invariant-loop-class
 invariant-loop-class l =
-    view_changes l.changes.items ++ filter_map (λ c. spec.renamed (view_classes l.now) c c.members) (view_classes (drop l.class-index l.before))
-    ≡ view_changes l.initial.changes.items ++ filter_map (λ c. spec.renamed (view_classes l.now) c c.members) (view_classes l.before)
+    view_changes l.changes.items ++ filter_map (λ c. spec.class_renaming (view_classes l.now) c c.members) (view_classes (drop l.class-index l.before))
+    ≡ view_changes l.initial.changes.items ++ filter_map (λ c. spec.class_renaming (view_classes l.now) c c.members) (view_classes l.before)

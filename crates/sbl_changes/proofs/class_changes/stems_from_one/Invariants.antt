@@ -1,7 +1,7 @@
 use Rattle.std.proofs.Common.{◌≡◌, ◌||◌, ℕ, List, drop}
 use Rattle.sbl_changes.specs.Changes.{is_from_one}
 use Rattle.sbl_changes.specs.Grouping.{view_classes}
-use Rattle.sbl_changes.specs.Known.{has_text}
+use Rattle.sbl_changes.specs.KnownOutcomes.{has_text}
 use Rattle.sbl_changes.proofs.class_changes.stems_from_one.Given as goal
 
 -- the stems so far, and those of the classes still to come

@@ -9,6 +9,6 @@ use Rattle.sbl_changes.proofs.family_rows.classes_in_turn.Goals as goal
 
 pub returns : goal.returns
 returns c =
-    IfOk-weaker c.grouped.result _ _
-    (λ classes e. e ∙ ap (λ (l : List StemPair). spec.grouped [] (view_pairs l)) c.deref.ensures.value ∙ grouped_turn (view_pairs c.in_ok-pairs.pairs.items) c.in_ok-pairs.ensures.rise ∙ same_classes (view_pairs c.in_ok-pairs.pairs.items) (view_pairs c.args.pairs.items) c.in_ok-pairs.ensures.members)
-    c.grouped.ensures
+    IfOk-weaker c.group_pairs.result _ _
+    (λ classes e. e ∙ ap (λ (l : List StemPair). spec.group_pairs [] (view_pairs l)) c.deref.ensures.value ∙ grouped_turn (view_pairs c.in_ok-pairs.pairs.items) c.in_ok-pairs.ensures.rise ∙ same_classes (view_pairs c.in_ok-pairs.pairs.items) (view_pairs c.args.pairs.items) c.in_ok-pairs.ensures.members)
+    c.group_pairs.ensures

@@ -3,7 +3,7 @@ use Rattle.sbl_changes.specs.declared.classes.StemPair.{StemPair}
 use Rattle.sbl_changes.specs.Classes.{Pair}
 use Rattle.sbl_changes.specs.Counting.{firsts}
 use Rattle.sbl_changes.specs.Grouping.{view_pair, view_pairs}
-use Rattle.sbl_changes.specs.Known.{has_text}
+use Rattle.sbl_changes.specs.KnownOutcomes.{has_text}
 use Rattle.sbl_changes.proofs.HeadFacts.{firsts-step}
 use Rattle.sbl_changes.proofs.Loops.{next}
 use Rattle.sbl_changes.proofs.SetFacts.{no_pair}

@@ -1,7 +1,7 @@
 use Rattle.std.proofs.Common.{◌≡◌, ◌++◌, drop, false}
 use Rattle.sbl_changes.specs.Counting.{firsts}
 use Rattle.sbl_changes.specs.Grouping.{view_pairs}
-use Rattle.sbl_changes.specs.Known.{has_text}
+use Rattle.sbl_changes.specs.KnownOutcomes.{has_text}
 use Rattle.sbl_changes.proofs.family_rows.push_firsts.Given as goal
 
 -- the first words so far, and those of the pairs still to come

@@ -1,7 +1,7 @@
 use Rattle.std.proofs.Common.{◌≡◌, ◌<◌, ◌≤◌, length, arith}
 use Rattle.std.proofs.lemmas.List.{length-map}
 use Rattle.sbl_changes.specs.Grouping.{view_pairs}
-use Rattle.sbl_changes.specs.Known.{Text}
+use Rattle.sbl_changes.specs.KnownOutcomes.{Text}
 use Rattle.sbl_changes.specs.Rows.{texts_of}
 use Rattle.sbl_changes.proofs.FamilyFacts.{under-few, under-many}
 use Rattle.sbl_changes.proofs.family_rows.under.Goals as goal

@@ -1,14 +1,10 @@
-use Rattle.std.proofs.Common.{◌∙◌, ◌++◌, get_or, ap, refl}
-use Rattle.std.specs.Option.{option_to_list}
-use Rattle.sbl_changes.specs.Grouping.{view_pairs}
-use Rattle.sbl_changes.specs.Rows.{view_row}
+use Rattle.std.proofs.Common.{get_or, refl}
 use Rattle.sbl_changes.specs.Stats.{pair_of}
+use Rattle.sbl_changes.specs.Views.{view_pair, view_row}
 use Rattle.sbl_changes.proofs.Loops.{no_row, step}
 use Rattle.sbl_changes.proofs.figures.word_pairs.Goals as goal
 
 pub loop-row-preserved : goal.loop-row-preserved
 loop-row-preserved c =
-    step (λ r. pair_of r.word r.outcome) view_row c.args.rows.now c.loop-row.row-index no_row (get_or c.args.rows.now c.loop-row.row-index no_row)
-    _ _ _ c.loop-row-test.true refl
-    (c.in_ok-push_pair.ensures ∙ ap (λ o. view_pairs c.loop-row.pairs.items ++ option_to_list o) c.pair_of.ensures)
-    c.loop-row.invariant
+    step (λ r. pair_of r.word r.outcome) view_row view_pair c.args.rows.now c.loop-row.row-index no_row (get_or c.args.rows.now c.loop-row.row-index no_row)
+    _ _ _ _ c.loop-row-test.true refl c.in_ok-push_some.ensures c.pair_of.ensures c.loop-row.invariant

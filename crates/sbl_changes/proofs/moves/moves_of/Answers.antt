@@ -1,15 +1,10 @@
-use Rattle.std.proofs.Common.{◌∙◌, ◌++◌, get_or, ap, refl}
-use Rattle.std.specs.Option.{option_to_list}
+use Rattle.std.proofs.Common.{get_or, refl}
 use Rattle.sbl_changes.specs.Moves.{move_of}
-use Rattle.sbl_changes.specs.Grouping.{view_pairs}
-use Rattle.sbl_changes.specs.Known.{known}
-use Rattle.sbl_changes.specs.Rows.{view_row}
+use Rattle.sbl_changes.specs.Views.{known_outcome, view_pair, view_row}
 use Rattle.sbl_changes.proofs.Loops.{no_row, step}
 use Rattle.sbl_changes.proofs.moves.moves_of.Goals as goal
 
 pub loop-row-preserved : goal.loop-row-preserved
 loop-row-preserved c =
-    step (λ r. move_of (known c.args.before.now r.word) r.outcome) view_row c.args.after.now c.loop-row.row-index no_row (get_or c.args.after.now c.loop-row.row-index no_row)
-    _ _ _ c.loop-row-test.true refl
-    (c.in_ok-push_pair.ensures ∙ ap (λ o. view_pairs c.loop-row.moves.items ++ option_to_list o) c.move_of.ensures)
-    c.loop-row.invariant
+    step (λ r. move_of (known_outcome c.args.before.now r.word) r.outcome) view_row view_pair c.args.after.now c.loop-row.row-index no_row (get_or c.args.after.now c.loop-row.row-index no_row)
+    _ _ _ _ c.loop-row-test.true refl c.in_ok-push_some.ensures c.move_of.ensures c.loop-row.invariant

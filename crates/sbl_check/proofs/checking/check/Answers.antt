@@ -1,6 +1,6 @@
 use Rattle.std.proofs.Common.{rules, arith, ◌≡◌, ◌∙◌, ◌+◌, ◌≤◌, ◌∷◌, ℕ, true, false}
 use Rattle.std.proofs.lemmas.Result.{err_from_is_err_and}
-use Rattle.sbl_script.specs.Parsed.{source_of}
+use Rattle.sbl_script.specs.ParsedScript.{source_of}
 use Rattle.sbl_check.specs.Checking.{count}
 use Rattle.sbl_check.proofs.CheckFacts.{compared_all, compared_fails, compared_more, fewer_stems, fewer_words, none_counted, one_counted}
 use Rattle.sbl_check.proofs.checking.check.Goals as goal

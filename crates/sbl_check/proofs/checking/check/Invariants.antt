@@ -1,6 +1,6 @@
 use Rattle.std.proofs.Common.{◌≡◌, ◌≤◌, ◌+◌, length}
 use Rattle.sbl_machine.specs.MachineOf.{IsLinkedMachineOf}
-use Rattle.sbl_script.specs.Parsed.{source_of}
+use Rattle.sbl_script.specs.ParsedScript.{source_of}
 use Rattle.sbl_check.specs.Checking.{Compared}
 use Rattle.sbl_io.specs.Devices.{WritesInTime}
 use Rattle.sbl_check.proofs.checking.check.Given as goal

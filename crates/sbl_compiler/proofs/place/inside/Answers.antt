@@ -1,5 +1,5 @@
 use Rattle.std.proofs.Common.{ap, false}
-use Rattle.sbl_compiler.specs.Numbered.{Position}
+use Rattle.sbl_compiler.specs.NumberedItems.{Position}
 use Rattle.sbl_compiler.specs.NumberedAmongs.{Found}
 use Rattle.std.specs.Prelude.{ℕ, List}
 use Rattle.sbl_compiler.specs.NumberedView.{view_found}

@@ -1,5 +1,5 @@
 use Rattle.std.proofs.Common.{◌≡◌, map, take, string_bytes}
-use Rattle.sbl_semantics.specs.Touched.{Among, item_of}
+use Rattle.sbl_semantics.specs.TouchedItems.{Among, item_of}
 use Rattle.sbl_diff.proofs.items.amongs_of.Given as goal
 
 abbrev pub invariant-loop-number : goal.invariant-loop-number

@@ -1,4 +1,4 @@
-use Rattle.std.proofs.Common.{◌≡◌, [], ◌∷◌, suc, nat_eq, if◌then◌else◌, Some, None, List, ℕ, Bool, arith, sym, ap, Option}
+use Rattle.std.proofs.Common.{arith}
 use Rattle.std.proofs.lemmas.Grind.{common_steps}
 use Rattle.sbl_diff.proofs.Behind.{as_many, not_as_many}
 use Rattle.sbl_ast.specs.View.{view_among}

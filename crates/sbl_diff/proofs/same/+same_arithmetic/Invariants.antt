@@ -1,6 +1,6 @@
 use Rattle.std.proofs.Common.{◌≡◌, drop}
-use Rattle.sbl_ast.specs.View.{view_entry, view_scales, view_sums, view_term}
-use Rattle.sbl_machine.specs.Same.{same_sums, same_scales}
+use Rattle.sbl_ast.specs.View.{view_scales, view_sums}
+use Rattle.sbl_semantics.specs.Same.{same_sums, same_scales}
 use Rattle.sbl_diff.proofs.same.+same_arithmetic.Given as goal
 
 abbrev pub invariant-same_sums-loop-first : goal.invariant-same_sums-loop-first

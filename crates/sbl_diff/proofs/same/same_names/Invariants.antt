@@ -1,7 +1,6 @@
 use Rattle.std.proofs.Common.{◌≡◌, drop, map, string_bytes}
 use Rattle.std.specs.Cmp.Lexicographic.{pointwise}
 use Rattle.std.specs.Str.{bytes_eq}
-use Rattle.sbl_ast.specs.View.{view_entry, view_scales, view_sums, view_term}
 use Rattle.sbl_diff.proofs.same.same_names.Given as goal
 
 abbrev pub invariant-loop-first : goal.invariant-loop-first

@@ -1,7 +1,7 @@
-use Rattle.std.proofs.Common.{◌≡◌, drop, map, string_bytes}
+use Rattle.std.proofs.Common.{◌≡◌, drop, map}
 use Rattle.std.specs.Cmp.Lexicographic.{pointwise}
-use Rattle.sbl_ast.specs.View.{view_entry, view_scales, view_sums, view_term}
-use Rattle.sbl_machine.specs.Same.{same_term}
+use Rattle.sbl_ast.specs.View.{view_term}
+use Rattle.sbl_semantics.specs.Same.{same_term}
 use Rattle.sbl_diff.proofs.same.same_terms.Given as goal
 
 abbrev pub invariant-loop-first : goal.invariant-loop-first

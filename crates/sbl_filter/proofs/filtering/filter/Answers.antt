@@ -3,7 +3,7 @@ use Rattle.std.proofs.KnownBytes.{Appends-nil, Keeps-refl}
 use Rattle.std.proofs.lemmas.Result.{err_from_is_err_and}
 use Rattle.sbl_filter.proofs.FilterFacts.{script-no_write}
 use Rattle.sbl_io.specs.Faults.{serve_fault_of}
-use Rattle.sbl_io.specs.Held.{fault_of}
+use Rattle.sbl_io.specs.HeldInput.{fault_of}
 use Rattle.sbl_io.specs.declared.faults.LineFault.{LineFault}
 use Rattle.sbl_sessions.proofs.LoadFacts.{script_refused}
 use Rattle.sbl_sessions.specs.declared.faults.LoadFault.TheVariants.{Input}

@@ -1,9 +1,9 @@
 use Rattle.std.proofs.Common.{rules, ◌≡◌, ◌≢◌, ◌∙◌, ◌++◌, [], ◌∷◌, List, ℕ, Ok, Err, refl, sym, subst}
 use Rattle.std.proofs.lemmas.Result.{err_from_is_err_and}
-use Rattle.sbl_filter.proofs.FilterFacts.{filters-broken, filters-end, filters-fault, filters-none, filters-point, rows-none, rows-push}
+use Rattle.sbl_filter.proofs.FilterFacts.{filters-broken, filters-end, filters-fault, filters-none, filters-point, reason-before, rows-none, rows-push, stopped-before}
 use Rattle.sbl_filter.specs.Filter.{WritesLine}
-use Rattle.sbl_io.specs.Held.{GivesLine, fault_of, input_of, line_of}
-use Rattle.sbl_script.specs.Parsed.{source_of}
+use Rattle.sbl_io.specs.HeldInput.{GivesLine, fault_of, input_of, line_of}
+use Rattle.sbl_script.specs.ParsedScript.{source_of}
 use Rattle.sbl_sessions.specs.Block.{point}
 use Rattle.sbl_filter.proofs.filtering.filter_words.Goals as goal
 
@@ -83,3 +83,15 @@ pub returns-clause-filters : goal.returns-clause-filters
 returns-clause-filters g c = λ _.
     let end = c.in_ok-next_line.ensures.end c.if-branch.false in
     filters-end c.loop-rows.invariant.rows.1 (input_of g.R.Source.left c.next_line.new.self) end.2 end.1
+
+pub returns-in_err-next_line-clause-why : goal.returns-in_err-next_line-clause-why
+returns-in_err-next_line-clause-why g c =
+    let so = c.loop-rows.invariant in
+    let p = err_from_is_err_and c.from_residual-in_err-next_line.result c.from_residual-in_err-next_line.ensures.1 in
+    rw (p.1, p.2) (reason-before g.R.Source.tally c.args.lines.now c.loop-rows.lines c.next_line.new.self c.in_err-next_line.field-0.0 c.in_err-next_line.ensures.why so.read so.bound so.fault)
+
+pub returns-in_err-filter_line-clause-why_write : goal.returns-in_err-filter_line-clause-why_write
+returns-in_err-filter_line-clause-why_write g c =
+    let so = c.loop-rows.invariant in
+    let p = err_from_is_err_and c.from_residual-in_err-filter_line.result c.from_residual-in_err-filter_line.ensures.1 in
+    rw (p.1, p.2) (λ write. stopped-before g.W.Sink.tally c.args.writer.now c.loop-rows.writer c.filter_line.new.writer so.written (c.in_err-filter_line.ensures.why write))

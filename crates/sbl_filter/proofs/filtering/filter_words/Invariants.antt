@@ -2,9 +2,9 @@ use Rattle.std.proofs.Common.{◌≡◌, List, ℕ}
 use Rattle.sbl_filter.specs.Filter.{Rows}
 use Rattle.sbl_filter.specs.LineWriter.{IsBetweenLines}
 use Rattle.sbl_io.specs.Devices.{WritesInTime}
-use Rattle.sbl_io.specs.Held.{KeepsTime, fault_of, fuel_of, input_of, reads_bound}
+use Rattle.sbl_io.specs.HeldInput.{KeepsTime, fault_of, fuel_of, input_of, reads_bound}
 use Rattle.sbl_machine.specs.MachineOf.{IsLinkedMachineOf}
-use Rattle.sbl_script.specs.Parsed.{source_of}
+use Rattle.sbl_script.specs.ParsedScript.{source_of}
 use Rattle.sbl_filter.proofs.filtering.filter_words.Given as goal
 
 abbrev pub invariant-loop-rows : goal.invariant-loop-rows

@@ -1,7 +1,7 @@
 use Rattle.std.proofs.Common.{◌≡◌, ℕ, List, [], drop, map}
 use Rattle.sbl_machine.specs.AmongList.{numbers_of}
 use Rattle.sbl_machine.specs.Marking.{amongs_behind}
-use Rattle.sbl_semantics.specs.Touched.{item_of}
+use Rattle.sbl_semantics.specs.TouchedItems.{item_of}
 use Rattle.sbl_machine.proofs.marks.amongs_in.Given as goal
 
 -- the numbers so far, and those of the items still to come

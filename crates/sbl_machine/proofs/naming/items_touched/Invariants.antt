@@ -1,5 +1,5 @@
 use Rattle.std.proofs.Common.{◌≡◌, ◌≤◌, drop, length}
-use Rattle.sbl_semantics.specs.Touched.{items_in, items_of}
+use Rattle.sbl_semantics.specs.TouchedItems.{items_in, items_of}
 use Rattle.sbl_machine.proofs.naming.items_touched.Given as goal
 
 abbrev pub invariant-loop-left : goal.invariant-loop-left

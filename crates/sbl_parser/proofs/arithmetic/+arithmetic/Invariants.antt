@@ -1,45 +1,39 @@
 use Rattle.std.proofs.Common.{◌≡◌, ◌∷◌, ◌*◌, ◌-◌, ◌+◌, length}
-use Rattle.sbl_ast.specs.Terminal.{left}
 use Rattle.sbl_ast.specs.Tree as trees
 use Rattle.sbl_ast.specs.View as view
+use Rattle.sbl_parser.specs.Gives.{ahead}
 use Rattle.sbl_parser.specs.Steps as wanted
 use Rattle.sbl_parser.proofs.arithmetic.+arithmetic.Given as goal
 
-abbrev pub decreases-bracketed : goal.decreases-bracketed
-decreases-bracketed l = 6 * (70 - l.depth) + 0
+abbrev pub decreases-bracket_factor : goal.decreases-bracket_factor
+decreases-bracket_factor l = 4 * (70 - l.depth) + 0
 
 abbrev pub decreases-expression : goal.decreases-expression
-decreases-expression l = 6 * (70 - l.depth) + 5
+decreases-expression l = 4 * (70 - l.depth) + 3
 
 abbrev pub decreases-factor : goal.decreases-factor
-decreases-factor l = 6 * (70 - l.depth) + 1
+decreases-factor l = 4 * (70 - l.depth) + 1
 
-abbrev pub decreases-negated : goal.decreases-negated
-decreases-negated l = 6 * (70 - l.depth) + 0
+abbrev pub decreases-negation : goal.decreases-negation
+decreases-negation l = 4 * (70 - l.depth) + 0
 
 abbrev pub decreases-product : goal.decreases-product
-decreases-product l = 6 * (70 - l.depth) + 3
+decreases-product l = 4 * (70 - l.depth) + 2
 
-abbrev pub decreases-scales : goal.decreases-scales
-decreases-scales l = 6 * (70 - l.depth) + 2
-
-abbrev pub decreases-sums : goal.decreases-sums
-decreases-sums l = 6 * (70 - l.depth) + 4
-
-abbrev pub invariant-scales-loop-operator : goal.invariant-scales-loop-operator
-invariant-scales-loop-operator l = record {
-  spelled : left l.tokens l.at ≡ trees.spelled_scales (view.view_scales l.scales.items) (left l.tokens l.rest);
-  faults : (k : wanted.Stack) → wanted.fault (left l.tokens l.at) (wanted.scales l.depth ∷ k) ≡ wanted.fault (left l.tokens l.rest) (wanted.scales l.depth ∷ k);
+abbrev pub invariant-expression-loop-operator : goal.invariant-expression-loop-operator
+invariant-expression-loop-operator l = record {
+  spelled : ahead l.fn.cursor ≡ trees.spelled_product (view.view_product l.first) (trees.spelled_sums (view.view_sums l.others.items) (ahead l.cursor));
+  faults : (k : wanted.Stack) → wanted.fault (ahead l.fn.cursor) (wanted.expression l.depth k) ≡ wanted.fault (ahead l.cursor) (wanted.sums l.depth ∷ k);
 }
 
-abbrev pub decreases-scales-loop-operator : goal.decreases-scales-loop-operator
-decreases-scales-loop-operator l = length (left l.tokens l.rest)
+abbrev pub decreases-expression-loop-operator : goal.decreases-expression-loop-operator
+decreases-expression-loop-operator l = length (ahead l.cursor)
 
-abbrev pub invariant-sums-loop-operator : goal.invariant-sums-loop-operator
-invariant-sums-loop-operator l = record {
-  spelled : left l.tokens l.at ≡ trees.spelled_sums (view.view_sums l.sums.items) (left l.tokens l.rest);
-  faults : (k : wanted.Stack) → wanted.fault (left l.tokens l.at) (wanted.sums l.depth ∷ k) ≡ wanted.fault (left l.tokens l.rest) (wanted.sums l.depth ∷ k);
+abbrev pub invariant-product-loop-operator : goal.invariant-product-loop-operator
+invariant-product-loop-operator l = record {
+  spelled : ahead l.fn.cursor ≡ trees.spelled_factor (view.view_factor l.first) (trees.spelled_scales (view.view_scales l.others.items) (ahead l.cursor));
+  faults : (k : wanted.Stack) → wanted.fault (ahead l.fn.cursor) (wanted.factor l.depth ∷ wanted.scales l.depth ∷ k) ≡ wanted.fault (ahead l.cursor) (wanted.scales l.depth ∷ k);
 }
 
-abbrev pub decreases-sums-loop-operator : goal.decreases-sums-loop-operator
-decreases-sums-loop-operator l = length (left l.tokens l.rest)
+abbrev pub decreases-product-loop-operator : goal.decreases-product-loop-operator
+decreases-product-loop-operator l = length (ahead l.cursor)

@@ -1,39 +1,42 @@
-use Rattle.std.proofs.Common.{◌≡◌, ◌∷◌, List, map, drop, arith, ap, refl, ◌∙◌}
+use Rattle.std.proofs.Common.{◌≡◌, ◌<◌, ◌∷◌, ◌++◌, List, [], length, map, true, false, ap, sym, subst, ◌∙◌}
+use Rattle.std.proofs.lemmas.List.{map_push}
 use Rattle.std.proofs.lemmas.Result.{err_from_is_err_and}
-use Rattle.sbl_ast.specs.Terminal.{Terminal, left}
+use Rattle.sbl_ast.specs.declared.tree.Plain.{Plain}
+use Rattle.sbl_ast.specs.Terminal.{Terminal}
 use Rattle.sbl_ast.specs.Terminal as t
 use Rattle.sbl_ast.specs.Tree as trees
-use Rattle.sbl_parser.specs.Steps.{Stack, fault}
-use Rattle.sbl_parser.specs.Steps as s
 use Rattle.sbl_ast.specs.View as view
+use Rattle.sbl_parser.specs.declared.role.Role.{Role}
+use Rattle.sbl_parser.specs.Gives.{ahead}
+use Rattle.sbl_parser.specs.Roles.{role_of}
+use Rattle.sbl_parser.specs.Starts.{begins_plain}
+use Rattle.sbl_parser.specs.Steps as s
 use Rattle.sbl_parser.proofs.Descent as d
-use Rattle.sbl_parser.proofs.RoleTokens as of_role
+use Rattle.sbl_parser.proofs.Lengths as lengths
+use Rattle.sbl_parser.proofs.Turns as turns
 use Rattle.sbl_parser.proofs.items.backward_mode.Goals as goal
 
-pub returns-in_err-inside : goal.returns-in_err-inside
-returns-in_err-inside c =
-    let first : (left c.args.tokens.now c.args.at) ≡ t.backward_mode ∷ drop 1 (left c.args.tokens.now c.args.at) = of_role.as_terminal (left c.args.tokens.now c.args.at) t.backward_mode refl c.requires in
-    let p = err_from_is_err_and c.from_residual.result c.from_residual.ensures.1 in
-    rw (p.1, p.2) (λ k. d.fails_along c.args.tokens.now c.in_err-inside.field-0.0 (fault (left c.args.tokens.now c.args.at) (s.item ∷ k)) _ (d.took (left c.args.tokens.now c.args.at) (left c.args.tokens.now c.behind.result) t.backward_mode (s.item ∷ k) (s.opening 0 ∷ s.plains ∷ s.closing 0 ∷ k) 0 first c.behind.ensures refl (omega arith)) (c.in_err-inside.ensures (s.plains ∷ s.closing 0 ∷ k)))
+pub returns-in_err-plain : goal.returns-in_err-plain
+returns-in_err-plain c =
+    let begun : begins_plain (role_of (ahead c.loop-plains.cursor)) ≡ true = sym (c.begins_plain.ensures ∙ ap (λ (r : Role). begins_plain r) c.role.ensures) ∙ c.loop-plains-test.true in
+    let p = err_from_is_err_and c.from_residual-in_err-plain.result c.from_residual-in_err-plain.ensures.1 in
+    rw (p.1, p.2) (λ k. d.fails_along _ _ _ (c.loop-plains.invariant.faults k ∙ d.plain_first (ahead c.loop-plains.cursor) (s.closing 0 ∷ k) begun) (c.in_err-plain.ensures (s.plains ∷ s.closing 0 ∷ k)))
 
-pub returns-in_err-plains : goal.returns-in_err-plains
-returns-in_err-plains c =
-    let first : (left c.args.tokens.now c.args.at) ≡ t.backward_mode ∷ drop 1 (left c.args.tokens.now c.args.at) = of_role.as_terminal (left c.args.tokens.now c.args.at) t.backward_mode refl c.requires in
-    let p = err_from_is_err_and c.from_residual-in_err-plains.result c.from_residual-in_err-plains.ensures.1 in
-    rw (p.1, p.2) (λ k. d.fails_along c.args.tokens.now c.in_err-plains.field-0.0 (fault (left c.args.tokens.now c.args.at) (s.item ∷ k)) _ (d.took (left c.args.tokens.now c.args.at) (left c.args.tokens.now c.behind.result) t.backward_mode (s.item ∷ k) (s.opening 0 ∷ s.plains ∷ s.closing 0 ∷ k) 0 first c.behind.ensures refl (omega arith) ∙ c.in_ok-inside.ensures.1 (s.plains ∷ s.closing 0 ∷ k)) (c.in_err-plains.ensures (s.closing 0 ∷ k)))
+pub loop-plains-smaller : goal.loop-plains-smaller
+loop-plains-smaller c = subst (λ (r : List Terminal). length (ahead c.plain.new.cursor) < length r) (sym c.in_ok-plain.ensures.0) (lengths.plain_length (view.view_plain c.in_ok-plain.field-0) (ahead c.plain.new.cursor))
 
-pub returns-in_err-rest : goal.returns-in_err-rest
-returns-in_err-rest c =
-    let first : (left c.args.tokens.now c.args.at) ≡ t.backward_mode ∷ drop 1 (left c.args.tokens.now c.args.at) = of_role.as_terminal (left c.args.tokens.now c.args.at) t.backward_mode refl c.requires in
-    let p = err_from_is_err_and c.from_residual-in_err-rest.result c.from_residual-in_err-rest.ensures.1 in
-    rw (p.1, p.2) (λ k. d.fails_along c.args.tokens.now c.in_err-rest.field-0.0 (fault (left c.args.tokens.now c.args.at) (s.item ∷ k)) _ (d.took (left c.args.tokens.now c.args.at) (left c.args.tokens.now c.behind.result) t.backward_mode (s.item ∷ k) (s.opening 0 ∷ s.plains ∷ s.closing 0 ∷ k) 0 first c.behind.ensures refl (omega arith) ∙ c.in_ok-inside.ensures.1 (s.plains ∷ s.closing 0 ∷ k) ∙ c.in_ok-plains.ensures.1 (s.closing 0 ∷ k)) (c.in_err-rest.ensures (k)))
+pub loop-plains-preserved : goal.loop-plains-preserved
+loop-plains-preserved c =
+    let begun : begins_plain (role_of (ahead c.loop-plains.cursor)) ≡ true = sym (c.begins_plain.ensures ∙ ap (λ (r : Role). begins_plain r) c.role.ensures) ∙ c.loop-plains-test.true in
+    let last : trees.Plain = view.view_plain c.in_ok-plain.field-0 in
+    let more : map view.view_plain c.push.new.self.items ≡ map view.view_plain c.loop-plains.plains.items ++ last ∷ [] = ap (λ (xs : List Plain). map view.view_plain xs) c.in_ok-push.ensures.items ∙ map_push view.view_plain c.loop-plains.plains.items _ in
+    record {
+      spelled = c.loop-plains.invariant.spelled ∙ ap (λ (r : List Terminal). t.backward_mode ∷ t.open_ ∷ r) (ap (λ (r : List Terminal). trees.spelled_plains (map view.view_plain c.loop-plains.plains.items) r) c.in_ok-plain.ensures.0 ∙ sym (turns.plains_push (map view.view_plain c.loop-plains.plains.items) last (ahead c.plain.new.cursor)) ∙ ap (λ (xs : List trees.Plain). trees.spelled_plains xs (ahead c.plain.new.cursor)) (sym more));
+      faults = λ k. c.loop-plains.invariant.faults k ∙ d.plain_first (ahead c.loop-plains.cursor) (s.closing 0 ∷ k) begun ∙ c.in_ok-plain.ensures.1 (s.plains ∷ s.closing 0 ∷ k);
+    }
 
-pub returns : goal.returns
-returns c =
-    let first : (left c.args.tokens.now c.args.at) ≡ t.backward_mode ∷ drop 1 (left c.args.tokens.now c.args.at) = of_role.as_terminal (left c.args.tokens.now c.args.at) t.backward_mode refl c.requires in (
-      d.headed (left c.args.tokens.now c.args.at) (left c.args.tokens.now c.behind.result) t.backward_mode first c.behind.ensures ∙ ap (λ (r : List Terminal). t.backward_mode ∷ r) (c.in_ok-inside.ensures.0 ∙ ap (λ (r : List Terminal). t.open_ ∷ r) (c.in_ok-plains.ensures.0 ∙ ap (λ (r : List Terminal). trees.spelled_plains (map view.view_plain c.in_ok-plains.plains.items) r) (c.in_ok-rest.ensures.0))),
-      λ k. d.took (left c.args.tokens.now c.args.at) (left c.args.tokens.now c.behind.result) t.backward_mode (s.item ∷ k) (s.opening 0 ∷ s.plains ∷ s.closing 0 ∷ k) 0 first c.behind.ensures refl (omega arith) ∙ c.in_ok-inside.ensures.1 (s.plains ∷ s.closing 0 ∷ k) ∙ c.in_ok-plains.ensures.1 (s.closing 0 ∷ k) ∙ c.in_ok-rest.ensures.1 (k),
-    )
-
-pub behind-requires : goal.behind-requires
-behind-requires c = of_role.some_first (left c.args.tokens.now c.args.at) _ (c.requires) (λ e. cc)
+pub returns-in_err-take-2 : goal.returns-in_err-take-2
+returns-in_err-take-2 c =
+    let none : begins_plain (role_of (ahead c.loop-plains.cursor)) ≡ false = sym (c.begins_plain.ensures ∙ ap (λ (r : Role). begins_plain r) c.role.ensures) ∙ c.loop-plains-test.false in
+    let p = err_from_is_err_and c.from_residual-in_err-take-2.result c.from_residual-in_err-take-2.ensures.1 in
+    rw (p.1, p.2) (λ k. d.fails_along _ _ _ (c.loop-plains.invariant.faults k ∙ d.skips_plains (ahead c.loop-plains.cursor) (s.closing 0 ∷ k) none) (c.in_err-take-2.ensures k))

@@ -2,14 +2,14 @@ use Rattle.std.proofs.Common.{◌≡◌, ◌<◌, ◌∷◌, ◌++◌, List, [],
 use Rattle.std.proofs.lemmas.List.{map_push}
 use Rattle.std.proofs.lemmas.Result.{err_from_is_err_and}
 use Rattle.sbl_ast.specs.declared.tree.ScriptItem.{ScriptItem as Item}
-use Rattle.sbl_ast.specs.Terminal.{Terminal, left}
-use Rattle.sbl_parser.specs.Roles.{role_of}
-use Rattle.sbl_parser.specs.declared.role.Role.{Role}
-use Rattle.sbl_parser.specs.Starts.{begins_item}
+use Rattle.sbl_ast.specs.Terminal.{Terminal}
 use Rattle.sbl_ast.specs.Tree as trees
-use Rattle.sbl_parser.specs.Steps.{Stack, fault}
-use Rattle.sbl_parser.specs.Steps as s
 use Rattle.sbl_ast.specs.View as view
+use Rattle.sbl_parser.specs.declared.role.Role.{Role}
+use Rattle.sbl_parser.specs.Gives.{ahead}
+use Rattle.sbl_parser.specs.Roles.{role_of}
+use Rattle.sbl_parser.specs.Starts.{begins_item}
+use Rattle.sbl_parser.specs.Steps as s
 use Rattle.sbl_parser.proofs.Descent as d
 use Rattle.sbl_parser.proofs.Lengths as lengths
 use Rattle.sbl_parser.proofs.Turns as turns
@@ -17,19 +17,19 @@ use Rattle.sbl_parser.proofs.items.items.Goals as goal
 
 pub returns-in_err-item : goal.returns-in_err-item
 returns-in_err-item c =
-    let begun : begins_item (role_of (left c.args.tokens.now c.loop-alloc.rest)) ≡ true = sym (c.begins_item.ensures ∙ ap (λ (r : Role). begins_item r) c.role.ensures) ∙ c.loop-alloc-test.true in
+    let begun : begins_item (role_of (ahead c.loop-items.cursor)) ≡ true = sym (c.begins_item.ensures ∙ ap (λ (r : Role). begins_item r) c.role.ensures) ∙ c.loop-items-test.true in
     let p = err_from_is_err_and c.from_residual.result c.from_residual.ensures.1 in
-    rw (p.1, p.2) (λ k. d.fails_along c.args.tokens.now c.in_err-item.field-0.0 (fault (left c.args.tokens.now c.args.at) (s.items ∷ k)) _ (c.loop-alloc.invariant.faults k ∙ d.item_first (left c.args.tokens.now c.loop-alloc.rest) k begun) (c.in_err-item.ensures (s.items ∷ k)))
+    rw (p.1, p.2) (λ k. d.fails_along _ _ _ (c.loop-items.invariant.faults k ∙ d.item_first (ahead c.loop-items.cursor) k begun) (c.in_err-item.ensures (s.items ∷ k)))
 
-pub loop-alloc-preserved : goal.loop-alloc-preserved
-loop-alloc-preserved c =
-    let begun : begins_item (role_of (left c.args.tokens.now c.loop-alloc.rest)) ≡ true = sym (c.begins_item.ensures ∙ ap (λ (r : Role). begins_item r) c.role.ensures) ∙ c.loop-alloc-test.true in
-    let last : trees.Item = view.view_item c.in_ok-item.item in
-    let more : map view.view_item c.push.new.self.items ≡ map view.view_item c.loop-alloc.items.items ++ last ∷ [] = ap (λ (xs : List Item). map view.view_item xs) c.in_ok-push.ensures.items ∙ map_push view.view_item c.loop-alloc.items.items _ in
+pub loop-items-smaller : goal.loop-items-smaller
+loop-items-smaller c = subst (λ (r : List Terminal). length (ahead c.item.new.cursor) < length r) (sym c.in_ok-item.ensures.0) (lengths.item_length (view.view_item c.in_ok-item.field-0) (ahead c.item.new.cursor))
+
+pub loop-items-preserved : goal.loop-items-preserved
+loop-items-preserved c =
+    let begun : begins_item (role_of (ahead c.loop-items.cursor)) ≡ true = sym (c.begins_item.ensures ∙ ap (λ (r : Role). begins_item r) c.role.ensures) ∙ c.loop-items-test.true in
+    let last : trees.Item = view.view_item c.in_ok-item.field-0 in
+    let more : map view.view_item c.push.new.self.items ≡ map view.view_item c.loop-items.items.items ++ last ∷ [] = ap (λ (xs : List Item). map view.view_item xs) c.in_ok-push.ensures.items ∙ map_push view.view_item c.loop-items.items.items _ in
     record {
-      spelled = c.loop-alloc.invariant.spelled ∙ ap (λ (r : List Terminal). trees.spelled_items (map view.view_item c.loop-alloc.items.items) r) c.in_ok-item.ensures.0 ∙ sym (turns.items_push (map view.view_item c.loop-alloc.items.items) last (left c.args.tokens.now c.in_ok-item.after)) ∙ ap (λ (xs : List trees.Item). trees.spelled_items xs (left c.args.tokens.now c.in_ok-item.after)) (sym more);
-      faults = λ k. c.loop-alloc.invariant.faults k ∙ d.item_first (left c.args.tokens.now c.loop-alloc.rest) k begun ∙ c.in_ok-item.ensures.1 (s.items ∷ k);
+      spelled = c.loop-items.invariant.spelled ∙ ap (λ (r : List Terminal). trees.spelled_items (map view.view_item c.loop-items.items.items) r) c.in_ok-item.ensures.0 ∙ sym (turns.items_push (map view.view_item c.loop-items.items.items) last (ahead c.item.new.cursor)) ∙ ap (λ (xs : List trees.Item). trees.spelled_items xs (ahead c.item.new.cursor)) (sym more);
+      faults = λ k. c.loop-items.invariant.faults k ∙ d.item_first (ahead c.loop-items.cursor) k begun ∙ c.in_ok-item.ensures.1 (s.items ∷ k);
     }
-
-pub loop-alloc-smaller : goal.loop-alloc-smaller
-loop-alloc-smaller c = subst (λ (r : List Terminal). length (left c.args.tokens.now c.in_ok-item.after) < length r) (sym c.in_ok-item.ensures.0) (lengths.item_length (view.view_item c.in_ok-item.item) (left c.args.tokens.now c.in_ok-item.after))

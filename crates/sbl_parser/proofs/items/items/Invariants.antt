@@ -1,15 +1,15 @@
 use Rattle.std.proofs.Common.{◌≡◌, ◌∷◌, length}
-use Rattle.sbl_ast.specs.Terminal.{left}
 use Rattle.sbl_ast.specs.Tree as trees
 use Rattle.sbl_ast.specs.View as view
+use Rattle.sbl_parser.specs.Gives.{ahead}
 use Rattle.sbl_parser.specs.Steps as wanted
 use Rattle.sbl_parser.proofs.items.items.Given as goal
 
-abbrev pub invariant-loop-alloc : goal.invariant-loop-alloc
-invariant-loop-alloc l = record {
-  spelled : left l.tokens l.at ≡ trees.spelled_items (view.view_items l.items.items) (left l.tokens l.rest);
-  faults : (k : wanted.Stack) → wanted.fault (left l.tokens l.at) (wanted.items ∷ k) ≡ wanted.fault (left l.tokens l.rest) (wanted.items ∷ k);
+abbrev pub invariant-loop-items : goal.invariant-loop-items
+invariant-loop-items l = record {
+  spelled : ahead l.fn.cursor ≡ trees.spelled_items (view.view_items l.items.items) (ahead l.cursor);
+  faults : (k : wanted.Stack) → wanted.fault (ahead l.fn.cursor) (wanted.items ∷ k) ≡ wanted.fault (ahead l.cursor) (wanted.items ∷ k);
 }
 
-abbrev pub decreases-loop-alloc : goal.decreases-loop-alloc
-decreases-loop-alloc l = length (left l.tokens l.rest)
+abbrev pub decreases-loop-items : goal.decreases-loop-items
+decreases-loop-items l = length (ahead l.cursor)

@@ -1,16 +1,10 @@
-use Rattle.std.proofs.Common.{[], arith, ◌∙◌}
-use Rattle.std.proofs.lemmas.Result.{err_from_is_err_and}
+use Rattle.std.proofs.Common.{◌∷◌, List, ap, sym, ◌∙◌}
+use Rattle.sbl_ast.specs.Terminal.{Terminal}
 use Rattle.sbl_ast.specs.View.{view_items}
-use Rattle.sbl_parser.proofs.Whole.{some_left, read_whole}
+use Rattle.sbl_parser.specs.Gives.{ahead}
+use Rattle.sbl_parser.specs.Steps as s
+use Rattle.sbl_parser.proofs.Whole.{read_whole}
 use Rattle.sbl_parser.proofs.reading.all_items.Goals as goal
 
-pub returns-in_err-found-clause-fault : goal.returns-in_err-found-clause-fault
-returns-in_err-found-clause-fault c =
-    let p = err_from_is_err_and c.from_residual.result c.from_residual.ensures.1 in
-    rw (p.1, p.2) (c.in_err-found.ensures [])
-
-pub returns-then-rest-tokens-clause-fault : goal.returns-then-rest-tokens-clause-fault
-returns-then-rest-tokens-clause-fault c = rw c.syntax.ensures (c.in_ok-found.ensures.1 [] ∙ some_left c.args.tokens.now c.in_ok-found.rest (omega arith))
-
 pub returns-clause-read : goal.returns-clause-read
-returns-clause-read c = read_whole c.args.tokens.now c.in_ok-found.rest (view_items c.in_ok-found.found.items) (omega arith) c.in_ok-found.ensures
+returns-clause-read c = read_whole c.args.tokens.now (ahead c.items.new.cursor) (view_items c.in_ok-found.found.items) c.in_ok-end.ensures.done (sym c.new-cursor.ensures ∙ c.in_ok-found.ensures.0) (λ k. ap (λ (r : List Terminal). s.fault r (s.items ∷ k)) (sym c.new-cursor.ensures) ∙ c.in_ok-found.ensures.1 k)

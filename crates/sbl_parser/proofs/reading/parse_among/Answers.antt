@@ -5,7 +5,7 @@ use Rattle.sbl_parser.proofs.Whole.{fault_of}
 use Rattle.sbl_parser.proofs.reading.parse_among.Goals as goal
 
 pub returns-in-Err-clause-fault : goal.returns-in-Err-clause-fault
-returns-in-Err-clause-fault c = rw c.told.ensures (fault_of (among c.args.depth) c.args.tokens.now c.args.end c.in-Err.error c.in-Err.ensures.fault)
+returns-in-Err-clause-fault c = rw c.fault_at_offset.ensures (fault_of (among c.args.depth) c.args.tokens.now c.args.end c.in-Err.error c.in-Err.ensures.fault)
 
 pub returns-in-Ok-clause-few : goal.returns-in-Ok-clause-few
 returns-in-Ok-clause-few c = among_few (view_among c.in-Ok.among) c.args.depth c.args.tokens.now c.in-Ok.ensures.read.0

@@ -3,4 +3,4 @@ use Rattle.sbl_parser.proofs.Whole.{fault_of}
 use Rattle.sbl_parser.proofs.reading.parse_body.Goals as goal
 
 pub returns-in-Err-clause-fault : goal.returns-in-Err-clause-fault
-returns-in-Err-clause-fault c = rw c.told.ensures (fault_of body c.args.tokens.now c.args.end c.in-Err.error c.in-Err.ensures.fault)
+returns-in-Err-clause-fault c = rw c.fault_at_offset.ensures (fault_of body c.args.tokens.now c.args.end c.in-Err.error c.in-Err.ensures.fault)

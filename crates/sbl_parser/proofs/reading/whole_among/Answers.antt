@@ -1,10 +1,10 @@
-use Rattle.std.proofs.Common.{[], arith, ◌∙◌}
+use Rattle.std.proofs.Common.{◌∷◌, List, ap, sym, ◌∙◌}
+use Rattle.sbl_ast.specs.Terminal.{Terminal}
 use Rattle.sbl_ast.specs.View.{view_among}
-use Rattle.sbl_parser.proofs.Whole.{some_left, read_among}
+use Rattle.sbl_parser.specs.Gives.{ahead}
+use Rattle.sbl_parser.specs.Steps as s
+use Rattle.sbl_parser.proofs.Whole.{read_among}
 use Rattle.sbl_parser.proofs.reading.whole_among.Goals as goal
 
-pub returns-then-rest-tokens-clause-fault : goal.returns-then-rest-tokens-clause-fault
-returns-then-rest-tokens-clause-fault c = rw c.syntax.ensures (c.in_ok-found-in-Among.ensures.1 [] ∙ some_left c.args.tokens.now c.in_ok-found-in-Among.rest (omega arith))
-
-pub returns-else-rest-tokens-clause-read : goal.returns-else-rest-tokens-clause-read
-returns-else-rest-tokens-clause-read c = read_among c.args.tokens.now c.in_ok-found-in-Among.rest c.args.depth (view_among c.in_ok-found-in-Among.found) (omega arith) c.in_ok-found-in-Among.ensures.0 c.in_ok-found-in-Among.ensures.1
+pub returns-clause-read : goal.returns-clause-read
+returns-clause-read c = read_among c.args.tokens.now (ahead c.among.new.cursor) c.args.depth (view_among c.in_ok-found.found) c.in_ok-end.ensures.done (sym c.new-cursor.ensures ∙ c.in_ok-found.ensures.0) (λ k. ap (λ (r : List Terminal). s.fault r (s.among c.args.depth ∷ k)) (sym c.new-cursor.ensures) ∙ c.in_ok-found.ensures.1 k)

@@ -5,10 +5,10 @@ use Rattle.sbl_ast.specs.View.{view_sums, view_scales}
 use Rattle.sbl_print.specs.Adding.{more}
 use Rattle.sbl_print.proofs.arithmetic.+arithmetic.Given as goal
 
-abbrev pub invariant-put_sums-loop-added : goal.invariant-put_sums-loop-added
-invariant-put_sums-loop-added l =
-    (rest : List Terminal) → string_bytes l.out ++ more (spelled_sums (view_sums (drop l.added-index l.others.items)) rest) ≡ string_bytes l.initial.out ++ more (spelled_sums (view_sums l.others.items) rest)
+abbrev pub invariant-put_sums-loop-other : goal.invariant-put_sums-loop-other
+invariant-put_sums-loop-other l =
+    (rest : List Terminal) → string_bytes l.out ++ more (spelled_sums (view_sums (drop l.other-index l.others.items)) rest) ≡ string_bytes l.initial.out ++ more (spelled_sums (view_sums l.others.items) rest)
 
-abbrev pub invariant-put_scales-loop-scaled : goal.invariant-put_scales-loop-scaled
-invariant-put_scales-loop-scaled l =
-    (rest : List Terminal) → string_bytes l.out ++ more (spelled_scales (view_scales (drop l.scaled-index l.others.items)) rest) ≡ string_bytes l.initial.out ++ more (spelled_scales (view_scales l.others.items) rest)
+abbrev pub invariant-put_scales-loop-other : goal.invariant-put_scales-loop-other
+invariant-put_scales-loop-other l =
+    (rest : List Terminal) → string_bytes l.out ++ more (spelled_scales (view_scales (drop l.other-index l.others.items)) rest) ≡ string_bytes l.initial.out ++ more (spelled_scales (view_scales l.others.items) rest)

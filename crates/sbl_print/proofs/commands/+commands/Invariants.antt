@@ -14,6 +14,6 @@ abbrev pub invariant-put_rows-loop-row : goal.invariant-put_rows-loop-row
 invariant-put_rows-loop-row l =
     (rest : List Terminal) → string_bytes l.out ++ more (spelled_rows (view_rows (drop l.row-index l.rows.items)) rest) ≡ string_bytes l.initial.out ++ more (spelled_rows (view_rows l.rows.items) rest)
 
-abbrev pub invariant-put_others-loop-joined : goal.invariant-put_others-loop-joined
-invariant-put_others-loop-joined l =
-    (rest : List Terminal) → string_bytes l.out ++ more (spelled_others (view_others (drop l.joined-index l.others.items)) rest) ≡ string_bytes l.initial.out ++ more (spelled_others (view_others l.others.items) rest)
+abbrev pub invariant-put_others-loop-other : goal.invariant-put_others-loop-other
+invariant-put_others-loop-other l =
+    (rest : List Terminal) → string_bytes l.out ++ more (spelled_others (view_others (drop l.other-index l.others.items)) rest) ≡ string_bytes l.initial.out ++ more (spelled_others (view_others l.others.items) rest)

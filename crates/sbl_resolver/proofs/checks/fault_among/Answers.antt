@@ -2,7 +2,7 @@ use Rattle.std.proofs.Common.{sym, ap, ◌∙◌, ◌≡◌, ◌<◌, ◌≤◌,
 use Rattle.sbl_resolver.specs.OccurrenceView.{view_occurrence, view_occurrences}
 use Rattle.sbl_resolver.specs.Checks.{fault_at}
 use Rattle.sbl_resolver.specs.Subjects.{subject_of, subjects_of}
-use Rattle.sbl_resolver.specs.Numbered.{one_more}
+use Rattle.sbl_resolver.specs.FirstFault.{one_more}
 use Rattle.sbl_resolver.proofs.Turns.{met_more, taken, note_in}
 use Rattle.sbl_resolver.proofs.Numbered.{stops, goes_on, counted, few}
 use Rattle.sbl_resolver.proofs.checks.fault_among.Goals as goal

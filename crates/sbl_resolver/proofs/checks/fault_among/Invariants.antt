@@ -1,6 +1,6 @@
 use Rattle.std.proofs.Common.{◌≡◌, [], drop, take, length}
-use Rattle.sbl_resolver.specs.Met.{HasMet}
-use Rattle.sbl_resolver.specs.Numbered.{first_from}
+use Rattle.sbl_resolver.specs.MetNames.{HasMet}
+use Rattle.sbl_resolver.specs.FirstFault.{first_from}
 use Rattle.sbl_resolver.specs.Subjects.{subjects_of}
 use Rattle.sbl_resolver.specs.OccurrenceView.{view_occurrences}
 use Rattle.sbl_resolver.proofs.checks.fault_among.Given as goal

@@ -1,7 +1,7 @@
 use Rattle.std.proofs.Common.{◌≡◌, ℕ, List, drop}
 use Rattle.std.specs.Option.{option_or}
 use Rattle.sbl_resolver.specs.Checks.{definition_of}
-use Rattle.sbl_resolver.specs.Met.{at_name}
+use Rattle.sbl_resolver.specs.MetNames.{at_name}
 use Rattle.sbl_resolver.specs.OccurrenceView.{view_occurrences}
 use Rattle.sbl_resolver.proofs.checks.sites_of.Given as goal
 

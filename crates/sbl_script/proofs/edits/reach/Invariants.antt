@@ -4,4 +4,4 @@ use Rattle.sbl_script.specs.Edits as spec
 use Rattle.sbl_script.proofs.edits.reach.Given as goal
 
 abbrev pub invariant-loop-item : goal.invariant-loop-item
-invariant-loop-item l = spec.reached (spec.defines l.kind l.name) (view_items (drop l.item-index l.items)) l.escapes ≡ spec.reached (spec.defines l.kind l.name) (view_items l.items) l.initial.escapes
+invariant-loop-item l = spec.walk_to (spec.defines l.kind l.name) (view_items (drop l.item-index l.items)) l.escapes ≡ spec.walk_to (spec.defines l.kind l.name) (view_items l.items) l.initial.escapes

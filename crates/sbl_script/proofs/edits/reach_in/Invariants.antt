@@ -4,4 +4,4 @@ use Rattle.sbl_script.specs.Edits as spec
 use Rattle.sbl_script.proofs.edits.reach_in.Given as goal
 
 abbrev pub invariant-loop-plain : goal.invariant-loop-plain
-invariant-loop-plain l = spec.reached_in (spec.defines l.kind l.name) (map view_plain (drop l.plain-index l.plains)) l.escapes ≡ spec.reached_in (spec.defines l.kind l.name) (map view_plain l.plains) l.initial.escapes
+invariant-loop-plain l = spec.walk_in (spec.defines l.kind l.name) (map view_plain (drop l.plain-index l.plains)) l.escapes ≡ spec.walk_in (spec.defines l.kind l.name) (map view_plain l.plains) l.initial.escapes

@@ -1,4 +1,4 @@
-use Rattle.sbl_script.specs.Parsed.{source_of}
+use Rattle.sbl_script.specs.ParsedScript.{source_of}
 use Rattle.sbl_script.proofs.Compared.{items_are_one}
 use Rattle.sbl_script.proofs.laws.canonical_is_one.Goals as goal
 

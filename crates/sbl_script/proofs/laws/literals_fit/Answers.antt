@@ -2,7 +2,7 @@ use Rattle.std.specs.Str.{chars}
 use Rattle.sbl_text.specs.Directives.{start}
 use Rattle.sbl_ast.specs.Tree.{lexemes_of}
 use Rattle.sbl_print.specs.Canonical.{canonical}
-use Rattle.sbl_script.specs.Parsed.{source_of}
+use Rattle.sbl_script.specs.ParsedScript.{source_of}
 use Rattle.sbl_script.proofs.Printed.{tokens_back}
 use Rattle.sbl_script.proofs.laws.literals_fit.Goals as goal
 

@@ -1,4 +1,4 @@
-use Rattle.sbl_script.specs.Parsed.{source_of}
+use Rattle.sbl_script.specs.ParsedScript.{source_of}
 use Rattle.sbl_script.proofs.Spelled.{ends}
 use Rattle.sbl_script.proofs.script.is_spelled.Goals as goal
 

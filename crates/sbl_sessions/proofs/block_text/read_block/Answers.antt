@@ -1,7 +1,7 @@
 use Rattle.std.proofs.Common.{◌≡◌, ◌≢◌, ◌∙◌, ◌++◌, [], ◌∷◌, arith, rules, refl, sym, subst, List, ℕ, Option, None, IsSome}
 use Rattle.std.proofs.KnownBytes.{Keeps-refl}
 use Rattle.sbl_sessions.specs.Block.{HoldsText, point}
-use Rattle.sbl_io.specs.Held.{input_of, line_of, GivesLine}
+use Rattle.sbl_io.specs.HeldInput.{input_of, line_of, GivesLine}
 use Rattle.sbl_io.specs.declared.faults.LineFault.{LineFault}
 use Rattle.sbl_sessions.proofs.BlockFacts.{all_fit-push, no_point-push}
 use Rattle.sbl_io.proofs.Bytes.{took-kept, took-none, took-trans, whole_none, whole_trans}

@@ -1,7 +1,7 @@
 use Rattle.std.proofs.Common.{◌≡◌, ◌≤◌, IsSome, List, ℕ}
 use Rattle.std.specs.Io.KnownBytes.{Keeps}
 use Rattle.sbl_sessions.specs.Block.{BlockLines, HoldsText}
-use Rattle.sbl_io.specs.Held.{KeepsTime, StaysEnded, TakesFeeds, Took, fault_of, fuel_of, input_of, reads_bound}
+use Rattle.sbl_io.specs.HeldInput.{KeepsTime, StaysEnded, TakesFeeds, Took, fault_of, fuel_of, input_of, reads_bound}
 use Rattle.sbl_sessions.proofs.block_text.read_block.Given as goal
 
 abbrev pub invariant-loop-text : goal.invariant-loop-text

@@ -1,6 +1,6 @@
 use Rattle.std.proofs.Common.{◌≡◌, List, ℕ, subst, sym, take, length, rules}
 use Rattle.std.specs.Str.{chars}
-use Rattle.sbl_bench.specs.Kept.{contents_of}
+use Rattle.sbl_bench.specs.KeptRuns.{contents_of}
 use Rattle.sbl_bench.specs.Edits.{Edits, Add}
 use Rattle.sbl_sessions.specs.CommandViews.{IsEditAnswer}
 use Rattle.sbl_sessions.proofs.EditFacts.{answered, by_first}

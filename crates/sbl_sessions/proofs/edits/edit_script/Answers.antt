@@ -1,7 +1,7 @@
 use Rattle.std.proofs.Common.{◌≡◌, ◌<◌, List, [], ℕ, true, None, Some, Ok, Err, Result, Option, rules, length, subst, sym}
 use Rattle.std.specs.Option.{is_some}
 use Rattle.std.specs.declared.alloc.AllocError.{AllocError}
-use Rattle.sbl_bench.specs.Kept.{contents_of}
+use Rattle.sbl_bench.specs.KeptRuns.{contents_of}
 use Rattle.sbl_sessions.specs.Block.{HasText, HoldsText, made_text, max_script}
 use Rattle.sbl_sessions.specs.declared.block_text.BlockFault.{BlockFault}
 use Rattle.sbl_sessions.specs.declared.block_text.BlockFault.TheVariants.{TooLong}

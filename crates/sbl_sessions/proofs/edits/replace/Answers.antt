@@ -1,6 +1,6 @@
 use Rattle.std.proofs.Common.{◌≡◌, ◌∙◌, true, false, rules, sym}
 use Rattle.std.proofs.lemmas.Str.{IsUtf8-from_is_utf8, is_utf8-from_IsUtf8}
-use Rattle.sbl_bench.specs.Kept.{contents_of}
+use Rattle.sbl_bench.specs.KeptRuns.{contents_of}
 use Rattle.sbl_script.specs.Edits.{among, body, terms}
 use Rattle.sbl_sessions.specs.CommandViews.{view_target}
 use Rattle.sbl_sessions.proofs.EditFacts.{replaced_text}

@@ -1,10 +1,10 @@
 use Rattle.std.proofs.Common.{rules, ap, map, ◌∙◌}
 use Rattle.std.specs.Str.{chars}
 use Rattle.std.proofs.lemmas.Result.{err_from_is_err_and}
-use Rattle.sbl_bench.specs.Kept.{contents_of}
-use Rattle.sbl_script.specs.Parsed.{source_of}
+use Rattle.sbl_bench.specs.KeptRuns.{contents_of}
+use Rattle.sbl_script.specs.ParsedScript.{source_of}
 use Rattle.sbl_sessions.specs.Faults.{left_by_load}
-use Rattle.sbl_io.specs.Held.{input_of}
+use Rattle.sbl_io.specs.HeldInput.{input_of}
 use Rattle.sbl_sessions.proofs.LoadFacts.{bench_refused, script_parsed, script_refused, script_unread, words_refused}
 use Rattle.sbl_sessions.proofs.loading.load.Goals as goal
 

@@ -3,7 +3,7 @@ use Rattle.std.specs.Str.{chars, is_utf8}
 use Rattle.std.proofs.lemmas.Result.{err_from_is_err_and}
 use Rattle.sbl_sessions.specs.Block.{point}
 use Rattle.sbl_sessions.specs.WordLists.{HoldsWords}
-use Rattle.sbl_io.specs.Held.{input_of, line_of, GivesLine}
+use Rattle.sbl_io.specs.HeldInput.{input_of, line_of, GivesLine}
 use Rattle.sbl_sessions.proofs.BlockFacts.{all_fit-push, no_point-push}
 use Rattle.sbl_io.proofs.Bytes.{took-kept, took-none, took-trans}
 use Rattle.sbl_sessions.proofs.LoadFacts.{IsUnreadWord, all_text-push, chars-push, word_unread, words_stopped}

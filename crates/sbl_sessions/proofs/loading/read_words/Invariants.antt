@@ -2,7 +2,7 @@ use Rattle.std.proofs.Common.{◌≡◌, ◌≤◌, List, ℕ, map}
 use Rattle.std.specs.Str.{chars}
 use Rattle.sbl_sessions.specs.Block.{AllText, NoPoint}
 use Rattle.sbl_sessions.specs.WordLists.{HoldsWords}
-use Rattle.sbl_io.specs.Held.{AllFit, KeepsTime, Took, fault_of, fuel_of, input_of, reads_bound}
+use Rattle.sbl_io.specs.HeldInput.{AllFit, KeepsTime, Took, fault_of, fuel_of, input_of, reads_bound}
 use Rattle.sbl_sessions.proofs.loading.read_words.Given as goal
 
 abbrev pub invariant-loop-words : goal.invariant-loop-words

@@ -1,7 +1,7 @@
 use Rattle.std.proofs.Common.{◌≡◌, ◌∙◌, List, ℕ, Option, Some, None, IfOk, length, refl, rules, subst, sym, take}
 use Rattle.std.specs.List.{find}
 use Rattle.std.specs.Str.{bytes_eq, chars}
-use Rattle.sbl_bench.specs.Kept.{contents_of}
+use Rattle.sbl_bench.specs.KeptRuns.{contents_of}
 use Rattle.sbl_bench.specs.Rows.{Row, view_row}
 use Rattle.sbl_sessions.specs.Answers.{Enough, IsReport, Memory}
 use Rattle.sbl_sessions.specs.CommandViews.{IsReply}

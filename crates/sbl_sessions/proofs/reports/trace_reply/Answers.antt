@@ -1,10 +1,10 @@
 use Rattle.std.proofs.Common.{◌≡◌, ◌∙◌, List, ℕ, None, Some, rules, subst, sym, ap, length, take}
 use Rattle.std.specs.Option.{option_map}
 use Rattle.std.specs.Str.{chars}
-use Rattle.sbl_bench.specs.Kept.{contents_of}
+use Rattle.sbl_bench.specs.KeptRuns.{contents_of}
 use Rattle.sbl_bench.specs.Traces.{trace_of}
 use Rattle.sbl_bench.specs.Vocabulary.{is_word}
-use Rattle.sbl_semantics.specs.Touched.{items_in}
+use Rattle.sbl_semantics.specs.TouchedItems.{items_in}
 use Rattle.sbl_sessions.proofs.FirstFacts.{looks, there_first, trace_first}
 use Rattle.sbl_sessions.proofs.ReportFacts.{trace_absent, trace_answer, trace_refused}
 use Rattle.sbl_sessions.proofs.reports.trace_reply.Goals as goal

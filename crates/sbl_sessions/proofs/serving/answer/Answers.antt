@@ -1,8 +1,8 @@
 use Rattle.std.proofs.Common.{◌≡◌, ◌∙◌, List, ℕ, None, Some, arith, refl, sym, subst, ap}
-use Rattle.sbl_bench.specs.Kept.{contents_of}
+use Rattle.sbl_bench.specs.KeptRuns.{contents_of}
 use Rattle.sbl_sessions.specs.CommandViews.{FindsTarget, IsAnswer, view_word}
 use Rattle.sbl_sessions.specs.Commands.{line_command}
-use Rattle.sbl_io.specs.Held.{input_of, line_of}
+use Rattle.sbl_io.specs.HeldInput.{input_of, line_of}
 use Rattle.sbl_sessions.specs.Requests.{block_word}
 use Rattle.sbl_io.proofs.Bytes.{whole_none}
 use Rattle.sbl_sessions.specs.declared.replies.Reply.TheVariants as reply

@@ -1,9 +1,9 @@
 use Rattle.std.proofs.Common.{List, ℕ, decimal, refl, subst, sym}
 use Rattle.std.specs.Str.{chars}
 use Rattle.sbl_bench.specs.Edits as edits
-use Rattle.sbl_bench.specs.Kept.{Kept, contents_of}
+use Rattle.sbl_bench.specs.KeptRuns.{Kept, contents_of}
 use Rattle.sbl_print.specs.Canonical.{canonical}
-use Rattle.sbl_sessions.specs.Answers.{ended}
+use Rattle.sbl_sessions.specs.Answers.{with_line_feed}
 use Rattle.sbl_sessions.specs.CommandViews.{IsAnswer, IsEditAnswer}
 use Rattle.sbl_sessions.specs.Commands.{Class, Classes, Command, Makes, Runs, Script, Stems}
 use Rattle.sbl_sessions.specs.Rows.{classes_text, stems_text}
@@ -71,5 +71,5 @@ returns-in-Trace c =
 pub returns-in-Runs : goal.returns-in-Runs
 returns-in-Runs c =
     let s = contents_of c.args.bench.now in
-    let a : IsAnswer s Runs c.report-in-Runs.result s = report_answer c.runs_text.result c.report-in-Runs.result s (ended (decimal s.count)) c.runs_text.ensures c.report-in-Runs.ensures.made c.report-in-Runs.ensures.refused in
+    let a : IsAnswer s Runs c.report-in-Runs.result s = report_answer c.runs_text.result c.report-in-Runs.result s (with_line_feed (decimal s.count)) c.runs_text.ensures c.report-in-Runs.ensures.made c.report-in-Runs.ensures.refused in
     subst (λ (x : Command). IsAnswer s x c.report-in-Runs.result s) c.in-Runs.ensures a

@@ -2,10 +2,10 @@ use Rattle.sbl_io.specs.declared.faults.ServeFault.TheVariants as fault
 use Rattle.std.proofs.Common.{rules, Err, ◌≡◌, ◌∙◌, ap, sym, subst, refl, Option, None, IsSome}
 use Rattle.sbl_io.specs.declared.faults.LineFault.{LineFault}
 use Rattle.std.proofs.KnownBytes.{Keeps-refl}
-use Rattle.sbl_bench.specs.Kept.{contents_of}
+use Rattle.sbl_bench.specs.KeptRuns.{contents_of}
 use Rattle.std.proofs.lemmas.Result.{err_from_is_err_and}
 use Rattle.sbl_bench.specs.Contents.{Contents}
-use Rattle.sbl_io.specs.Held.{TookWhole, fault_of, input_of, line_of}
+use Rattle.sbl_io.specs.HeldInput.{TookWhole, fault_of, input_of, line_of}
 use Rattle.sbl_sessions.specs.Session.{IsSession}
 use Rattle.sbl_io.specs.declared.faults.LineFault.TheVariants as read
 use Rattle.sbl_io.specs.declared.faults.ServeFault.{ServeFault}

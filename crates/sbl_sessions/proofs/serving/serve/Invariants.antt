@@ -1,8 +1,8 @@
 use Rattle.std.proofs.Common.{◌≡◌, IsSome}
 use Rattle.std.specs.Io.KnownBytes.{Keeps}
-use Rattle.sbl_bench.specs.Kept.{contents_of}
+use Rattle.sbl_bench.specs.KeptRuns.{contents_of}
 use Rattle.sbl_io.specs.Devices.{WritesInTime}
-use Rattle.sbl_io.specs.Held.{KeepsTime, TakesFeeds, fault_of, fuel_of, input_of, reads_bound}
+use Rattle.sbl_io.specs.HeldInput.{KeepsTime, TakesFeeds, fault_of, fuel_of, input_of, reads_bound}
 use Rattle.sbl_sessions.specs.Session.{Served}
 use Rattle.sbl_sessions.proofs.serving.serve.Given as goal
 

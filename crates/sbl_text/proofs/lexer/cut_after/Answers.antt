@@ -8,9 +8,9 @@ use Rattle.sbl_text.proofs.lexer.cut_after.Goals as goal
 
 pub returns-clause-gaps : goal.returns-clause-gaps
 returns-clause-gaps c =
-    subst (λ (e : Setting). AfterGaps e (chars c.args.from.now) (chars c.past_gaps.result.0.now)) (same_setting c.args.state.now c.escapes.result.now c.inserts.result c.wanted.result c.inserts.ensures c.escapes.ensures c.wanted.ensures) c.past_gaps.ensures.gaps
+    subst (λ (e : Setting). AfterGaps e (chars c.args.from.now) (chars c.past_gaps.result.0.now)) (same_setting c.args.state.now c.escapes.result.now c.inserts.result c.next_wanted.result c.inserts.ensures c.escapes.ensures c.next_wanted.ensures) c.past_gaps.ensures.gaps
 
 pub returns-clause-next : goal.returns-clause-next
 returns-clause-next c =
     subst (λ (e : Setting). MatchOption c.past_gaps.result.1 (NoPiece e (chars c.past_gaps.result.0.now)) (λ p. is_gap p.0 ≡ false × Piece_at e p.0 (chars c.past_gaps.result.0.now) (chars p.1.now)))
-    (same_setting c.args.state.now c.escapes.result.now c.inserts.result c.wanted.result c.inserts.ensures c.escapes.ensures c.wanted.ensures) c.past_gaps.ensures.next
+    (same_setting c.args.state.now c.escapes.result.now c.inserts.result c.next_wanted.result c.inserts.ensures c.escapes.ensures c.next_wanted.ensures) c.past_gaps.ensures.next

@@ -15,7 +15,7 @@ returns-in_err-end_or_fault-in-None c =
     let none = rw c.in-None.is at c.cut_after.ensures.next in
     let p = err_from_is_err_and c.from_residual.result c.from_residual.ensures.1 in
     rw (p.1, p.2) (inr (no_token c.args.state.now (chars c.args.source.now) (chars c.args.from.now) (chars c.cut_after.result.0.now) c.place_of-start.result c.in_err-end_or_fault-in-None.field-0.0
-    before c.place_of-start.ensures.place c.cut_after.ensures.gaps none (rw (c.wanted.ensures) at c.in_err-end_or_fault-in-None.ensures)))
+    before c.place_of-start.ensures.place c.cut_after.ensures.gaps none (rw (c.next_wanted.ensures) at c.in_err-end_or_fault-in-None.ensures)))
 
 pub returns-in_err-kind-in-Some : goal.returns-in_err-kind-in-Some
 returns-in_err-kind-in-Some c =

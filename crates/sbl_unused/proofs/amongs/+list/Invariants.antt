@@ -1,7 +1,7 @@
 use Rattle.std.proofs.Common.{◌≡◌, drop, List}
 use Rattle.sbl_ast.specs.Tree as trees
 use Rattle.sbl_ast.specs.View.{view_groups, view_others, view_rows}
-use Rattle.sbl_unused.specs.Gathered.{gathered_groups, gathered_others, gathered_rows}
+use Rattle.sbl_unused.specs.GatheredGroups.{gathered_groups, gathered_others, gathered_rows}
 use Rattle.sbl_unused.specs.Views.{view_amongs}
 use Rattle.sbl_unused.proofs.amongs.+list.Given as goal
 

@@ -1,6 +1,6 @@
 use Rattle.std.proofs.Common.{◌≡◌, drop, map}
 use Rattle.std.specs.List.{flat_map}
-use Rattle.sbl_script.specs.Parsed.{source_of}
+use Rattle.sbl_script.specs.ParsedScript.{source_of}
 use Rattle.sbl_ast.specs.Order.{ItemInMode, view_in_mode}
 use Rattle.sbl_unused.specs.Parts.{parts_by, parts_of, put_in_order}
 use Rattle.sbl_unused.specs.Views.{view_parts}

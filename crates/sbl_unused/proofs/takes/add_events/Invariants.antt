@@ -1,6 +1,6 @@
 use Rattle.std.proofs.Common.{◌≡◌, ◌||◌, Bool, drop, map}
 use Rattle.std.specs.List.{list_any}
-use Rattle.sbl_bench.specs.Kept.{setting_of}
+use Rattle.sbl_bench.specs.KeptRuns.{setting_of}
 use Rattle.sbl_semantics.specs.Events.{event_of}
 use Rattle.sbl_unused.specs.Unused.{Take, takes_from}
 use Rattle.sbl_unused.specs.Views.{takes_in}

@@ -1,6 +1,6 @@
 use Rattle.std.proofs.Common.{◌≡◌, ◌||◌, ℕ, List, Bool, drop}
 use Rattle.std.specs.List.{list_any}
-use Rattle.sbl_bench.specs.Kept.{setting_of}
+use Rattle.sbl_bench.specs.KeptRuns.{setting_of}
 use Rattle.sbl_unused.specs.Unused.{Take, takes_of}
 use Rattle.sbl_unused.specs.Views.{takes_in, texts_of}
 use Rattle.sbl_unused.proofs.takes.takes_by_words.Given as goal

@@ -1,7 +1,7 @@
 use Rattle.std.proofs.Common.{◌≡◌, ◌∙◌, ◌++◌, Bool, List, ℕ, [], subst, sym, true}
 use Rattle.std.specs.List.{flat_map}
 use Rattle.std.specs.Prelude.{OnOk, if◌then◌else◌}
-use Rattle.sbl_semantics.specs.Touched.{item_of}
+use Rattle.sbl_semantics.specs.TouchedItems.{item_of}
 use Rattle.sbl_io.specs.Records.{records_text}
 use Rattle.sbl_unused.specs.Unused as spec
 use Rattle.sbl_unused.specs.Views.{texts_of}

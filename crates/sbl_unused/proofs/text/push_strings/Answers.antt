@@ -3,7 +3,7 @@ use Rattle.std.proofs.Math.ListN.{drop_of_length-le}
 use Rattle.std.proofs.lemmas.List.{append-nil}
 use Rattle.std.specs.Borrow.{Bor}
 use Rattle.std.specs.List.{flat_map}
-use Rattle.sbl_semantics.specs.Touched.{item_of}
+use Rattle.sbl_semantics.specs.TouchedItems.{item_of}
 use Rattle.sbl_io.specs.Records.{records_text}
 use Rattle.sbl_unused.specs.Unused as spec
 use Rattle.sbl_unused.specs.Views.{texts_of}

@@ -1,7 +1,7 @@
 use Rattle.std.proofs.Common.{◌≡◌, ◌++◌, ℕ, List, drop}
 use Rattle.std.specs.List.{flat_map}
 use Rattle.sbl_bench.specs.Setting.{Setting}
-use Rattle.sbl_semantics.specs.Touched.{item_of}
+use Rattle.sbl_semantics.specs.TouchedItems.{item_of}
 use Rattle.sbl_io.specs.Records.{records_text}
 use Rattle.sbl_unused.specs.Unused as spec
 use Rattle.sbl_unused.specs.Views.{HasTaken, texts_of}

@@ -1,9 +1,9 @@
 use Rattle.std.proofs.Common.{◌≡◌, ◌∙◌, ◌++◌, List, ℕ, ap, subst, sym}
 use Rattle.std.specs.Borrow.{Bor}
 use Rattle.std.specs.List.{flat_map}
-use Rattle.sbl_bench.specs.Kept.{setting_of}
+use Rattle.sbl_bench.specs.KeptRuns.{setting_of}
 use Rattle.sbl_io.specs.Records.{records_text}
-use Rattle.sbl_script.specs.Parsed.{Parsed, source_of}
+use Rattle.sbl_script.specs.ParsedScript.{Parsed, source_of}
 use Rattle.sbl_unused.specs.Parts.{Part, parts_of}
 use Rattle.sbl_unused.specs.Unused.{entry_rows, item_rows, unused_text}
 use Rattle.sbl_unused.specs.Views.{HasMet, HasTaken, texts_of, view_parts}

@@ -1,5 +1,5 @@
 use Rattle.std.proofs.Common.{◌≡◌, ◌++◌, map, drop}
-use Rattle.sbl_bench.specs.Kept.{setting_of}
+use Rattle.sbl_bench.specs.KeptRuns.{setting_of}
 use Rattle.sbl_io.specs.Records.{records_text}
 use Rattle.sbl_semantics.specs.Events.{event_of}
 use Rattle.sbl_why.specs.Moments.{at_start}

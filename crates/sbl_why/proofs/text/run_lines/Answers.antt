@@ -1,5 +1,5 @@
 use Rattle.std.proofs.Common.{◌≡◌, ◌∙◌, ◌++◌, ◌-◌, ℕ, List, ap, ap₂, length, map, sym, take}
-use Rattle.sbl_bench.specs.Kept.{setting_of}
+use Rattle.sbl_bench.specs.KeptRuns.{setting_of}
 use Rattle.sbl_semantics.specs.Outcome.{outcome_of}
 use Rattle.sbl_io.specs.Records.{records_text}
 use Rattle.sbl_semantics.specs.Events.{event_of}

@@ -1,5 +1,5 @@
 use Rattle.std.specs.Str.{chars}
-use Rattle.sbl_bench.specs.Kept.{contents_of}
+use Rattle.sbl_bench.specs.KeptRuns.{contents_of}
 use Rattle.sbl_work.specs.Replies.{why_reply_text}
 use Rattle.sbl_work.proofs.ReplyFacts.{told}
 use Rattle.sbl_work.proofs.answers.why.Goals as goal

@@ -1,5 +1,5 @@
 use Rattle.std.proofs.Common.{subst}
-use Rattle.sbl_bench.specs.Kept.{contents_of}
+use Rattle.sbl_bench.specs.KeptRuns.{contents_of}
 use Rattle.sbl_sessions.specs.Requests.{asks_block}
 use Rattle.sbl_work.specs.Commands.{is_replace}
 use Rattle.sbl_desk.specs.Desks.{state_of}

@@ -1,4 +1,4 @@
-use Rattle.sbl_bench.specs.Kept.{contents_of}
+use Rattle.sbl_bench.specs.KeptRuns.{contents_of}
 use Rattle.sbl_work.proofs.ReplyFacts.{families_bytes, families_utf8}
 use Rattle.sbl_work.proofs.parts.families_reply.Goals as goal
 

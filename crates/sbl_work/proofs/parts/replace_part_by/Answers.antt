@@ -1,5 +1,5 @@
 use Rattle.std.proofs.Common.{inl, inr, refl, Err}
-use Rattle.sbl_bench.specs.Kept.{contents_of}
+use Rattle.sbl_bench.specs.KeptRuns.{contents_of}
 use Rattle.sbl_bench.specs.declared.fault.EditFault.TheVariants as fault
 use Rattle.sbl_desk.specs.Desks.{state_of}
 use Rattle.sbl_desk.specs.Parts.{view_part}

@@ -1,7 +1,7 @@
 use Rattle.std.proofs.Common.{◌≡◌, ℕ, List, arith, false, refl, subst}
-use Rattle.sbl_bench.specs.Kept.{contents_of}
+use Rattle.sbl_bench.specs.KeptRuns.{contents_of}
 use Rattle.sbl_io.proofs.Bytes.{whole_none}
-use Rattle.sbl_io.specs.Held.{input_of, line_of}
+use Rattle.sbl_io.specs.HeldInput.{input_of, line_of}
 use Rattle.sbl_work.specs.Commands.{asks_work_block}
 use Rattle.sbl_desk.specs.Desks.{state_of}
 use Rattle.sbl_work.specs.ReplyViews.{FindsBlock, IsFileAnswer}

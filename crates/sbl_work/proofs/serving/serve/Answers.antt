@@ -2,10 +2,10 @@ use Rattle.std.proofs.Common.{rules, ℕ, List, Err, ◌≡◌, ◌∙◌, ap, s
 use Rattle.std.proofs.lemmas.Result.{err_from_is_err_and}
 use Rattle.std.proofs.lemmas.Slice.Eq.{bytes_eq-Decides}
 use Rattle.std.specs.Str.{bytes_eq}
-use Rattle.sbl_bench.specs.Kept.{contents_of}
+use Rattle.sbl_bench.specs.KeptRuns.{contents_of}
 use Rattle.sbl_bench.specs.Contents.{Contents}
 use Rattle.sbl_io.proofs.Bytes.{whole_none, whole_trans}
-use Rattle.sbl_io.specs.Held.{TookWhole, fault_of, input_of, line_of}
+use Rattle.sbl_io.specs.HeldInput.{TookWhole, fault_of, input_of, line_of}
 use Rattle.sbl_io.specs.declared.faults.LineFault.TheVariants as read
 use Rattle.sbl_io.specs.declared.faults.ServeFault.{ServeFault}
 use Rattle.sbl_io.specs.declared.faults.ServeFault.TheVariants as fault

@@ -1,6 +1,6 @@
 use Rattle.std.proofs.Common.{rules, ◌≡◌}
-use Rattle.sbl_bench.specs.Kept.{contents_of}
-use Rattle.sbl_io.specs.Held.{input_of}
+use Rattle.sbl_bench.specs.KeptRuns.{contents_of}
+use Rattle.sbl_io.specs.HeldInput.{input_of}
 use Rattle.sbl_sessions.specs.Session.{Ends}
 use Rattle.sbl_desk.specs.Desks.{state_of}
 use Rattle.sbl_work.proofs.WholeFacts.{works_from}

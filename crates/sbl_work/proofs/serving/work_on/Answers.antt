@@ -1,8 +1,7 @@
 use Rattle.std.proofs.Common.{string_bytes}
-use Rattle.sbl_bench.specs.Kept.{contents_of}
-use Rattle.sbl_io.specs.Held.{input_of}
+use Rattle.sbl_bench.specs.KeptRuns.{contents_of}
+use Rattle.sbl_io.specs.HeldInput.{input_of}
 use Rattle.sbl_sessions.specs.Session.{Ends}
-use Rattle.sbl_work.specs.Serving.{prompt_of}
 use Rattle.sbl_work.proofs.WholeFacts.{whole_end, whole_fault}
 use Rattle.sbl_work.proofs.serving.work_on.Goals as goal
 
@@ -12,8 +11,8 @@ returns-clause-works g c = λ none.
     let write = g.W.Sink in
     let served = c.serve_bench-served in
     whole_fault (Ends read.tally write.tally c.args.lines.now served.new.lines c.args.writer.now served.new.writer)
-    (string_bytes c.args.paths.now.external) c.in_ok-bench.seen.items (prompt_of c.args.prompts) c.prompt_of.result.now (input_of read.left c.args.lines.now) (input_of read.left served.new.lines)
-    (write.held c.args.writer.now) (write.held served.new.writer) (contents_of c.in_ok-bench.bench) c.in-Err.fault c.in_ok-bench.ensures c.prompt_of.ensures (c.in-Err.ensures.works none)
+    (string_bytes c.args.paths.now.external) c.in_ok-bench.seen.items c.args.prompt.now (input_of read.left c.args.lines.now) (input_of read.left served.new.lines)
+    (write.held c.args.writer.now) (write.held served.new.writer) (contents_of c.in_ok-bench.bench) c.in-Err.fault c.in_ok-bench.ensures (c.in-Err.ensures.works none)
 
 pub returns-in-Ok-clause-works : goal.returns-in-Ok-clause-works
 returns-in-Ok-clause-works g c = λ none.
@@ -21,5 +20,5 @@ returns-in-Ok-clause-works g c = λ none.
     let write = g.W.Sink in
     let served = c.serve_bench-served in
     whole_end (Ends read.tally write.tally c.args.lines.now served.new.lines c.args.writer.now served.new.writer)
-    (string_bytes c.args.paths.now.external) c.in_ok-bench.seen.items (prompt_of c.args.prompts) c.prompt_of.result.now (input_of read.left c.args.lines.now) (input_of read.left served.new.lines)
-    (write.held c.args.writer.now) (write.held served.new.writer) (contents_of c.in_ok-bench.bench) _ c.in_ok-bench.ensures c.prompt_of.ensures (c.in-Ok.ensures.works none)
+    (string_bytes c.args.paths.now.external) c.in_ok-bench.seen.items c.args.prompt.now (input_of read.left c.args.lines.now) (input_of read.left served.new.lines)
+    (write.held c.args.writer.now) (write.held served.new.writer) (contents_of c.in_ok-bench.bench) _ c.in_ok-bench.ensures (c.in-Ok.ensures.works none)

@@ -1,6 +1,6 @@
 use Rattle.std.proofs.lemmas.Result.{err_from_is_err_and}
 use Rattle.std.specs.Prelude.{string_bytes}
-use Rattle.sbl_io.specs.Held.{input_of}
+use Rattle.sbl_io.specs.HeldInput.{input_of}
 use Rattle.snowbench.proofs.AnswerFacts.{answer_filter_fault, answer_session_fault, answer_stem_fault}
 use Rattle.snowbench.proofs.program.answer.Goals as goal
 

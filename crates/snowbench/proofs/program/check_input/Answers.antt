@@ -1,8 +1,8 @@
 use Rattle.std.proofs.Common.{rules, inl, refl, Ok, Err}
 use Rattle.std.proofs.KnownBytes.{Appends-nil}
 use Rattle.std.proofs.lemmas.Result.{err_from_is_err_and}
-use Rattle.sbl_io.specs.Held.{input_of}
-use Rattle.sbl_script.specs.Parsed.{source_of}
+use Rattle.sbl_io.specs.HeldInput.{input_of}
+use Rattle.sbl_script.specs.ParsedScript.{source_of}
 use Rattle.sbl_sessions.specs.declared.faults.LoadFault.TheVariants.{Input, Script}
 use Rattle.sbl_sessions.proofs.LoadFacts.{script_parsed, script_refused}
 use Rattle.snowbench.proofs.AnswerFacts.{check_lists, check_no_text}

@@ -1,6 +1,6 @@
 use Rattle.std.proofs.Common.{◌≡◌, List, ℕ}
 use Rattle.snowbench.specs.WholeCheck.{list_text}
-use Rattle.sbl_io.specs.Held.{AllFit, KeepsTime, Took, fault_of, fuel_of, input_of, reads_bound}
+use Rattle.sbl_io.specs.HeldInput.{AllFit, KeepsTime, Took, fault_of, fuel_of, input_of, reads_bound}
 use Rattle.snowbench.proofs.program.read_expected.Given as goal
 
 -- the lines so far, which were read in time

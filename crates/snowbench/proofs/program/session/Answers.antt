@@ -1,7 +1,7 @@
 use Rattle.std.proofs.Common.{rules, Ok, Err}
 use Rattle.std.proofs.lemmas.Result.{err_from_is_err_and}
-use Rattle.sbl_bench.specs.Kept.{contents_of}
-use Rattle.sbl_io.specs.Held.{input_of}
+use Rattle.sbl_bench.specs.KeptRuns.{contents_of}
+use Rattle.sbl_io.specs.HeldInput.{input_of}
 use Rattle.snowbench.proofs.AnswerFacts.{session_refused, session_served}
 use Rattle.snowbench.proofs.ReasonFacts.{loaded_reasons, serve_reasons}
 use Rattle.snowbench.proofs.program.session.Goals as goal

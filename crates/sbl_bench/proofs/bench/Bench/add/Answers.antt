@@ -1,8 +1,8 @@
 use Rattle.std.proofs.Common.{rules, ap, subst, sym, ◌∙◌, ◌≡◌, ◌++◌, List, [], ◌∷◌, ℕ, Ok, Err}
 use Rattle.std.proofs.lemmas.Result.{err_from_is_err_and}
-use Rattle.sbl_script.specs.Parsed.{source_of}
+use Rattle.sbl_script.specs.ParsedScript.{source_of}
 use Rattle.sbl_bench.specs.declared.fault.EditFault.TheVariants.{OutOfMemory, MeterFull}
-use Rattle.sbl_bench.specs.Kept.{Kept, KeptWord, contents_of, words_in}
+use Rattle.sbl_bench.specs.KeptRuns.{Kept, KeptWord, contents_of, words_in}
 use Rattle.sbl_bench.specs.ChangedRows.{changed_rows}
 use Rattle.sbl_bench.specs.LeavesChanges.{rows_now}
 use Rattle.sbl_bench.specs.Rows.{rows_of}

@@ -1,9 +1,9 @@
 use Rattle.std.proofs.Common.{◌∙◌, List, [], ap, map, subst}
-use Rattle.sbl_script.specs.Parsed.{source_of}
+use Rattle.sbl_script.specs.ParsedScript.{source_of}
 use Rattle.sbl_bench.specs.Setting.{under}
 use Rattle.sbl_bench.specs.Classes.{classes_of}
-use Rattle.sbl_bench.specs.Grouping.{grouped}
-use Rattle.sbl_bench.specs.Kept.{setting_of, Kept, words_in}
+use Rattle.sbl_bench.specs.Grouping.{put_pairs}
+use Rattle.sbl_bench.specs.KeptRuns.{setting_of, Kept, words_in}
 use Rattle.sbl_bench.specs.Pairs.{IsIndexed}
 use Rattle.sbl_bench.specs.Rows.{rows_of}
 use Rattle.sbl_bench.proofs.ClassFacts.{kept_sorted}
@@ -19,7 +19,7 @@ returns-in-Some c =
     if_ok_weaker c.classes_among.result
     (λ classes is.
     is
-    ∙ ap (grouped []) (kept_sorted s b.traces.entries set c.self.invariant.1.fresh c.words_are_unique.ensures (subst (IsIndexed b.traces.entries) c.in-Some.is c.self.invariant.2) c.classes_among.ensures.ordered (own_keys set))
+    ∙ ap (put_pairs []) (kept_sorted s b.traces.entries set c.self.invariant.1.fresh c.words_are_unique.ensures (subst (IsIndexed b.traces.entries) c.in-Some.is c.self.invariant.2) c.classes_among.ensures.ordered (own_keys set))
     ∙ grouped_rows (rows_of s (words_in b.traces.entries))
     ∙ ap (λ (k : Kept). classes_of (rows_of (setting_of k) k.words)) c.self.view_is)
     c.classes_among.ensures.classes
@@ -32,7 +32,7 @@ returns-in_ok-pairs-in-None c =
     if_ok_weaker c.classes_among-in-None.result
     (λ classes is.
     is
-    ∙ ap (grouped []) (kept_sorted s b.traces.entries set c.self.invariant.1.fresh c.words_are_unique.ensures c.in_ok-pairs-in-None.ensures c.classes_among-in-None.ensures.ordered (own_keys set))
+    ∙ ap (put_pairs []) (kept_sorted s b.traces.entries set c.self.invariant.1.fresh c.words_are_unique.ensures c.in_ok-pairs-in-None.ensures c.classes_among-in-None.ensures.ordered (own_keys set))
     ∙ grouped_rows (rows_of s (words_in b.traces.entries))
     ∙ ap (λ (k : Kept). classes_of (rows_of (setting_of k) k.words)) c.self.view_is)
     c.classes_among-in-None.ensures.classes

@@ -1,5 +1,5 @@
-use Rattle.sbl_script.specs.Parsed.{source_of}
-use Rattle.sbl_bench.specs.Kept.{contents_of}
+use Rattle.sbl_script.specs.ParsedScript.{source_of}
+use Rattle.sbl_bench.specs.KeptRuns.{contents_of}
 use Rattle.sbl_bench.specs.Edits.{Install}
 use Rattle.sbl_bench.proofs.Bringing.{install_exchange}
 use Rattle.sbl_bench.proofs.bench.Bench.install.Goals as goal

@@ -1,15 +1,15 @@
 use Rattle.std.proofs.Common.{Err, subst, ap, ℕ, List}
 use Rattle.std.proofs.lemmas.Result.{err_from_is_err_and}
 use Rattle.sbl_script.specs.Edits.{ScriptEdit, among}
-use Rattle.sbl_script.specs.Parsed.{source_of}
+use Rattle.sbl_script.specs.ParsedScript.{source_of}
 use Rattle.sbl_bench.specs.Contents.{Contents}
 use Rattle.sbl_bench.specs.Setting.{under}
 use Rattle.sbl_bench.specs.Edits.{Edits, Among, fault_of_script}
-use Rattle.sbl_bench.specs.Kept.{Kept, contents_of, words_in}
+use Rattle.sbl_bench.specs.KeptRuns.{Kept, contents_of, words_in}
 use Rattle.sbl_bench.specs.declared.fault.EditFault.TheVariants.{OutOfMemory}
 use Rattle.sbl_semantics.specs.declared.item.Item.TheVariants as code
-use Rattle.sbl_semantics.specs.Touched as items
-use Rattle.sbl_semantics.specs.Touched.{item_of}
+use Rattle.sbl_semantics.specs.TouchedItems as items
+use Rattle.sbl_semantics.specs.TouchedItems.{item_of}
 use Rattle.sbl_bench.specs.Changes.{IsTaken}
 use Rattle.sbl_bench.proofs.Replacing.{nothing_made, passes, refused}
 use Rattle.sbl_bench.proofs.bench.Bench.replace_among.Goals as goal

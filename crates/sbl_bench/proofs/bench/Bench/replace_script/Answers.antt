@@ -1,12 +1,12 @@
 use Rattle.std.proofs.Common.{◌≡◌, ◌⊎◌, Err, subst, ℕ, List}
 use Rattle.std.proofs.lemmas.Result.{err_from_is_err_and}
-use Rattle.sbl_script.specs.Parsed.{source_of}
+use Rattle.sbl_script.specs.ParsedScript.{source_of}
 use Rattle.sbl_script.specs.Reading.{IsFaultOf, IsScriptOf}
 use Rattle.sbl_text.specs.declared.fault.ScriptFault.TheVariants as texts
 use Rattle.sbl_bench.specs.Changes.{IsExchange}
 use Rattle.sbl_bench.specs.Contents.{Contents}
 use Rattle.sbl_bench.specs.Edits.{Edits, Whole}
-use Rattle.sbl_bench.specs.Kept.{Kept, contents_of, words_in}
+use Rattle.sbl_bench.specs.KeptRuns.{Kept, contents_of, words_in}
 use Rattle.sbl_bench.specs.Setting.{under}
 use Rattle.sbl_bench.proofs.Bringing.{whole_exchange}
 use Rattle.sbl_bench.proofs.Replacing.{unread}

@@ -1,7 +1,7 @@
 use Rattle.std.proofs.Common.{◌∙◌, List, ap, map}
-use Rattle.sbl_script.specs.Parsed.{source_of}
+use Rattle.sbl_script.specs.ParsedScript.{source_of}
 use Rattle.sbl_bench.specs.Setting.{under}
-use Rattle.sbl_bench.specs.Kept.{setting_of, KeptWord, Kept}
+use Rattle.sbl_bench.specs.KeptRuns.{setting_of, KeptWord, Kept}
 use Rattle.sbl_bench.specs.Rows.{rows_of}
 use Rattle.sbl_bench.proofs.Words.{shown, rows_shown}
 use Rattle.sbl_bench.proofs.bench.Bench.rows.Goals as goal

@@ -1,5 +1,5 @@
 use Rattle.std.proofs.Common.{◌≡◌, ◌++◌, map}
-use Rattle.sbl_bench.specs.Kept.{setting_of}
+use Rattle.sbl_bench.specs.KeptRuns.{setting_of}
 use Rattle.sbl_bench.specs.Rows.{rows_of, view_row}
 use Rattle.sbl_bench.proofs.Words.{shown}
 use Rattle.sbl_bench.proofs.bench.Bench.rows.Given as goal

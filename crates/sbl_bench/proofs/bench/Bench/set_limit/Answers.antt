@@ -1,10 +1,10 @@
 use Rattle.std.proofs.Common.{◌≡◌, ℕ, true, List, All, Ok, Err, inl, length, ap, sym, refl, subst, arith}
 use Rattle.std.proofs.lemmas.List.{length-map}
 use Rattle.std.proofs.lemmas.Result.{err_from_is_err_and}
-use Rattle.sbl_script.specs.Parsed.{source_of}
+use Rattle.sbl_script.specs.ParsedScript.{source_of}
 use Rattle.sbl_bench.specs.Changes.{Brings, affected_of}
 use Rattle.sbl_bench.specs.Edits.{Edit, Edits, Limit, is_limit}
-use Rattle.sbl_bench.specs.Kept.{KeptWord, IsWord, Kept, contents_of, words_in}
+use Rattle.sbl_bench.specs.KeptRuns.{KeptWord, IsWord, Kept, contents_of, words_in}
 use Rattle.sbl_bench.specs.ChangedRows.{changed_rows}
 use Rattle.sbl_bench.specs.Contents.{Contents}
 use Rattle.sbl_bench.specs.Last.{Follows, last_changes}

@@ -1,11 +1,11 @@
 use Rattle.std.proofs.Common.{map, inl, ap, sym, refl, subst}
 use Rattle.std.proofs.lemmas.Result.{err_from_is_err_and}
-use Rattle.sbl_script.specs.Parsed.{source_of}
-use Rattle.sbl_semantics.specs.Touched.{item_of}
+use Rattle.sbl_script.specs.ParsedScript.{source_of}
+use Rattle.sbl_semantics.specs.TouchedItems.{item_of}
 use Rattle.sbl_bench.specs.Changes.{Brings, IsTaken, affected_of}
 use Rattle.sbl_bench.specs.Contents.{Contents}
 use Rattle.sbl_bench.specs.Edits.{Replace}
-use Rattle.sbl_bench.specs.Kept.{Kept, contents_of, words_in}
+use Rattle.sbl_bench.specs.KeptRuns.{Kept, contents_of, words_in}
 use Rattle.sbl_bench.specs.Setting.{under}
 use Rattle.sbl_bench.proofs.Bringing.{edited_brings}
 use Rattle.sbl_bench.proofs.bench.Bench.take_edited.Goals as goal

@@ -1,11 +1,11 @@
 use Rattle.std.proofs.Common.{◌≡◌, List, All, Ok, Err, inl, length, ap, sym, refl, subst, arith}
 use Rattle.std.proofs.lemmas.List.{length-map}
 use Rattle.std.proofs.lemmas.Result.{err_from_is_err_and}
-use Rattle.sbl_script.specs.Parsed.{Parsed, source_of}
+use Rattle.sbl_script.specs.ParsedScript.{Parsed, source_of}
 use Rattle.sbl_machine.specs.MachineOf.{IsLinkedMachineOf}
 use Rattle.sbl_bench.specs.Changes.{Brings, affected_of}
 use Rattle.sbl_bench.specs.Edits.{Edits}
-use Rattle.sbl_bench.specs.Kept.{KeptWord, IsKept, IsWord, Kept, contents_of, words_in}
+use Rattle.sbl_bench.specs.KeptRuns.{KeptWord, IsKept, IsWord, Kept, contents_of, words_in}
 use Rattle.sbl_bench.specs.ChangedRows.{changed_rows}
 use Rattle.sbl_bench.specs.Contents.{Contents}
 use Rattle.sbl_bench.specs.Last.{Follows, last_changes}

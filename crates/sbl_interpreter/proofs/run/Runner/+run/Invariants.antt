@@ -7,7 +7,7 @@ use Rattle.sbl_interpreter.specs.Run.{runs, all_run, calls}
 use Rattle.sbl_semantics.specs.Control.{turns, times, seeks}
 use Rattle.sbl_interpreter.specs.Rows.{others_run, row_runs}
 use Rattle.sbl_semantics.specs.State.{Signals}
-use Rattle.sbl_interpreter.specs.Search.{tries, searched, bound_in}
+use Rattle.sbl_interpreter.specs.Search.{tries, search_strings, bound_in}
 use Rattle.sbl_interpreter.proofs.run.Runner.+run.Given as goal
 
 abbrev pub decreases-run_command : goal.decreases-run_command
@@ -135,7 +135,7 @@ invariant-run_search-loop-place g l =
     let T = g.T.Tables.listed l.self.tables.now in
     let call = calls (program_of T l.self.program.now) l.self.levels in
     (before : List ℕ) × (rest : List ℕ) × (fits_at (T l.table) l.initial.state.text l.initial.state.cursor (bound_in l.self.mode l.initial.state) ≡ before ++ rest) × (l.place ≡ first rest) ×
-    (tries call l.among l.entries l.self.mode l.initial.state rest l.state ≡ searched call l.among l.entries (T l.table) l.self.mode l.initial.state) ×
+    (tries call l.among l.entries l.self.mode l.initial.state rest l.state ≡ search_strings call l.among l.entries (T l.table) l.self.mode l.initial.state) ×
     (l.state.steps ≤ l.initial.state.steps)
 
 abbrev pub decreases-run_search-loop-place : goal.decreases-run_search-loop-place

@@ -3,7 +3,7 @@ use Rattle.sbl_char_class.specs.CharacterClasses.{members}
 use Rattle.sbl_char_class.specs.Terms.{class_at}
 use Rattle.sbl_interpreter.specs.Actions.{test_grouping}
 use Rattle.sbl_semantics.specs.Moves.{next}
-use Rattle.sbl_semantics.specs.Control.{paid, seeks}
+use Rattle.sbl_semantics.specs.Control.{pay_first, seeks}
 use Rattle.sbl_semantics.specs.State.{Signals, saved_cursor, put_back}
 use Rattle.sbl_semantics.specs.declared.cursor.SavedCursor.{SavedCursor}
 use Rattle.sbl_interpreter.proofs.Arms.{one_try}
@@ -13,7 +13,7 @@ use Rattle.sbl_interpreter.proofs.state.State.seek_one.Goals as goal
 pub loop-self-preserved : goal.loop-self-preserved
 loop-self-preserved c =
     let inv = c.loop-self.invariant in
-    let D = paid (test_grouping c.args.wanted (class_at (map members c.args.classes.now) c.args.number) c.args.number) in
+    let D = pay_first (test_grouping c.args.wanted (class_at (map members c.args.classes.now) c.args.number) c.args.number) in
     let m = c.args.mode in
     let s = c.loop-self.self in
     let f = c.test_one.new.self in
@@ -35,7 +35,7 @@ loop-self-preserved c =
 pub returns-then-not-take_next-clause-follows : goal.returns-then-not-take_next-clause-follows
 returns-then-not-take_next-clause-follows c =
     let inv = c.loop-self.invariant in
-    let D = paid (test_grouping c.args.wanted (class_at (map members c.args.classes.now) c.args.number) c.args.number) in
+    let D = pay_first (test_grouping c.args.wanted (class_at (map members c.args.classes.now) c.args.number) c.args.number) in
     let m = c.args.mode in
     let s = c.loop-self.self in
     let f = c.test_one.new.self in

@@ -1,6 +1,6 @@
 use Rattle.std.proofs.Common.{◌≡◌, ◌≤◌, false}
 use Rattle.std.specs.Io.KnownBytes.{Keeps}
-use Rattle.sbl_io.specs.Held.{AreAsked, line_of, input_of, reads_bound}
+use Rattle.sbl_io.specs.HeldInput.{AreAsked, line_of, input_of, reads_bound}
 use Rattle.sbl_io.proofs.lines.Lines.fill.Given as goal
 
 abbrev pub invariant-loop : goal.invariant-loop

@@ -1,7 +1,7 @@
 use Rattle.std.proofs.Common.{rules, arith, ◌<◌}
 use Rattle.std.proofs.KnownBytes.{Keeps-refl}
 use Rattle.std.specs.Io.KnownBytes.{Keeps}
-use Rattle.sbl_io.specs.Held.{input_of}
+use Rattle.sbl_io.specs.HeldInput.{input_of}
 use Rattle.sbl_io.proofs.Bytes.{kept_then, take_one}
 use Rattle.sbl_io.proofs.lines.Lines.next_byte.Goals as goal
 use Rattle.sbl_io.proofs.lines.Lines.next_byte.Goals.{then-self+in_ok-fill+else-self-2, else-self}

@@ -1,7 +1,7 @@
 use Rattle.std.proofs.Common.{◌≡◌, ◌≤◌, ◌++◌, rules, take}
 use Rattle.std.specs.Prelude.{slice_range}
 use Rattle.std.proofs.KnownBytes.{Consumes-trans}
-use Rattle.sbl_io.specs.Held.{line_of}
+use Rattle.sbl_io.specs.HeldInput.{line_of}
 use Rattle.sbl_io.proofs.Bytes.{no_feed_append, no_feed_front, take_many}
 use Rattle.sbl_io.proofs.lines.Lines.take_held.Goals as goal
 

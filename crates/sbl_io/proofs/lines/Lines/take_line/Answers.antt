@@ -3,7 +3,7 @@ use Rattle.std.specs.Result.{is_ok}
 use Rattle.std.specs.Io.KnownBytes.{Consumes}
 use Rattle.std.proofs.KnownBytes.{Consumes-trans}
 use Rattle.sbl_io.specs.Devices.{Tally}
-use Rattle.sbl_io.specs.Held.{line_of, input_of}
+use Rattle.sbl_io.specs.HeldInput.{line_of, input_of}
 use Rattle.sbl_io.proofs.Bytes.{no_feed_push}
 use Rattle.sbl_io.proofs.lines.Lines.take_line.Goals as goal
 

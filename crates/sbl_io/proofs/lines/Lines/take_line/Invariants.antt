@@ -1,6 +1,6 @@
 use Rattle.std.proofs.Common.{◌≡◌, ◌≤◌, ◌+◌, vec_len}
 use Rattle.std.specs.Io.KnownBytes.{Consumes}
-use Rattle.sbl_io.specs.Held.{AsksInTime, fuel_of, line_of, input_of, reads_bound, NoFeed, StaysEnded}
+use Rattle.sbl_io.specs.HeldInput.{AsksInTime, fuel_of, line_of, input_of, reads_bound, NoFeed, StaysEnded}
 use Rattle.sbl_io.proofs.lines.Lines.take_line.Given as goal
 
 abbrev pub invariant-loop-byte : goal.invariant-loop-byte

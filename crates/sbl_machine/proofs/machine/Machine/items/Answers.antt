@@ -1,6 +1,6 @@
 use Rattle.std.proofs.Common.{◌≡◌, IfOk, subst}
 use Rattle.sbl_machine.specs.MachineOf.{IsMachineOf}
-use Rattle.sbl_semantics.specs.Touched.{items_in, items_of}
+use Rattle.sbl_semantics.specs.TouchedItems.{items_in, items_of}
 use Rattle.sbl_machine.proofs.machine.Machine.items.Goals as goal
 
 pub returns : goal.returns

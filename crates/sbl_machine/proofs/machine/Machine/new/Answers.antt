@@ -1,11 +1,11 @@
 use Rattle.std.proofs.Common.{List, map, ap, ◌∙◌, ℕ, string_bytes}
 use Rattle.sbl_ast.specs.Order.{in_order}
 use Rattle.sbl_ast.specs.Tree.{Item}
-use Rattle.sbl_semantics.specs.Touched.{Names'}
+use Rattle.sbl_semantics.specs.TouchedItems.{Names'}
 use Rattle.sbl_ast.specs.declared.tree.DeclarationKind.TheVariants as kinds
 use Rattle.sbl_semantics.specs.Items.{known_in}
-use Rattle.sbl_program.specs.Listed.{Listed}
-use Rattle.sbl_compiler.specs.Numbered.{numbered_items}
+use Rattle.sbl_program.specs.AmongStrings.{Listed}
+use Rattle.sbl_compiler.specs.NumberedItems.{numbered_items}
 use Rattle.sbl_machine.specs.MachineOf.{IsMachineOf}
 use Rattle.sbl_program.specs.FoundView.{listing_found}
 use Rattle.sbl_program.specs.ProgramOf.{program_of}

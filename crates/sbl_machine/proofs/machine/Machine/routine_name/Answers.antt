@@ -1,7 +1,7 @@
 use Rattle.std.proofs.Common.{[], ap, ◌∙◌}
 use Rattle.std.specs.Prelude.{slice_index_or}
 use Rattle.sbl_machine.specs.MachineOf.{IsMachineOf}
-use Rattle.sbl_semantics.specs.Touched.{Names'}
+use Rattle.sbl_semantics.specs.TouchedItems.{Names'}
 use Rattle.sbl_machine.proofs.machine.Machine.routine_name.Goals as goal
 
 pub returns : goal.returns

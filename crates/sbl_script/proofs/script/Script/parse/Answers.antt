@@ -16,8 +16,8 @@ returns-in_err-text-clause-fault c =
     let p = err_from_is_err_and c.from_residual.result c.from_residual.ensures.1 in
     rw (p.1, p.2) (inr (inl (c.in_err-text.ensures.fault start)))
 
-pub checked-requires-clause-spelled : goal.checked-requires-clause-spelled
-checked-requires-clause-spelled c =
+pub check_tree-requires-clause-spelled : goal.check_tree-requires-clause-spelled
+check_tree-requires-clause-spelled c =
     let items = view_items c.in_ok-items.items.items in
     let ts = map placed_of c.in_ok-found.found.items in
     let text = c.in_ok-text.ensures.ok in

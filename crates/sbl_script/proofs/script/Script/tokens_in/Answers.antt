@@ -1,7 +1,7 @@
 use Rattle.std.proofs.Common.{rules, ◌≡◌, inr, map}
 use Rattle.std.proofs.lemmas.Result.{err_from_is_err_and}
 use Rattle.sbl_text.specs.Tokens.{placed_of}
-use Rattle.sbl_script.specs.Parsed.{source_of}
+use Rattle.sbl_script.specs.ParsedScript.{source_of}
 use Rattle.sbl_script.specs.Edits.{defines, escapes_before, state_before}
 use Rattle.sbl_script.proofs.Editing as editing
 use Rattle.sbl_script.proofs.script.Script.tokens_in.Goals as goal

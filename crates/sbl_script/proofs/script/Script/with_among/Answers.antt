@@ -10,14 +10,14 @@ use Rattle.sbl_ast.specs.Texts as texts
 use Rattle.sbl_ast.specs.Tree.{Item, Plain, routine}
 use Rattle.sbl_ast.specs.View.{RowView, view_among, view_items, view_row}
 use Rattle.sbl_resolver.specs.Checks.{fault_of}
-use Rattle.sbl_script.specs.Parsed.{source_of}
+use Rattle.sbl_script.specs.ParsedScript.{source_of}
 use Rattle.sbl_script.specs.Reading.{IsUnread, first_left_out, terminals}
 use Rattle.sbl_script.specs.declared.edits.DefinitionKind.TheVariants as kinds
 use Rattle.sbl_script.specs.declared.edit_fault.ScriptEditFault.TheVariants as edits
 use Rattle.sbl_script.specs.Homes.{home_of_among}
 use Rattle.sbl_script.specs.Edits.{among, defines, first_of, items_with, state_before}
 use Rattle.sbl_script.proofs.Editing as editing
-use Rattle.sbl_script.specs.Spelled.{AreSpelled, IsSpelled}
+use Rattle.sbl_script.specs.SpelledScript.{AreSpelled, IsSpelled}
 use Rattle.sbl_script.proofs.Found.{same_name}
 use Rattle.sbl_script.proofs.Shallow.{body_shallow, fits, routine_shallow}
 use Rattle.sbl_script.proofs.Spelled.{among_said, read_said}

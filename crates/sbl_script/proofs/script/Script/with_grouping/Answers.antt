@@ -10,9 +10,9 @@ use Rattle.sbl_ast.specs.Tree.{Plain, grouping}
 use Rattle.sbl_ast.specs.View.{view_argument, view_items, view_term}
 use Rattle.sbl_resolver.specs.Checks.{fault_of}
 use Rattle.sbl_script.specs.declared.edits.DefinitionKind.TheVariants as kinds
-use Rattle.sbl_script.specs.Parsed.{source_of}
+use Rattle.sbl_script.specs.ParsedScript.{source_of}
 use Rattle.sbl_script.specs.Reading.{IsUnread, first_left_out, terminals}
-use Rattle.sbl_script.specs.Spelled.{AreSpelled, IsSpelled}
+use Rattle.sbl_script.specs.SpelledScript.{AreSpelled, IsSpelled}
 use Rattle.sbl_script.specs.Edits.{terms, defines, first_of, items_with}
 use Rattle.sbl_script.specs.Homes.{home_of_terms}
 use Rattle.sbl_script.proofs.Editing as editing

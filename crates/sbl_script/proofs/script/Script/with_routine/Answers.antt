@@ -10,9 +10,9 @@ use Rattle.sbl_ast.specs.Tree.{Plain, routine}
 use Rattle.sbl_ast.specs.View.{view_items, view_row}
 use Rattle.sbl_resolver.specs.Checks.{fault_of}
 use Rattle.sbl_script.specs.declared.edits.DefinitionKind.TheVariants as kinds
-use Rattle.sbl_script.specs.Parsed.{source_of}
+use Rattle.sbl_script.specs.ParsedScript.{source_of}
 use Rattle.sbl_script.specs.Reading.{IsUnread, first_left_out, terminals}
-use Rattle.sbl_script.specs.Spelled.{AreSpelled, IsSpelled}
+use Rattle.sbl_script.specs.SpelledScript.{AreSpelled, IsSpelled}
 use Rattle.sbl_script.specs.Edits.{body, defines, first_of, items_with}
 use Rattle.sbl_script.specs.Homes.{home_of_body}
 use Rattle.sbl_script.proofs.Editing as editing

@@ -7,10 +7,10 @@ use Rattle.sbl_semantics.specs.State.{State, Signals, after, then_on, saved_curs
 use Rattle.sbl_program.specs.declared.node.Node.{Node}
 use Rattle.sbl_program.specs.ProgramOf.{program_of, view_joined, view_node, view_nodes, view_number}
 use Rattle.sbl_interpreter.specs.Run.{runs_paid, runs, all_run, calls}
-use Rattle.sbl_semantics.specs.Control.{backwards_end, backwards_from, turns, times, seeks, count_of, limits, limited, limit_here}
+use Rattle.sbl_semantics.specs.Control.{backwards_end, backwards_from, turns, times, seeks, count_of, limits, restore_limit, limit_here}
 use Rattle.sbl_ast.specs.declared.mode.Mode.TheVariants.{Backward}
 use Rattle.sbl_interpreter.specs.Arithmetic.{value}
-use Rattle.sbl_semantics.specs.Numbers.{given}
+use Rattle.sbl_semantics.specs.Numbers.{continue_with}
 use Rattle.sbl_interpreter.specs.Search.{search_all}
 use Rattle.sbl_interpreter.proofs.run.Runner.+run.Goals as goal
 
@@ -36,7 +36,7 @@ run_paid-returns-in-Loop-clause-follows g t c =
     let m = c.args.self.now.mode in
     let q = c.args.state.now in
     let p = ap (λ n. runs_paid P levels (view_node T n) m q) a.is ∙ loop_does T P levels a.count a.inner m q in
-    follows_at c.run_times.result c.run_times.new.state _ _ (p ∙ ap (λ n. given (value (view_number a.count) m q) q (λ z. times (count_of z) (D n) m q)) (sym c.deref-in-Loop.ensures)) c.run_times.ensures.follows
+    follows_at c.run_times.result c.run_times.new.state _ _ (p ∙ ap (λ n. continue_with (value (view_number a.count) m q) q (λ z. times (count_of z) (D n) m q)) (sym c.deref-in-Loop.ensures)) c.run_times.ensures.follows
 
 pub run_paid-returns-in-Goto-clause-follows : goal.run_paid-returns-in-Goto-clause-follows
 run_paid-returns-in-Goto-clause-follows g t c =
@@ -171,7 +171,7 @@ run_paid-returns-in-SetLimit-clause-follows g t c =
     let m = c.args.self.now.mode in
     let q = c.args.state.now in
     let a = c.in-SetLimit in
-    let rest = λ (x y : Node) (q : State). after (D x m q) (λ t. then_on (put_back m (saved_cursor q) (limit_here m t)) (λ u. limited m (limits q) (D y m u))) (Signals false) in
+    let rest = λ (x y : Node) (q : State). after (D x m q) (λ t. then_on (put_back m (saved_cursor q) (limit_here m t)) (λ u. restore_limit m (limits q) (D y m u))) (Signals false) in
     let p = ap (λ n. runs_paid P levels (view_node T n) m q) a.is ∙ setlimit_does T P levels a.first a.second m q in
     let d = ap (λ n. rest n a.second.value q) (sym c.deref-in-SetLimit.ensures) ∙ ap (λ n. rest c.deref-in-SetLimit.result.now n q) (sym c.deref-in-SetLimit-2.ensures) in
     follows_at c.run_limited.result c.run_limited.new.state _ _ (p ∙ d) c.run_limited.ensures.follows
@@ -197,7 +197,7 @@ run_paid-returns-in-AtLeast-clause-follows g t c =
     let m = c.args.self.now.mode in
     let q = c.args.state.now in
     let a = c.in-AtLeast in
-    let all = λ (n : Node). after (given (value (view_number a.count) m q) q (λ z. times (count_of z) (D n) m q)) (λ t. turns (suc t.steps) (D n) m t) (Signals false) in
+    let all = λ (n : Node). after (continue_with (value (view_number a.count) m q) q (λ z. times (count_of z) (D n) m q)) (λ t. turns (suc t.steps) (D n) m t) (Signals false) in
     let p = ap (λ n. runs_paid P levels (view_node T n) m q) a.is ∙ atleast_does T P levels a.count a.inner m q in
     follows_at c.run_at_least.result c.run_at_least.new.state _ _ (p ∙ ap all (sym c.deref-in-AtLeast.ensures)) c.run_at_least.ensures.follows
 

@@ -4,7 +4,7 @@ use Rattle.std.specs.Prelude.{slice_get, ◌-◌}
 use Rattle.sbl_char_class.specs.CharacterClasses.{members}
 use Rattle.sbl_char_class.specs.Terms.{class_at}
 use Rattle.sbl_interpreter.specs.Actions.{acts, test_grouping}
-use Rattle.sbl_interpreter.specs.Kept.{Follows}
+use Rattle.sbl_interpreter.specs.Endings.{Follows}
 use Rattle.sbl_semantics.specs.Moves.{next}
 use Rattle.sbl_interpreter.proofs.Arms.{by_fault, stops_at, turn_is, time_stops, follows_at, one_time, nth_is, nth_past, one_turn, one_try, one_more, halted, called, leave_signals, leave_halts, sequence_does, act_first, but_first, grouping_does, non_does}
 use Rattle.sbl_interpreter.proofs.Rows.{after_signal, others_stop, part_is}
@@ -16,10 +16,10 @@ use Rattle.sbl_program.specs.declared.node.Node.{Node}
 use Rattle.sbl_program.specs.declared.node.Node.TheVariants.{Act, Sequence}
 use Rattle.sbl_program.specs.declared.node.Routine.{Routine}
 use Rattle.sbl_program.specs.ProgramOf.{program_of, view_action, view_joined, view_node, view_nodes, view_number, view_routine}
-use Rattle.sbl_semantics.specs.Control.{paid, turns, times, seeks, count_of, back_in, enter}
+use Rattle.sbl_semantics.specs.Control.{pay_first, turns, times, seeks, count_of, back_in, enter}
 use Rattle.sbl_interpreter.specs.Run.{runs, runs_paid, all_run, group_runs, nth_runs, calls}
 use Rattle.sbl_interpreter.specs.Arithmetic.{value}
-use Rattle.sbl_semantics.specs.Numbers.{given}
+use Rattle.sbl_semantics.specs.Numbers.{continue_with}
 use Rattle.sbl_interpreter.specs.Search.{tries, try_one, bound_in}
 use Rattle.sbl_semantics.specs.Choices.{choice}
 use Rattle.sbl_interpreter.specs.Listing.{fits_at}
@@ -245,7 +245,7 @@ run_times-returns-in_err-run_command-clause-follows g t c =
     let some : 0 < c.loop-left.left = omega (arith, c.loop-left-test.true) in
     let v : value (view_number c.args.count.now) m c.args.state.now ≡ Ok number = search rules in
     let left : c.count_of-left.result ≡ count_of number = search rules in
-    rw r (by_fault halt u _ (λ fault is. ap (λ r. given r c.args.state.now (λ z. times (count_of z) D m c.args.state.now)) v ∙ ap (λ n. times n D m c.args.state.now) (sym left) ∙ sym inv.0 ∙ time_stops c.loop-left.left D m s u fault some (stops_at halt u _ fault is c.in_err-run_command.ensures.follows)))
+    rw r (by_fault halt u _ (λ fault is. ap (λ r. continue_with r c.args.state.now (λ z. times (count_of z) D m c.args.state.now)) v ∙ ap (λ n. times n D m c.args.state.now) (sym left) ∙ sym inv.0 ∙ time_stops c.loop-left.left D m s u fault some (stops_at halt u _ fault is c.in_err-run_command.ensures.follows)))
 
 pub run_row-returns-in_err-signal-clause-follows : goal.run_row-returns-in_err-signal-clause-follows
 run_row-returns-in_err-signal-clause-follows g t c =
@@ -262,8 +262,8 @@ run_row-returns-in_err-signal-clause-follows g t c =
     let go = λ (v : State). others_run P levels m (saved_cursor v) os (runs P levels first m v) in
     let n0 : c.saturating_sub.result ≡ length xs - 1 = search rules in
     let n : c.saturating_sub.result ≡ length os - 1 = n0 ∙ ap (λ k. k - 1) (sym (length-map xs (view_joined T))) in
-    let paid : pays (length os - 1) s ≡ Signals true q = ap (λ k. pays k s) (sym n) ∙ c.in_ok-pay_for.ensures.leads in
-    let begun : row_runs P levels first os m s ≡ others_run P levels m from os (runs P levels first m q) = ap (λ r. then_on r go) paid ∙ ap (λ k. others_run P levels m k os (runs P levels first m q)) (sym c.saved_cursor-from.ensures.value) in
+    let pay_first : pays (length os - 1) s ≡ Signals true q = ap (λ k. pays k s) (sym n) ∙ c.in_ok-pay_for.ensures.leads in
+    let begun : row_runs P levels first os m s ≡ others_run P levels m from os (runs P levels first m q) = ap (λ r. then_on r go) pay_first ∙ ap (λ k. others_run P levels m k os (runs P levels first m q)) (sym c.saved_cursor-from.ensures.value) in
     let u = c.run_command.new.state in
     let halt = c.in_err-signal.field-0.0 in
     let r : c.from_residual-in_err-signal.result ≡ Err halt = search rules in
@@ -284,8 +284,8 @@ run_row-loop-joined-init g t c =
     let go = λ (v : State). others_run P levels m (saved_cursor v) os (runs P levels first m v) in
     let n0 : c.saturating_sub.result ≡ length xs - 1 = search rules in
     let n : c.saturating_sub.result ≡ length os - 1 = n0 ∙ ap (λ k. k - 1) (sym (length-map xs (view_joined T))) in
-    let paid : pays (length os - 1) s ≡ Signals true q = ap (λ k. pays k s) (sym n) ∙ c.in_ok-pay_for.ensures.leads in
-    let begun : row_runs P levels first os m s ≡ others_run P levels m from os (runs P levels first m q) = ap (λ r. then_on r go) paid ∙ ap (λ k. others_run P levels m k os (runs P levels first m q)) (sym c.saved_cursor-from.ensures.value) in
+    let pay_first : pays (length os - 1) s ≡ Signals true q = ap (λ k. pays k s) (sym n) ∙ c.in_ok-pay_for.ensures.leads in
+    let begun : row_runs P levels first os m s ≡ others_run P levels m from os (runs P levels first m q) = ap (λ r. then_on r go) pay_first ∙ ap (λ k. others_run P levels m k os (runs P levels first m q)) (sym c.saved_cursor-from.ensures.value) in
     let u = c.run_command.new.state in
     let b = c.in_ok-signal.signal in
     let e : runs P levels first m q ≡ Signals b u = c.in_ok-signal.ensures.follows in
@@ -359,7 +359,7 @@ run_seek-returns-in-Grouping-clause-follows g t c =
     let n = c.in-Grouping.number in
     let seek = λ (d : Doing). seeks (suc q.steps) c.args.past d m q in
     let p = ap (λ x. seek (runs P levels (view_node T x))) c.in-Act.is ∙ ap (λ x. seek (runs P levels (view_node T (Act x)))) c.in-Grouping.is ∙ ap seek (grouping_does T P levels n) in
-    let k = ap (λ cs. seek (paid (test_grouping true (class_at (map members cs) n) n))) (sym c.deref.ensures.value) in
+    let k = ap (λ cs. seek (pay_first (test_grouping true (class_at (map members cs) n) n))) (sym c.deref.ensures.value) in
     follows_at c.seek_one.result c.seek_one.new.self _ _ (p ∙ k) c.seek_one.ensures.follows
 
 pub run_seek-returns-in-NonGrouping-clause-follows : goal.run_seek-returns-in-NonGrouping-clause-follows
@@ -372,7 +372,7 @@ run_seek-returns-in-NonGrouping-clause-follows g t c =
     let n = c.in-NonGrouping.number in
     let seek = λ (d : Doing). seeks (suc q.steps) c.args.past d m q in
     let p = ap (λ x. seek (runs P levels (view_node T x))) c.in-Act.is ∙ ap (λ x. seek (runs P levels (view_node T (Act x)))) c.in-NonGrouping.is ∙ ap seek (non_does T P levels n) in
-    let k = ap (λ cs. seek (paid (test_grouping false (class_at (map members cs) n) n))) (sym c.deref-in-NonGrouping.ensures.value) in
+    let k = ap (λ cs. seek (pay_first (test_grouping false (class_at (map members cs) n) n))) (sym c.deref-in-NonGrouping.ensures.value) in
     follows_at c.seek_one-in-NonGrouping.result c.seek_one-in-NonGrouping.new.self _ _ (p ∙ k) c.seek_one-in-NonGrouping.ensures.follows
 
 pub run_body-returns-in_ok-pay-in-Sequence-clause-follows : goal.run_body-returns-in_ok-pay-in-Sequence-clause-follows
@@ -400,7 +400,7 @@ run_sequence-returns-in_err-pay_and_act-clause-follows g t c =
     let a = c.in-Some.action.now in
     let u = c.pay_and_act.new.self in
     let rest = all_run P levels (view_nodes T (drop 1 cs)) m in
-    let whole = act_first T P levels cs a m q c.in-Some.ensures ∙ ap (λ gs. after (paid (acts (map members gs) (view_action a)) m q) rest (Signals false)) (sym c.deref.ensures.value) in
+    let whole = act_first T P levels cs a m q c.in-Some.ensures ∙ ap (λ gs. after (pay_first (acts (map members gs) (view_action a)) m q) rest (Signals false)) (sym c.deref.ensures.value) in
     let halt = c.in_err-pay_and_act.field-0.0 in
     let r : c.from_residual.result ≡ Err halt = search rules in
     rw r (by_fault halt u _ (λ fault is. whole ∙ ap (λ r. after r rest (Signals false)) (stops_at halt u _ fault is c.in_err-pay_and_act.ensures.follows)))
@@ -416,7 +416,7 @@ run_sequence-returns-then-not-branch-clause-follows g t c =
     let a = c.in-Some.action.now in
     let u = c.pay_and_act.new.self in
     let rest = all_run P levels (view_nodes T (drop 1 cs)) m in
-    let whole = act_first T P levels cs a m q c.in-Some.ensures ∙ ap (λ gs. after (paid (acts (map members gs) (view_action a)) m q) rest (Signals false)) (sym c.deref.ensures.value) in
+    let whole = act_first T P levels cs a m q c.in-Some.ensures ∙ ap (λ gs. after (pay_first (acts (map members gs) (view_action a)) m q) rest (Signals false)) (sym c.deref.ensures.value) in
     let b : c.in_ok-pay_and_act.field-0 ≡ false = search rules in
     whole ∙ ap (λ r. after r rest (Signals false)) (c.in_ok-pay_and_act.ensures.follows ∙ ap (λ v. Signals v u) b)
 
@@ -431,7 +431,7 @@ run_sequence-returns-in-Some-clause-follows g t c =
     let a = c.in-Some.action.now in
     let u = c.pay_and_act.new.self in
     let rest = all_run P levels (view_nodes T (drop 1 cs)) m in
-    let whole = act_first T P levels cs a m q c.in-Some.ensures ∙ ap (λ gs. after (paid (acts (map members gs) (view_action a)) m q) rest (Signals false)) (sym c.deref.ensures.value) in
+    let whole = act_first T P levels cs a m q c.in-Some.ensures ∙ ap (λ gs. after (pay_first (acts (map members gs) (view_action a)) m q) rest (Signals false)) (sym c.deref.ensures.value) in
     let b : c.in_ok-pay_and_act.field-0 ≡ true = search rules in
     let p = whole ∙ ap (λ r. after r rest (Signals false)) (c.in_ok-pay_and_act.ensures.follows ∙ ap (λ v. Signals v u) b) ∙ ap (λ xs. all_run P levels (view_nodes T xs) m u) (sym (but_first cs)) in
     follows_at c.run_in_turn.result c.run_in_turn.new.state _ _ p c.run_in_turn.ensures.follows

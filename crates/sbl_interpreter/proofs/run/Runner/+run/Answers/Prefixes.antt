@@ -4,8 +4,8 @@ use Rattle.sbl_interpreter.proofs.Arms.{by_fault, stops_at, either_way, follows_
 use Rattle.sbl_semantics.specs.State.{State, Ending, Signals, after, then_on, saved_cursor, put_back}
 use Rattle.sbl_program.specs.declared.node.Node.{Node}
 use Rattle.sbl_program.specs.ProgramOf.{program_of, view_node}
-use Rattle.sbl_interpreter.specs.Kept.{Follows}
-use Rattle.sbl_semantics.specs.Control.{backwards_end, limit_here, limit_back, limited, limits}
+use Rattle.sbl_interpreter.specs.Endings.{Follows}
+use Rattle.sbl_semantics.specs.Control.{backwards_end, limit_here, limit_back, restore_limit, limits}
 use Rattle.sbl_interpreter.specs.Run.{runs}
 use Rattle.sbl_ast.specs.declared.mode.Mode.TheVariants.{Backward}
 use Rattle.sbl_interpreter.proofs.run.Runner.+run.Goals as goal
@@ -297,7 +297,7 @@ run_limited-returns-in_err-run_command-clause-follows g t c =
     let m = c.args.self.now.mode in
     let q = c.args.state.now in
     let u = c.run_command.new.state in
-    let on_t : State → Ending = λ (t : State). then_on (put_back m (saved_cursor q) (limit_here m t)) (λ u. limited m (limits q) (D c.args.second.now m u)) in
+    let on_t : State → Ending = λ (t : State). then_on (put_back m (saved_cursor q) (limit_here m t)) (λ u. restore_limit m (limits q) (D c.args.second.now m u)) in
     let halt = c.in_err-run_command.field-0.0 in
     let r : c.from_residual.result ≡ Err halt = search rules in
     rw r (by_fault halt u _ (λ fault is. ap (λ r. after r on_t (Signals false)) (stops_at halt u _ fault is c.in_err-run_command.ensures.follows)))
@@ -311,14 +311,14 @@ run_limited-returns-in_err-put_back-clause-follows g t c =
     let m = c.args.self.now.mode in
     let q = c.args.state.now in
     let u = c.run_command.new.state in
-    let on_t : State → Ending = λ (t : State). then_on (put_back m (saved_cursor q) (limit_here m t)) (λ u. limited m (limits q) (D c.args.second.now m u)) in
+    let on_t : State → Ending = λ (t : State). then_on (put_back m (saved_cursor q) (limit_here m t)) (λ u. restore_limit m (limits q) (D c.args.second.now m u)) in
     let w = c.put_back.new.self in
     let b : c.in_ok-run_command.field-0 ≡ true = search rules in
     let e : D c.args.first.now m q ≡ Signals true u = c.in_ok-run_command.ensures.follows ∙ ap (λ v. Signals v u) b in
     let l = ap (λ r. put_back m r (limit_here m u)) (sym c.saved_cursor-from.ensures.value) ∙ ap (put_back m c.saved_cursor-from.result) (sym c.limit_here.ensures) in
     let halt = c.in_err-put_back.field-0.0 in
     let r : c.from_residual-in_err-put_back.result ≡ Err halt = search rules in
-    rw r (by_fault halt w _ (λ fault is. ap (λ r. after r on_t (Signals false)) e ∙ ap (λ r. then_on r (λ u. limited m (limits q) (D c.args.second.now m u))) (l ∙ stops_at halt w _ fault is c.in_err-put_back.ensures.leads)))
+    rw r (by_fault halt w _ (λ fault is. ap (λ r. after r on_t (Signals false)) e ∙ ap (λ r. then_on r (λ u. restore_limit m (limits q) (D c.args.second.now m u))) (l ∙ stops_at halt w _ fault is c.in_err-put_back.ensures.leads)))
 
 pub run_limited-returns-clause-follows : goal.run_limited-returns-clause-follows
 run_limited-returns-clause-follows g t c =
@@ -329,12 +329,12 @@ run_limited-returns-clause-follows g t c =
     let m = c.args.self.now.mode in
     let q = c.args.state.now in
     let u = c.run_command.new.state in
-    let on_t : State → Ending = λ (t : State). then_on (put_back m (saved_cursor q) (limit_here m t)) (λ u. limited m (limits q) (D c.args.second.now m u)) in
+    let on_t : State → Ending = λ (t : State). then_on (put_back m (saved_cursor q) (limit_here m t)) (λ u. restore_limit m (limits q) (D c.args.second.now m u)) in
     let w = c.put_back.new.self in
     let b : c.in_ok-run_command.field-0 ≡ true = search rules in
     let e : D c.args.first.now m q ≡ Signals true u = c.in_ok-run_command.ensures.follows ∙ ap (λ v. Signals v u) b in
     let l = ap (λ r. put_back m r (limit_here m u)) (sym c.saved_cursor-from.ensures.value) ∙ ap (put_back m c.saved_cursor-from.result) (sym c.limit_here.ensures) in
-    let x = ap (λ r. after r on_t (Signals false)) e ∙ ap (λ r. then_on r (λ u. limited m (limits q) (D c.args.second.now m u))) (l ∙ c.in_ok-put_back.ensures.leads) in
+    let x = ap (λ r. after r on_t (Signals false)) e ∙ ap (λ r. then_on r (λ u. restore_limit m (limits q) (D c.args.second.now m u))) (l ∙ c.in_ok-put_back.ensures.leads) in
     let second = D c.args.second.now m w in
     let new = c.run_command-2.new.state in
     let v = c.in_ok-signal.signal in
@@ -350,12 +350,12 @@ run_limited-returns-in_err-signal-clause-follows g t c =
     let m = c.args.self.now.mode in
     let q = c.args.state.now in
     let u = c.run_command.new.state in
-    let on_t : State → Ending = λ (t : State). then_on (put_back m (saved_cursor q) (limit_here m t)) (λ u. limited m (limits q) (D c.args.second.now m u)) in
+    let on_t : State → Ending = λ (t : State). then_on (put_back m (saved_cursor q) (limit_here m t)) (λ u. restore_limit m (limits q) (D c.args.second.now m u)) in
     let w = c.put_back.new.self in
     let b : c.in_ok-run_command.field-0 ≡ true = search rules in
     let e : D c.args.first.now m q ≡ Signals true u = c.in_ok-run_command.ensures.follows ∙ ap (λ v. Signals v u) b in
     let l = ap (λ r. put_back m r (limit_here m u)) (sym c.saved_cursor-from.ensures.value) ∙ ap (put_back m c.saved_cursor-from.result) (sym c.limit_here.ensures) in
-    let x = ap (λ r. after r on_t (Signals false)) e ∙ ap (λ r. then_on r (λ u. limited m (limits q) (D c.args.second.now m u))) (l ∙ c.in_ok-put_back.ensures.leads) in
+    let x = ap (λ r. after r on_t (Signals false)) e ∙ ap (λ r. then_on r (λ u. restore_limit m (limits q) (D c.args.second.now m u))) (l ∙ c.in_ok-put_back.ensures.leads) in
     let second = D c.args.second.now m w in
     let new = c.run_command-2.new.state in
     let halt = c.in_err-signal.field-0.0 in

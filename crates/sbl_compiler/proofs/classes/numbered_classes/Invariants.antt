@@ -1,9 +1,0 @@
-use Rattle.std.proofs.Common.{◌≡◌, drop, map, []}
-use Rattle.sbl_ast.specs.Order.{view_in_mode}
-use Rattle.sbl_char_class.specs.CharacterClasses.{members}
-use Rattle.sbl_compiler.specs.NumberedClasses as spec
-use Rattle.sbl_compiler.specs.NumberedView.{view_names}
-use Rattle.sbl_compiler.proofs.classes.numbered_classes.Given as goal
-
-abbrev pub invariant-loop-item : goal.invariant-loop-item
-invariant-loop-item l = spec.numbered_classes (view_names l.names) (map view_in_mode (drop l.item-index l.items)) (map members l.classes.items) ≡ spec.numbered_classes (view_names l.names) (map view_in_mode l.items) []

@@ -1,0 +1,45 @@
+//! What the compiler has of a script, and what its parts share.
+
+use crate::names::SymbolTable;
+use sbl_program::Found;
+use std::alloc::{AllocError, Global};
+
+/// A result of the compiler. The error is that an allocation failed.
+pub type Compiled<T> = Result<T, AllocError>;
+
+/// What the compiler has of a script before it compiles the bodies of the routines.
+#[derive(Clone, Copy)]
+pub struct Compiler<'a> {
+    /// The allocator.
+    pub alloc: Global,
+    /// The names with their numbers.
+    pub names: &'a SymbolTable,
+    /// The amongs, in the order of their words.
+    pub amongs: &'a Vec<Found>,
+}
+
+/// Makes a vector of one value for each item of a list.
+macro_rules! collected {
+    ($alloc:expr; $values:ident: $item:ident in $items:ident => $value:expr) => {{
+        let mut $values = Vec::with_capacity($alloc, $items.len())?;
+        for $item in $items {
+            $values.push($value)?;
+        }
+        Ok($values)
+    }};
+}
+
+/// Joins the first part and those after it; if there are no others, the first part is the whole.
+macro_rules! whole {
+    ($alloc:expr; $kind:ident::$whole:ident, $first:ident, $others:ident) => {
+        if $others.is_empty() {
+            Ok($first)
+        } else {
+            let $first = Box::new($alloc, $first)?;
+            Ok($kind::$whole { $first, $others })
+        }
+    };
+}
+
+pub(crate) use collected;
+pub(crate) use whole;

@@ -1,8 +1,0 @@
-use Rattle.std.proofs.Common.{◌≡◌, [], drop, map}
-use Rattle.sbl_machine.specs.Marking.{routines_behind}
-use Rattle.sbl_semantics.specs.Touched.{item_of}
-use Rattle.sbl_machine.proofs.marks.routine_names.Given as goal
-
--- the names so far, and those of the items still to come
-abbrev pub invariant-loop-item : goal.invariant-loop-item
-invariant-loop-item l = routines_behind (map item_of (drop l.item-index l.items)) l.names ≡ routines_behind (map item_of l.items) []

@@ -1,9 +1,0 @@
-use Rattle.std.proofs.Common.{◌≡◌, drop, map}
-use Rattle.sbl_ast.specs.View.{view_entry}
-use Rattle.sbl_resolver.specs.Occurrences.{noted_entries}
-use Rattle.sbl_resolver.specs.OccurrenceView.{view_occurrences}
-use Rattle.sbl_resolver.proofs.noting.note_entries.Given as goal
-
-abbrev pub invariant-loop-entry : goal.invariant-loop-entry
-invariant-loop-entry l =
-    noted_entries (map view_entry (drop l.entry-index l.entries.items)) l.number l.site (view_occurrences l.occurrences) ≡ noted_entries (map view_entry l.entries.items) l.number l.site (view_occurrences l.initial.occurrences)
