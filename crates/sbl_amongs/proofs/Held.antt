@@ -4,13 +4,13 @@ use Rattle.std.proofs.lemmas.Bool.{ne_eqb}
 use Rattle.sbl_ast.specs.Tree.{Command, bracket, simple_, literal_, name_, non_, prefixed, counted, move_, named, splice_, setlimit_, assign_, compare_, compare_values_, among_, Rows, no_rows, row, Others, no_others, joined, Starter, no_starter, starter, Groups, bare, group}
 use Rattle.sbl_ast.specs.Terminal as t
 use Rattle.sbl_ast.specs.Counts.{count_amongs, count_in_rows, count_in_others, count_in_starter, count_in_groups}
-use Rattle.sbl_amongs.specs.Amongs.{FitsAt, Held, amongs, amongs_of_rows, amongs_of_others, amongs_of_starter, amongs_of_groups, amongs_of_body, nth_held, put_among, put_in_rows, put_in_others, put_in_starter, put_in_groups, put_in_body}
+use Rattle.sbl_amongs.specs.Amongs.{FitsAt, AmongContents, amongs, amongs_of_rows, amongs_of_others, amongs_of_starter, amongs_of_groups, amongs_of_body, nth_held, put_among, put_in_rows, put_in_others, put_in_starter, put_in_groups, put_in_body}
 use Rattle.sbl_ast.specs.Places.{placed_command, placed_rows, placed_others, placed_starter, placed_groups, placed_entry, placed_entries, placed_expression, AreShallow}
 use Rattle.sbl_ast.specs.Texts.{body, places_in}
 use Rattle.sbl_ast.proofs.Behind.{by_itself, behind_it, with_behind, entry_before, entries_before, expression_before, tree_before, rows_before, others_before, starter_before, groups_before}
 
 abbrev Hs : Type 0
-Hs = List Held
+Hs = List AmongContents
 
 -- ---- numbers
 
@@ -31,7 +31,7 @@ both_count n m part next a b rest k =
     moved_on (n + m + (1 + k)) (n + (1 + (m + k))) k (part (next rest)) (omega arith) ∙ a (next rest) (m + k) ∙ moved_on (1 + (m + k)) (m + (1 + k)) k (next rest) (omega arith) ∙ b rest k
 
 -- one more before
-one_more : (n : ℕ) (h : Held) (hs : Hs) (k : ℕ) → nth_held (1 + n + (1 + k)) (h ∷ hs) ≡ nth_held (n + (1 + k)) hs
+one_more : (n : ℕ) (h : AmongContents) (hs : Hs) (k : ℕ) → nth_held (1 + n + (1 + k)) (h ∷ hs) ≡ nth_held (n + (1 + k)) hs
 one_more n h hs k =
     ap (λ (b : Bool). if b then Some h else nth_held (1 + n + (1 + k) - 1) hs) (ne_eqb (1 + n + (1 + k)) 1 (λ e. omega (arith, e))) ∙ moved_on (1 + n + (1 + k) - 1) (n + (1 + k)) k hs (omega arith)
 
@@ -90,7 +90,7 @@ fits_behind n part counts k rest a fits h is = go (k - n) refl is where
   go (suc m) e there = fits h (ap (λ (x : ℕ). nth_held x (part rest)) (omega (arith, e)) ∙ counts rest m ∙ next_is rest m ∙ there)
 
 -- what fits inside an among that is not the one
-fits_inside : (k : ℕ) (g : Held) (rest : Hs) (a : Starter × Groups) → nat_eq k 1 ≡ false → FitsAt k (g ∷ rest) a → FitsAt (k - 1) rest a
+fits_inside : (k : ℕ) (g : AmongContents) (rest : Hs) (a : Starter × Groups) → nat_eq k 1 ≡ false → FitsAt k (g ∷ rest) a → FitsAt (k - 1) rest a
 fits_inside k g rest a ne fits h is = fits h (ap (λ (b : Bool). if b then Some g else nth_held (k - 1) rest) ne ∙ is)
 
 -- an among with others inside, where those are known to be shallow

@@ -6,7 +6,7 @@ use Rattle.sbl_ast.specs.Counts.{count_amongs, count_in_rows, count_in_others, c
 use Rattle.sbl_ast.specs.Places.{AtDepth, placed_command, placed_rows, placed_others, placed_starter, placed_groups, placed_entry, placed_entries, placed_expression}
 use Rattle.sbl_ast.specs.Texts.{body, places_in}
 use Rattle.sbl_ast.proofs.Behind.{IsBefore, entry_before, entries_before, expression_before, tree_before}
-use Rattle.sbl_amongs.specs.Amongs.{Held, amongs, amongs_of_body, amongs_of_rows, amongs_of_others, amongs_of_starter, amongs_of_groups, nth_held, put_among, put_in_body, put_in_rows, put_in_others, put_in_starter, put_in_groups}
+use Rattle.sbl_amongs.specs.Amongs.{AmongContents, amongs, amongs_of_body, amongs_of_rows, amongs_of_others, amongs_of_starter, amongs_of_groups, nth_held, put_among, put_in_body, put_in_rows, put_in_others, put_in_starter, put_in_groups}
 use Rattle.sbl_amongs.specs.Replacement.{IsBetween, is_among, count_words}
 use Rattle.sbl_amongs.proofs.Held.{none_is_first}
 use Rattle.sbl_amongs.proofs.Words.{IsWithout, argument_without, expression_without, entry_without, entries_without}
@@ -16,15 +16,15 @@ abbrev Ps : Type 0
 Ps = List AtDepth
 
 abbrev Hs : Type 0
-Hs = List Held
+Hs = List AmongContents
 
 -- where the among with this number is there, its tokens are others; where it is not, all stay
-pub record Swaps (k : ℕ) (o : Option Held) (a : Starter × Groups) (old new : Ps) : Type 0 where
-  pub there : (h : Held) → o ≡ Some h → IsBetween k h a old new
+pub record Swaps (k : ℕ) (o : Option AmongContents) (a : Starter × Groups) (old new : Ps) : Type 0 where
+  pub there : (h : AmongContents) → o ≡ Some h → IsBetween k h a old new
   pub gone : o ≡ None → old ≡ new
 
 -- a part without the word `among` before both
-between : (part : Ps → Ps) → IsBefore part → IsWithout part → (k : ℕ) (h : Held) (a : Starter × Groups) (r q : Ps) → IsBetween k h a r q → IsBetween k h a (part r) (part q)
+between : (part : Ps → Ps) → IsBefore part → IsWithout part → (k : ℕ) (h : AmongContents) (a : Starter × Groups) (r q : Ps) → IsBetween k h a r q → IsBetween k h a (part r) (part q)
 between part before without k h a r q b =
     record {
       front = part b.front;
@@ -34,18 +34,18 @@ between part before without k h a r q b =
       is = ap part b.is ∙ before b.front (placed_command (among_ a.0 a.1) h.0 b.behind);
     }
 
-along : (part : Ps → Ps) → IsBefore part → IsWithout part → (k : ℕ) (o : Option Held) (a : Starter × Groups) (r q : Ps) → Swaps k o a r q → Swaps k o a (part r) (part q)
+along : (part : Ps → Ps) → IsBefore part → IsWithout part → (k : ℕ) (o : Option AmongContents) (a : Starter × Groups) (r q : Ps) → Swaps k o a r q → Swaps k o a (part r) (part q)
 along part before without k o a r q s = record { there = λ h e. between part before without k h a r q (s.there h e); gone = λ e. ap part (s.gone e) }
 
 -- another token before both
-step : (x : AtDepth) → is_among x.0 ≡ false → (k : ℕ) (o : Option Held) (a : Starter × Groups) (r q : Ps) → Swaps k o a r q → Swaps k o a (x ∷ r) (x ∷ q)
+step : (x : AtDepth) → is_among x.0 ≡ false → (k : ℕ) (o : Option AmongContents) (a : Starter × Groups) (r q : Ps) → Swaps k o a r q → Swaps k o a (x ∷ r) (x ∷ q)
 step x e k o a r q s = along (λ (z : Ps). x ∷ z) (λ y z. refl) (λ z. ap (λ (b : Bool). if b then count_words z + 1 else count_words z) e) k o a r q s
 
 -- the word before both: the among has the next number
 next_number : (k n : ℕ) → k - 1 ≡ n + 1 → k ≡ n + 1 + 1
 next_number k n e = omega (arith, e)
 
-between_words : (d k : ℕ) (h : Held) (a : Starter × Groups) (r q : Ps) → IsBetween (k - 1) h a r q → IsBetween k h a ((t.among, d) ∷ r) ((t.among, d) ∷ q)
+between_words : (d k : ℕ) (h : AmongContents) (a : Starter × Groups) (r q : Ps) → IsBetween (k - 1) h a r q → IsBetween k h a ((t.among, d) ∷ r) ((t.among, d) ∷ q)
 between_words d k h a r q b =
     record {
       front = (t.among, d) ∷ b.front;
@@ -55,7 +55,7 @@ between_words d k h a r q b =
       is = ap (λ (z : Ps). (t.among, d) ∷ z) b.is;
     }
 
-word : (d k : ℕ) (o : Option Held) (a : Starter × Groups) (r q : Ps) → Swaps (k - 1) o a r q → Swaps k o a ((t.among, d) ∷ r) ((t.among, d) ∷ q)
+word : (d k : ℕ) (o : Option AmongContents) (a : Starter × Groups) (r q : Ps) → Swaps (k - 1) o a r q → Swaps k o a ((t.among, d) ∷ r) ((t.among, d) ∷ q)
 word d k o a r q s = record { there = λ h e. between_words d k h a r q (s.there h e); gone = λ e. ap (λ (z : Ps). (t.among, d) ∷ z) (s.gone e) }
 
 -- with the among of this number in a list
@@ -86,8 +86,8 @@ itself s gs d k a r q first same =
             front = [];
             behind = r;
             number = first;
-            was = ap (λ (g : Held). placed_command (among_ g.1 g.2) g.0 r) is;
-            is = ap (λ (z : Ps). placed_command (among_ a.0 a.1) d z) (sym same) ∙ ap (λ (g : Held). placed_command (among_ a.0 a.1) g.0 r) is;
+            was = ap (λ (g : AmongContents). placed_command (among_ g.1 g.2) g.0 r) is;
+            is = ap (λ (z : Ps). placed_command (among_ a.0 a.1) d z) (sym same) ∙ ap (λ (g : AmongContents). placed_command (among_ a.0 a.1) g.0 r) is;
           };
       gone = λ e. absurd cc;
     }
@@ -206,7 +206,7 @@ body_swaps b k a =
     let none : At (m - count_in_others b.1) [] a [] [] = record { there = λ h e. absurd cc; gone = λ e. refl } in
     tree_swaps a b.0 1 k (amongs_of_others b.1 1 []) (placed_others b.1 1 []) (placed_others (put_in_others b.1 m a) 1 []) (others_swaps a b.1 1 m [] [] [] none)
 
-pub body_one : (b : Command × Others) (k : ℕ) (a : Starter × Groups) (h : Held) → nth_held k (amongs_of_body b) ≡ Some h → IsBetween k h a (places_in body b) (places_in body (put_in_body b k a))
+pub body_one : (b : Command × Others) (k : ℕ) (a : Starter × Groups) (h : AmongContents) → nth_held k (amongs_of_body b) ≡ Some h → IsBetween k h a (places_in body b) (places_in body (put_in_body b k a))
 body_one b k a h e = (body_swaps b k a).there h e
 
 pub body_none : (b : Command × Others) (k : ℕ) (a : Starter × Groups) → nth_held k (amongs_of_body b) ≡ None → places_in body (put_in_body b k a) ≡ places_in body b

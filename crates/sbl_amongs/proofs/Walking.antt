@@ -10,14 +10,14 @@ use Rattle.sbl_amongs.specs.declared.finding.WalkEnd.{WalkEnd}
 use Rattle.sbl_amongs.specs.declared.finding.WalkEnd.TheVariants as ends
 use Rattle.sbl_ast.specs.Terminal as t
 use Rattle.sbl_ast.specs.Tree.{Command, bracket, counted, setlimit_, among_, Rows, Others, Starter, starter, Groups, Entry, Expression}
-use Rattle.sbl_amongs.specs.Amongs.{Held, amongs, amongs_of_rows, amongs_of_others, amongs_of_starter, amongs_of_groups, nth_held}
+use Rattle.sbl_amongs.specs.Amongs.{AmongContents, amongs, amongs_of_rows, amongs_of_others, amongs_of_starter, amongs_of_groups, nth_held}
 use Rattle.sbl_amongs.specs.WalkEnds.{Finds}
 use Rattle.sbl_ast.specs.Places.{AtDepth, placed_expression, placed_entry, placed_entries, placed_command, placed_rows, placed_others, placed_starter, placed_groups, AreShallow}
 use Rattle.sbl_ast.specs.View.{AmongView, RowView, JoinedView, GroupView, among_step, command_step, group_step, joined_step, row_step, rows_of, others_of, groups_of, view_among, view_command, view_entry, view_groups, view_others, view_row}
 use Rattle.sbl_ast.proofs.Behind.{IsBefore, by_itself, behind_it, with_behind, entry_before, entries_before, expression_before, tree_before, rows_before, others_before, starter_before, groups_before}
 
 abbrev Hs : Type 0
-Hs = List Held
+Hs = List AmongContents
 
 abbrev Ps : Type 0
 Ps = List AtDepth
@@ -175,7 +175,7 @@ starter_finds r n d e s rs is deep f h =
     let same = two_deeper d e deep (subst (λ (x : Starter). AreShallow (placed_starter x d [])) is h).0 in
     finds_there r n (λ rest. amongs_of_rows rs (d + 1 + 1) rest) (λ rest. amongs_of_starter s d rest) (λ rest. ap (λ (x : Starter). amongs_of_starter x d rest) (sym is)) (subst (RowsFind r n rs) same f (rows_in s rs d is h))
 
-past_first : (n inside d m : ℕ) (s : Starter) (gs : Groups) (rest : Hs) (v : Option Held) → nat_eq n 1 ≡ false → inside ≡ n - 1 → nth_held inside rest ≡ v → nth_held n ((d, s, gs) ∷ rest) ≡ v
+past_first : (n inside d m : ℕ) (s : Starter) (gs : Groups) (rest : Hs) (v : Option AmongContents) → nat_eq n 1 ≡ false → inside ≡ n - 1 → nth_held inside rest ≡ v → nth_held n ((d, s, gs) ∷ rest) ≡ v
 past_first n inside d m s gs rest v ne is f =
     ap (λ (b : Bool). if b then Some (d, s, gs) else nth_held (n - 1) rest) ne ∙ ap (λ (k : ℕ). nth_held k rest) (sym is) ∙ f
 

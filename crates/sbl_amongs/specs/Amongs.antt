@@ -5,12 +5,12 @@ use Rattle.sbl_ast.specs.Places.{placed_command, AreShallow}
 use Rattle.sbl_ast.specs.Counts.{count_amongs, count_in_rows, count_in_others, count_in_starter}
 
 -- an among: its depth, its starter and its groups
-abbrev pub Held : Type 0
-Held = ℕ × Starter × Groups
+abbrev pub AmongContents : Type 0
+AmongContents = ℕ × Starter × Groups
 
 -- the amongs of a command at depth d, followed by the list `rest`
 abbrev mutual
-  pub amongs : Command → ℕ → List Held → List Held
+  pub amongs : Command → ℕ → List AmongContents → List AmongContents
   amongs (bracket rs) d rest = amongs_of_rows rs (d + 1) rest
   amongs (prefixed p c) d rest = amongs c (d + 1) rest
   amongs (counted n e c) d rest = amongs c (d + 1) rest
@@ -18,28 +18,28 @@ abbrev mutual
   amongs (among_ s gs) d rest = (d, s, gs) ∷ amongs_of_starter s d (amongs_of_groups gs d rest)
   amongs _ d rest = rest
 
-  pub amongs_of_rows : Rows → ℕ → List Held → List Held
+  pub amongs_of_rows : Rows → ℕ → List AmongContents → List AmongContents
   amongs_of_rows no_rows d rest = rest
   amongs_of_rows (row c os rs) d rest = amongs c d (amongs_of_others os d (amongs_of_rows rs d rest))
 
-  pub amongs_of_others : Others → ℕ → List Held → List Held
+  pub amongs_of_others : Others → ℕ → List AmongContents → List AmongContents
   amongs_of_others no_others d rest = rest
   amongs_of_others (joined j c os) d rest = amongs c d (amongs_of_others os d rest)
 
-  pub amongs_of_starter : Starter → ℕ → List Held → List Held
+  pub amongs_of_starter : Starter → ℕ → List AmongContents → List AmongContents
   amongs_of_starter no_starter d rest = rest
   amongs_of_starter (starter rs) d rest = amongs_of_rows rs (d + 1 + 1) rest
 
-  pub amongs_of_groups : Groups → ℕ → List Held → List Held
+  pub amongs_of_groups : Groups → ℕ → List AmongContents → List AmongContents
   amongs_of_groups (bare es) d rest = rest
   amongs_of_groups (group e es rs gs) d rest = amongs_of_rows rs (d + 1 + 1) (amongs_of_groups gs d rest)
 
 -- the amongs of a routine's body
-abbrev pub amongs_of_body : Command × Others → List Held
+abbrev pub amongs_of_body : Command × Others → List AmongContents
 amongs_of_body b = amongs b.0 1 (amongs_of_others b.1 1 [])
 
 -- the among with number k, counted from 1
-abbrev pub nth_held : ℕ → List Held → Option Held
+abbrev pub nth_held : ℕ → List AmongContents → Option AmongContents
 nth_held k [] = None
 nth_held k (h ∷ hs) = if nat_eq k 1 then Some h else nth_held (k - 1) hs
 
@@ -79,5 +79,5 @@ abbrev pub put_in_among : Starter × Groups → ℕ → Starter × Groups → St
 put_in_among b k a = if nat_eq k 1 then a else (put_in_starter b.0 (k - 1) a, put_in_groups b.1 (k - 1 - count_in_starter b.0) a)
 
 -- an among fits in place of the one with number k: at that depth none of its tokens is too deep
-abbrev pub FitsAt : ℕ → List Held → Starter × Groups → Type 0
-FitsAt k hs a = (h : Held) → nth_held k hs ≡ Some h → AreShallow (placed_command (among_ a.0 a.1) h.0 [])
+abbrev pub FitsAt : ℕ → List AmongContents → Starter × Groups → Type 0
+FitsAt k hs a = (h : AmongContents) → nth_held k hs ≡ Some h → AreShallow (placed_command (among_ a.0 a.1) h.0 [])

@@ -4,7 +4,7 @@ use Rattle.sbl_ast.specs.Terminal.{Terminal, among}
 use Rattle.sbl_ast.specs.Tree.{Command, Others, Starter, Groups, among_}
 use Rattle.sbl_ast.specs.Places.{AtDepth, placed_command}
 use Rattle.sbl_ast.specs.Texts.{body, places_in}
-use Rattle.sbl_amongs.specs.Amongs.{Held, amongs_of_body, nth_held, put_in_body}
+use Rattle.sbl_amongs.specs.Amongs.{AmongContents, amongs_of_body, nth_held, put_in_body}
 
 abbrev pub is_among : Terminal → Bool
 is_among among = true
@@ -17,7 +17,7 @@ count_words (p ∷ ps) = if is_among p.0 then count_words ps + 1 else count_word
 
 -- The old tokens are `front`, those of the among with number k at its depth, and `behind`. The new tokens are `front`,
 -- those of the new among at the same depth, and `behind`. `front` has k - 1 words `among`.
-pub record IsBetween (k : ℕ) (h : Held) (a : Starter × Groups) (old new : List AtDepth) : Type 0 where
+pub record IsBetween (k : ℕ) (h : AmongContents) (a : Starter × Groups) (old new : List AtDepth) : Type 0 where
   pub front : List AtDepth
   pub behind : List AtDepth
   pub number : k ≡ count_words front + 1
@@ -27,7 +27,7 @@ pub record IsBetween (k : ℕ) (h : Held) (a : Starter × Groups) (old new : Lis
 -- this holds for each number that an among has
 abbrev pub OneIsReplaced : Type 0
 OneIsReplaced =
-    (b : Command × Others) (k : ℕ) (a : Starter × Groups) (h : Held) → nth_held k (amongs_of_body b) ≡ Some h → IsBetween k h a (places_in body b) (places_in body (put_in_body b k a))
+    (b : Command × Others) (k : ℕ) (a : Starter × Groups) (h : AmongContents) → nth_held k (amongs_of_body b) ≡ Some h → IsBetween k h a (places_in body b) (places_in body (put_in_body b k a))
 
 -- if no among has the number, all tokens stay
 abbrev pub NoneIsReplaced : Type 0

@@ -5,7 +5,7 @@ ghost use Rattle.sbl_ast.specs.Counts as spec;
 ghost use Rattle.sbl_ast.specs.Tree as trees;
 ghost use Rattle.sbl_ast.specs.View.{view_among, view_command, view_groups, view_others, view_row, view_rows};
 
-use sbl_ast::{Among, Command, Group, Joined, RowOfCommands};
+use sbl_ast::{Among, Command, Group, NextCommand, RowOfCommands};
 
 /// Returns `number` minus the number of amongs in a command, or 0 if there are more.
 #[cycle(less)]
@@ -65,7 +65,7 @@ fn less_row(row: &RowOfCommands, number: u64) -> u64
 }
 
 #[cycle(less)]
-fn less_others(others: &Vec<Joined>, number: u64) -> u64
+fn less_others(others: &Vec<NextCommand>, number: u64) -> u64
     ensures { result ≡ number - spec.count_in_others (view_others others.now.items) }
 {
     let mut left = number;

@@ -3,14 +3,14 @@
 ghost use Rattle.std.specs.Prelude.{◌≡◌, ◌≤◌, ◌<◌, ◌-◌, List, [], MatchOption, None, Some, nat_eq};
 ghost use Rattle.sbl_amongs.specs.Amongs as spec;
 ghost use Rattle.sbl_ast.specs.Counts.{count_amongs, count_in_among, count_in_groups, count_in_others, count_in_rows};
-ghost use Rattle.sbl_amongs.specs.Amongs.{Held, amongs_of_body, nth_held};
+ghost use Rattle.sbl_amongs.specs.Amongs.{AmongContents, amongs_of_body, nth_held};
 ghost use Rattle.sbl_amongs.specs.WalkEnds.{Finds};
 ghost use Rattle.sbl_ast.specs.Places.{placed_command, placed_groups, placed_others, placed_rows, placed_starter, max_depth, AreShallow};
 ghost use Rattle.sbl_ast.specs.Texts.{body, places_in};
 ghost use Rattle.sbl_ast.specs.Tree as trees;
 ghost use Rattle.sbl_ast.specs.View.{view_among, view_command, view_groups, view_others, view_row, view_rows};
 
-use sbl_ast::{Among, Command, Group, Joined, RowOfCommands};
+use sbl_ast::{Among, Command, Group, NextCommand, RowOfCommands};
 
 /// The result of a walk through a part of a tree.
 pub(crate) enum WalkEnd<'a> {
@@ -103,7 +103,7 @@ fn in_row(row: &RowOfCommands, depth: u8, number: u64) -> WalkEnd<'_>
 }
 
 #[cycle(find)]
-fn in_others(others: &Vec<Joined>, depth: u8, number: u64) -> WalkEnd<'_>
+fn in_others(others: &Vec<NextCommand>, depth: u8, number: u64) -> WalkEnd<'_>
     ensures { AreShallow (placed_others (view_others others.now.items) depth []) → Finds result number (λ rest. spec.amongs_of_others (view_others others.now.items) depth rest) }
 {
     let mut behind = number;

@@ -10,7 +10,7 @@ ghost use Rattle.sbl_ast.specs.View.{view_among, view_command, view_groups, view
 ghost use Rattle.sbl_ast.specs.Tree as trees;
 
 use sbl_ast::{
-    Among, Command, Group, Joined, RowOfCommands, copy_among, copy_command, copy_entries,
+    Among, Command, Group, NextCommand, RowOfCommands, copy_among, copy_command, copy_entries,
     copy_entry, copy_expression,
 };
 use std::alloc::{AllocError, Global};
@@ -145,7 +145,11 @@ impl Replacement<'_> {
     }
 
     #[cycle(put_among)]
-    fn put_behind(&self, others: &Vec<Joined>, at: u64) -> Result<(Vec<Joined>, u64), AllocError>
+    fn put_behind(
+        &self,
+        others: &Vec<NextCommand>,
+        at: u64,
+    ) -> Result<(Vec<NextCommand>, u64), AllocError>
         ensures put { IfOk result (λ x. view_others x.0.items ≡ spec.put_in_others (view_others others.now.items) at (view_among self.now.among.now)) }
         ensures rest { IfOk result (λ x. x.1 ≡ at - count_in_others (view_others others.now.items)) }
     {
@@ -153,7 +157,7 @@ impl Replacement<'_> {
         let mut rest = at;
         for joined in others {
             let (command, after) = self.put_in_command(&joined.command, rest)?;
-            copies.push(Joined {
+            copies.push(NextCommand {
                 joiner: joined.joiner,
                 command,
             })?;

@@ -37,7 +37,7 @@ use Rattle.sbl_ast.specs.declared.tree.Constant.{Constant}
 use Rattle.sbl_ast.specs.declared.tree.Constant.TheVariants as constants
 
 -- a literal: its spelling, as UTF-8 bytes, and the characters that it means
-pub record Quoted : Type 0 where
+pub record QuotedText : Type 0 where
   pub spelling : List ℕ
   pub value : List ℕ
 
@@ -64,7 +64,7 @@ pub data Terminal : Type 0 where
   constant : Constant → Terminal
   name : List ℕ → Terminal
   number : ℕ → Terminal
-  literal : Quoted → Terminal
+  literal : QuotedText → Terminal
   inserts : ℕ → ℕ → Terminal
   macro_name : List ℕ → Terminal
   other : Other → Terminal

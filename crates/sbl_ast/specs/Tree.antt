@@ -16,12 +16,12 @@ use Rattle.sbl_ast.specs.declared.tree.Multiplicative.{Multiplicative}
 use Rattle.sbl_ast.specs.declared.tree.Assignment.{Assignment}
 use Rattle.sbl_ast.specs.declared.tree.Comparison.{Comparison}
 use Rattle.sbl_ast.specs.declared.tree.Constant.{Constant}
-use Rattle.sbl_ast.specs.Terminal.{Terminal, Quoted, lexeme_as}
+use Rattle.sbl_ast.specs.Terminal.{Terminal, QuotedText, lexeme_as}
 use Rattle.sbl_ast.specs.Terminal as t
 
 -- a literal, or a name that is used instead; names are UTF-8 bytes
 pub data Argument : Type 0 where
-  written_out : Quoted → Argument
+  written_out : QuotedText → Argument
   by_name : List ℕ → Argument
 
 -- ---- arithmetic: products that are added from left to right, each with factors that are multiplied from left to right
@@ -53,13 +53,13 @@ mutual
 
 -- a string of an among, and its condition
 pub data Entry : Type 0 where
-  entry : Quoted → Option (List ℕ) → Entry
+  entry : QuotedText → Option (List ℕ) → Entry
 
 mutual
   pub data Command : Type 0 where
     bracket : Rows → Command
     simple_ : Simple → Command
-    literal_ : Quoted → Command
+    literal_ : QuotedText → Command
     name_ : List ℕ → Command
     non_ : Bool → List ℕ → Command
     prefixed : Prefix → Command → Command
@@ -100,7 +100,7 @@ pub data Term : Type 0 where
 pub data Plain : Type 0 where
   declaration : DeclarationKind → List (List ℕ) → Plain
   escapes : ℕ → ℕ → Plain
-  macro : List ℕ → Option Base → Quoted → Plain
+  macro : List ℕ → Option Base → QuotedText → Plain
   routine : List ℕ → Command → Others → Plain
   grouping : List ℕ → Argument → List Term → Plain
 

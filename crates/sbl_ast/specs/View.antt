@@ -7,19 +7,19 @@ use Rattle.sbl_ast.specs.declared.tree.Literal.{Literal}
 use Rattle.sbl_ast.specs.declared.tree.Argument.{Argument}
 use Rattle.sbl_ast.specs.declared.tree.Argument.TheVariants as arguments
 use Rattle.sbl_ast.specs.declared.tree.Expression.{Expression}
-use Rattle.sbl_ast.specs.declared.tree.Added.{Added}
+use Rattle.sbl_ast.specs.declared.tree.NextProduct.{NextProduct}
 use Rattle.sbl_ast.specs.declared.tree.Product.{Product}
-use Rattle.sbl_ast.specs.declared.tree.Scaled.{Scaled}
+use Rattle.sbl_ast.specs.declared.tree.NextFactor.{NextFactor}
 use Rattle.sbl_ast.specs.declared.tree.Factor.{Factor}
-use Rattle.sbl_ast.specs.declared.tree.Factor.TheOpen.{Added-F, Expression-F, Factor-F, Product-F, Scaled-F}
-use Rattle.sbl_ast.specs.declared.tree.Factor.TheFolds.{fold-Added, fold-Expression, fold-Factor, fold-Product, fold-Scaled}
+use Rattle.sbl_ast.specs.declared.tree.Factor.TheOpen.{NextProduct-F, Expression-F, Factor-F, Product-F, NextFactor-F}
+use Rattle.sbl_ast.specs.declared.tree.Factor.TheFolds.{fold-NextProduct, fold-Expression, fold-Factor, fold-Product, fold-NextFactor}
 use Rattle.sbl_ast.specs.declared.tree.Command.{Command}
 use Rattle.sbl_ast.specs.declared.tree.Among.{Among}
 use Rattle.sbl_ast.specs.declared.tree.Group.{Group}
-use Rattle.sbl_ast.specs.declared.tree.Joined.{Joined}
+use Rattle.sbl_ast.specs.declared.tree.NextCommand.{NextCommand}
 use Rattle.sbl_ast.specs.declared.tree.RowOfCommands.{RowOfCommands as Row}
-use Rattle.sbl_ast.specs.declared.tree.Command.TheOpen.{Among-F, Command-F, Group-F, Joined-F, RowOfCommands-F}
-use Rattle.sbl_ast.specs.declared.tree.Command.TheFolds.{fold-Among, fold-Command, fold-Group, fold-Joined, fold-RowOfCommands}
+use Rattle.sbl_ast.specs.declared.tree.Command.TheOpen.{Among-F, Command-F, Group-F, NextCommand-F, RowOfCommands-F}
+use Rattle.sbl_ast.specs.declared.tree.Command.TheFolds.{fold-Among, fold-Command, fold-Group, fold-NextCommand, fold-RowOfCommands}
 use Rattle.sbl_ast.specs.declared.tree.Entry.{Entry}
 use Rattle.sbl_ast.specs.declared.tree.Term.{Term}
 use Rattle.sbl_ast.specs.declared.tree.Plain.{Plain}
@@ -29,10 +29,10 @@ use Rattle.sbl_ast.specs.declared.tree.ScriptItem.TheVariants as items
 use Rattle.sbl_ast.specs.declared.tree.Joiner.{Joiner}
 use Rattle.sbl_ast.specs.declared.tree.Additive.{Additive}
 use Rattle.sbl_ast.specs.declared.tree.Multiplicative.{Multiplicative}
-use Rattle.sbl_ast.specs.Terminal.{Quoted}
+use Rattle.sbl_ast.specs.Terminal.{QuotedText}
 use Rattle.sbl_ast.specs.Tree as trees
 
-abbrev pub view_literal : Literal → Quoted
+abbrev pub view_literal : Literal → QuotedText
 view_literal l = record { spelling = string_bytes l.spelling; value = l.value.items }
 
 abbrev pub view_argument : Argument → trees.Argument
@@ -41,20 +41,20 @@ view_argument (arguments.Name n) = trees.by_name (string_bytes n)
 
 -- ---- arithmetic
 
-abbrev pub AddedView : Type 0
-AddedView = Additive × trees.Product
+abbrev pub NextProductView : Type 0
+NextProductView = Additive × trees.Product
 
-abbrev pub ScaledView : Type 0
-ScaledView = Multiplicative × trees.Factor
+abbrev pub NextFactorView : Type 0
+NextFactorView = Multiplicative × trees.Factor
 
 -- one level, with the view of each child
-abbrev pub added_step : Added-F trees.Factor AddedView trees.Expression trees.Product ScaledView → AddedView
+abbrev pub added_step : NextProduct-F trees.Factor NextProductView trees.Expression trees.Product NextFactorView → NextProductView
 added_step a = (a.operator, a.product)
 
-abbrev pub expression_step : Expression-F trees.Factor AddedView trees.Expression trees.Product ScaledView → trees.Expression
+abbrev pub expression_step : Expression-F trees.Factor NextProductView trees.Expression trees.Product NextFactorView → trees.Expression
 expression_step e = trees.expression e.first (foldr (λ s. trees.sum s.0 s.1) trees.no_sums e.others.items)
 
-abbrev pub factor_step : Factor-F trees.Factor AddedView trees.Expression trees.Product ScaledView → trees.Factor
+abbrev pub factor_step : Factor-F trees.Factor NextProductView trees.Expression trees.Product NextFactorView → trees.Factor
 factor_step (Factor-F.Minus f) = trees.negated f.value
 factor_step (Factor-F.Bracket e) = trees.bracketed e.value
 factor_step (Factor-F.Number n) = trees.numeral n
@@ -62,32 +62,32 @@ factor_step (Factor-F.Name n) = trees.variable (string_bytes n)
 factor_step (Factor-F.Constant c) = trees.fixed c
 factor_step (Factor-F.LenOf a) = trees.length_of (view_argument a)
 
-abbrev pub product_step : Product-F trees.Factor AddedView trees.Expression trees.Product ScaledView → trees.Product
+abbrev pub product_step : Product-F trees.Factor NextProductView trees.Expression trees.Product NextFactorView → trees.Product
 product_step p = trees.product p.first (foldr (λ s. trees.scale s.0 s.1) trees.no_scales p.others.items)
 
-abbrev pub scaled_step : Scaled-F trees.Factor AddedView trees.Expression trees.Product ScaledView → ScaledView
+abbrev pub scaled_step : NextFactor-F trees.Factor NextProductView trees.Expression trees.Product NextFactorView → NextFactorView
 scaled_step s = (s.operator, s.factor)
 
-abbrev pub view_added : Added → AddedView
-view_added = fold-Added trees.Factor AddedView trees.Expression trees.Product ScaledView factor_step added_step expression_step product_step scaled_step
+abbrev pub view_next_product : NextProduct → NextProductView
+view_next_product = fold-NextProduct trees.Factor NextProductView trees.Expression trees.Product NextFactorView factor_step added_step expression_step product_step scaled_step
 
 abbrev pub view_expression : Expression → trees.Expression
-view_expression = fold-Expression trees.Factor AddedView trees.Expression trees.Product ScaledView factor_step added_step expression_step product_step scaled_step
+view_expression = fold-Expression trees.Factor NextProductView trees.Expression trees.Product NextFactorView factor_step added_step expression_step product_step scaled_step
 
 abbrev pub view_factor : Factor → trees.Factor
-view_factor = fold-Factor trees.Factor AddedView trees.Expression trees.Product ScaledView factor_step added_step expression_step product_step scaled_step
+view_factor = fold-Factor trees.Factor NextProductView trees.Expression trees.Product NextFactorView factor_step added_step expression_step product_step scaled_step
 
 abbrev pub view_product : Product → trees.Product
-view_product = fold-Product trees.Factor AddedView trees.Expression trees.Product ScaledView factor_step added_step expression_step product_step scaled_step
+view_product = fold-Product trees.Factor NextProductView trees.Expression trees.Product NextFactorView factor_step added_step expression_step product_step scaled_step
 
-abbrev pub view_scaled : Scaled → ScaledView
-view_scaled = fold-Scaled trees.Factor AddedView trees.Expression trees.Product ScaledView factor_step added_step expression_step product_step scaled_step
+abbrev pub view_next_factor : NextFactor → NextFactorView
+view_next_factor = fold-NextFactor trees.Factor NextProductView trees.Expression trees.Product NextFactorView factor_step added_step expression_step product_step scaled_step
 
-abbrev pub view_sums : List Added → trees.Sums
-view_sums ss = foldr (λ s. trees.sum s.0 s.1) trees.no_sums (map view_added ss)
+abbrev pub view_sums : List NextProduct → trees.Sums
+view_sums ss = foldr (λ s. trees.sum s.0 s.1) trees.no_sums (map view_next_product ss)
 
-abbrev pub view_scales : List Scaled → trees.Scales
-view_scales ss = foldr (λ s. trees.scale s.0 s.1) trees.no_scales (map view_scaled ss)
+abbrev pub view_scales : List NextFactor → trees.Scales
+view_scales ss = foldr (λ s. trees.scale s.0 s.1) trees.no_scales (map view_next_factor ss)
 
 -- ---- commands
 
@@ -101,8 +101,8 @@ AmongView = trees.Starter × trees.Groups
 abbrev pub RowView : Type 0
 RowView = trees.Command × trees.Others
 
-abbrev pub JoinedView : Type 0
-JoinedView = Joiner × trees.Command
+abbrev pub NextCommandView : Type 0
+NextCommandView = Joiner × trees.Command
 
 pub record GroupView : Type 0 where
   pub first : trees.Entry
@@ -112,12 +112,12 @@ pub record GroupView : Type 0 where
 abbrev pub rows_of : List RowView → trees.Rows
 rows_of rs = foldr (λ r. trees.row r.0 r.1) trees.no_rows rs
 
-abbrev pub among_step : Among-F trees.Command AmongView GroupView JoinedView RowView → AmongView
+abbrev pub among_step : Among-F trees.Command AmongView GroupView NextCommandView RowView → AmongView
 among_step a =
     let groups = foldr (λ g. trees.group g.first g.others g.rows) (trees.bare (map view_entry a.bare.items)) a.groups.items in
     (option_map_or (λ rs. trees.starter (rows_of rs.items)) a.starter trees.no_starter, groups)
 
-abbrev pub command_step : Command-F trees.Command AmongView GroupView JoinedView RowView → trees.Command
+abbrev pub command_step : Command-F trees.Command AmongView GroupView NextCommandView RowView → trees.Command
 command_step (Command-F.Bracket rs) = trees.bracket (rows_of rs.items)
 command_step (Command-F.Simple s) = trees.simple_ s
 command_step (Command-F.Literal l) = trees.literal_ (view_literal l)
@@ -134,36 +134,36 @@ command_step (Command-F.Compare n o e) = trees.compare_ (string_bytes n) o (view
 command_step (Command-F.CompareValues e o f) = trees.compare_values_ (view_expression e) o (view_expression f)
 command_step (Command-F.Among a) = trees.among_ a.0 a.1
 
-abbrev pub group_step : Group-F trees.Command AmongView GroupView JoinedView RowView → GroupView
+abbrev pub group_step : Group-F trees.Command AmongView GroupView NextCommandView RowView → GroupView
 group_step g = record { first = view_entry g.first; others = map view_entry g.others.items; rows = rows_of g.rows.items }
 
-abbrev pub joined_step : Joined-F trees.Command AmongView GroupView JoinedView RowView → JoinedView
+abbrev pub joined_step : NextCommand-F trees.Command AmongView GroupView NextCommandView RowView → NextCommandView
 joined_step o = (o.joiner, o.command)
 
-abbrev pub row_step : RowOfCommands-F trees.Command AmongView GroupView JoinedView RowView → RowView
+abbrev pub row_step : RowOfCommands-F trees.Command AmongView GroupView NextCommandView RowView → RowView
 row_step r = (r.first, foldr (λ o. trees.joined o.0 o.1) trees.no_others r.others.items)
 
 abbrev pub view_among : Among → AmongView
-view_among = fold-Among trees.Command AmongView GroupView JoinedView RowView command_step among_step group_step joined_step row_step
+view_among = fold-Among trees.Command AmongView GroupView NextCommandView RowView command_step among_step group_step joined_step row_step
 
 abbrev pub view_command : Command → trees.Command
-view_command = fold-Command trees.Command AmongView GroupView JoinedView RowView command_step among_step group_step joined_step row_step
+view_command = fold-Command trees.Command AmongView GroupView NextCommandView RowView command_step among_step group_step joined_step row_step
 
 abbrev pub view_group : Group → GroupView
-view_group = fold-Group trees.Command AmongView GroupView JoinedView RowView command_step among_step group_step joined_step row_step
+view_group = fold-Group trees.Command AmongView GroupView NextCommandView RowView command_step among_step group_step joined_step row_step
 
-abbrev pub view_joined : Joined → JoinedView
-view_joined = fold-Joined trees.Command AmongView GroupView JoinedView RowView command_step among_step group_step joined_step row_step
+abbrev pub view_next_command : NextCommand → NextCommandView
+view_next_command = fold-NextCommand trees.Command AmongView GroupView NextCommandView RowView command_step among_step group_step joined_step row_step
 
 abbrev pub view_row : Row → RowView
-view_row = fold-RowOfCommands trees.Command AmongView GroupView JoinedView RowView command_step among_step group_step joined_step row_step
+view_row = fold-RowOfCommands trees.Command AmongView GroupView NextCommandView RowView command_step among_step group_step joined_step row_step
 
 -- the rows that were read so far
 abbrev pub view_rows : List Row → trees.Rows
 view_rows rs = rows_of (map view_row rs)
 
-abbrev pub view_others : List Joined → trees.Others
-view_others os = foldr (λ o. trees.joined o.0 o.1) trees.no_others (map view_joined os)
+abbrev pub view_others : List NextCommand → trees.Others
+view_others os = foldr (λ o. trees.joined o.0 o.1) trees.no_others (map view_next_command os)
 
 abbrev pub view_groups : List Group → List trees.Entry → trees.Groups
 view_groups gs es = foldr (λ g. trees.group g.first g.others g.rows) (trees.bare es) (map view_group gs)
@@ -192,16 +192,16 @@ view_items is = map view_item is
 
 -- ---- names for parts of these definitions, which only proofs use
 
-abbrev pub sums_of : List AddedView → trees.Sums
+abbrev pub sums_of : List NextProductView → trees.Sums
 sums_of ss = foldr (λ s. trees.sum s.0 s.1) trees.no_sums ss
 
-abbrev pub scales_of : List ScaledView → trees.Scales
+abbrev pub scales_of : List NextFactorView → trees.Scales
 scales_of ss = foldr (λ s. trees.scale s.0 s.1) trees.no_scales ss
 
 abbrev pub view_name : Option (String Global) → Option (List ℕ)
 view_name n = option_map string_bytes n
 
-abbrev pub others_of : List JoinedView → trees.Others
+abbrev pub others_of : List NextCommandView → trees.Others
 others_of os = foldr (λ o. trees.joined o.0 o.1) trees.no_others os
 
 abbrev pub groups_of : List GroupView → List trees.Entry → trees.Groups

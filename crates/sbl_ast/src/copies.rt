@@ -1,11 +1,11 @@
 //! Copies of trees.
 
 ghost use Rattle.std.specs.Prelude.{◌≡◌, IfOk, map, string_bytes};
-ghost use Rattle.sbl_ast.specs.View.{view_literal, view_argument, view_added, view_expression, view_factor, view_product, view_scaled, view_sums, view_scales, view_entry, view_command, view_joined, view_group, view_rows, view_others, view_groups, view_starter, view_among, view_plain, view_row, view_term};
+ghost use Rattle.sbl_ast.specs.View.{view_literal, view_argument, view_next_product, view_expression, view_factor, view_product, view_next_factor, view_sums, view_scales, view_entry, view_command, view_next_command, view_group, view_rows, view_others, view_groups, view_starter, view_among, view_plain, view_row, view_term};
 
 use crate::tree::{
-    Added, Among, Argument, Command, Entry, Expression, Factor, Group, Joined, Literal, Plain,
-    Product, RowOfCommands, Scaled, Term,
+    Among, Argument, Command, Entry, Expression, Factor, Group, Literal, NextCommand, NextFactor,
+    NextProduct, Plain, Product, RowOfCommands, Term,
 };
 use std::alloc::{AllocError, Global};
 
@@ -22,7 +22,7 @@ macro_rules! copy_each {
 
 /// Copies each element of a vector, an operator with its operand.
 macro_rules! copy_operations {
-    ($alloc:ident, $others:ident, $copy:ident, $other:ident { $operator:ident, $operand:ident }) => {
+    ($alloc:ident, $others:ident, $copy:ident, $other:ident: $operator:ident, $operand:ident) => {
         copy_each!($alloc, $others, other => $other {
             $operator: other.$operator,
             $operand: $copy($alloc, &other.$operand)?,
@@ -77,17 +77,17 @@ fn copy_product(alloc: Global, product: &Product) -> Result<Product, AllocError>
 }
 
 #[cycle(arithmetic_copies)]
-fn copy_sums(alloc: Global, others: &Vec<Added>) -> Result<Vec<Added>, AllocError>
-    ensures { IfOk result (λ copy. map view_added copy.items ≡ map view_added others.now.items) }
+fn copy_sums(alloc: Global, others: &Vec<NextProduct>) -> Result<Vec<NextProduct>, AllocError>
+    ensures { IfOk result (λ copy. map view_next_product copy.items ≡ map view_next_product others.now.items) }
 {
-    Ok(copy_operations!(alloc, others, copy_product, Added { operator, product }))
+    Ok(copy_operations!(alloc, others, copy_product, NextProduct: operator, product))
 }
 
 #[cycle(arithmetic_copies)]
-fn copy_scales(alloc: Global, others: &Vec<Scaled>) -> Result<Vec<Scaled>, AllocError>
-    ensures { IfOk result (λ copy. map view_scaled copy.items ≡ map view_scaled others.now.items) }
+fn copy_scales(alloc: Global, others: &Vec<NextFactor>) -> Result<Vec<NextFactor>, AllocError>
+    ensures { IfOk result (λ copy. map view_next_factor copy.items ≡ map view_next_factor others.now.items) }
 {
-    Ok(copy_operations!(alloc, others, copy_factor, Scaled { operator, factor }))
+    Ok(copy_operations!(alloc, others, copy_factor, NextFactor: operator, factor))
 }
 
 #[cycle(arithmetic_copies)]
@@ -218,10 +218,10 @@ fn copy_rows(alloc: Global, rows: &Vec<RowOfCommands>) -> Result<Vec<RowOfComman
 }
 
 #[cycle(copies)]
-fn copy_others(alloc: Global, others: &Vec<Joined>) -> Result<Vec<Joined>, AllocError>
-    ensures { IfOk result (λ copy. map view_joined copy.items ≡ map view_joined others.now.items) }
+fn copy_others(alloc: Global, others: &Vec<NextCommand>) -> Result<Vec<NextCommand>, AllocError>
+    ensures { IfOk result (λ copy. map view_next_command copy.items ≡ map view_next_command others.now.items) }
 {
-    Ok(copy_operations!(alloc, others, copy_command, Joined { joiner, command }))
+    Ok(copy_operations!(alloc, others, copy_command, NextCommand: joiner, command))
 }
 
 /// Returns a copy of a row. Returns `AllocError` if an allocation fails.

@@ -14,8 +14,8 @@ pub use copies::{
 pub use mode::Mode;
 pub use order::{ItemInMode, items_in_order};
 pub use tree::{
-    Added, Additive, Among, Argument, Assignment, Base, Command, Comparison, Constant, Count,
-    DeclarationKind, Entry, Expression, Factor, Group, Joined, Joiner, Literal, Move,
-    Multiplicative, Naming, Plain, Prefix, Product, RowOfCommands, Scaled, ScriptItem, Simple,
-    Splice, Term,
+    Additive, Among, Argument, Assignment, Base, Command, Comparison, Constant, Count,
+    DeclarationKind, Entry, Expression, Factor, Group, Joiner, Literal, Move, Multiplicative,
+    Naming, NextCommand, NextFactor, NextProduct, Plain, Prefix, Product, RowOfCommands,
+    ScriptItem, Simple, Splice, Term,
 };

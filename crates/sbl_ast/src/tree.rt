@@ -217,13 +217,13 @@ pub struct Expression {
     /// The first product.
     pub first: Product,
     /// The products after it.
-    pub others: Vec<Added>,
+    pub others: Vec<NextProduct>,
 }
 
 /// A product after the first one of an expression.
 #[cycle(arithmetic)]
 #[derive(Drop)]
-pub struct Added {
+pub struct NextProduct {
     /// The sign before it.
     pub operator: Additive,
     /// The product.
@@ -237,13 +237,13 @@ pub struct Product {
     /// The first factor.
     pub first: Factor,
     /// The factors after it.
-    pub others: Vec<Scaled>,
+    pub others: Vec<NextFactor>,
 }
 
 /// A factor after the first one of a product.
 #[cycle(arithmetic)]
 #[derive(Drop)]
-pub struct Scaled {
+pub struct NextFactor {
     /// The sign before it.
     pub operator: Multiplicative,
     /// The factor.
@@ -316,13 +316,13 @@ pub struct RowOfCommands {
     /// The first command.
     pub first: Command,
     /// The commands after it.
-    pub others: Vec<Joined>,
+    pub others: Vec<NextCommand>,
 }
 
 /// A command after the first one of a row.
 #[cycle(tree)]
 #[derive(Drop)]
-pub struct Joined {
+pub struct NextCommand {
     /// The word before it.
     pub joiner: Joiner,
     /// The command.

@@ -19,7 +19,7 @@ use Rattle.sbl_machine.specs.Marks.{AreMarksOf, EditedAreThere, has_item}
 use Rattle.sbl_semantics.specs.Outcome.{touches_of, used_of}
 use Rattle.sbl_semantics.specs.TouchedItems.{Item', item_of_touch, names_of}
 use Rattle.sbl_machine.specs.EditedItem.{edited_item}
-use Rattle.sbl_bench.specs.AffectedWords.{Affected, AreMet, Touching, Above, is_affected}
+use Rattle.sbl_bench.specs.AffectedWords.{AffectedWords, AreMet, Touching, Above, is_affected}
 use Rattle.sbl_bench.specs.Changes.{Brings, IsExchange, IsTaken}
 use Rattle.sbl_bench.specs.Contents.{Contents}
 use Rattle.sbl_bench.specs.Edits.{Edit, Install, Replace, Limit, Whole, is_limit, is_of_text, meets_listed, smaller}
@@ -42,7 +42,7 @@ stays_same : (s t : Source) (w : List ℕ) (limit : ℕ) → StaysAsItWas s t w 
 stays_same s t w limit h = record { outcome = h.alike.outcome; touches = h.touches; used = h.alike.used }
 
 pub taken_brings : UntouchedStay → OneMeets → (s : Contents) (e : ScriptEdit) (text : List ℕ) (t : Source) (x : Item') → IsTaken s e text t x → WellDeclared s.setting.script.items s.setting.script.external
-    → (a : Affected) → AreMet s.setting.script (Some (edited_item e ∷ [])) a → Brings s (Replace e text) (under t s.setting.limit) a
+    → (a : AffectedWords) → AreMet s.setting.script (Some (edited_item e ∷ [])) a → Brings s (Replace e text) (under t s.setting.limit) a
 taken_brings law alone s e text t x is well a met =
     let p = s.setting.script in
     let l = s.setting.limit in
@@ -58,7 +58,7 @@ taken_brings law alone s e text t x is well a met =
 
 -- the same by the words that are affected by a list of this item alone
 pub edited_brings : UntouchedStay → OneMeets → EditedAreThere → (s : Contents) (e : ScriptEdit) (text : List ℕ) (t : Source) (x : Item') → IsTaken s e text t x → WellDeclared s.setting.script.items s.setting.script.external
-    → (xs : List Item') → xs ≡ x ∷ [] → (a : Affected) → (list_all (has_item (names_of s.setting.script)) xs ≡ true → AreMet s.setting.script (Some xs) a)
+    → (xs : List Item') → xs ≡ x ∷ [] → (a : AffectedWords) → (list_all (has_item (names_of s.setting.script)) xs ≡ true → AreMet s.setting.script (Some xs) a)
     → Brings s (Replace e text) (under t s.setting.limit) a
 edited_brings law one there s e text t x is well xs alone a met =
     let p = s.setting.script in
@@ -75,7 +75,7 @@ exchanged_stay law s t limit well None is w h = absurd (true≢false h)
 exchanged_stay law s t limit well (Some xs) is w h = stays_same s t w limit (law s t xs well is w limit h)
 
 pub exchange_brings : DifferingStay → (s : Contents) (e : Edit) (t : Source) → IsExchange s e t → WellDeclared s.setting.script.items s.setting.script.external
-    → (a : Affected) → AreMet s.setting.script (differs s.setting.script t) a → Brings s e (under t s.setting.limit) a
+    → (a : AffectedWords) → AreMet s.setting.script (differs s.setting.script t) a → Brings s e (under t s.setting.limit) a
 exchange_brings law s e t is well a met =
     let p = s.setting.script in
     let l = s.setting.limit in

@@ -12,7 +12,7 @@ use Rattle.sbl_bench.specs.Last.{AreApart, AreThere, word_found, word_run}
 use Rattle.sbl_bench.specs.Pairs.{Text, find}
 use Rattle.sbl_bench.specs.Changes.{AreAllFresh, AreAnew, AreRun, is_changed}
 use Rattle.sbl_bench.specs.Setting.{Setting}
-use Rattle.sbl_machine.specs.declared.outcome.Traced.{Traced}
+use Rattle.sbl_machine.specs.declared.outcome.RunTrace.{RunTrace}
 use Rattle.sbl_bench.specs.declared.change.Change.{Change}
 
 -- the first i changes have exchanged their runs
@@ -76,7 +76,7 @@ module _ (es fs : List KeptWord) (cs ls : List Change) (i : ℕ) (c : Change) (s
           ap (λ (j : ℕ). word_run (slice_index_or (slice_set ls i n) j d)) h
           ∙ ap word_run (get_or-set_same ls i n d room)
           ∙ was
-          ∙ ap (λ (t : Option Traced). (c.word.items, t)) still_before
+          ∙ ap (λ (t : Option RunTrace). (c.word.items, t)) still_before
           ∙ ap (word_found es) (sym (at d))
           ∙ ap (λ (j : ℕ). word_found es (slice_index_or cs j d)) (sym h)
 
@@ -130,10 +130,10 @@ pub all_fresh : (t : Setting) (es fs : List KeptWord) (cs : List Change) → Are
     → ((w : Text) → is_changed cs w.items ≡ false → find w.items fs ≡ find w.items es) → AreAllFresh t fs
 all_fresh t es fs cs anew run others w = by (is_changed cs w.items) refl
   where
-    Fresh : Option Traced → Type 0
+    Fresh : Option RunTrace → Type 0
     Fresh o = IfSome o (λ r. IsFresh t w.items r)
 
-    kept : (o : Option Traced) → is_changed cs w.items ≡ false → IfSome o (λ r. IsFresh t w.items r ⊎ (is_changed cs w.items ≡ true)) → Fresh o
+    kept : (o : Option RunTrace) → is_changed cs w.items ≡ false → IfSome o (λ r. IsFresh t w.items r ⊎ (is_changed cs w.items ≡ true)) → Fresh o
     kept None h k = tt
     kept (Some r) h (inl k) = k
     kept (Some r) h (inr k) = cc (sym h ∙ k)
@@ -152,7 +152,7 @@ all_fresh t es fs cs anew run others w = by (is_changed cs w.items) refl
         one false e g rest = rest g
         one true e g rest =
             subst (λ (x : List ℕ). IfSome (find x fs) (λ r. IsFresh t x r)) ((bytes_eq-Decides d.word.items w.items).0 e)
-            (subst (λ (o : Option Traced). IfSome o (λ r. IsFresh t d.word.items r)) (sym (All-head Now d ds found)) (All-head Run d ds anew).0)
+            (subst (λ (o : Option RunTrace). IfSome o (λ r. IsFresh t d.word.items r)) (sym (All-head Now d ds found)) (All-head Run d ds anew).0)
 
     by : (b : Bool) → is_changed cs w.items ≡ b → Fresh (find w.items fs)
     by false h = subst Fresh (sym (others w h)) (kept (find w.items es) h (anew.fresh w))
@@ -173,7 +173,7 @@ fresh_list script (e ∷ es) unique fresh = (
     absent (f ∷ fs) a = rw a.0 (absent fs a.1)
 
     behind : (w : Text) (b : Bool) → bytes_eq w.items e.0.items ≡ b → IfSome (find w.items es) (λ t. IsFresh script w.items t)
-    behind w true same = subst (λ (x : Option Traced). IfSome x (λ t. IsFresh script w.items t)) (sym (ap (λ (x : List ℕ). find x es) ((bytes_eq-Decides w.items e.0.items).0 same) ∙ absent es unique.0)) tt
+    behind w true same = subst (λ (x : Option RunTrace). IfSome x (λ t. IsFresh script w.items t)) (sym (ap (λ (x : List ℕ). find x es) ((bytes_eq-Decides w.items e.0.items).0 same) ∙ absent es unique.0)) tt
     behind w false other = subst (λ (b : Bool). IfSome (cond b (Some e.1) (find w.items es)) (λ t. IsFresh script w.items t)) other (fresh w)
 
 pub words_by_keys : (es : List KeptWord) → words_in es ≡ map (λ (k : Text). k.items) (keys_of es)

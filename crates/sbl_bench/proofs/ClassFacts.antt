@@ -17,7 +17,7 @@ use Rattle.std.proofs.lemmas.Map.Text.{is_eq-slice_cmp}
 use Rattle.sbl_bench.specs.Setting.{Setting}
 use Rattle.sbl_semantics.specs.Outcome.{Outcome', Stem, Refused, outcome_of}
 use Rattle.sbl_semantics.specs.declared.outcome.Outcome.{Outcome}
-use Rattle.sbl_machine.specs.declared.outcome.Traced.{Traced}
+use Rattle.sbl_machine.specs.declared.outcome.RunTrace.{RunTrace}
 use Rattle.sbl_semantics.specs.declared.outcome.Outcome.TheVariants as code
 use Rattle.sbl_bench.specs.Classes.{class_of, class_with, in_order, is_stem, stem_of, words_with}
 use Rattle.sbl_bench.specs.Grouping.{Pair, pair_cmp, pairs_in_order, stem_pairs, with_pair, words_paired}
@@ -155,11 +155,11 @@ row_found script word (e ∷ es) fresh = by (bytes_eq word e.0.items) refl (row_
     by false other rest = rw other rest
 
 -- the row of a word with this run
-abbrev row_at : List ℕ → Traced → Row
+abbrev row_at : List ℕ → RunTrace → Row
 row_at word t = record { word = word; outcome = outcome_of t.outcome }
 
 -- the row of a word, by the key that is found for it
-pub row_there : (script : Setting) (word : List ℕ) (es : List KeptWord) (k : Text) (t : Traced) → AreFresh script es → Some k ≡ lookup_key (is_key word) es → Some t ≡ find word es
+pub row_there : (script : Setting) (word : List ℕ) (es : List KeptWord) (k : Text) (t : RunTrace) → AreFresh script es → Some k ≡ lookup_key (is_key word) es → Some t ≡ find word es
     → Some (row_at k.items t) ≡ find_row (λ (r : Row). bytes_eq word r.word) (rows_of script (words_in es))
 row_there script word es k t fresh key there =
     let same : word ≡ k.items = (bytes_eq-Decides word k.items).0 (key_found word es k (sym key)) in
@@ -170,13 +170,13 @@ pub no_row : (script : Setting) (word : List ℕ) (es : List KeptWord) → AreFr
 no_row script word es fresh none = ap (option_map (row_at word)) none ∙ sym (row_found script word es fresh)
 
 -- the class of a word by what its entry holds
-pub class_found : (script : Setting) (es : List KeptWord) (word : List ℕ) → AreFresh script es → (o : Option Traced) → o ≡ find word es
+pub class_found : (script : Setting) (es : List KeptWord) (word : List ℕ) → AreFresh script es → (o : Option RunTrace) → o ≡ find word es
     → option_map (class_with (rows_of script (words_in es))) (option_and_then (λ t. stem_of (outcome_of t.outcome)) o) ≡ class_of (rows_of script (words_in es)) word
 class_found script es word fresh o is =
     ap (λ (x : Option (List ℕ)). option_map (class_with (rows_of script (words_in es))) x)
     (ap (option_and_then (λ t. stem_of (outcome_of t.outcome))) is ∙ by (find word es) ∙ ap (option_and_then (λ (r : Row). stem_of r.outcome)) (sym (row_found script word es fresh)))
   where
-    by : (x : Option Traced) → option_and_then (λ (t : Traced). stem_of (outcome_of t.outcome)) x ≡ option_and_then (λ (r : Row). stem_of r.outcome) (option_map (λ t. record { word = word; outcome = outcome_of t.outcome }) x)
+    by : (x : Option RunTrace) → option_and_then (λ (t : RunTrace). stem_of (outcome_of t.outcome)) x ≡ option_and_then (λ (r : Row). stem_of r.outcome) (option_map (λ t. record { word = word; outcome = outcome_of t.outcome }) x)
     by None = refl
     by (Some t) = refl
 

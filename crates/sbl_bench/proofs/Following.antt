@@ -8,7 +8,7 @@ use Rattle.std.proofs.Math.Seq.{drop-cons}
 use Rattle.std.proofs.lemmas.List.Elements.{All-cons}
 use Rattle.std.proofs.lemmas.Slice.Eq.{bytes_eq-Decides}
 use Rattle.sbl_semantics.specs.Outcome.{Outcome', Stem, Refused, outcome_of}
-use Rattle.sbl_machine.specs.declared.outcome.Traced.{Traced}
+use Rattle.sbl_machine.specs.declared.outcome.RunTrace.{RunTrace}
 use Rattle.sbl_bench.specs.ChangedRows.{same_outcome}
 use Rattle.sbl_bench.specs.Changes.{is_changed}
 use Rattle.sbl_bench.specs.Classes.{is_stem}
@@ -82,7 +82,7 @@ stays_followed word before now old new q same is = record {
 found_same : (word w : List ℕ) (es : List KeptWord) → bytes_eq word w ≡ true → find w es ≡ find word es
 found_same word w es h = ap (λ (x : List ℕ). find x es) (sym ((bytes_eq-Decides word w).0 h))
 
-pub one_more : (word : List ℕ) (more es : List KeptWord) (t : Traced) (old new : Key → Bool) → IsOneMore word more es → Some t ≡ find word more
+pub one_more : (word : List ℕ) (more es : List KeptWord) (t : RunTrace) (old new : Key → Bool) → IsOneMore word more es → Some t ≡ find word more
     → ((q : Key) → old q ≡ has_stem q.0.items (find q.1.items es)) → ((q : Key) → new q ≡ (is_pair_of word (outcome_of t.outcome) q || old q))
     → (q : Key) → new q ≡ has_stem q.0.items (find q.1.items more)
 one_more word more es t old new m there was put q = put q ∙ by (bytes_eq word q.1.items) refl
@@ -98,7 +98,7 @@ one_more word more es t old new m there was put q = put q ∙ by (bytes_eq word 
         or_false false = refl
     by false h = ap (λ (b : Bool). b || old q) (pair_of_other word (outcome_of t.outcome) q h) ∙ was q ∙ ap (has_stem q.0.items) (sym (m.others q.1 h))
 
-pub one_less : (word : List ℕ) (more es : List KeptWord) (t : Traced) (old new : Key → Bool) → IsOneMore word more es → find word more ≡ Some t
+pub one_less : (word : List ℕ) (more es : List KeptWord) (t : RunTrace) (old new : Key → Bool) → IsOneMore word more es → find word more ≡ Some t
     → ((q : Key) → old q ≡ has_stem q.0.items (find q.1.items more)) → ((q : Key) → new q ≡ (not (is_pair_of word (outcome_of t.outcome) q) && old q))
     → (q : Key) → new q ≡ has_stem q.0.items (find q.1.items es)
 one_less word more es t old new m there was taken q = taken q ∙ by (bytes_eq word q.1.items) refl
@@ -131,7 +131,7 @@ followed_none old new last set f paired = record {
 pub followed_all : (old new : List KeptWord) (rest : List Change) (set : BTreeSet Key) → rest ≡ [] → AreFollowedSoFar old new rest set → ArePaired new set
 followed_all old new rest set none so q = so.done q (ap (λ (l : List Change). is_changed l q.1.items) none)
 
-module _ (old new : List KeptWord) (c : Change) (rest : List Change) (t : Traced) (s n : BTreeSet Key) (was : find c.word.items old ≡ Some c.traced) (is : Some t ≡ find c.word.items new)
+module _ (old new : List KeptWord) (c : Change) (rest : List Change) (t : RunTrace) (s n : BTreeSet Key) (was : find c.word.items old ≡ Some c.traced) (is : Some t ≡ find c.word.items new)
     (one : (q : Key) → IsFollowed c.word.items (outcome_of c.traced.outcome) (outcome_of t.outcome) (has s) (has n) q) (so : AreFollowedSoFar old new (c ∷ rest) s) where
   own : (q : Key) → bytes_eq c.word.items q.1.items ≡ true → has n q ≡ has_stem q.0.items (find q.1.items new)
   own q h = (one q).own h (by (so.either q)) ∙ sym now
@@ -167,7 +167,7 @@ module _ (old new : List KeptWord) (c : Change) (rest : List Change) (t : Traced
           by (inr k) = inr ((one q).others h ∙ k)
 
 -- one more change is followed
-pub followed_more : (old new : List KeptWord) (last : List Change) (i : ℕ) (d c : Change) (t : Traced) (s n : BTreeSet Key) → i < length last → c ≡ slice_index_or last i d → Follows old last new
+pub followed_more : (old new : List KeptWord) (last : List Change) (i : ℕ) (d c : Change) (t : RunTrace) (s n : BTreeSet Key) → i < length last → c ≡ slice_index_or last i d → Follows old last new
     → Some t ≡ find c.word.items new → ((q : Key) → IsFollowed c.word.items (outcome_of c.traced.outcome) (outcome_of t.outcome) (has s) (has n) q)
     → AreFollowedSoFar old new (drop i last) s → AreFollowedSoFar old new (drop (i + 1) last) n
 followed_more old new last i d c t s n below at f is one so =
@@ -190,8 +190,8 @@ runs_before es cs [] was = λ k d h. absurd (omega (arith, h))
 runs_before es [] (l ∷ ls) was = cc was
 runs_before es (c ∷ cs) (l ∷ ls) was =
     let first = heads (word_run l) (word_found es c) (map word_run ls) (map (word_found es) cs) was in
-    let word : l.word.items ≡ c.word.items = ap (λ (p : List ℕ × Option Traced). p.0) first in
-    let run : Some l.traced ≡ find c.word.items es = ap (λ (p : List ℕ × Option Traced). p.1) first in
+    let word : l.word.items ≡ c.word.items = ap (λ (p : List ℕ × Option RunTrace). p.0) first in
+    let run : Some l.traced ≡ find c.word.items es = ap (λ (p : List ℕ × Option RunTrace). p.1) first in
     All-cons (λ (x : Change). find x.word.items es ≡ Some x.traced) l ls (ap (λ (x : List ℕ). find x es) word ∙ sym run)
     (runs_before es cs ls (tails (word_run l) (word_found es c) (map word_run ls) (map (word_found es) cs) was))
 
@@ -202,7 +202,7 @@ same_words es [] (l ∷ ls) w was = cc was
 same_words es (c ∷ cs) [] w was = cc was
 same_words es (c ∷ cs) (l ∷ ls) w was =
     let first = heads (word_run l) (word_found es c) (map word_run ls) (map (word_found es) cs) was in
-    let word : l.word.items ≡ c.word.items = ap (λ (p : List ℕ × Option Traced). p.0) first in
+    let word : l.word.items ≡ c.word.items = ap (λ (p : List ℕ × Option RunTrace). p.0) first in
     ap (λ (x : List ℕ). bytes_eq x w || is_changed ls w) word
     ∙ ap (λ (b : Bool). bytes_eq c.word.items w || b) (same_words es cs ls w (tails (word_run l) (word_found es c) (map word_run ls) (map (word_found es) cs) was))
 

@@ -13,8 +13,8 @@ use Rattle.std.proofs.lemmas.Slice.Eq.{bytes_eq-Decides}
 use denote.Enum.Bare.{true_same}
 use Rattle.sbl_semantics.specs.contracts.fault.RunFault as fault
 use Rattle.sbl_semantics.specs.Outcome.{Outcome', Stem, Refused, outcome_of, run_of}
-use Rattle.sbl_machine.specs.declared.outcome.Traced.{Traced}
-use Rattle.sbl_bench.specs.AffectedWords.{Affected, is_affected}
+use Rattle.sbl_machine.specs.declared.outcome.RunTrace.{RunTrace}
+use Rattle.sbl_bench.specs.AffectedWords.{AffectedWords, is_affected}
 use Rattle.sbl_bench.specs.ChangedRows.{ChangedRow, changed_rows, if_changed, outcome_in, same_outcome}
 use Rattle.sbl_bench.specs.Changes.{AreAnew, AreRun, Rerun, is_met, met_words, reruns, view_change}
 use Rattle.sbl_bench.specs.KeptRuns.{KeptWord, AreFresh, IsFresh, words_in}
@@ -80,7 +80,7 @@ no_rows_change s words (w ∷ some) =
 
 -- ---- the words that an edit runs again
 
-met_change : (s t : Setting) (a : Affected) (es : List KeptWord) → ((w : List ℕ) → is_affected s a w ≡ false → RunsSame s t w) → AreFresh s es
+met_change : (s t : Setting) (a : AffectedWords) (es : List KeptWord) → ((w : List ℕ) → is_affected s a w ≡ false → RunsSame s t w) → AreFresh s es
     → filter_map (change_of s t) (met_words a es) ≡ filter_map (change_of s t) (words_in es)
 met_change s t a [] stays fresh = refl
 met_change s t a (e ∷ es) stays fresh = by (is_met a e) refl (met_change s t a es stays fresh.1)
@@ -94,7 +94,7 @@ met_change s t a (e ∷ es) stays fresh = by (is_met a e) refl (met_change s t a
         rest ∙ ap (λ (o : Option ChangedRow). cons_option o (filter_map (change_of s t) (words_in es))) (sym (unchanged w (run_of s.script w s.limit) (run_of t.script w t.limit) same.outcome))
 
 -- what changes for these words is all that changes
-pub met_rows : (s t : Setting) (a : Affected) (es : List KeptWord) → ((w : List ℕ) → is_affected s a w ≡ false → RunsSame s t w) → AreFresh s es
+pub met_rows : (s t : Setting) (a : AffectedWords) (es : List KeptWord) → ((w : List ℕ) → is_affected s a w ≡ false → RunsSame s t w) → AreFresh s es
     → filter_map (change_of s t) (met_words a es) ≡ changed_rows (rows_of s (words_in es)) (rows_of t (words_in es))
 met_rows s t a es stays fresh = met_change s t a es stays fresh ∙ sym (rows_change s t (words_in es) (words_in es) (own_words (words_in es)))
 
@@ -110,11 +110,11 @@ one_last : (s t : Setting) (es fs : List KeptWord) (c l : Change) → AreFresh s
     → last_change fs l ≡ change_of s t c.word.items
 one_last s t es fs c l fresh run there was =
     let w = c.word.items in
-    let word : l.word.items ≡ w = ap (λ (p : List ℕ × Option Traced). p.0) was in
-    let before : Some l.traced ≡ find w es = ap (λ (p : List ℕ × Option Traced). p.1) was in
+    let word : l.word.items ≡ w = ap (λ (p : List ℕ × Option RunTrace). p.0) was in
+    let before : Some l.traced ≡ find w es = ap (λ (p : List ℕ × Option RunTrace). p.1) was in
     let old = fresh_found s w es l.traced fresh before in
     let now : find l.word.items fs ≡ Some c.traced = ap (λ (x : List ℕ). find x fs) word ∙ there in
-    ap (option_and_then (λ (r : Traced). if_changed l.word.items (outcome_of l.traced.outcome) (outcome_of r.outcome))) now
+    ap (option_and_then (λ (r : RunTrace). if_changed l.word.items (outcome_of l.traced.outcome) (outcome_of r.outcome))) now
     ∙ λ i. if_changed (word i) (old.outcome i) (run.outcome i)
 
 pub last_is : (s t : Setting) (es fs : List KeptWord) (cs ls : List Change) → AreFresh s es → AreRun t es cs → All (λ c. find c.word.items fs ≡ Some c.traced) cs
@@ -173,13 +173,13 @@ distinct_texts (k ∷ ks) h = (others ks h.0, distinct_texts ks h.1)
     others (y ∷ ys) a = (a.0, others ys a.1)
 
 -- no two of the words that are met are equal
-met_apart : (a : Affected) (es : List KeptWord) → IsDistinct (λ (x y : Text). bytes_eq x.items y.items) (keys_of es) → AllPairs (λ x y. x ≢ y) (met_words a es)
+met_apart : (a : AffectedWords) (es : List KeptWord) → IsDistinct (λ (x y : Text). bytes_eq x.items y.items) (keys_of es) → AllPairs (λ x y. x ≢ y) (met_words a es)
 met_apart a es unique =
     let met = filter (is_met a) es in
     AllPairs-from_IsDistinct bytes_eq-Decides (met_words a es)
     (subst (IsDistinct bytes_eq) (sym (words_by_keys met)) (distinct_texts (keys_of met) (IsDistinct-keys_filter (λ (x y : Text). bytes_eq x.items y.items) (is_met a) es unique)))
 
-pub apart : (t : Setting) (a : Affected) (es : List KeptWord) (cs : List Change) → map view_change cs ≡ reruns t (met_words a es)
+pub apart : (t : Setting) (a : AffectedWords) (es : List KeptWord) (cs : List Change) → map view_change cs ≡ reruns t (met_words a es)
     → IsDistinct (λ (x y : Text). bytes_eq x.items y.items) (keys_of es) → AreApart cs
 apart t a es cs is unique i j d h below =
     let word = λ (c : Change). c.word.items in
@@ -191,7 +191,7 @@ apart t a es cs is unique i j d h below =
 -- ---- an edit of the setting
 
 -- what the last runs show after an edit that meets these words
-pub edit_changes : (s t : Setting) (a : Affected) (es fs : List KeptWord) (cs ls : List Change) → ((w : List ℕ) → is_affected s a w ≡ false → RunsSame s t w) → AreFresh s es
+pub edit_changes : (s t : Setting) (a : AffectedWords) (es fs : List KeptWord) (cs ls : List Change) → ((w : List ℕ) → is_affected s a w ≡ false → RunsSame s t w) → AreFresh s es
     → map view_change cs ≡ reruns t (met_words a es)
     → ((s t : Setting) → AreFresh s es → AreAnew t es cs → last_changes fs ls ≡ filter_map (change_of s t) (map (λ c. c.word.items) cs))
     → words_in fs ≡ words_in es → last_changes fs ls ≡ changed_rows (rows_of s (words_in es)) (rows_of t (words_in fs))

@@ -8,8 +8,8 @@ use Rattle.std.proofs.lemmas.List.Elements.{All-cons, All-head, All-tail}
 use Rattle.std.proofs.Math.Path.{fun_ext}
 use Rattle.std.specs.Prelude.{if◌then◌else◌}
 use Rattle.sbl_semantics.specs.Outcome.{run_of, touches_of, used_of}
-use Rattle.sbl_machine.specs.declared.outcome.Traced.{Traced}
-use Rattle.sbl_bench.specs.AffectedWords.{Affected, is_affected, is_affected_run}
+use Rattle.sbl_machine.specs.declared.outcome.RunTrace.{RunTrace}
+use Rattle.sbl_bench.specs.AffectedWords.{AffectedWords, is_affected, is_affected_run}
 use Rattle.sbl_bench.specs.Changes.{AreAnew, AreRun, AreStill, Brings, Rerun, is_changed, is_met, met_words, rerun_of, reruns, view_change}
 use Rattle.sbl_bench.specs.Contents.{Contents}
 use Rattle.sbl_bench.specs.Edits.{Edit, needs_run, runs_needed}
@@ -21,11 +21,11 @@ use Rattle.sbl_bench.specs.declared.change.Change.{Change}
 -- ---- which words are met
 
 -- a word's last run is affected if a fresh one is
-pub met_fresh : (s : Setting) (a : Affected) (e : KeptWord) → IsFresh s e.0.items e.1 → is_met a e ≡ is_affected s a e.0.items
+pub met_fresh : (s : Setting) (a : AffectedWords) (e : KeptWord) → IsFresh s e.0.items e.1 → is_met a e ≡ is_affected s a e.0.items
 met_fresh s a e h = λ i. is_affected_run a (h.touches i) (h.used i)
 
 -- as many entries are met as words of the vocabulary
-pub met_count : (s : Setting) (a : Affected) (es : List KeptWord) → AreFresh s es
+pub met_count : (s : Setting) (a : AffectedWords) (es : List KeptWord) → AreFresh s es
     → length (met_words a es) ≡ length (filter (is_affected s a) (words_in es))
 met_count s a [] h = refl
 met_count s a (e ∷ es) h = by (is_met a e) refl (met_count s a es h.1)
@@ -36,7 +36,7 @@ met_count s a (e ∷ es) h = by (is_met a e) refl (met_count s a es h.1)
     by false k rest = rw (k, sym (met_fresh s a e h.0) ∙ k) rest
 
 -- so many runs does the edit need
-pub needed_is : (s : Contents) (e : Edit) (t : Setting) (a : Affected) (es : List KeptWord) → Brings s e t a → s.words ≡ words_in es → AreFresh s.setting es
+pub needed_is : (s : Contents) (e : Edit) (t : Setting) (a : AffectedWords) (es : List KeptWord) → Brings s e t a → s.words ≡ words_in es → AreFresh s.setting es
     → length (met_words a es) ≡ runs_needed s e t
 needed_is s e t a es b words fresh =
     met_count s.setting a es fresh
@@ -44,24 +44,24 @@ needed_is s e t a es b words fresh =
     ∙ sym (ap (λ (ws : List (List ℕ)). length (filter (needs_run s e t) ws)) (b.words ∙ words))
 
 -- a word that is not met runs as before
-pub still : (s t : Setting) (a : Affected) → ((w : List ℕ) → is_affected s a w ≡ false → RunsSame s t w) → (es : List KeptWord) → AreFresh s es → AreStill (is_met a) t es
+pub still : (s t : Setting) (a : AffectedWords) → ((w : List ℕ) → is_affected s a w ≡ false → RunsSame s t w) → (es : List KeptWord) → AreFresh s es → AreStill (is_met a) t es
 still s t a law [] h = tt
 still s t a law (e ∷ es) h = (λ unmet. stays e.1 (law e.0.items (sym (met_fresh s a e h.0) ∙ unmet)) h.0, still s t a law es h.1)
   where
-    stays : (r : Traced) → RunsSame s t e.0.items → IsFresh s e.0.items r → IsFresh t e.0.items r
+    stays : (r : RunTrace) → RunsSame s t e.0.items → IsFresh s e.0.items r → IsFresh t e.0.items r
     stays r x f = record { outcome = f.outcome ∙ sym x.outcome; touches = f.touches ∙ sym x.touches; used = f.used ∙ sym x.used }
 
 -- ---- one word after another
 
 -- one more entry is looked at, and its word is not met
-pub not_met : (a : Affected) (before : List (List ℕ)) (es rest all : List KeptWord) (e : KeptWord) → before ++ met_words a es ≡ met_words a all
+pub not_met : (a : AffectedWords) (before : List (List ℕ)) (es rest all : List KeptWord) (e : KeptWord) → before ++ met_words a es ≡ met_words a all
     → es ≡ e ∷ rest → is_met a e ≡ false → before ++ met_words a rest ≡ met_words a all
 not_met a before es rest all e so split off =
     ap (λ (b : Bool). before ++ words_in (cond b (e ∷ filter (is_met a) rest) (filter (is_met a) rest))) (sym off)
     ∙ ap (λ (l : List KeptWord). before ++ met_words a l) (sym split) ∙ so
 
 -- one more entry is looked at, and its word is met
-pub one_met : (a : Affected) (before more : List (List ℕ)) (es rest all : List KeptWord) (e : KeptWord) → before ++ met_words a es ≡ met_words a all
+pub one_met : (a : AffectedWords) (before more : List (List ℕ)) (es rest all : List KeptWord) (e : KeptWord) → before ++ met_words a es ≡ met_words a all
     → es ≡ e ∷ rest → is_met a e ≡ true → more ≡ before ++ e.0.items ∷ [] → more ++ met_words a rest ≡ met_words a all
 one_met a before more es rest all e so split on next =
     ap (λ (l : List (List ℕ)). l ++ met_words a rest) next
@@ -70,7 +70,7 @@ one_met a before more es rest all e so split on next =
     ∙ ap (λ (l : List KeptWord). before ++ met_words a l) (sym split) ∙ so
 
 -- the words that are met are words
-pub met_sound : (a : Affected) (es : List KeptWord) → All IsWord (words_in es) → All IsWord (met_words a es)
+pub met_sound : (a : AffectedWords) (es : List KeptWord) → All IsWord (words_in es) → All IsWord (met_words a es)
 met_sound a [] h = h
 met_sound a (e ∷ es) h = by (is_met a e) (met_sound a es (All-tail IsWord e.0.items (words_in es) h))
   where
@@ -154,7 +154,7 @@ fresh_or_rerun : (needs_run : KeptWord → Bool) (script : Setting) (es : List K
 fresh_or_rerun needs_run script [] w still = tt
 fresh_or_rerun needs_run script (e ∷ es) w still = by (bytes_eq w e.0.items) refl (needs_run e) refl (fresh_or_rerun needs_run script es w still.1)
   where
-    later : (b : Bool) (x : Option Traced) → IfSome x (λ t. IsFresh script w t ⊎ (is_rerun (changes_of needs_run script es) w ≡ true))
+    later : (b : Bool) (x : Option RunTrace) → IfSome x (λ t. IsFresh script w t ⊎ (is_rerun (changes_of needs_run script es) w ≡ true))
         → IfSome x (λ t. IsFresh script w t ⊎ (is_rerun (with_change b (rerun_of script e.0.items) (changes_of needs_run script es)) w ≡ true))
     later b None h = tt
     later b (Some t) (inl p) = inl p
@@ -190,12 +190,12 @@ anew_by needs_run script es cs is still = record {
   fresh = λ w. at w (find w.items es) (fresh_or_rerun needs_run script es w.items still);
 }
   where
-    at : (w : Text) (x : Option Traced) → IfSome x (λ t. IsFresh script w.items t ⊎ (is_rerun (changes_of needs_run script es) w.items ≡ true))
+    at : (w : Text) (x : Option RunTrace) → IfSome x (λ t. IsFresh script w.items t ⊎ (is_rerun (changes_of needs_run script es) w.items ≡ true))
         → IfSome x (λ t. IsFresh script w.items t ⊎ (is_changed cs w.items ≡ true))
     at w None h = tt
     at w (Some t) (inl p) = inl p
     at w (Some t) (inr p) = inr (sym (changed_view cs w.items) ∙ ap (λ (rs : List Rerun). is_rerun rs w.items) is ∙ p)
 
-pub anew : (a : Affected) (script : Setting) (es : List KeptWord) (cs : List Change) → map view_change cs ≡ reruns script (met_words a es)
+pub anew : (a : AffectedWords) (script : Setting) (es : List KeptWord) (cs : List Change) → map view_change cs ≡ reruns script (met_words a es)
     → AreStill (is_met a) script es → AreAnew script es cs
 anew a script es cs is still = anew_by (is_met a) script es cs (is ∙ changes_are (is_met a) script es) still

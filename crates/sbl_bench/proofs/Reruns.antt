@@ -2,7 +2,7 @@
 use Rattle.std.proofs.Common.{◌≡◌, ◌∙◌, ◌≤◌, ◌+◌, ◌-◌, ℕ, List, Ok, Err, inl, inr, length, ap, sym, refl, subst}
 use Rattle.sbl_bench.specs.declared.fault.EditFault.{EditFault}
 use Rattle.sbl_bench.specs.declared.fault.EditFault.TheVariants as fault
-use Rattle.sbl_bench.specs.AffectedWords.{Affected}
+use Rattle.sbl_bench.specs.AffectedWords.{AffectedWords}
 use Rattle.sbl_bench.specs.Changes.{Brings, met_words}
 use Rattle.sbl_bench.specs.Contents.{Contents, max_runs}
 use Rattle.sbl_bench.specs.Edits.{Edit, Edits, runs_needed}
@@ -12,7 +12,7 @@ use Rattle.sbl_bench.specs.Stops.{IsStopOf}
 use Rattle.sbl_bench.proofs.Meeting.{needed_is}
 use Rattle.sbl_bench.proofs.Refusals.{replaces, replaces_never, replaces_nothing}
 
-module _ (s : Contents) (e : Edit) (t : Setting) (a : Affected) (es : List KeptWord) (b : Brings s e t a) (words : s.words ≡ words_in es) (fresh : AreFresh s.setting es) where
+module _ (s : Contents) (e : Edit) (t : Setting) (a : AffectedWords) (es : List KeptWord) (b : Brings s e t a) (words : s.words ≡ words_in es) (fresh : AreFresh s.setting es) where
   abbrev needed : ℕ
   needed = length (met_words a es)
 

@@ -3,13 +3,13 @@ use Rattle.std.proofs.Common.{◌≡◌, ◌∙◌, ◌++◌, ℕ, Bool, true, f
 use Rattle.std.specs.Str.{bytes_eq}
 use Rattle.indexmap.specs.IndexMap.{get, insert_entry}
 use Rattle.indexmap.proofs.CallerLemmas.{insert_entry-new}
-use Rattle.sbl_machine.specs.declared.outcome.Traced.{Traced}
+use Rattle.sbl_machine.specs.declared.outcome.RunTrace.{RunTrace}
 use Rattle.sbl_bench.specs.declared.word_hash.WordKeys.{WordKeys}
 use Rattle.sbl_bench.specs.KeptRuns.{KeptWord}
 use Rattle.sbl_bench.specs.Vocabulary.{is_word, with_word}
 
 abbrev pub Traces : Type 0
-Traces = HashMap (Vec ℕ Global) Traced WordKeys
+Traces = HashMap (Vec ℕ Global) RunTrace WordKeys
 
 abbrev same_word : Vec ℕ Global → Vec ℕ Global → Bool
 same_word x y = bytes_eq x.items y.items
@@ -20,10 +20,10 @@ pub comes_home : {G : Type 0} {g h : G} {left : Traces} (P : List KeptWord → T
 comes_home P es same stays p given = subst (λ (m : Traces). P m.entries) (sym (given.1 same)) (subst P (sym stays) p)
 
 -- an entry that is put in for a word that has none goes last
-pub goes_last : (m : Traces) (word : Vec ℕ Global) (v traced : Traced) (es : List KeptWord) → get same_word m word ≡ None → v ≡ traced
+pub goes_last : (m : Traces) (word : Vec ℕ Global) (v traced : RunTrace) (es : List KeptWord) → get same_word m word ≡ None → v ≡ traced
     → es ≡ insert_entry same_word m.entries word v → es ≡ m.entries ++ (word, traced) ∷ []
 goes_last m word v traced es none made put =
-    put ∙ insert_entry-new same_word m word v none ∙ ap (λ (t : Traced). m.entries ++ (word, t) ∷ []) made
+    put ∙ insert_entry-new same_word m word v none ∙ ap (λ (t : RunTrace). m.entries ++ (word, t) ∷ []) made
 
 -- ---- what becomes of the words
 

@@ -3,7 +3,7 @@ use Rattle.std.proofs.Common.{◌≡◌, ◌∙◌, ℕ, Bool, true, false, cond
 use Rattle.std.specs.Str.{bytes_eq}
 use Rattle.std.proofs.lemmas.Slice.Eq.{bytes_eq-Decides}
 use Rattle.sbl_semantics.specs.TouchedItems.{Item', items_of, names_of, touched_items}
-use Rattle.sbl_machine.specs.declared.outcome.Traced.{Traced}
+use Rattle.sbl_machine.specs.declared.outcome.RunTrace.{RunTrace}
 use Rattle.sbl_bench.specs.Setting.{Setting}
 use Rattle.sbl_bench.specs.KeptRuns.{KeptWord, AreFresh, IsFresh, words_in}
 use Rattle.sbl_bench.specs.Pairs.{find}
@@ -12,7 +12,7 @@ use Rattle.sbl_bench.specs.Vocabulary.{is_word}
 use Rattle.sbl_bench.proofs.Words.{found_word}
 
 -- the run that a word has is fresh
-pub fresh_found : (script : Setting) (word : List ℕ) (es : List KeptWord) (t : Traced) → AreFresh script es → Some t ≡ find word es → IsFresh script word t
+pub fresh_found : (script : Setting) (word : List ℕ) (es : List KeptWord) (t : RunTrace) → AreFresh script es → Some t ≡ find word es → IsFresh script word t
 fresh_found script word [] t fresh is = cc is
 fresh_found script word (e ∷ es) t fresh is = by (bytes_eq word e.0.items) refl is (fresh_found script word es t fresh.1)
   where
@@ -23,11 +23,11 @@ fresh_found script word (e ∷ es) t fresh is = by (bytes_eq word e.0.items) ref
     by false other is rest = rest is
 
 -- a word with an entry is in the vocabulary
-is_there : (word : List ℕ) (es : List KeptWord) (t : Traced) → Some t ≡ find word es → is_word word (words_in es) ≡ true
+is_there : (word : List ℕ) (es : List KeptWord) (t : RunTrace) → Some t ≡ find word es → is_word word (words_in es) ≡ true
 is_there word es t is = sym (found_word word es) ∙ ap is_some (sym is)
 
 -- so it is not absent
-pub not_absent : (word : List ℕ) (es : List KeptWord) (t : Traced) (words : List (List ℕ)) → Some t ≡ find word es → words_in es ≡ words → is_word word words ≡ false → ⊥
+pub not_absent : (word : List ℕ) (es : List KeptWord) (t : RunTrace) (words : List (List ℕ)) → Some t ≡ find word es → words_in es ≡ words → is_word word words ≡ false → ⊥
 not_absent word es t words is same absent =
     let yes = ap (is_word word) (sym same) ∙ is_there word es t is in
     cc (sym yes ∙ absent)
@@ -36,7 +36,7 @@ not_there : (word : List ℕ) (es : List KeptWord) → None ≡ find word es →
 not_there word es is = sym (found_word word es) ∙ ap is_some (sym is)
 
 -- the items of its touches are its trace
-pub trace_found : (script : Setting) (word : List ℕ) (es : List KeptWord) (t : Traced) (items : List Item') → AreFresh script es → Some t ≡ find word es
+pub trace_found : (script : Setting) (word : List ℕ) (es : List KeptWord) (t : RunTrace) (items : List Item') → AreFresh script es → Some t ≡ find word es
     → items ≡ items_of (names_of script.script) t.touches.items → Some items ≡ trace_of script (words_in es) word
 unfolding touched_items
 trace_found script word es t items fresh is of =

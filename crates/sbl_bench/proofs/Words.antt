@@ -9,7 +9,7 @@ use Rattle.std.specs.List.{AllByRecursion, IsDistinct}
 use Rattle.std.specs.Map.{keys_of, lookup, lookup_key, remove_entry}
 use Rattle.std.proofs.lemmas.Slice.Eq.{bytes_eq-Decides}
 use Rattle.sbl_bench.specs.Setting.{Setting}
-use Rattle.sbl_machine.specs.declared.outcome.Traced.{Traced}
+use Rattle.sbl_machine.specs.declared.outcome.RunTrace.{RunTrace}
 use Rattle.sbl_semantics.specs.Outcome.{outcome_of}
 use Rattle.sbl_bench.specs.declared.fault.EditFault.{EditFault}
 use Rattle.sbl_bench.specs.KeptRuns.{KeptWord, words_in, AreFresh, IsFresh, IsWord, IsKept}
@@ -42,7 +42,7 @@ found_word word (e ∷ es) = by (is_key word e.0) refl (found_word word es)
 pub not_found : (word : List ℕ) (es : List KeptWord) → is_word word (words_in es) ≡ false → lookup (is_key word) es ≡ None
 not_found word es new = by (lookup (is_key word) es) (found_word word es ∙ new)
   where
-    by : (o : Option Traced) → is_some o ≡ false → o ≡ None
+    by : (o : Option RunTrace) → is_some o ≡ false → o ≡ None
     by None h = refl
     by (Some x) h = cc
 
@@ -126,7 +126,7 @@ taken_more word es unique = record { absent = absent es unique; others = others 
         by false k rest = rw k (ap (cond (bytes_eq w.items f.0.items) (Some f.1)) rest)
 
 -- its key, and its run
-pub key_taken : (word : List ℕ) (es new : List KeptWord) (k : Text) (t : Traced) → IsDistinct (λ (x y : Text). bytes_eq x.items y.items) (keys_of es) → new ≡ remove_entry (is_key word) es
+pub key_taken : (word : List ℕ) (es new : List KeptWord) (k : Text) (t : RunTrace) → IsDistinct (λ (x y : Text). bytes_eq x.items y.items) (keys_of es) → new ≡ remove_entry (is_key word) es
     → Some k ≡ lookup_key (is_key word) es → Some t ≡ lookup (is_key word) es → IsOneMore k.items es new × (find k.items es ≡ Some t)
 key_taken word es new k t unique is key there =
     let same : word ≡ k.items = (bytes_eq-Decides word k.items).0 (key_found word es k (sym key)) in (

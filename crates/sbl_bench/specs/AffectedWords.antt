@@ -15,32 +15,32 @@ use Rattle.sbl_bench.specs.Edits.{meets_listed}
 use Rattle.sbl_bench.specs.Setting.{Setting, under}
 
 -- the words whose run touches one of these, those whose run uses more than this number of steps, or all
-pub data Affected : Type 0 where
-  Touching : List Touch → Affected
-  Above : ℕ → Affected
-  Every : Affected
+pub data AffectedWords : Type 0 where
+  Touching : List Touch → AffectedWords
+  Above : ℕ → AffectedWords
+  Every : AffectedWords
 
 -- whether one of the touches is one of the marks
 abbrev pub touches_one : List Touch → List Touch → Bool
 touches_one marks touches = list_any (λ t. list_any (same_touch t) marks) touches
 
 -- whether a run with these touches and this number of steps is affected
-abbrev pub is_affected_run : Affected → List Touch → ℕ → Bool
+abbrev pub is_affected_run : AffectedWords → List Touch → ℕ → Bool
 is_affected_run (Touching marks) touches used = touches_one marks touches
 is_affected_run (Above n) touches used = nat_lt n used
 is_affected_run Every touches used = true
 
 -- whether a fresh run of the word is affected
-abbrev pub is_affected : Setting → Affected → List ℕ → Bool
+abbrev pub is_affected : Setting → AffectedWords → List ℕ → Bool
 is_affected s a word = is_affected_run a (touches_of s.script word s.limit) (used_of s.script word s.limit)
 
 -- the script defines the routines and groupings of the items
 abbrev pub Defines : Source → List Item → Type 0
 Defines script items = list_all (has_item (names_of script)) (map item_of items) ≡ true
 
-abbrev pub listed : List Item → Option (List Item')
-listed items = Some (map item_of items)
+abbrev pub item_list : List Item → Option (List Item')
+item_list items = Some (map item_of items)
 
 -- under each limit, the words that are affected are those whose run meets one of the listed items, or all if there is no list
-abbrev pub AreMet : Source → Option (List Item') → Affected → Type 0
+abbrev pub AreMet : Source → Option (List Item') → AffectedWords → Type 0
 AreMet script items a = (limit : ℕ) (word : List ℕ) → meets_listed items script word limit ≡ is_affected (under script limit) a word

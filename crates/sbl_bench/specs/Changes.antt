@@ -7,31 +7,31 @@ use Rattle.sbl_ast.specs.Source.{Source}
 use Rattle.sbl_semantics.specs.Differs.{differs}
 use Rattle.sbl_semantics.specs.TouchedItems.{Item'}
 use Rattle.sbl_machine.specs.EditedItem.{edited_item}
-use Rattle.sbl_machine.specs.declared.outcome.Traced.{Traced}
+use Rattle.sbl_machine.specs.declared.outcome.RunTrace.{RunTrace}
 use Rattle.sbl_semantics.specs.declared.touch.Touch.{Touch}
 use Rattle.sbl_semantics.specs.Outcome.{Outcome', outcome_of, run_of, touches_of, used_of}
 use Rattle.sbl_bench.specs.KeptRuns.{KeptWord, IsFresh, words_in}
 use Rattle.sbl_bench.specs.Pairs.{Text, find}
 use Rattle.sbl_bench.specs.Setting.{Setting, RunsSame, under}
-use Rattle.sbl_bench.specs.AffectedWords.{Affected, Touching, Above, Every, is_affected, is_affected_run}
+use Rattle.sbl_bench.specs.AffectedWords.{AffectedWords, Touching, Above, Every, is_affected, is_affected_run}
 use Rattle.sbl_bench.specs.Contents.{Contents}
 use Rattle.sbl_bench.specs.Edits.{Edit, Replace, IsSettingAfter, PassesTests, meets_listed, needs_run, wants_memory, words_after}
-use Rattle.sbl_bench.specs.declared.affected_words.Affected as declared
-use Rattle.sbl_bench.specs.declared.affected_words.Affected.TheVariants as code
+use Rattle.sbl_bench.specs.declared.affected_words.AffectedWords as declared
+use Rattle.sbl_bench.specs.declared.affected_words.AffectedWords.TheVariants as code
 use Rattle.sbl_bench.specs.declared.change.Change.{Change}
 
 -- the words that are affected, without memory addresses
-abbrev pub affected_of : declared.Affected → Affected
+abbrev pub affected_of : declared.AffectedWords → AffectedWords
 affected_of (code.Touching marks) = Touching marks
 affected_of (code.Above n) = Above n
 affected_of code.Every = Every
 
 -- whether the last run of a word is affected
-abbrev pub is_met : Affected → KeptWord → Bool
+abbrev pub is_met : AffectedWords → KeptWord → Bool
 is_met a e = is_affected_run a e.1.touches.items e.1.used
 
 -- the words that are affected, in their order
-abbrev pub met_words : Affected → List KeptWord → List (List ℕ)
+abbrev pub met_words : AffectedWords → List KeptWord → List (List ℕ)
 met_words a entries = words_in (filter (is_met a) entries)
 
 -- a word with the outcome of a run, what the run touches, and the steps that it uses
@@ -44,7 +44,7 @@ pub record Rerun : Type 0 where
 abbrev pub rerun_of : Setting → List ℕ → Rerun
 rerun_of s word = record { word = word; outcome = run_of s.script word s.limit; touches = touches_of s.script word s.limit; used = used_of s.script word s.limit }
 
-abbrev pub view_run : List ℕ → Traced → Rerun
+abbrev pub view_run : List ℕ → RunTrace → Rerun
 view_run word t = record { word = word; outcome = outcome_of t.outcome; touches = t.touches.items; used = t.used }
 
 -- a change without memory addresses
@@ -79,7 +79,7 @@ AreAllFresh script entries = (w : Text) → IfSome (find w.items entries) (λ t.
 
 -- An edit of the setting with the setting after it: the edit passes all tests but those of its text, it has to run exactly the
 -- words that are affected, and each other word runs as before.
-pub record Brings (s : Contents) (e : Edit) (t : Setting) (a : Affected) : Type 0 where
+pub record Brings (s : Contents) (e : Edit) (t : Setting) (a : AffectedWords) : Type 0 where
   pub after : IsSettingAfter s e t
   pub passes : PassesTests s e
   pub wants : wants_memory e ≡ true

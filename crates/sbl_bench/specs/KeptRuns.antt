@@ -2,32 +2,32 @@
 use Rattle.std.specs.Prelude.{◌≡◌, ◌≤◌, ◌<◌, ℕ, List, [], ◌∷◌, map, length, All, ⊤}
 use Rattle.std.specs.declared.vec.Vec.{Vec}
 use Rattle.std.specs.declared.alloc.Global.{Global}
-use Rattle.sbl_script.specs.ParsedScript.{Parsed, source_of}
-use Rattle.sbl_machine.specs.declared.outcome.Traced.{Traced}
+use Rattle.sbl_script.specs.ParsedScript.{ParsedScript, source_of}
+use Rattle.sbl_machine.specs.declared.outcome.RunTrace.{RunTrace}
 use Rattle.sbl_semantics.specs.Outcome.{outcome_of, run_of, touches_of, used_of}
 use Rattle.sbl_bench.specs.ChangedRows.{ChangedRow}
 use Rattle.sbl_bench.specs.Setting.{Setting, under}
 use Rattle.sbl_semantics.specs.Limit.{max_word_length}
 use Rattle.sbl_bench.specs.Contents.{Contents, max_words}
 
-pub record Kept : Type 0 where
-  pub script : Parsed
+pub record KeptRuns : Type 0 where
+  pub script : ParsedScript
   pub limit : ℕ
   pub words : List (List ℕ)
   pub count : ℕ
   -- the words whose outcome the last edit changed
   pub changes : List ChangedRow
 
-abbrev pub setting_of : Kept → Setting
+abbrev pub setting_of : KeptRuns → Setting
 setting_of k = under (source_of k.script) k.limit
 
 -- the bench without memory addresses
-abbrev pub contents_of : Kept → Contents
+abbrev pub contents_of : KeptRuns → Contents
 contents_of k = record { setting = setting_of k; words = k.words; count = k.count }
 
 -- a word and its last run, as represented in memory
 abbrev pub KeptWord : Type 0
-KeptWord = Vec ℕ Global × Traced
+KeptWord = Vec ℕ Global × RunTrace
 
 abbrev pub words_in : List KeptWord → List (List ℕ)
 words_in entries = map (λ e. e.0.items) entries
@@ -37,7 +37,7 @@ abbrev pub IsWord : List ℕ → Type 0
 IsWord word = (0 < length word) × (length word ≤ max_word_length)
 
 -- a fresh run of the word has the same outcome, touches the same, and uses the same number of steps
-pub record IsFresh (s : Setting) (word : List ℕ) (traced : Traced) : Type 0 where
+pub record IsFresh (s : Setting) (word : List ℕ) (traced : RunTrace) : Type 0 where
   pub outcome : outcome_of traced.outcome ≡ run_of s.script word s.limit
   pub touches : traced.touches.items ≡ touches_of s.script word s.limit
   pub used : traced.used ≡ used_of s.script word s.limit

@@ -3,7 +3,7 @@ use Rattle.std.specs.Prelude.{◌≡◌, ◌≢◌, ℕ, false, List, Option, So
 use Rattle.std.specs.List.{All, AllPairs, filter_map}
 use Rattle.std.specs.Option.{option_and_then}
 use Rattle.sbl_semantics.specs.Outcome.{outcome_of, run_of}
-use Rattle.sbl_machine.specs.declared.outcome.Traced.{Traced}
+use Rattle.sbl_machine.specs.declared.outcome.RunTrace.{RunTrace}
 use Rattle.sbl_bench.specs.ChangedRows.{ChangedRow, if_changed}
 use Rattle.sbl_bench.specs.KeptRuns.{KeptWord}
 use Rattle.sbl_bench.specs.Changes.{is_changed}
@@ -12,7 +12,7 @@ use Rattle.sbl_bench.specs.Setting.{Setting}
 use Rattle.sbl_bench.specs.declared.change.Change.{Change}
 
 -- what is changed for a word that was run again, by the run before and the run now
-abbrev pub changed_since : Change → Option Traced → Option ChangedRow
+abbrev pub changed_since : Change → Option RunTrace → Option ChangedRow
 changed_since c now = option_and_then (λ t. if_changed c.word.items (outcome_of c.traced.outcome) (outcome_of t.outcome)) now
 
 -- what the last edit changed for a word that it ran again
@@ -27,11 +27,11 @@ abbrev pub change_of : Setting → Setting → List ℕ → Option ChangedRow
 change_of s t word = if_changed word (run_of s.script word s.limit) (run_of t.script word t.limit)
 
 -- a word of a change, and its run
-abbrev pub word_run : Change → List ℕ × Option Traced
+abbrev pub word_run : Change → List ℕ × Option RunTrace
 word_run c = (c.word.items, Some c.traced)
 
 -- a word of a change, and its run among the entries
-abbrev pub word_found : List KeptWord → Change → List ℕ × Option Traced
+abbrev pub word_found : List KeptWord → Change → List ℕ × Option RunTrace
 word_found entries c = (c.word.items, find c.word.items entries)
 
 -- no two changes are of one word

@@ -8,7 +8,7 @@ use Rattle.std.specs.Cmp.Lexicographic.{slice_cmp}
 use Rattle.std.specs.Str.{bytes_eq}
 use Rattle.std.specs.Map.{lookup}
 use Rattle.std.specs.BTreeSet.{BTreeSet, contains}
-use Rattle.sbl_machine.specs.declared.outcome.Traced.{Traced}
+use Rattle.sbl_machine.specs.declared.outcome.RunTrace.{RunTrace}
 use Rattle.sbl_semantics.specs.Outcome.{Outcome', outcome_of}
 use Rattle.sbl_bench.specs.Classes.{is_stem}
 use Rattle.sbl_bench.specs.KeptRuns.{KeptWord}
@@ -25,10 +25,10 @@ abbrev pub Key : Type 0
 Key = Text × Text
 
 -- the word's last run
-abbrev pub find : List ℕ → List KeptWord → Option Traced
+abbrev pub find : List ℕ → List KeptWord → Option RunTrace
 find word entries = lookup (λ k. bytes_eq word k.items) entries
 
-abbrev pub has_stem : List ℕ → Option Traced → Bool
+abbrev pub has_stem : List ℕ → Option RunTrace → Bool
 has_stem s None = false
 has_stem s (Some t) = is_stem s (outcome_of t.outcome)
 

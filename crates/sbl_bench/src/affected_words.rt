@@ -9,15 +9,15 @@ ghost use Rattle.sbl_bench.specs.Edits.{smaller};
 use crate::last_run::LastRun;
 use sbl_diff::differences;
 use sbl_machine::laws::differing_agree;
-use sbl_machine::{Item, Machine, Table, Touch, Touched};
+use sbl_machine::{Item, Machine, Table, Touch, TouchLog};
 use sbl_script::Script;
 use std::alloc::{AllocError, Global};
 
 /// Which words a change of the script or of the limit can affect.
 #[derive(Drop)]
-pub(crate) enum Affected {
+pub(crate) enum AffectedWords {
     /// The words whose run touched one of these.
-    Touching(Touched),
+    Touching(TouchLog),
     /// The words whose run used more than this number of steps.
     Above(u64),
     /// All words.
@@ -31,11 +31,11 @@ pub(crate) fn affected_by_items(
     machine: &Machine<Table>,
     script: &Script,
     items: &[Item],
-) -> Result<Affected, AllocError>
-    ensures { IsLinkedMachineOf machine.now (source_of script.now) → spec.Defines (source_of script.now) items.now → IfOk result (λ a. AreMet (source_of script.now) (spec.listed items.now) (affected_of a)) }
+) -> Result<AffectedWords, AllocError>
+    ensures { IsLinkedMachineOf machine.now (source_of script.now) → spec.Defines (source_of script.now) items.now → IfOk result (λ a. AreMet (source_of script.now) (spec.item_list items.now) (affected_of a)) }
 {
     let marks = machine.affected_touches(alloc, script, items)?;
-    Ok(Affected::Touching(marks))
+    Ok(AffectedWords::Touching(marks))
 }
 
 /// Returns the words whose run meets an item in which another script differs from this one, under its machine; all words if
@@ -45,26 +45,26 @@ pub(crate) fn affected_by_exchange(
     machine: &Machine<Table>,
     script: &Script,
     other: &Script,
-) -> Result<Affected, AllocError>
+) -> Result<AffectedWords, AllocError>
     ensures { IsLinkedMachineOf machine.now (source_of script.now) → IfOk result (λ a. AreMet (source_of script.now) (differs (source_of script.now) (source_of other.now)) (affected_of a)) }
 {
     differing_agree();
     let differing = differences(alloc, script, other)?;
     match differing {
         Some(items) => affected_by_items(alloc, machine, script, items.as_slice()),
-        None => Ok(Affected::Every),
+        None => Ok(AffectedWords::Every),
     }
 }
 
 /// Returns the words whose run used more steps than the smaller of two limits.
-pub(crate) fn above_smaller(one: u32, other: u32) -> Affected
+pub(crate) fn above_smaller(one: u32, other: u32) -> AffectedWords
     ensures { affected_of result ≡ spec.Above (smaller one other) }
 {
-    Affected::Above(u64::from(if one <= other { one } else { other }))
+    AffectedWords::Above(u64::from(if one <= other { one } else { other }))
 }
 
 // Whether one of the touches is one of the marks.
-fn has_one(marks: &Touched, touches: &[Touch]) -> bool
+fn has_one(marks: &TouchLog, touches: &[Touch]) -> bool
     ensures { result ≡ spec.touches_one marks.now touches.now }
 {
     for touch in touches {
@@ -76,12 +76,12 @@ fn has_one(marks: &Touched, touches: &[Touch]) -> bool
 }
 
 /// Returns whether the last run of a word is affected. Does not allocate.
-pub(crate) fn is_affected(affected: &Affected, last: &LastRun) -> bool
+pub(crate) fn is_affected(affected: &AffectedWords, last: &LastRun) -> bool
     ensures { result ≡ spec.is_affected_run (affected_of affected.now) last.now.touches.items last.now.used }
 {
     match affected {
-        Affected::Touching(marks) => has_one(marks, last.touches()),
-        Affected::Above(steps) => *steps < last.used(),
-        Affected::Every => true,
+        AffectedWords::Touching(marks) => has_one(marks, last.touches()),
+        AffectedWords::Above(steps) => *steps < last.used(),
+        AffectedWords::Every => true,
     }
 }

@@ -43,12 +43,12 @@ impl Model for Bench {
     ghost use Rattle.sbl_ast.specs.contracts.tree.ScriptItem as e;
     ghost use Rattle.sbl_script.specs.ParsedScript.{source_of};
     ghost use Rattle.sbl_machine.specs.MachineOf.{IsLinkedMachineOf};
-    ghost use Rattle.sbl_bench.specs.KeptRuns.{Kept, words_in, IsKept};
+    ghost use Rattle.sbl_bench.specs.KeptRuns.{KeptRuns, words_in, IsKept};
     ghost use Rattle.sbl_bench.specs.Last.{last_changes};
     ghost use Rattle.sbl_bench.specs.Pairs.{IsIndexed};
     ghost use Rattle.sbl_bench.specs.Setting.{under};
 
-    ghost Value = { Kept };
+    ghost Value = { KeptRuns };
 
     ghost coded = { Prim.hlevel (codes, e.the_row.coded) };
 

@@ -15,7 +15,7 @@ ghost use Rattle.sbl_bench.specs.Contents.{max_runs};
 ghost use Rattle.sbl_bench.specs.Setting.{Setting, under};
 ghost use Rattle.sbl_bench.specs.Stops.{IsStopOf};
 
-use crate::affected_words::{Affected, is_affected};
+use crate::affected_words::{AffectedWords, is_affected};
 use crate::fault::EditFault;
 use crate::last_run::{LastRun, SharedLists};
 use crate::traces::{Traces, words_are_unique};
@@ -75,7 +75,7 @@ fn push_change(
 /// fails. Does not allocate if no word is affected.
 fn met_words<'a>(
     alloc: Global,
-    affected: &Affected,
+    affected: &AffectedWords,
     traces: &'a Traces,
 ) -> Result<Vec<&'a [char]>, AllocError>
     ensures words { IfOk result (λ words. map (λ w. w.now) words.items ≡ spec.met_words (affected_of affected.now) traces.now.entries) }
@@ -129,7 +129,7 @@ pub(crate) fn rerun(
     alloc: Global,
     machine: &Machine<Table>,
     limit: u32,
-    affected: &Affected,
+    affected: &AffectedWords,
     meter: &mut Meter,
     traces: &Traces,
 ) -> Result<Vec<Change>, EditFault>

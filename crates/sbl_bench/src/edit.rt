@@ -3,7 +3,9 @@
 ghost use Rattle.std.specs.Prelude.{◌≡◌, ◌≤◌, ◌<◌, ◌+◌, ◌^◌, ℕ, List, MatchOption, OnOk, OnErr, true, false};
 ghost use Rattle.sbl_bench.specs.Edits.{is_limit};
 
-use crate::affected_words::{Affected, above_smaller, affected_by_exchange, affected_by_items};
+use crate::affected_words::{
+    AffectedWords, above_smaller, affected_by_exchange, affected_by_items,
+};
 use crate::bench::{Bench, MAX_LIMIT, MAX_WORDS};
 use crate::change::{make_changes, rerun};
 use crate::fault::EditFault;
@@ -256,7 +258,11 @@ impl Bench {
     /// Returns `MeterFull` if fewer counts of runs are left than there are words to run, and `OutOfMemory` if an allocation
     /// fails. Then both scripts, the vocabulary, rows and classes are unchanged. The count of runs is unchanged too, except
     /// that after `OutOfMemory` it may be higher by at most the number of words to run.
-    fn take_script(&mut self, script: &mut Script, affected: &Affected) -> Result<(), EditFault>
+    fn take_script(
+        &mut self,
+        script: &mut Script,
+        affected: &AffectedWords,
+    ) -> Result<(), EditFault>
         requires { (e : Edit) × Brings (contents_of self.old) e (under (source_of script.old) self.old.limit) (affected_of affected.now) }
         ensures edits { (e : Edit) → Brings (contents_of self.old) e (under (source_of script.old) self.old.limit) (affected_of affected.now) → Edits result (contents_of self.old) e (contents_of self.new) }
         ensures changes { LeavesChanges result self.old self.new }

@@ -2,7 +2,7 @@
 
 ghost use Rattle.std.specs.Prelude.{◌≡◌, IfOk, IfSome};
 
-use sbl_machine::{Meter, Outcome, Touch, Traced};
+use sbl_machine::{Meter, Outcome, RunTrace, Touch};
 use std::alloc::{AllocError, Global};
 use std::marker::Model;
 use std::rc::Rc;
@@ -18,10 +18,10 @@ pub(crate) struct LastRun {
 
 impl Model for LastRun {
     ghost use Rattle.std.specs.Coded.{codes};
-    ghost use Rattle.sbl_machine.specs.contracts.outcome.Traced as e;
-    ghost use Rattle.sbl_machine.specs.declared.outcome.Traced as declared;
+    ghost use Rattle.sbl_machine.specs.contracts.outcome.RunTrace as e;
+    ghost use Rattle.sbl_machine.specs.declared.outcome.RunTrace as declared;
 
-    ghost Value = { declared.Traced };
+    ghost Value = { declared.RunTrace };
 
     ghost coded = { Prim.hlevel (codes, e.the_row.coded) };
 
@@ -34,7 +34,7 @@ impl LastRun {
     pub(crate) fn after(
         alloc: Global,
         before: Option<&LastRun>,
-        traced: Traced,
+        traced: RunTrace,
     ) -> Result<LastRun, AllocError>
         ensures outcome { IfOk result (λ run. run.outcome ≡ traced.outcome) }
         ensures touches { IfOk result (λ run. run.touches.items ≡ traced.touches.items) }
@@ -110,7 +110,7 @@ impl SharedLists {
         &mut self,
         alloc: Global,
         meter: &mut Meter,
-        traced: Traced,
+        traced: RunTrace,
     ) -> Result<LastRun, AllocError>
         ensures outcome { IfOk result (λ run. run.outcome ≡ traced.outcome) }
         ensures touches { IfOk result (λ run. run.touches.items ≡ traced.touches.items) }

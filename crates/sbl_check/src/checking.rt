@@ -11,7 +11,7 @@ ghost use Rattle.sbl_check.specs.Differences as spec;
 use csv::ByteRecord;
 use sbl_bench::MAX_WORD_LENGTH;
 use sbl_io::{MAX_LINE, ServeFault, Sink, first_line, record_line, text_of, write_all};
-use sbl_machine::{DEFAULT_LIMIT, Machine, Meter, Outcome, Table, Traced};
+use sbl_machine::{DEFAULT_LIMIT, Machine, Meter, Outcome, RunTrace, Table};
 use sbl_script::Script;
 use std::alloc::{AllocError, Global};
 
@@ -41,7 +41,7 @@ fn run_word(
     let Ok(traced) = machine.trace(alloc, meter, characters.as_slice(), DEFAULT_LIMIT) else {
         return Err(AllocError);
     };
-    let Traced { outcome, .. } = traced;
+    let RunTrace { outcome, .. } = traced;
     match outcome {
         Outcome::Stem(stem) => Ok(Got::Stem(text_of(alloc, &stem)?)),
         Outcome::Refused(fault) => Ok(Got::Refused(fault.name())),

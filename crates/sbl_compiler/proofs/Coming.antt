@@ -8,7 +8,7 @@ use Rattle.std.specs.Prelude.{if◌then◌else◌, nat_lt, Option, Some, None, o
 use Rattle.sbl_ast.specs.declared.tree.Simple.{Simple}
 use Rattle.sbl_ast.specs.declared.tree.Simple.TheVariants as simples
 use Rattle.sbl_compiler.specs.Ahead.{found_as, search_of, search_then, search_next as search_by, simple_by, made_command, made_rows, made_others, made_starter, made_groups}
-use Rattle.sbl_compiler.specs.NumberedAmongs.{Found}
+use Rattle.sbl_compiler.specs.NumberedAmongs.{AmongStrings}
 use Rattle.sbl_compiler.specs.NumberedNames.{Names}
 use Rattle.sbl_semantics.specs.Regions.{Among, among_at, mode_under, number_after, number_after_rows, number_after_others, number_after_starter, first, first_rows, first_others, waits, waits_rows, waits_others}
 use Rattle.sbl_compiler.specs.NumberedNumbers.{expression}
@@ -21,7 +21,7 @@ use Rattle.sbl_ast.specs.Tree.{Command, Rows, Others, Starter, Groups, bracket, 
 module _ (ns : Names) where
   abbrev mutual
     -- the amongs of a command before which there are k, in front of others
-    pub founds : Mode → Command → ℕ → List Found → List Found
+    pub founds : Mode → Command → ℕ → List AmongStrings → List AmongStrings
     founds m (bracket rs) k rest = founds_rows m rs k rest
     founds m (prefixed x c) k rest = founds (mode_under x m) c k rest
     founds m (counted x e c) k rest = founds m c k rest
@@ -38,26 +38,26 @@ module _ (ns : Names) where
     founds m (compare_values_ e o f) k rest = rest
     founds m (simple_ s) k rest = rest
 
-    pub founds_rows : Mode → Rows → ℕ → List Found → List Found
+    pub founds_rows : Mode → Rows → ℕ → List AmongStrings → List AmongStrings
     founds_rows m no_rows k rest = rest
     founds_rows m (row c os rs) k rest = founds m c k (founds_others m os (number_after c k) (founds_rows m rs (number_after_others os (number_after c k)) rest))
 
-    pub founds_others : Mode → Others → ℕ → List Found → List Found
+    pub founds_others : Mode → Others → ℕ → List AmongStrings → List AmongStrings
     founds_others m no_others k rest = rest
     founds_others m (joined j c os) k rest = founds m c k (founds_others m os (number_after c k) rest)
 
-    pub founds_starter : Mode → Starter → ℕ → List Found → List Found
+    pub founds_starter : Mode → Starter → ℕ → List AmongStrings → List AmongStrings
     founds_starter m no_starter k rest = rest
     founds_starter m (starter rs) k rest = founds_rows m rs k rest
 
-    pub founds_groups : Mode → Groups → ℕ → List Found → List Found
+    pub founds_groups : Mode → Groups → ℕ → List AmongStrings → List AmongStrings
     founds_groups m (bare es) k rest = rest
     founds_groups m (group e es rs gs) k rest = founds_rows m rs k (founds_groups m gs (number_after_rows rs k) rest)
 
   -- ---- they are no fewer with a command in front
 
   mutual
-    longer : (t : Command) (m : Mode) (k b : ℕ) (rest : List Found) → b ≤ length rest → b ≤ length (founds m t k rest)
+    longer : (t : Command) (m : Mode) (k b : ℕ) (rest : List AmongStrings) → b ≤ length rest → b ≤ length (founds m t k rest)
     longer (bracket rs) m k b rest l = longer_rows rs m k b rest l
     longer (prefixed x c) m k b rest l = longer c (mode_under x m) k b rest l
     longer (counted x e c) m k b rest l = longer c m k b rest l
@@ -76,26 +76,26 @@ module _ (ns : Names) where
     longer (compare_values_ e o f) m k b rest l = l
     longer (simple_ s) m k b rest l = l
 
-    longer_rows : (rs : Rows) (m : Mode) (k b : ℕ) (rest : List Found) → b ≤ length rest → b ≤ length (founds_rows m rs k rest)
+    longer_rows : (rs : Rows) (m : Mode) (k b : ℕ) (rest : List AmongStrings) → b ≤ length rest → b ≤ length (founds_rows m rs k rest)
     longer_rows no_rows m k b rest l = l
     longer_rows (row c os rs) m k b rest l = longer c m k b _ (longer_others os m (number_after c k) b _ (longer_rows rs m (number_after_others os (number_after c k)) b rest l))
 
-    longer_others : (os : Others) (m : Mode) (k b : ℕ) (rest : List Found) → b ≤ length rest → b ≤ length (founds_others m os k rest)
+    longer_others : (os : Others) (m : Mode) (k b : ℕ) (rest : List AmongStrings) → b ≤ length rest → b ≤ length (founds_others m os k rest)
     longer_others no_others m k b rest l = l
     longer_others (joined j c os) m k b rest l = longer c m k b _ (longer_others os m (number_after c k) b rest l)
 
-    longer_starter : (s : Starter) (m : Mode) (k b : ℕ) (rest : List Found) → b ≤ length rest → b ≤ length (founds_starter m s k rest)
+    longer_starter : (s : Starter) (m : Mode) (k b : ℕ) (rest : List AmongStrings) → b ≤ length rest → b ≤ length (founds_starter m s k rest)
     longer_starter no_starter m k b rest l = l
     longer_starter (starter rs) m k b rest l = longer_rows rs m k b rest l
 
-    longer_groups : (gs : Groups) (m : Mode) (k b : ℕ) (rest : List Found) → b ≤ length rest → b ≤ length (founds_groups m gs k rest)
+    longer_groups : (gs : Groups) (m : Mode) (k b : ℕ) (rest : List AmongStrings) → b ≤ length rest → b ≤ length (founds_groups m gs k rest)
     longer_groups (bare es) m k b rest l = l
     longer_groups (group e es rs gs) m k b rest l = longer_rows rs m k b _ (longer_groups gs m (number_after_rows rs k) b rest l)
 
   -- ---- the next of them, if it stands in the region, is the first ahead
 
   -- the next of some, where so many stand behind the region
-  abbrev ahead_in : ℕ → List Found → Option Found
+  abbrev ahead_in : ℕ → List AmongStrings → Option AmongStrings
   ahead_in b xs = if nat_lt b (length xs) then Some (next_of xs) else None
 
   less_is : (b n : ℕ) → b ≤ n → nat_lt b (suc n) ≡ true
@@ -108,14 +108,14 @@ module _ (ns : Names) where
   same_is : (n : ℕ) → nat_lt n n ≡ false
   same_is n = not_less n (nat_lt n n) refl
 
-  none_ahead : (rest : List Found) → ahead_in (length rest) rest ≡ None
+  none_ahead : (rest : List AmongStrings) → ahead_in (length rest) rest ≡ None
   none_ahead rest = ap (λ b. if b then Some (next_of rest) else None) (same_is (length rest))
 
-  one_ahead : (b : ℕ) (f : Found) (fs : List Found) → b ≤ length fs → ahead_in b (f ∷ fs) ≡ Some f
+  one_ahead : (b : ℕ) (f : AmongStrings) (fs : List AmongStrings) → b ≤ length fs → ahead_in b (f ∷ fs) ≡ Some f
   one_ahead b f fs l = ap (λ t. if t then Some f else None) (less_is b (length fs) l)
 
   mutual
-    head_is : (t : Command) (m : Mode) (k b : ℕ) (rest : List Found) (n : Option Among) → b ≤ length rest → ahead_in b rest ≡ option_map (found_as ns) n → ahead_in b (founds m t k rest) ≡ option_map (found_as ns) (first m t k n)
+    head_is : (t : Command) (m : Mode) (k b : ℕ) (rest : List AmongStrings) (n : Option Among) → b ≤ length rest → ahead_in b rest ≡ option_map (found_as ns) n → ahead_in b (founds m t k rest) ≡ option_map (found_as ns) (first m t k n)
     head_is (bracket rs) m k b rest n l h = head_rows rs m k b rest n l h
     head_is (prefixed x c) m k b rest n l h = head_is c (mode_under x m) k b rest n l h
     head_is (counted x e c) m k b rest n l h = head_is c m k b rest n l h
@@ -133,7 +133,7 @@ module _ (ns : Names) where
     head_is (compare_values_ e o f) m k b rest n l h = h
     head_is (simple_ s) m k b rest n l h = h
 
-    head_rows : (rs : Rows) (m : Mode) (k b : ℕ) (rest : List Found) (n : Option Among) → b ≤ length rest → ahead_in b rest ≡ option_map (found_as ns) n → ahead_in b (founds_rows m rs k rest) ≡ option_map (found_as ns) (first_rows m rs k n)
+    head_rows : (rs : Rows) (m : Mode) (k b : ℕ) (rest : List AmongStrings) (n : Option Among) → b ≤ length rest → ahead_in b rest ≡ option_map (found_as ns) n → ahead_in b (founds_rows m rs k rest) ≡ option_map (found_as ns) (first_rows m rs k n)
     head_rows no_rows m k b rest n l h = h
     head_rows (row c os rs) m k b rest n l h =
         let k1 = number_after c k in
@@ -141,7 +141,7 @@ module _ (ns : Names) where
         let l2 = longer_rows rs m k2 b rest l in
         head_is c m k b _ _ (longer_others os m k1 b _ l2) (head_others os m k1 b _ _ l2 (head_rows rs m k2 b rest n l h))
 
-    head_others : (os : Others) (m : Mode) (k b : ℕ) (rest : List Found) (n : Option Among) → b ≤ length rest → ahead_in b rest ≡ option_map (found_as ns) n → ahead_in b (founds_others m os k rest) ≡ option_map (found_as ns) (first_others m os k n)
+    head_others : (os : Others) (m : Mode) (k b : ℕ) (rest : List AmongStrings) (n : Option Among) → b ≤ length rest → ahead_in b rest ≡ option_map (found_as ns) n → ahead_in b (founds_others m os k rest) ≡ option_map (found_as ns) (first_others m os k n)
     head_others no_others m k b rest n l h = h
     head_others (joined j c os) m k b rest n l h = head_is c m k b _ _ (longer_others os m (number_after c k) b rest l) (head_others os m (number_after c k) b rest n l h)
 
@@ -159,7 +159,7 @@ module _ (ns : Names) where
   past_simple_coming simples.False p = refl
 
   mutual
-    pub coming_is : (t : Command) (m : Mode) (k : ℕ) (p : Position) (rest : List Found) → p.coming ≡ founds m t k rest → (past t p).coming ≡ rest
+    pub coming_is : (t : Command) (m : Mode) (k : ℕ) (p : Position) (rest : List AmongStrings) → p.coming ≡ founds m t k rest → (past t p).coming ≡ rest
     coming_is (bracket rs) m k p rest e = coming_rows rs m k p rest e
     coming_is (simple_ s) m k p rest e = past_simple_coming s p ∙ e
     coming_is (prefixed x c) m k p rest e = coming_is c (mode_under x m) k p rest e
@@ -177,20 +177,20 @@ module _ (ns : Names) where
     coming_is (compare_ n o e) m k p rest h = h
     coming_is (compare_values_ e o f) m k p rest h = h
 
-    coming_rows : (rs : Rows) (m : Mode) (k : ℕ) (p : Position) (rest : List Found) → p.coming ≡ founds_rows m rs k rest → (past_rows rs p).coming ≡ rest
+    coming_rows : (rs : Rows) (m : Mode) (k : ℕ) (p : Position) (rest : List AmongStrings) → p.coming ≡ founds_rows m rs k rest → (past_rows rs p).coming ≡ rest
     coming_rows no_rows m k p rest e = e
     coming_rows (row c os rs) m k p rest e =
         coming_rows rs m (number_after_others os (number_after c k)) (past_others os (past c p)) rest (coming_others os m (number_after c k) (past c p) _ (coming_is c m k p _ e))
 
-    pub coming_others : (os : Others) (m : Mode) (k : ℕ) (p : Position) (rest : List Found) → p.coming ≡ founds_others m os k rest → (past_others os p).coming ≡ rest
+    pub coming_others : (os : Others) (m : Mode) (k : ℕ) (p : Position) (rest : List AmongStrings) → p.coming ≡ founds_others m os k rest → (past_others os p).coming ≡ rest
     coming_others no_others m k p rest e = e
     coming_others (joined j c os) m k p rest e = coming_others os m (number_after c k) (past c p) rest (coming_is c m k p _ e)
 
-    coming_starter : (s : Starter) (m : Mode) (k : ℕ) (p : Position) (rest : List Found) → p.coming ≡ founds_starter m s k rest → (past_starter s p).coming ≡ rest
+    coming_starter : (s : Starter) (m : Mode) (k : ℕ) (p : Position) (rest : List AmongStrings) → p.coming ≡ founds_starter m s k rest → (past_starter s p).coming ≡ rest
     coming_starter no_starter m k p rest e = e
     coming_starter (starter rs) m k p rest e = coming_rows rs m k p rest e
 
-    coming_groups : (gs : Groups) (m : Mode) (k : ℕ) (p : Position) (rest : List Found) → p.coming ≡ founds_groups m gs k rest → (past_groups gs p).coming ≡ rest
+    coming_groups : (gs : Groups) (m : Mode) (k : ℕ) (p : Position) (rest : List AmongStrings) → p.coming ≡ founds_groups m gs k rest → (past_groups gs p).coming ≡ rest
     coming_groups (bare es) m k p rest e = e
     coming_groups (group e es rs gs) m k p rest h = coming_groups gs m (number_after_rows rs k) (past_rows rs (end_waiting p)) rest (coming_rows rs m k (end_waiting p) _ h)
 
@@ -282,7 +282,7 @@ module _ (ns : Names) where
 
   -- ---- commands
 
-  abbrev found_next : Option Found → programs.Node
+  abbrev found_next : Option AmongStrings → programs.Node
   found_next None = programs.act programs.f
   found_next (Some f) = search_of f
 
@@ -321,14 +321,14 @@ module _ (ns : Names) where
 
   -- A place before which there are k: behind it come these and then the rest, so many of which stand behind the region,
   -- in which n is what comes next.
-  pub record At (p : Position) (xs rest : List Found) (w : Bool) (n : Option Among) : Type 0 where
+  pub record At (p : Position) (xs rest : List AmongStrings) (w : Bool) (n : Option Among) : Type 0 where
     pub coming : p.coming ≡ xs
     pub waiting : p.waits ≡ w
     pub few : p.behind ≤ length rest
     pub next : ahead_in p.behind rest ≡ option_map (found_as ns) n
 
   -- the beginning of a region
-  pub begun_at : (p q : Position) (xs rest : List Found) → p.coming ≡ xs → q.coming ≡ rest → At (begin_region p q) xs rest false None
+  pub begun_at : (p q : Position) (xs rest : List AmongStrings) → p.coming ≡ xs → q.coming ≡ rest → At (begin_region p q) xs rest false None
   begun_at p q xs rest e h = record {
     coming = e;
     waiting = refl;
@@ -337,7 +337,7 @@ module _ (ns : Names) where
   }
 
   -- with less of the rest
-  nearer : (t : Command) (p : Position) (m : Mode) (k : ℕ) (rest : List Found) (w : Bool) (n : Option Among) (xs : List Found) → At p xs rest w n → At p xs (founds m t k rest) w (first m t k n)
+  nearer : (t : Command) (p : Position) (m : Mode) (k : ℕ) (rest : List AmongStrings) (w : Bool) (n : Option Among) (xs : List AmongStrings) → At p xs rest w n → At p xs (founds m t k rest) w (first m t k n)
   nearer t p m k rest w n xs a = record {
     coming = a.coming;
     waiting = a.waiting;
@@ -345,7 +345,7 @@ module _ (ns : Names) where
     next = head_is t m k p.behind rest n a.few a.next;
   }
 
-  pub nearer_others : (os : Others) (p : Position) (m : Mode) (k : ℕ) (rest : List Found) (w : Bool) (n : Option Among) (xs : List Found) → At p xs rest w n → At p xs (founds_others m os k rest) w (first_others m os k n)
+  pub nearer_others : (os : Others) (p : Position) (m : Mode) (k : ℕ) (rest : List AmongStrings) (w : Bool) (n : Option Among) (xs : List AmongStrings) → At p xs rest w n → At p xs (founds_others m os k rest) w (first_others m os k n)
   nearer_others os p m k rest w n xs a = record {
     coming = a.coming;
     waiting = a.waiting;
@@ -353,7 +353,7 @@ module _ (ns : Names) where
     next = head_others os m k p.behind rest n a.few a.next;
   }
 
-  nearer_rows : (rs : Rows) (p : Position) (m : Mode) (k : ℕ) (rest : List Found) (w : Bool) (n : Option Among) (xs : List Found) → At p xs rest w n → At p xs (founds_rows m rs k rest) w (first_rows m rs k n)
+  nearer_rows : (rs : Rows) (p : Position) (m : Mode) (k : ℕ) (rest : List AmongStrings) (w : Bool) (n : Option Among) (xs : List AmongStrings) → At p xs rest w n → At p xs (founds_rows m rs k rest) w (first_rows m rs k n)
   nearer_rows rs p m k rest w n xs a = record {
     coming = a.coming;
     waiting = a.waiting;
@@ -362,7 +362,7 @@ module _ (ns : Names) where
   }
 
   -- behind a command
-  pub further : (t : Command) (p : Position) (m : Mode) (k : ℕ) (xs rest : List Found) (w : Bool) (n : Option Among) → At p (founds m t k xs) rest w n → At (past t p) xs rest (waits t w) n
+  pub further : (t : Command) (p : Position) (m : Mode) (k : ℕ) (xs rest : List AmongStrings) (w : Bool) (n : Option Among) → At p (founds m t k xs) rest w n → At (past t p) xs rest (waits t w) n
   further t p m k xs rest w n a = record {
     coming = coming_is t m k p xs a.coming;
     waiting = waits_is t p ∙ ap (waits t) a.waiting;
@@ -370,7 +370,7 @@ module _ (ns : Names) where
     next = ap (λ b. ahead_in b rest) (behind_is t p) ∙ a.next;
   }
 
-  further_others : (os : Others) (p : Position) (m : Mode) (k : ℕ) (xs rest : List Found) (w : Bool) (n : Option Among) → At p (founds_others m os k xs) rest w n → At (past_others os p) xs rest (waits_others os w) n
+  further_others : (os : Others) (p : Position) (m : Mode) (k : ℕ) (xs rest : List AmongStrings) (w : Bool) (n : Option Among) → At p (founds_others m os k xs) rest w n → At (past_others os p) xs rest (waits_others os w) n
   further_others os p m k xs rest w n a = record {
     coming = coming_others os m k p xs a.coming;
     waiting = waits_others_is os p ∙ ap (waits_others os) a.waiting;
@@ -378,11 +378,11 @@ module _ (ns : Names) where
     next = ap (λ b. ahead_in b rest) (behind_others_is os p) ∙ a.next;
   }
 
-  region_at : (rs : Rows) (m : Mode) (k : ℕ) (p : Position) (rest : List Found) → p.coming ≡ founds_rows m rs k rest → At (region rs p) (founds_rows m rs k rest) rest false None
+  region_at : (rs : Rows) (m : Mode) (k : ℕ) (p : Position) (rest : List AmongStrings) → p.coming ≡ founds_rows m rs k rest → At (region rs p) (founds_rows m rs k rest) rest false None
   region_at rs m k p rest e = begun_at p (past_rows rs (end_waiting p)) _ rest e (coming_rows rs m k (end_waiting p) rest e)
 
   mutual
-    pub made_is : (t : Command) (m : Mode) (k : ℕ) (w : Bool) (n : Option Among) (p : Position) (rest : List Found) → At p (founds m t k rest) rest w n → numbered_command ns t p ≡ made_command ns m k w n t
+    pub made_is : (t : Command) (m : Mode) (k : ℕ) (w : Bool) (n : Option Among) (p : Position) (rest : List AmongStrings) → At p (founds m t k rest) rest w n → numbered_command ns t p ≡ made_command ns m k w n t
     made_is (bracket rs) m k w n p rest a = ap programs.sequence (rows_is rs m k w n p rest a)
     made_is (simple_ s) m k w n p rest a = simple_is s p n (ap (ahead_in p.behind) a.coming ∙ a.next)
     made_is (prefixed x c) m k w n p rest a = ap (behind_prefix x) (made_is c (mode_under x m) k w n p rest a)
@@ -409,7 +409,7 @@ module _ (ns : Names) where
     made_is (compare_ x o e) m k w n p rest a = refl
     made_is (compare_values_ e o f) m k w n p rest a = refl
 
-    rows_is : (rs : Rows) (m : Mode) (k : ℕ) (w : Bool) (n : Option Among) (p : Position) (rest : List Found) → At p (founds_rows m rs k rest) rest w n → commands_of (numbered_rows ns rs p) ≡ made_rows ns m k w n rs
+    rows_is : (rs : Rows) (m : Mode) (k : ℕ) (w : Bool) (n : Option Among) (p : Position) (rest : List AmongStrings) → At p (founds_rows m rs k rest) rest w n → commands_of (numbered_rows ns rs p) ≡ made_rows ns m k w n rs
     rows_is no_rows m k w n p rest a = refl
     rows_is (row c os rs) m k w n p rest a =
         let k1 = number_after c k in
@@ -421,17 +421,17 @@ module _ (ns : Names) where
         let one = others_is os m k1 (waits c w) _ (past c p) _ _ _ (nearer_rows rs (past c p) m k2 rest (waits c w) n _ b1) (made_is c m k w _ p _ a1) in
         commands_are _ _ _ _ one (rows_is rs m k2 (waits_others os (waits c w)) n (past_others os (past c p)) rest b2)
 
-    pub others_is : (os : Others) (m : Mode) (k : ℕ) (w : Bool) (n : Option Among) (p : Position) (rest : List Found) (c c' : programs.Node) → At p (founds_others m os k rest) rest w n → c ≡ c' → numbered_others ns os p c ≡ made_others ns m k w n os c'
+    pub others_is : (os : Others) (m : Mode) (k : ℕ) (w : Bool) (n : Option Among) (p : Position) (rest : List AmongStrings) (c c' : programs.Node) → At p (founds_others m os k rest) rest w n → c ≡ c' → numbered_others ns os p c ≡ made_others ns m k w n os c'
     others_is no_others m k w n p rest c c' a g = g
     others_is (joined j t os) m k w n p rest c c' a g =
         let one = made_is t m k w _ p _ (nearer_others os p m (number_after t k) rest w n _ a) in
         others_is os m (number_after t k) (waits t w) n (past t p) rest _ _ (further t p m k _ rest w n a) (join_are j _ _ _ _ g one)
 
-    starter_is : (s : Starter) (m : Mode) (k : ℕ) (p : Position) (rest : List Found) → p.coming ≡ founds_starter m s k rest → commands_of (numbered_starter ns s p) ≡ made_starter ns m k s
+    starter_is : (s : Starter) (m : Mode) (k : ℕ) (p : Position) (rest : List AmongStrings) → p.coming ≡ founds_starter m s k rest → commands_of (numbered_starter ns s p) ≡ made_starter ns m k s
     starter_is no_starter m k p rest e = refl
     starter_is (starter rs) m k p rest e = ap (λ cs. programs.command (programs.sequence cs) programs.no_commands) (rows_is rs m k false None (region rs p) rest (region_at rs m k p rest e))
 
-    groups_is : (gs : Groups) (m : Mode) (k : ℕ) (p : Position) (rest : List Found) → p.coming ≡ founds_groups m gs k rest → commands_of (numbered_groups ns gs p) ≡ made_groups ns m k gs
+    groups_is : (gs : Groups) (m : Mode) (k : ℕ) (p : Position) (rest : List AmongStrings) → p.coming ≡ founds_groups m gs k rest → commands_of (numbered_groups ns gs p) ≡ made_groups ns m k gs
     groups_is (bare es) m k p rest e = refl
     groups_is (group x es rs gs) m k p rest e =
         commands_are _ _ _ _ (ap programs.sequence (rows_is rs m k false None (region rs p) _ (region_at rs m k p _ e))) (groups_is gs m (number_after_rows rs k) (past_rows rs (end_waiting p)) rest (coming_rows rs m k (end_waiting p) _ e))

@@ -4,7 +4,7 @@ use Rattle.sbl_program.specs.declared.node.Candidate.{Candidate}
 use Rattle.sbl_program.specs.declared.node.Node.TheVariants.{Search}
 use Rattle.sbl_program.specs.declared.node.Node.TheFolds.{fold_out-Node}
 use Rattle.sbl_program.specs.declared.node.Node.TheViews.{the_lemmas}
-use Rattle.sbl_program.specs.declared.among.Found.{Found}
+use Rattle.sbl_program.specs.declared.among.AmongStrings.{AmongStrings}
 use Rattle.sbl_program.specs.AmongStrings.{Listed}
 use Rattle.sbl_compiler.specs.NumberedItems.{next_of}
 use Rattle.sbl_program.specs.FoundView.{strings_at}
@@ -23,7 +23,7 @@ pub dropped_more : {A B : Type 0} (f : A → B) (n : ℕ) (xs : List A) → map 
 dropped_more f n xs = rw add-one (dropped_after f n xs)
 
 -- its table lists its strings
-pub strings_next : (fs : List Found) (n : ℕ) → strings_at fs n ≡ (next_of (map view_found (drop n fs))).strings
+pub strings_next : (fs : List AmongStrings) (n : ℕ) → strings_at fs n ≡ (next_of (map view_found (drop n fs))).strings
 strings_next [] zero = refl
 strings_next [] (suc n) = refl
 strings_next (f ∷ fs) zero = refl

@@ -9,17 +9,17 @@ use Rattle.sbl_ast.specs.Tree.{bracket, simple_, literal_, name_, non_, prefixed
 use Rattle.sbl_program.specs.AmongStrings.{listing}
 use Rattle.sbl_program.specs.Chains.{join}
 use Rattle.sbl_compiler.specs.NumberedItems.{name_alone, behind_prefix, behind_count, move, change_named, edit, change_of, relation_of}
-use Rattle.sbl_compiler.specs.NumberedAmongs.{Found, strings_behind, entries_behind}
+use Rattle.sbl_compiler.specs.NumberedAmongs.{AmongStrings, strings_behind, entries_behind}
 use Rattle.sbl_compiler.specs.NumberedNames.{Names, number_of}
 use Rattle.sbl_compiler.specs.NumberedNumbers.{expression, text}
 use Rattle.sbl_program.specs.Program as programs
 use Rattle.sbl_semantics.specs.Regions.{Among, among_at, number_after, number_after_rows, number_after_others, number_after_starter, first, first_rows, first_others, mode_under, waits, waits_others}
 use Rattle.sbl_ast.specs.declared.mode.Mode.{Mode}
 
-abbrev pub found_as : Names → Among → Found
+abbrev pub found_as : Names → Among → AmongStrings
 found_as ns a = record { number = a.number; strings = listing a.mode (strings_behind a.groups []); entries = entries_behind ns 0 a.groups [] }
 
-abbrev pub search_of : Found → programs.Node
+abbrev pub search_of : AmongStrings → programs.Node
 search_of f = programs.search f.number f.strings f.entries
 
 -- an among does its search itself, followed by its starter, unless a `substring` waits for it

@@ -10,7 +10,7 @@ use Rattle.sbl_program.specs.AmongStrings.{Listed, listing}
 use Rattle.sbl_compiler.specs.NumberedNames.{Names, number_of}
 use Rattle.sbl_semantics.specs.Regions.{mode_under}
 
-pub record Found : Type 0 where
+pub record AmongStrings : Type 0 where
   pub number : ℕ
   pub strings : Listed
   pub entries : List Candidate
@@ -44,13 +44,13 @@ entries_behind ns g (bare es) sofar = entries_in ns g es sofar
 entries_behind ns g (group e es rs gs) sofar = entries_behind ns (g + 1) gs (entries_in ns g es (entries_in ns g (e ∷ []) sofar))
 
 -- an among of a routine that has this many amongs of other routines before it
-abbrev pub found_of : Names → ℕ → Mode → trees.Groups → List Found → Found
+abbrev pub found_of : Names → ℕ → Mode → trees.Groups → List AmongStrings → AmongStrings
 found_of ns first m gs sofar =
     record { number = length sofar - first; strings = listing m (strings_behind gs []); entries = entries_behind ns 0 gs [] }
 
 abbrev mutual
   -- the amongs of a command
-  pub found_command : Names → ℕ → Mode → trees.Command → List Found → List Found
+  pub found_command : Names → ℕ → Mode → trees.Command → List AmongStrings → List AmongStrings
   found_command ns first m (bracket rs) sofar = found_rows ns first m rs sofar
   found_command ns first m (simple_ s) sofar = sofar
   found_command ns first m (literal_ q) sofar = sofar
@@ -68,30 +68,30 @@ abbrev mutual
   found_command ns first m (among_ s gs) sofar =
       found_groups ns first m gs (found_starter ns first m s (sofar ++ found_of ns first m gs sofar ∷ []))
 
-  pub found_rows : Names → ℕ → Mode → trees.Rows → List Found → List Found
+  pub found_rows : Names → ℕ → Mode → trees.Rows → List AmongStrings → List AmongStrings
   found_rows ns first m no_rows sofar = sofar
   found_rows ns first m (row c os rs) sofar = found_rows ns first m rs (found_others ns first m os (found_command ns first m c sofar))
 
-  pub found_others : Names → ℕ → Mode → trees.Others → List Found → List Found
+  pub found_others : Names → ℕ → Mode → trees.Others → List AmongStrings → List AmongStrings
   found_others ns first m no_others sofar = sofar
   found_others ns first m (joined j c os) sofar = found_others ns first m os (found_command ns first m c sofar)
 
-  pub found_starter : Names → ℕ → Mode → trees.Starter → List Found → List Found
+  pub found_starter : Names → ℕ → Mode → trees.Starter → List AmongStrings → List AmongStrings
   found_starter ns first m no_starter sofar = sofar
   found_starter ns first m (starter rs) sofar = found_rows ns first m rs sofar
 
-  pub found_groups : Names → ℕ → Mode → trees.Groups → List Found → List Found
+  pub found_groups : Names → ℕ → Mode → trees.Groups → List AmongStrings → List AmongStrings
   found_groups ns first m (bare es) sofar = sofar
   found_groups ns first m (group e es rs gs) sofar = found_groups ns first m gs (found_rows ns first m rs sofar)
 
 -- the amongs of an item, and of all
-abbrev pub found_plain : Names → Mode → trees.Plain → List Found → List Found
+abbrev pub found_plain : Names → Mode → trees.Plain → List AmongStrings → List AmongStrings
 found_plain ns m (routine n c os) sofar = found_others ns (length sofar) m os (found_command ns (length sofar) m c sofar)
 found_plain ns m (declaration k xs) sofar = sofar
 found_plain ns m (escapes a b) sofar = sofar
 found_plain ns m (macro n b q) sofar = sofar
 found_plain ns m (grouping n a ts) sofar = sofar
 
-abbrev pub found_behind : Names → List ItemInMode → List Found → List Found
+abbrev pub found_behind : Names → List ItemInMode → List AmongStrings → List AmongStrings
 found_behind ns [] sofar = sofar
 found_behind ns (x ∷ xs) sofar = found_behind ns xs (found_plain ns x.mode x.plain sofar)

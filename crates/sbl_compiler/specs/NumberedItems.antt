@@ -26,7 +26,7 @@ use Rattle.sbl_program.specs.declared.action.Relation.{Relation}
 use Rattle.sbl_program.specs.declared.action.Relation.TheVariants as relations
 use Rattle.sbl_program.specs.Chains.{JoinedView, join_all}
 use Rattle.sbl_program.specs.AmongStrings.{listing}
-use Rattle.sbl_compiler.specs.NumberedAmongs.{Found, found_behind}
+use Rattle.sbl_compiler.specs.NumberedAmongs.{AmongStrings, found_behind}
 use Rattle.sbl_compiler.specs.NumberedNames.{Names, is_one_of, names_behind, no_names, number_of}
 use Rattle.sbl_compiler.specs.NumberedNumbers.{expression, text}
 use Rattle.sbl_compiler.specs.NumberedClasses.{numbered_classes}
@@ -37,12 +37,12 @@ use Rattle.sbl_program.specs.ProgramOf.{commands_of}
 -- whether a `substring` waits for the next of them. A routine's body, a group's command and a starter are a region
 -- each.
 pub record Position : Type 0 where
-  pub coming : List Found
+  pub coming : List AmongStrings
   pub behind : ℕ
   pub waits : Bool
 
 -- the next among
-abbrev pub next_of : List Found → Found
+abbrev pub next_of : List AmongStrings → AmongStrings
 next_of [] = record { number = 0; strings = listing Forward []; entries = [] }
 next_of (f ∷ fs) = f
 
@@ -271,7 +271,7 @@ routines_behind ns (x ∷ xs) p sofar = routines_behind ns xs (past_plain x.plai
 -- ---- a script
 
 -- given its names, its items and its amongs
-abbrev pub program_by : Names → List ItemInMode → List Found → List ℕ → programs.Program
+abbrev pub program_by : Names → List ItemInMode → List AmongStrings → List ℕ → programs.Program
 program_by ns items amongs external = record {
   integers = length ns.integers;
   booleans = length ns.booleans;

@@ -1,6 +1,6 @@
 -- The parts of the compiler's data without memory addresses.
 use Rattle.std.specs.Prelude.{◌≡◌, List, map, drop}
-use Rattle.sbl_program.specs.declared.among.Found.{Found}
+use Rattle.sbl_program.specs.declared.among.AmongStrings.{AmongStrings}
 use Rattle.sbl_compiler.specs.declared.names.SymbolTable.{SymbolTable}
 use Rattle.sbl_compiler.specs.NumberedAmongs as amongs
 use Rattle.sbl_compiler.specs.NumberedNames as names
@@ -11,7 +11,7 @@ use Rattle.sbl_program.specs.declared.node.Routine.{Routine}
 use Rattle.sbl_program.specs.FoundView.{listing_found, strings_at}
 use Rattle.sbl_program.specs.Chains.{JoinedView}
 use Rattle.sbl_program.specs.Program as programs
-use Rattle.sbl_program.specs.ProgramOf.{view_joined, view_node, view_routine}
+use Rattle.sbl_program.specs.ProgramOf.{view_next_command, view_node, view_routine}
 use Rattle.sbl_compiler.specs.declared.compiler.Compiler.{Compiler}
 use Rattle.sbl_compiler.specs.declared.place.CommandPosition.{CommandPosition as Position}
 
@@ -24,14 +24,14 @@ view_names n = record {
   routines = n.routines;
 }
 
-abbrev pub view_found : Found → amongs.Found
+abbrev pub view_found : AmongStrings → amongs.AmongStrings
 view_found f = record { number = f.number; strings = listing_found f; entries = f.entries.items }
 
-abbrev pub view_place : List Found → Position → numbered.Position
+abbrev pub view_place : List AmongStrings → Position → numbered.Position
 view_place fs p = record { coming = map view_found (drop p.next fs); behind = p.behind; waits = p.waits }
 
 -- the new amongs are what a function of the definitions makes of the old ones
-abbrev pub Finds : List Found → List Found → (List amongs.Found → List amongs.Found) → Type 0
+abbrev pub Finds : List AmongStrings → List AmongStrings → (List amongs.AmongStrings → List amongs.AmongStrings) → Type 0
 Finds old new found = map view_found new ≡ found (map view_found old)
 
 -- ---- names, positions and commands by what the compiler has of the script
@@ -46,7 +46,7 @@ abbrev pub node_in : Compiler → Node → programs.Node
 node_in c n = view_node (strings_at c.amongs.now.items) n
 
 abbrev pub joined_in : Compiler → JoinedNode → JoinedView
-joined_in c n = view_joined (strings_at c.amongs.now.items) n
+joined_in c n = view_next_command (strings_at c.amongs.now.items) n
 
 abbrev pub routine_in : Compiler → Routine → programs.Routine
 routine_in c r = view_routine (strings_at c.amongs.now.items) r

@@ -11,9 +11,9 @@ ghost use Rattle.sbl_semantics.specs.Regions.{mode_under as spec_mode_behind};
 
 use crate::names::SymbolTable;
 use sbl_ast::{
-    Among, Command, Entry, Group, ItemInMode, Joined, Mode, Plain, Prefix, RowOfCommands,
+    Among, Command, Entry, Group, ItemInMode, Mode, NextCommand, Plain, Prefix, RowOfCommands,
 };
-use sbl_program::{Candidate, Found};
+use sbl_program::{AmongStrings, Candidate};
 use std::alloc::{AllocError, Global};
 
 // Returns a copy of a string. Returns `AllocError` if an allocation fails.
@@ -174,13 +174,13 @@ impl<'a> Finder<'a> {
     }
 
     // Adds an among after the others, before those inside it. Returns `AllocError` if an allocation fails.
-    fn add_among(&self, among: &Among, all: &mut Vec<Found>) -> Result<(), AllocError>
+    fn add_among(&self, among: &Among, all: &mut Vec<AmongStrings>) -> Result<(), AllocError>
         ensures { OnOk result (Finds all.old.items all.new.items (λ fs. fs ++ spec.found_of (view_names self.now.names.now) self.now.first self.now.mode (view_among among.now).1 fs ∷ [])) }
     {
         let number = all.len().saturating_sub(self.first);
         let strings = strings_of(self.alloc, &among.groups, &among.bare)?;
         let entries = entries_of(self.alloc, self.names, &among.groups, &among.bare)?;
-        all.push(Found {
+        all.push(AmongStrings {
             number,
             mode: self.mode,
             strings,
@@ -191,7 +191,7 @@ impl<'a> Finder<'a> {
 
     // Adds the amongs of a command. Returns `AllocError` if an allocation fails.
     #[cycle(finding)]
-    fn find(&self, command: &Command, all: &mut Vec<Found>) -> Result<(), AllocError>
+    fn find(&self, command: &Command, all: &mut Vec<AmongStrings>) -> Result<(), AllocError>
         ensures { OnOk result (Finds all.old.items all.new.items (spec.found_command (view_names self.now.names.now) self.now.first self.now.mode (view_command command.now))) }
     {
         match command {
@@ -208,7 +208,11 @@ impl<'a> Finder<'a> {
     }
 
     #[cycle(finding)]
-    fn find_rows(&self, rows: &Vec<RowOfCommands>, all: &mut Vec<Found>) -> Result<(), AllocError>
+    fn find_rows(
+        &self,
+        rows: &Vec<RowOfCommands>,
+        all: &mut Vec<AmongStrings>,
+    ) -> Result<(), AllocError>
         ensures { OnOk result (Finds all.old.items all.new.items (spec.found_rows (view_names self.now.names.now) self.now.first self.now.mode (view_rows rows.now.items))) }
     {
         for row in rows {
@@ -218,7 +222,7 @@ impl<'a> Finder<'a> {
     }
 
     #[cycle(finding)]
-    fn find_row(&self, row: &RowOfCommands, all: &mut Vec<Found>) -> Result<(), AllocError>
+    fn find_row(&self, row: &RowOfCommands, all: &mut Vec<AmongStrings>) -> Result<(), AllocError>
         ensures { OnOk result (Finds all.old.items all.new.items (λ fs. spec.found_others (view_names self.now.names.now) self.now.first self.now.mode (view_row row.now).1 (spec.found_command (view_names self.now.names.now) self.now.first self.now.mode (view_row row.now).0 fs))) }
     {
         self.find(&row.first, all)?;
@@ -226,7 +230,11 @@ impl<'a> Finder<'a> {
     }
 
     #[cycle(finding)]
-    fn find_others(&self, others: &Vec<Joined>, all: &mut Vec<Found>) -> Result<(), AllocError>
+    fn find_others(
+        &self,
+        others: &Vec<NextCommand>,
+        all: &mut Vec<AmongStrings>,
+    ) -> Result<(), AllocError>
         ensures { OnOk result (Finds all.old.items all.new.items (spec.found_others (view_names self.now.names.now) self.now.first self.now.mode (view_others others.now.items))) }
     {
         for joined in others {
@@ -236,7 +244,7 @@ impl<'a> Finder<'a> {
     }
 
     #[cycle(finding)]
-    fn find_among(&self, among: &Among, all: &mut Vec<Found>) -> Result<(), AllocError>
+    fn find_among(&self, among: &Among, all: &mut Vec<AmongStrings>) -> Result<(), AllocError>
         ensures { OnOk result (Finds all.old.items all.new.items (spec.found_command (view_names self.now.names.now) self.now.first self.now.mode (trees.among_ (view_among among.now).0 (view_among among.now).1))) }
     {
         self.add_among(among, all)?;
@@ -247,7 +255,11 @@ impl<'a> Finder<'a> {
     }
 
     #[cycle(finding)]
-    fn find_groups(&self, groups: &Vec<Group>, all: &mut Vec<Found>) -> Result<(), AllocError>
+    fn find_groups(
+        &self,
+        groups: &Vec<Group>,
+        all: &mut Vec<AmongStrings>,
+    ) -> Result<(), AllocError>
         ensures { OnOk result ((bare : List trees.Entry) → Finds all.old.items all.new.items (spec.found_groups (view_names self.now.names.now) self.now.first self.now.mode (view_groups groups.now.items bare))) }
     {
         for group in groups {
@@ -262,7 +274,7 @@ fn find_plain(
     alloc: Global,
     names: &SymbolTable,
     item: &ItemInMode,
-    all: &mut Vec<Found>,
+    all: &mut Vec<AmongStrings>,
 ) -> Result<(), AllocError>
     ensures { OnOk result (Finds all.old.items all.new.items (spec.found_plain (view_names names.now) item.now.mode (view_plain item.now.plain.now))) }
 {
@@ -283,7 +295,7 @@ pub fn amongs_of(
     alloc: Global,
     names: &SymbolTable,
     items: &[ItemInMode],
-) -> Result<Vec<Found>, AllocError>
+) -> Result<Vec<AmongStrings>, AllocError>
     ensures { IfOk result (λ v. map view_found v.items ≡ spec.found_behind (view_names names.now) (map view_in_mode items.now) []) }
 {
     let mut all = Vec::new(alloc);

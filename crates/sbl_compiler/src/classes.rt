@@ -11,7 +11,7 @@ ghost use Rattle.sbl_compiler.specs.NamedAgain.{is_name_of, is_named_again};
 ghost use Rattle.sbl_compiler.specs.NumberedClasses as spec;
 ghost use Rattle.sbl_compiler.specs.NumberedView.{names_in, view_names};
 
-use crate::compiler::{Compiled, Compiler};
+use crate::compiler::{CompileResult, Compiler};
 use crate::names::SymbolTable;
 use sbl_ast::{Additive, Argument, ItemInMode, Plain, Term};
 use sbl_char_class::CharacterClass;
@@ -122,7 +122,7 @@ fn class_of(
 }
 
 impl Compiler<'_> {
-    fn add_class(&self, plain: &Plain, classes: &mut Vec<CharacterClass>) -> Compiled<()>
+    fn add_class(&self, plain: &Plain, classes: &mut Vec<CharacterClass>) -> CompileResult<()>
         ensures { OnOk result (map members classes.new.items ≡ spec.with_class (names_in self.now) (view_plain plain.now) (map members classes.old.items)) }
     {
         if let Plain::Grouping {
@@ -139,7 +139,7 @@ impl Compiler<'_> {
 
     /// Returns the class of each grouping, in the order of their definitions. Returns `AllocError` if an allocation
     /// fails.
-    pub fn numbered_classes(&self, items: &[ItemInMode]) -> Compiled<Vec<CharacterClass>>
+    pub fn numbered_classes(&self, items: &[ItemInMode]) -> CompileResult<Vec<CharacterClass>>
         ensures { IfOk result (λ classes. map members classes.items ≡ spec.numbered_classes (names_in self.now) (map view_in_mode items.now) []) }
     {
         let mut classes = Vec::new(self.alloc);

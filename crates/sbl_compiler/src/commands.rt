@@ -11,11 +11,11 @@ ghost use Rattle.sbl_program.specs.Program as programs;
 ghost use Rattle.sbl_program.specs.Chains.{join_all};
 ghost use Rattle.sbl_program.specs.ProgramOf.{view_action, view_number, view_text};
 
-use crate::compiler::{Compiled, Compiler, collected, whole};
+use crate::compiler::{CompileResult, Compiler, collect, whole};
 use crate::place::{CommandPosition, begin_region, end_waiting, inside, left_of, past_rows};
 use sbl_ast::{
-    Among, Argument, Assignment, Command, Comparison, Count, Expression, Group, Joined, Joiner,
-    Literal, Move, Naming, Prefix, RowOfCommands, Simple, Splice,
+    Among, Argument, Assignment, Command, Comparison, Count, Expression, Group, Joiner, Literal,
+    Move, Naming, NextCommand, Prefix, RowOfCommands, Simple, Splice,
 };
 use sbl_program::{Action, Arithmetic, Candidate, Change, JoinedNode, Node, Relation, StringTerm};
 use std::alloc::{AllocError, Global};
@@ -90,7 +90,7 @@ impl Compiler<'_> {
     }
 
     // Returns the candidates of the next among, one for each string. Returns `AllocError` if an allocation fails.
-    fn next_entries(&self, place: CommandPosition) -> Compiled<Vec<Candidate>>
+    fn next_entries(&self, place: CommandPosition) -> CompileResult<Vec<Candidate>>
         ensures { IfOk result (λ v. v.items ≡ (spec.next_of (place_in self.now place).coming).entries) }
     {
         match self.amongs.get(place.next) {
@@ -100,7 +100,7 @@ impl Compiler<'_> {
     }
 
     // Returns the search of the next among. Returns `AllocError` if an allocation fails.
-    fn search_next(&self, place: CommandPosition) -> Compiled<Node>
+    fn search_next(&self, place: CommandPosition) -> CompileResult<Node>
         ensures { IfOk result (λ n. node_in self.now n ≡ spec.search_next (place_in self.now place)) }
     {
         let entries = self.next_entries(place)?;
@@ -113,7 +113,7 @@ impl Compiler<'_> {
 
     // Returns the search for a `substring`: f if its region has no among ahead. Returns `AllocError` if an allocation
     // fails.
-    fn search_ahead(&self, place: CommandPosition) -> Compiled<Node>
+    fn search_ahead(&self, place: CommandPosition) -> CompileResult<Node>
         ensures { IfOk result (λ n. node_in self.now n ≡ spec.search_ahead (place_in self.now place)) }
     {
         if place.behind < left_of(self.amongs, place) {
@@ -123,7 +123,7 @@ impl Compiler<'_> {
         }
     }
 
-    fn simple(&self, word: Simple, place: &mut CommandPosition) -> Compiled<Node>
+    fn simple(&self, word: Simple, place: &mut CommandPosition) -> CompileResult<Node>
         ensures made { IfOk result (λ n. node_in self.now n ≡ spec.simple word (place_in self.now place.old)) }
         ensures behind { OnOk result (place_in self.now place.new ≡ spec.past_simple word (place_in self.now place.old)) }
     {
@@ -159,7 +159,7 @@ impl Compiler<'_> {
         }
     }
 
-    fn behind_prefix(&self, prefix: Prefix, inner: Node) -> Compiled<Node>
+    fn behind_prefix(&self, prefix: Prefix, inner: Node) -> CompileResult<Node>
         ensures { IfOk result (λ n. node_in self.now n ≡ spec.behind_prefix prefix (node_in self.now inner)) }
     {
         let inner = Box::new(self.alloc, inner)?;
@@ -176,7 +176,7 @@ impl Compiler<'_> {
         })
     }
 
-    fn behind_count(&self, count: Count, number: Arithmetic, inner: Node) -> Compiled<Node>
+    fn behind_count(&self, count: Count, number: Arithmetic, inner: Node) -> CompileResult<Node>
         ensures { IfOk result (λ n. node_in self.now n ≡ spec.behind_count count (view_number number) (node_in self.now inner)) }
     {
         let inner = Box::new(self.alloc, inner)?;
@@ -205,13 +205,13 @@ impl Compiler<'_> {
     }
 
     // Makes a row of the first command and those after it. Returns `AllocError` if an allocation fails.
-    fn whole_row(&self, first: Node, others: Vec<JoinedNode>) -> Compiled<Node>
+    fn whole_row(&self, first: Node, others: Vec<JoinedNode>) -> CompileResult<Node>
         ensures { IfOk result (λ n. node_in self.now n ≡ join_all (map (joined_in self.now) others.items) (node_in self.now first)) }
     {
         whole!(self.alloc; Node::Row, first, others)
     }
 
-    fn set_limit(&self, first: Node, second: Node) -> Compiled<Node>
+    fn set_limit(&self, first: Node, second: Node) -> CompileResult<Node>
         ensures { IfOk result (λ n. node_in self.now n ≡ programs.setlimit (node_in self.now first) (node_in self.now second)) }
     {
         let first = Box::new(self.alloc, first)?;
@@ -219,19 +219,24 @@ impl Compiler<'_> {
         Ok(Node::SetLimit(first, second))
     }
 
-    fn move_to(&self, movement: Move, number: &Expression) -> Compiled<Action>
+    fn move_to(&self, movement: Move, number: &Expression) -> CompileResult<Action>
         ensures { IfOk result (λ a. view_action a ≡ spec.move movement (spec_expression (names_in self.now) (view_expression number.now))) }
     {
         Ok(move_action(movement, self.number_of_expression(number)?))
     }
 
-    fn edit_text(&self, edit: Splice, string: &Argument) -> Compiled<Action>
+    fn edit_text(&self, edit: Splice, string: &Argument) -> CompileResult<Action>
         ensures { IfOk result (λ a. view_action a ≡ spec.edit edit (spec_text (names_in self.now) (view_argument string.now))) }
     {
         Ok(edit_action(edit, self.text(string)?))
     }
 
-    fn assign(&self, name: &str, assignment: Assignment, number: &Expression) -> Compiled<Action>
+    fn assign(
+        &self,
+        name: &str,
+        assignment: Assignment,
+        number: &Expression,
+    ) -> CompileResult<Action>
         ensures { IfOk result (λ a. view_action a ≡ programs.assign (spec_number_of (names_in self.now).integers name.now) (spec.change_of assignment) (spec_expression (names_in self.now) (view_expression number.now))) }
     {
         let change = match assignment {
@@ -245,7 +250,12 @@ impl Compiler<'_> {
         Ok(Action::Assign(variable, change, self.number_of_expression(number)?))
     }
 
-    fn compare(&self, name: &str, comparison: Comparison, number: &Expression) -> Compiled<Action>
+    fn compare(
+        &self,
+        name: &str,
+        comparison: Comparison,
+        number: &Expression,
+    ) -> CompileResult<Action>
         ensures { IfOk result (λ a. view_action a ≡ programs.compare (programs.integer (spec_number_of (names_in self.now).integers name.now)) (spec.relation_of comparison) (spec_expression (names_in self.now) (view_expression number.now))) }
     {
         Ok(Action::Compare(
@@ -260,7 +270,7 @@ impl Compiler<'_> {
         first: &Expression,
         comparison: Comparison,
         second: &Expression,
-    ) -> Compiled<Action>
+    ) -> CompileResult<Action>
         ensures { IfOk result (λ a. view_action a ≡ programs.compare (spec_expression (names_in self.now) (view_expression first.now)) (spec.relation_of comparison) (spec_expression (names_in self.now) (view_expression second.now))) }
     {
         Ok(Action::Compare(
@@ -272,7 +282,7 @@ impl Compiler<'_> {
 
     /// Compiles a command, and moves `place` to the position after it. Returns `AllocError` if an allocation fails.
     #[cycle(commands)]
-    fn node_of(&self, command: &Command, place: &mut CommandPosition) -> Compiled<Node>
+    fn node_of(&self, command: &Command, place: &mut CommandPosition) -> CompileResult<Node>
         ensures made { IfOk result (λ n. node_in self.now n ≡ spec.numbered_command (names_in self.now) (view_command command.now) (place_in self.now place.old)) }
         ensures behind { OnOk result (place_in self.now place.new ≡ spec.past (view_command command.now) (place_in self.now place.old)) }
     {
@@ -319,16 +329,20 @@ impl Compiler<'_> {
     }
 
     #[cycle(commands)]
-    fn rows_of(&self, rows: &Vec<RowOfCommands>, place: &mut CommandPosition) -> Compiled<Vec<Node>>
+    fn rows_of(
+        &self,
+        rows: &Vec<RowOfCommands>,
+        place: &mut CommandPosition,
+    ) -> CompileResult<Vec<Node>>
         ensures made { IfOk result (λ ns. map (node_in self.now) ns.items ≡ spec.numbered_rows (names_in self.now) (view_rows rows.now.items) (place_in self.now place.old)) }
         ensures behind { OnOk result (place_in self.now place.new ≡ spec.past_rows (view_rows rows.now.items) (place_in self.now place.old)) }
     {
-        collected!(self.alloc; nodes: row in rows => self.row_of(row, place)?)
+        collect!(self.alloc; nodes: row in rows => self.row_of(row, place)?)
     }
 
     /// Compiles a row, and moves `place` to the position after it. Returns `AllocError` if an allocation fails.
     #[cycle(commands)]
-    pub fn row_of(&self, row: &RowOfCommands, place: &mut CommandPosition) -> Compiled<Node>
+    pub fn row_of(&self, row: &RowOfCommands, place: &mut CommandPosition) -> CompileResult<Node>
         ensures made { IfOk result (λ n. node_in self.now n ≡ spec.numbered_others (names_in self.now) (view_row row.now).1 (spec.past (view_row row.now).0 (place_in self.now place.old)) (spec.numbered_command (names_in self.now) (view_row row.now).0 (place_in self.now place.old))) }
         ensures behind { OnOk result (place_in self.now place.new ≡ spec.past_others (view_row row.now).1 (spec.past (view_row row.now).0 (place_in self.now place.old))) }
     {
@@ -340,19 +354,19 @@ impl Compiler<'_> {
     #[cycle(commands)]
     fn others_of(
         &self,
-        others: &Vec<Joined>,
+        others: &Vec<NextCommand>,
         place: &mut CommandPosition,
-    ) -> Compiled<Vec<JoinedNode>>
+    ) -> CompileResult<Vec<JoinedNode>>
         ensures made { IfOk result (λ v. map (joined_in self.now) v.items ≡ spec.joins_in (names_in self.now) (view_others others.now.items) (place_in self.now place.old)) }
         ensures behind { OnOk result (place_in self.now place.new ≡ spec.past_others (view_others others.now.items) (place_in self.now place.old)) }
     {
-        collected!(self.alloc; joins: other in others => {
+        collect!(self.alloc; joins: other in others => {
             self.joined_command(other.joiner, self.node_of(&other.command, place)?)
         })
     }
 
     #[cycle(commands)]
-    fn among_of(&self, among: &Among, place: &mut CommandPosition) -> Compiled<Node>
+    fn among_of(&self, among: &Among, place: &mut CommandPosition) -> CompileResult<Node>
         ensures made { IfOk result (λ n. node_in self.now n ≡ spec.numbered_command (names_in self.now) (trees.among_ (view_among among.now).0 (view_among among.now).1) (place_in self.now place.old)) }
         ensures behind { OnOk result (place_in self.now place.new ≡ spec.past (trees.among_ (view_among among.now).0 (view_among among.now).1) (place_in self.now place.old)) }
     {
@@ -381,7 +395,11 @@ impl Compiler<'_> {
     // Compiles the rows in parentheses that are a region of their own, and moves `place` to the position after them.
     // Returns `AllocError` if an allocation fails.
     #[cycle(commands)]
-    fn region(&self, rows: &Vec<RowOfCommands>, place: &mut CommandPosition) -> Compiled<Vec<Node>>
+    fn region(
+        &self,
+        rows: &Vec<RowOfCommands>,
+        place: &mut CommandPosition,
+    ) -> CompileResult<Vec<Node>>
         ensures made { IfOk result (λ ns. map (node_in self.now) ns.items ≡ spec.numbered_rows (names_in self.now) (view_rows rows.now.items) (spec.region (view_rows rows.now.items) (place_in self.now place.old))) }
         ensures behind { OnOk result (place_in self.now place.new ≡ spec.past_rows (view_rows rows.now.items) (spec.end_waiting (place_in self.now place.old))) }
     {
@@ -392,11 +410,15 @@ impl Compiler<'_> {
     }
 
     #[cycle(commands)]
-    fn bodies_of(&self, groups: &Vec<Group>, place: &mut CommandPosition) -> Compiled<Vec<Node>>
+    fn bodies_of(
+        &self,
+        groups: &Vec<Group>,
+        place: &mut CommandPosition,
+    ) -> CompileResult<Vec<Node>>
         ensures made { IfOk result (λ ns. (bare : List trees.Entry) → map (node_in self.now) ns.items ≡ spec.numbered_groups (names_in self.now) (view_groups groups.now.items bare) (place_in self.now place.old)) }
         ensures behind { OnOk result ((bare : List trees.Entry) → place_in self.now place.new ≡ spec.past_groups (view_groups groups.now.items bare) (place_in self.now place.old)) }
     {
-        collected!(self.alloc; bodies: group in groups => {
+        collect!(self.alloc; bodies: group in groups => {
             Node::Sequence(self.region(&group.rows, place)?)
         })
     }

@@ -1,11 +1,11 @@
 //! What the compiler has of a script, and what its parts share.
 
 use crate::names::SymbolTable;
-use sbl_program::Found;
+use sbl_program::AmongStrings;
 use std::alloc::{AllocError, Global};
 
 /// A result of the compiler. The error is that an allocation failed.
-pub type Compiled<T> = Result<T, AllocError>;
+pub type CompileResult<T> = Result<T, AllocError>;
 
 /// What the compiler has of a script before it compiles the bodies of the routines.
 #[derive(Clone, Copy)]
@@ -15,11 +15,11 @@ pub struct Compiler<'a> {
     /// The names with their numbers.
     pub names: &'a SymbolTable,
     /// The amongs, in the order of their words.
-    pub amongs: &'a Vec<Found>,
+    pub amongs: &'a Vec<AmongStrings>,
 }
 
 /// Makes a vector of one value for each item of a list.
-macro_rules! collected {
+macro_rules! collect {
     ($alloc:expr; $values:ident: $item:ident in $items:ident => $value:expr) => {{
         let mut $values = Vec::with_capacity($alloc, $items.len())?;
         for $item in $items {
@@ -41,5 +41,5 @@ macro_rules! whole {
     };
 }
 
-pub(crate) use collected;
+pub(crate) use collect;
 pub(crate) use whole;

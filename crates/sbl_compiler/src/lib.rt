@@ -13,4 +13,4 @@ mod place;
 mod program;
 
 pub use name_list::NameList;
-pub use program::{Made, compile_items};
+pub use program::{Compilation, compile_items};

@@ -5,11 +5,12 @@ ghost use Rattle.sbl_ast.specs.View.{view_argument, view_expression, view_produc
 ghost use Rattle.sbl_compiler.specs.NumberedNumbers as spec;
 ghost use Rattle.sbl_compiler.specs.NumberedView.{names_in};
 ghost use Rattle.sbl_program.specs.Chains.{all_sums, all_products};
-ghost use Rattle.sbl_program.specs.ProgramOf.{view_added, view_number, view_scaled, view_text};
+ghost use Rattle.sbl_program.specs.ProgramOf.{view_next_product, view_number, view_next_factor, view_text};
 
-use crate::compiler::{Compiled, Compiler, collected, whole};
+use crate::compiler::{CompileResult, Compiler, collect, whole};
 use sbl_ast::{
-    Added, Additive, Argument, Constant, Expression, Factor, Multiplicative, Product, Scaled,
+    Additive, Argument, Constant, Expression, Factor, Multiplicative, NextFactor, NextProduct,
+    Product,
 };
 use sbl_program::{Addend, Arithmetic, Multiplicand, StringTerm};
 
@@ -27,21 +28,21 @@ fn constant(constant: Constant) -> Arithmetic
 
 // Returns a term of a sum that comes after the first.
 fn added_number(operator: Additive, number: Arithmetic) -> Addend
-    ensures { view_added result ≡ (operator, view_number number) }
+    ensures { view_next_product result ≡ (operator, view_number number) }
 {
     Addend { operator, number }
 }
 
 // Returns a factor of a product that comes after the first.
 fn scaled_number(operator: Multiplicative, number: Arithmetic) -> Multiplicand
-    ensures { view_scaled result ≡ (operator, view_number number) }
+    ensures { view_next_factor result ≡ (operator, view_number number) }
 {
     Multiplicand { operator, number }
 }
 
 impl Compiler<'_> {
     /// Compiles a string. Returns `AllocError` if an allocation fails.
-    pub fn text(&self, argument: &Argument) -> Compiled<StringTerm>
+    pub fn text(&self, argument: &Argument) -> CompileResult<StringTerm>
         ensures { IfOk result (λ t. view_text t ≡ spec.text (names_in self.now) (view_argument argument.now)) }
     {
         match argument {
@@ -53,22 +54,26 @@ impl Compiler<'_> {
     }
 
     // Makes a sum of the first term and those after it. Returns `AllocError` if an allocation fails.
-    fn whole_sum(&self, first: Arithmetic, others: Vec<Addend>) -> Compiled<Arithmetic>
-        ensures { IfOk result (λ x. view_number x ≡ all_sums (map view_added others.items) (view_number first)) }
+    fn whole_sum(&self, first: Arithmetic, others: Vec<Addend>) -> CompileResult<Arithmetic>
+        ensures { IfOk result (λ x. view_number x ≡ all_sums (map view_next_product others.items) (view_number first)) }
     {
         whole!(self.alloc; Arithmetic::Sum, first, others)
     }
 
     // Makes a product of the first factor and those after it. Returns `AllocError` if an allocation fails.
-    fn whole_product(&self, first: Arithmetic, others: Vec<Multiplicand>) -> Compiled<Arithmetic>
-        ensures { IfOk result (λ x. view_number x ≡ all_products (map view_scaled others.items) (view_number first)) }
+    fn whole_product(
+        &self,
+        first: Arithmetic,
+        others: Vec<Multiplicand>,
+    ) -> CompileResult<Arithmetic>
+        ensures { IfOk result (λ x. view_number x ≡ all_products (map view_next_factor others.items) (view_number first)) }
     {
         whole!(self.alloc; Arithmetic::Product, first, others)
     }
 
     /// Compiles an expression. Returns `AllocError` if an allocation fails.
     #[cycle(arithmetic)]
-    pub fn number_of_expression(&self, expression: &Expression) -> Compiled<Arithmetic>
+    pub fn number_of_expression(&self, expression: &Expression) -> CompileResult<Arithmetic>
         ensures { IfOk result (λ x. view_number x ≡ spec.expression (names_in self.now) (view_expression expression.now)) }
     {
         let first = self.number_of_product(&expression.first)?;
@@ -76,7 +81,7 @@ impl Compiler<'_> {
     }
 
     #[cycle(arithmetic)]
-    fn number_of_product(&self, product: &Product) -> Compiled<Arithmetic>
+    fn number_of_product(&self, product: &Product) -> CompileResult<Arithmetic>
         ensures { IfOk result (λ x. view_number x ≡ spec.product (names_in self.now) (view_product product.now)) }
     {
         let first = self.number_of_factor(&product.first)?;
@@ -84,25 +89,25 @@ impl Compiler<'_> {
     }
 
     #[cycle(arithmetic)]
-    fn sums_of(&self, others: &Vec<Added>) -> Compiled<Vec<Addend>>
-        ensures { IfOk result (λ v. map view_added v.items ≡ spec.sums_in (names_in self.now) (view_sums others.now.items)) }
+    fn sums_of(&self, others: &Vec<NextProduct>) -> CompileResult<Vec<Addend>>
+        ensures { IfOk result (λ v. map view_next_product v.items ≡ spec.sums_in (names_in self.now) (view_sums others.now.items)) }
     {
-        collected!(self.alloc; sums: other in others => {
+        collect!(self.alloc; sums: other in others => {
             added_number(other.operator, self.number_of_product(&other.product)?)
         })
     }
 
     #[cycle(arithmetic)]
-    fn scales_of(&self, others: &Vec<Scaled>) -> Compiled<Vec<Multiplicand>>
-        ensures { IfOk result (λ v. map view_scaled v.items ≡ spec.scales_in (names_in self.now) (view_scales others.now.items)) }
+    fn scales_of(&self, others: &Vec<NextFactor>) -> CompileResult<Vec<Multiplicand>>
+        ensures { IfOk result (λ v. map view_next_factor v.items ≡ spec.scales_in (names_in self.now) (view_scales others.now.items)) }
     {
-        collected!(self.alloc; scales: other in others => {
+        collect!(self.alloc; scales: other in others => {
             scaled_number(other.operator, self.number_of_factor(&other.factor)?)
         })
     }
 
     #[cycle(arithmetic)]
-    fn number_of_factor(&self, factor: &Factor) -> Compiled<Arithmetic>
+    fn number_of_factor(&self, factor: &Factor) -> CompileResult<Arithmetic>
         ensures { IfOk result (λ x. view_number x ≡ spec.factor (names_in self.now) (view_factor factor.now)) }
     {
         match factor {

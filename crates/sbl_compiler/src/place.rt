@@ -6,8 +6,8 @@ ghost use Rattle.sbl_ast.specs.Tree as trees;
 ghost use Rattle.sbl_compiler.specs.NumberedItems as spec;
 ghost use Rattle.sbl_compiler.specs.NumberedView.{view_place};
 
-use sbl_ast::{Among, Command, Group, Joined, RowOfCommands, Simple};
-use sbl_program::Found;
+use sbl_ast::{Among, Command, Group, NextCommand, RowOfCommands, Simple};
+use sbl_program::AmongStrings;
 
 /// The position of a command.
 #[derive(Clone, Copy)]
@@ -21,14 +21,14 @@ pub struct CommandPosition {
 }
 
 /// Returns the number of amongs still to come.
-pub fn left_of(amongs: &Vec<Found>, place: CommandPosition) -> usize
+pub fn left_of(amongs: &Vec<AmongStrings>, place: CommandPosition) -> usize
     ensures { result ≡ length (view_place amongs.now.items place).coming }
 {
     amongs.len().saturating_sub(place.next)
 }
 
 /// Returns the position inside the next among, after its word.
-pub fn inside(amongs: &Vec<Found>, place: CommandPosition) -> CommandPosition
+pub fn inside(amongs: &Vec<AmongStrings>, place: CommandPosition) -> CommandPosition
     ensures { view_place amongs.now.items result ≡ spec.inside (view_place amongs.now.items place) }
 {
     CommandPosition {
@@ -43,7 +43,7 @@ pub fn inside(amongs: &Vec<Found>, place: CommandPosition) -> CommandPosition
 }
 
 /// Returns the same position, at which no `substring` waits.
-pub fn end_waiting(_amongs: &Vec<Found>, place: CommandPosition) -> CommandPosition
+pub fn end_waiting(_amongs: &Vec<AmongStrings>, place: CommandPosition) -> CommandPosition
     ensures { view_place _amongs.now.items result ≡ spec.end_waiting (view_place _amongs.now.items place) }
 {
     CommandPosition {
@@ -54,7 +54,7 @@ pub fn end_waiting(_amongs: &Vec<Found>, place: CommandPosition) -> CommandPosit
 
 /// Returns the position at the beginning of a region; `behind` is the position after the region.
 pub fn begin_region(
-    amongs: &Vec<Found>,
+    amongs: &Vec<AmongStrings>,
     place: CommandPosition,
     behind: CommandPosition,
 ) -> CommandPosition
@@ -67,7 +67,7 @@ pub fn begin_region(
     }
 }
 
-fn past_simple(_amongs: &Vec<Found>, word: Simple, place: CommandPosition) -> CommandPosition
+fn past_simple(_amongs: &Vec<AmongStrings>, word: Simple, place: CommandPosition) -> CommandPosition
     ensures { view_place _amongs.now.items result ≡ spec.past_simple word (view_place _amongs.now.items place) }
 {
     match word {
@@ -88,7 +88,7 @@ fn past_simple(_amongs: &Vec<Found>, word: Simple, place: CommandPosition) -> Co
 
 /// Returns the position after a command.
 #[cycle(passing)]
-fn past(amongs: &Vec<Found>, command: &Command, place: CommandPosition) -> CommandPosition
+fn past(amongs: &Vec<AmongStrings>, command: &Command, place: CommandPosition) -> CommandPosition
     ensures { view_place amongs.now.items result ≡ spec.past (view_command command.now) (view_place amongs.now.items place) }
 {
     match command {
@@ -108,7 +108,7 @@ fn past(amongs: &Vec<Found>, command: &Command, place: CommandPosition) -> Comma
 /// Returns the position after the rows in parentheses.
 #[cycle(passing)]
 pub fn past_rows(
-    amongs: &Vec<Found>,
+    amongs: &Vec<AmongStrings>,
     rows: &Vec<RowOfCommands>,
     place: CommandPosition,
 ) -> CommandPosition
@@ -123,7 +123,11 @@ pub fn past_rows(
 
 /// Returns the position after a row.
 #[cycle(passing)]
-pub fn past_row(amongs: &Vec<Found>, row: &RowOfCommands, place: CommandPosition) -> CommandPosition
+pub fn past_row(
+    amongs: &Vec<AmongStrings>,
+    row: &RowOfCommands,
+    place: CommandPosition,
+) -> CommandPosition
     ensures { view_place amongs.now.items result ≡ spec.past_others (view_row row.now).1 (spec.past (view_row row.now).0 (view_place amongs.now.items place)) }
 {
     let first = past(amongs, &row.first, place);
@@ -131,7 +135,11 @@ pub fn past_row(amongs: &Vec<Found>, row: &RowOfCommands, place: CommandPosition
 }
 
 #[cycle(passing)]
-fn past_others(amongs: &Vec<Found>, others: &Vec<Joined>, place: CommandPosition) -> CommandPosition
+fn past_others(
+    amongs: &Vec<AmongStrings>,
+    others: &Vec<NextCommand>,
+    place: CommandPosition,
+) -> CommandPosition
     ensures { view_place amongs.now.items result ≡ spec.past_others (view_others others.now.items) (view_place amongs.now.items place) }
 {
     let mut behind = place;
@@ -142,7 +150,7 @@ fn past_others(amongs: &Vec<Found>, others: &Vec<Joined>, place: CommandPosition
 }
 
 #[cycle(passing)]
-fn past_among(amongs: &Vec<Found>, among: &Among, place: CommandPosition) -> CommandPosition
+fn past_among(amongs: &Vec<AmongStrings>, among: &Among, place: CommandPosition) -> CommandPosition
     ensures { view_place amongs.now.items result ≡ spec.past (trees.among_ (view_among among.now).0 (view_among among.now).1) (view_place amongs.now.items place) }
 {
     let mut behind = inside(amongs, place);
@@ -153,7 +161,11 @@ fn past_among(amongs: &Vec<Found>, among: &Among, place: CommandPosition) -> Com
 }
 
 #[cycle(passing)]
-fn past_groups(amongs: &Vec<Found>, groups: &Vec<Group>, place: CommandPosition) -> CommandPosition
+fn past_groups(
+    amongs: &Vec<AmongStrings>,
+    groups: &Vec<Group>,
+    place: CommandPosition,
+) -> CommandPosition
     ensures { (bare : List trees.Entry) → view_place amongs.now.items result ≡ spec.past_groups (view_groups groups.now.items bare) (view_place amongs.now.items place) }
 {
     let mut behind = place;

@@ -11,15 +11,19 @@ ghost use Rattle.sbl_compiler.specs.NumberedView.{names_in, place_in, routine_in
 ghost use Rattle.sbl_program.specs.ProgramOf.{program_of};
 
 use crate::amongs::amongs_of;
-use crate::compiler::{Compiled, Compiler};
+use crate::compiler::{CompileResult, Compiler};
 use crate::names::{SymbolTable, names_of};
 use crate::place::{CommandPosition, begin_region, end_waiting, left_of, past_row};
 use sbl_ast::{ItemInMode, Plain, RowOfCommands, ScriptItem, items_in_order};
-use sbl_program::{Found, Program, Routine};
+use sbl_program::{AmongStrings, Program, Routine};
 use std::alloc::{AllocError, Global};
 
 impl Compiler<'_> {
-    fn routine_of(&self, body: &RowOfCommands, place: &mut CommandPosition) -> Compiled<Routine>
+    fn routine_of(
+        &self,
+        body: &RowOfCommands,
+        place: &mut CommandPosition,
+    ) -> CompileResult<Routine>
         ensures made { IfOk result (λ r. routine_in self.now r ≡ spec.routine_of (names_in self.now) (view_row body.now).0 (view_row body.now).1 (place_in self.now place.old)) }
         ensures behind { OnOk result (place_in self.now place.new ≡ spec.past_body (view_row body.now).0 (view_row body.now).1 (place_in self.now place.old)) }
     {
@@ -39,7 +43,7 @@ impl Compiler<'_> {
         plain: &Plain,
         place: &mut CommandPosition,
         routines: &mut Vec<Routine>,
-    ) -> Compiled<()>
+    ) -> CompileResult<()>
         ensures made { OnOk result (map (routine_in self.now) routines.new.items ≡ spec.with_routine (names_in self.now) (view_plain plain.now) (place_in self.now place.old) (map (routine_in self.now) routines.old.items)) }
         ensures behind { OnOk result (place_in self.now place.new ≡ spec.past_plain (view_plain plain.now) (place_in self.now place.old)) }
     {
@@ -50,7 +54,7 @@ impl Compiler<'_> {
         Ok(())
     }
 
-    fn routines_of(&self, items: &[ItemInMode]) -> Compiled<Vec<Routine>>
+    fn routines_of(&self, items: &[ItemInMode]) -> CompileResult<Vec<Routine>>
         ensures { IfOk result (λ v. map (routine_in self.now) v.items ≡ spec.routines_behind (names_in self.now) (map view_in_mode items.now) (place_in self.now (record { next = 0; behind = 0; waits = false })) []) }
     {
         let mut place = CommandPosition {
@@ -65,7 +69,7 @@ impl Compiler<'_> {
         Ok(routines)
     }
 
-    fn program_by(&self, items: &[ItemInMode], external: &str) -> Compiled<Program>
+    fn program_by(&self, items: &[ItemInMode], external: &str) -> CompileResult<Program>
         ensures { IfOk result (λ p. program_of (strings_at self.now.amongs.now.items) p ≡ spec.program_by (names_in self.now) (map view_in_mode items.now) (map view_found self.now.amongs.now.items) external.now) }
     {
         let groupings = self.numbered_classes(items)?;
@@ -83,11 +87,11 @@ impl Compiler<'_> {
 
 /// A program, and the amongs with the strings for its tables.
 #[derive(Drop)]
-pub struct Made {
+pub struct Compilation {
     /// The program.
     pub program: Program,
     /// The amongs, in the order of the tables.
-    pub amongs: Vec<Found>,
+    pub amongs: Vec<AmongStrings>,
     /// The names of the routines, in the order of their definitions.
     pub routines: Vec<String>,
     /// The names of the groupings, in the order of their definitions.
@@ -99,7 +103,7 @@ pub fn compile_items(
     alloc: Global,
     items: &[ScriptItem],
     external: &str,
-) -> Result<Made, AllocError>
+) -> Result<Compilation, AllocError>
     ensures program { IfOk result (λ n. program_of (strings_at n.amongs.items) n.program ≡ spec.numbered_items (view_items items.now) external.now) }
     ensures routines { IfOk result (λ n. map string_bytes n.routines.items ≡ known_in (in_order (view_items items.now)) kinds.Routines) }
     ensures groupings { IfOk result (λ n. map string_bytes n.groupings.items ≡ known_in (in_order (view_items items.now)) kinds.Groupings) }
@@ -118,7 +122,7 @@ pub fn compile_items(
         groupings,
         ..
     } = names;
-    Ok(Made {
+    Ok(Compilation {
         program,
         amongs,
         routines: routines.into_names(),

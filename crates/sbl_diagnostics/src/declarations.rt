@@ -5,7 +5,7 @@ use std::alloc::{AllocError, Global};
 
 /// A declared name, and the word that declares it.
 #[derive(Clone, Copy, Debug, PartialEq, Eq)]
-pub(crate) struct Declared<'a> {
+pub(crate) struct DeclaredName<'a> {
     pub(crate) name: &'a str,
     pub(crate) word: Word,
 }
@@ -36,7 +36,7 @@ pub(crate) fn kind_text(word: Word) -> &'static str {
 }
 
 /// Returns the names that these tokens declare, in their order.
-fn names_in<'a>(alloc: Global, tokens: &[Token<'a>]) -> Result<Vec<Declared<'a>>, AllocError> {
+fn names_in<'a>(alloc: Global, tokens: &[Token<'a>]) -> Result<Vec<DeclaredName<'a>>, AllocError> {
     let mut names = Vec::new(alloc);
     let mut declaration = None;
     for token in tokens {
@@ -46,7 +46,7 @@ fn names_in<'a>(alloc: Global, tokens: &[Token<'a>]) -> Result<Vec<Declared<'a>>
             Kind::Name => {
                 if let Some(word) = declaration {
                     let name = token.text;
-                    names.push(Declared { name, word })?;
+                    names.push(DeclaredName { name, word })?;
                 }
             }
             _ => {}
@@ -59,7 +59,7 @@ fn names_in<'a>(alloc: Global, tokens: &[Token<'a>]) -> Result<Vec<Declared<'a>>
 pub(crate) fn declared_in<'a>(
     alloc: Global,
     script: &'a [u8],
-) -> Result<Vec<Declared<'a>>, AllocError> {
+) -> Result<Vec<DeclaredName<'a>>, AllocError> {
     let Ok(text) = str::from_utf8(script) else {
         return Ok(Vec::new(alloc));
     };
@@ -70,7 +70,10 @@ pub(crate) fn declared_in<'a>(
 }
 
 /// Returns the first declaration of this name, if there is one.
-pub(crate) fn declaration_of<'a>(names: &[Declared<'a>], name: &str) -> Option<Declared<'a>> {
+pub(crate) fn declaration_of<'a>(
+    names: &[DeclaredName<'a>],
+    name: &str,
+) -> Option<DeclaredName<'a>> {
     for declared in names {
         if declared.name == name {
             return Some(*declared);
@@ -82,7 +85,7 @@ pub(crate) fn declaration_of<'a>(names: &[Declared<'a>], name: &str) -> Option<D
 /// Returns the names of these kinds: the externals alone, or all.
 pub(crate) fn names_of<'a>(
     alloc: Global,
-    names: &[Declared<'a>],
+    names: &[DeclaredName<'a>],
     externals_only: bool,
 ) -> Result<Vec<&'a str>, AllocError> {
     let mut found = Vec::new(alloc);

@@ -1,7 +1,7 @@
 //! What is wrong at the place of a fault, in a sentence.
 
 use crate::characters::{push_hexadecimal, push_named};
-use crate::declarations::{Declared, declaration_of, declared_in, kind_text, names_of};
+use crate::declarations::{DeclaredName, declaration_of, declared_in, kind_text, names_of};
 use crate::encodings::push_conversion;
 use crate::near::{push_listed, push_near, push_near_word};
 use crate::reasons::{begins_sentence, reason};
@@ -248,7 +248,7 @@ fn push_name(
 fn push_undeclared(
     alloc: Global,
     shown: &mut String,
-    declared: &[Declared<'_>],
+    declared: &[DeclaredName<'_>],
     name: &str,
     external: &str,
 ) -> Result<(), AllocError> {

@@ -11,7 +11,8 @@ ghost use Rattle.sbl_ast.specs.View.{view_argument, view_entry, view_expression,
 ghost use Rattle.sbl_semantics.specs.Same as spec;
 
 use sbl_ast::{
-    Added, Argument, Base, Entry, Expression, Factor, Group, Literal, Product, Scaled, Term,
+    Argument, Base, Entry, Expression, Factor, Group, Literal, NextFactor, NextProduct, Product,
+    Term,
 };
 
 /// Whether two flags are the same.
@@ -54,7 +55,7 @@ pub(crate) fn same_expression(one: &Expression, other: &Expression) -> bool
 }
 
 #[cycle(same_arithmetic)]
-fn same_sums(one: &Vec<Added>, other: &Vec<Added>) -> bool
+fn same_sums(one: &Vec<NextProduct>, other: &Vec<NextProduct>) -> bool
     ensures { result ≡ spec.same_sums (view_sums one.now.items) (view_sums other.now.items) }
 {
     let mut others = other.as_slice();
@@ -81,7 +82,7 @@ fn same_product(one: &Product, other: &Product) -> bool
 }
 
 #[cycle(same_arithmetic)]
-fn same_scales(one: &Vec<Scaled>, other: &Vec<Scaled>) -> bool
+fn same_scales(one: &Vec<NextFactor>, other: &Vec<NextFactor>) -> bool
     ensures { result ≡ spec.same_scales (view_scales one.now.items) (view_scales other.now.items) }
 {
     let mut others = other.as_slice();

@@ -6,7 +6,7 @@ use Rattle.std.proofs.lemmas.List.{take_more, take_all, get_or-map, length-map}
 use Rattle.std.proofs.lemmas.Option.{slice_get-map}
 use Rattle.sbl_ast.specs.declared.mode.Mode.{Mode}
 use Rattle.sbl_ast.specs.declared.mode.Mode.TheVariants.{Forward}
-use Rattle.sbl_program.specs.declared.among.Found.{Found}
+use Rattle.sbl_program.specs.declared.among.AmongStrings.{AmongStrings}
 use Rattle.sbl_program.specs.AmongStrings.{Listed, listing}
 use Rattle.sbl_interpreter.specs.Listing.{listed_by, listed_of}
 use Rattle.sbl_program.specs.FoundView.{listing_found, strings_at, strings_or}
@@ -32,16 +32,16 @@ unfolding or_nothing
 by_table S entries mode None = refl
 by_table S entries mode (Some t) = refl
 
-by_among : (o : Option Found) → or_nothing (option_map listing_found o) ≡ strings_or o
+by_among : (o : Option AmongStrings) → or_nothing (option_map listing_found o) ≡ strings_or o
 unfolding or_nothing
 by_among None = refl
 by_among (Some f) = refl
 
-same_list : (S : Type 0) (entries : S → List (List ℕ)) (mode : S → Mode) (ts : List S) (fs : List Found) → map (listed_of S entries mode) ts ≡ map listing_found fs → (k : ℕ) → listed_by S entries mode (slice_get ts k) ≡ strings_at fs k
+same_list : (S : Type 0) (entries : S → List (List ℕ)) (mode : S → Mode) (ts : List S) (fs : List AmongStrings) → map (listed_of S entries mode) ts ≡ map listing_found fs → (k : ℕ) → listed_by S entries mode (slice_get ts k) ≡ strings_at fs k
 same_list S entries mode ts fs e k =
     by_table S entries mode (slice_get ts k)
     ∙ ap or_nothing (sym (slice_get-map (listed_of S entries mode) ts k) ∙ ap (λ ls. slice_get ls k) e ∙ slice_get-map listing_found fs k)
     ∙ by_among (slice_get fs k)
 
-pub same_tables : (S : Type 0) (entries : S → List (List ℕ)) (mode : S → Mode) (ts : List S) (fs : List Found) → map (listed_of S entries mode) ts ≡ map listing_found fs → (λ (k : ℕ). listed_by S entries mode (slice_get ts k)) ≡ strings_at fs
+pub same_tables : (S : Type 0) (entries : S → List (List ℕ)) (mode : S → Mode) (ts : List S) (fs : List AmongStrings) → map (listed_of S entries mode) ts ≡ map listing_found fs → (λ (k : ℕ). listed_by S entries mode (slice_get ts k)) ≡ strings_at fs
 same_tables S entries mode ts fs e = fun_ext (same_list S entries mode ts fs e)

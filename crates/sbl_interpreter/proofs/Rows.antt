@@ -22,7 +22,7 @@ use Rattle.sbl_program.specs.declared.node.Node.TheViews.{the_lemmas}
 use Rattle.sbl_program.specs.Chains.{AddedView, JoinedView, ScaledView, sum_or_difference, all_sums, row_node, join, join_all, product_or_quotient, all_products}
 use Rattle.sbl_program.specs.AmongStrings.{Listed}
 use Rattle.sbl_program.specs.Program as programs
-use Rattle.sbl_program.specs.ProgramOf.{view_added, view_joined, view_node, view_number, view_scaled}
+use Rattle.sbl_program.specs.ProgramOf.{view_next_product, view_next_command, view_node, view_number, view_next_factor}
 use Rattle.sbl_semantics.specs.declared.fault.RunFault.{RunFault}
 use Rattle.sbl_semantics.specs.declared.fault.RunFault.TheVariants.{Steps}
 use Rattle.sbl_semantics.specs.declared.cursor.SavedCursor.{SavedCursor}
@@ -59,17 +59,17 @@ pub scales_stop : (os : List ScaledView) (fault : RunFault) (m : Mode) (s : Stat
 scales_stop [] fault m s = refl
 scales_stop (o ∷ os) fault m s = scales_stop os fault m s
 
-view_sum : (first : Box Arithmetic Global) (others : Vec Addend Global) → view_number (Sum first others) ≡ all_sums (map view_added others.items) (view_number first.value)
+view_sum : (first : Box Arithmetic Global) (others : Vec Addend Global) → view_number (Sum first others) ≡ all_sums (map view_next_product others.items) (view_number first.value)
 view_sum first others = first_of (search (rules, number_lemmas), search (rules, number_lemmas, fold_out-Arithmetic))
 
-pub sum_value : (first : Box Arithmetic Global) (others : Vec Addend Global) (m : Mode) (s : State) → value (view_number (Sum first others)) m s ≡ sums_to (map view_added others.items) (value (view_number first.value) m s) m s
-sum_value first others m s = ap (λ n. value n m s) (view_sum first others) ∙ sums_done (map view_added others.items) (view_number first.value) m s
+pub sum_value : (first : Box Arithmetic Global) (others : Vec Addend Global) (m : Mode) (s : State) → value (view_number (Sum first others)) m s ≡ sums_to (map view_next_product others.items) (value (view_number first.value) m s) m s
+sum_value first others m s = ap (λ n. value n m s) (view_sum first others) ∙ sums_done (map view_next_product others.items) (view_number first.value) m s
 
-view_product : (first : Box Arithmetic Global) (others : Vec Multiplicand Global) → view_number (Product first others) ≡ all_products (map view_scaled others.items) (view_number first.value)
+view_product : (first : Box Arithmetic Global) (others : Vec Multiplicand Global) → view_number (Product first others) ≡ all_products (map view_next_factor others.items) (view_number first.value)
 view_product first others = first_of (search (rules, number_lemmas), search (rules, number_lemmas, fold_out-Arithmetic))
 
-pub product_value : (first : Box Arithmetic Global) (others : Vec Multiplicand Global) (m : Mode) (s : State) → value (view_number (Product first others)) m s ≡ scales_to (map view_scaled others.items) (value (view_number first.value) m s) m s
-product_value first others m s = ap (λ n. value n m s) (view_product first others) ∙ scales_done (map view_scaled others.items) (view_number first.value) m s
+pub product_value : (first : Box Arithmetic Global) (others : Vec Multiplicand Global) (m : Mode) (s : State) → value (view_number (Product first others)) m s ≡ scales_to (map view_next_factor others.items) (value (view_number first.value) m s) m s
+product_value first others m s = ap (λ n. value n m s) (view_product first others) ∙ scales_done (map view_next_factor others.items) (view_number first.value) m s
 
 -- the i-th of some parts, and then those that follow it
 pub part_is : {X Y : Type 0} (f : X → Y) (xs : List X) (i : ℕ) (x : X) → i < length xs → x ≡ get_or xs i x → map f (drop i xs) ≡ f x ∷ map f (drop (i + 1) xs)
@@ -143,10 +143,10 @@ module _ (p : programs.Program) (levels : ℕ) (m : Mode) where
       let k : length os ≡ length (o ∷ os) - 1 = omega arith in
       row_acts os o c s ∙ ap (λ n. then_on (pays n s) (λ u. others_run p levels m (saved_cursor u) (o ∷ os) (runs p levels c m u))) k
 
-view_row : (T : ℕ → Listed) (first : Box Node Global) (others : Vec JoinedNode Global) → view_node T (Row first others) ≡ row_node (view_node T first.value) (map (view_joined T) others.items)
+view_row : (T : ℕ → Listed) (first : Box Node Global) (others : Vec JoinedNode Global) → view_node T (Row first others) ≡ row_node (view_node T first.value) (map (view_next_command T) others.items)
 view_row T first others = first_of (search (rules, the_lemmas), search (rules, the_lemmas, fold_out-Node))
 
-pub row_does : (T : ℕ → Listed) (p : programs.Program) (levels : ℕ) (first : Box Node Global) (others : Vec JoinedNode Global) (m : Mode) (s : State) → runs_paid p levels (view_node T (Row first others)) m s ≡ row_runs p levels (view_node T first.value) (map (view_joined T) others.items) m s
+pub row_does : (T : ℕ → Listed) (p : programs.Program) (levels : ℕ) (first : Box Node Global) (others : Vec JoinedNode Global) (m : Mode) (s : State) → runs_paid p levels (view_node T (Row first others)) m s ≡ row_runs p levels (view_node T first.value) (map (view_next_command T) others.items) m s
 row_does T p levels first others m s =
     ap (λ c. runs_paid p levels c m s) (view_row T first others)
-    ∙ grouped_acts p levels m (view_node T first.value) (map (view_joined T) others.items) s
+    ∙ grouped_acts p levels m (view_node T first.value) (map (view_next_command T) others.items) s

@@ -15,4 +15,4 @@ pub use run::Runner;
 pub use sbl_semantics::{Event, RunFault, Touch};
 pub use state::{MAX_WORD_LENGTH, State};
 pub use table::{TableList, Tables, tables_of};
-pub use touches::Touched;
+pub use touches::TouchLog;

@@ -4,7 +4,7 @@ ghost use Rattle.std.specs.Prelude.{◌≡◌, ◌+◌, ◌<◌, ◌≤◌, true
 ghost use Rattle.sbl_interpreter.specs.Endings.{Follows, IsSaved};
 ghost use Rattle.sbl_interpreter.specs.Arithmetic.{value};
 ghost use Rattle.sbl_semantics.specs.Numbers.{continue_with};
-ghost use Rattle.sbl_program.specs.ProgramOf.{program_of, view_joined, view_node, view_nodes, view_number};
+ghost use Rattle.sbl_program.specs.ProgramOf.{program_of, view_next_command, view_node, view_nodes, view_number};
 ghost use Rattle.sbl_interpreter.specs.Run.{runs, runs_paid, all_run, group_runs, calls};
 ghost use Rattle.sbl_semantics.specs.Control.{backwards_end, backwards_from, limit_here, restore_limit, limits, turns, times, count_of, seeks};
 ghost use Rattle.sbl_ast.specs.declared.mode.Mode.TheVariants.{Backward};
@@ -196,7 +196,7 @@ impl<'a, T: Tables> Runner<'a, T> {
     #[cycle(run)]
     #[inline(never)]
     fn run_row(&self, first: &Node, others: &[JoinedNode], state: &mut State) -> Result<bool, Halt>
-        ensures follows { Follows result state.new (row_runs (program_of (T.listed self.now.tables.now) self.now.program.now) self.now.levels (view_node (T.listed self.now.tables.now) first.now) (map (view_joined (T.listed self.now.tables.now)) others.now) self.now.mode state.old) }
+        ensures follows { Follows result state.new (row_runs (program_of (T.listed self.now.tables.now) self.now.program.now) self.now.levels (view_node (T.listed self.now.tables.now) first.now) (map (view_next_command (T.listed self.now.tables.now)) others.now) self.now.mode state.old) }
         ensures no_more { IfOk result (λ _. state.new.steps ≤ state.old.steps) }
     {
         state.pay_for(others.len().saturating_sub(1))?;
@@ -219,7 +219,7 @@ impl<'a, T: Tables> Runner<'a, T> {
         state: &mut State,
     ) -> Result<bool, Halt>
         requires { IsSaved from }
-        ensures follows { Follows result state.new (joined_runs (program_of (T.listed self.now.tables.now) self.now.program.now) self.now.levels self.now.mode from (view_joined (T.listed self.now.tables.now) joined.now) signal state.old) }
+        ensures follows { Follows result state.new (joined_runs (program_of (T.listed self.now.tables.now) self.now.program.now) self.now.levels self.now.mode from (view_next_command (T.listed self.now.tables.now) joined.now) signal state.old) }
         ensures no_more { IfOk result (λ _. state.new.steps ≤ state.old.steps) }
     {
         if is_settled(joined.joiner, signal) {

@@ -26,7 +26,7 @@ use crate::slots::Slots;
 use crate::state::variables::{
     all_integers, reset_booleans, reset_integers, reset_strings, string_of,
 };
-use crate::touches::Touched;
+use crate::touches::TouchLog;
 use sbl_ast::Mode;
 use sbl_program::{Program, StringTerm};
 use sbl_semantics::{Event, SavedCursor};
@@ -54,7 +54,7 @@ pub struct State {
     strings: Slots<Vec<char>>,
     choices: Choices,
     routine: usize,
-    touched: Touched,
+    touched: TouchLog,
     events: Option<Vec<Event>>,
     steps: u32,
     // The buffer for the next splice, and buffers for the choices of the next calls.
@@ -93,7 +93,7 @@ impl State {
             strings: Slots::new(alloc),
             choices: Choices::none(),
             routine: 0,
-            touched: Touched::new(alloc),
+            touched: TouchLog::new(alloc),
             events: None,
             steps: 0,
             spare: Vec::new(alloc),

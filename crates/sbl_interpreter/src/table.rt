@@ -7,7 +7,7 @@ ghost use Rattle.sbl_program.specs.FoundView.{listing_found};
 ghost use Rattle.sbl_interpreter.specs.Listing.{fits_at, listed_by, listed_of};
 
 use sbl_among_search::AmongSearch;
-use sbl_program::Found;
+use sbl_program::AmongStrings;
 use std::alloc::{AllocError, Global};
 
 /// The searches of all amongs of a script.
@@ -52,7 +52,10 @@ impl<S: AmongSearch> Tables for TableList<S> {
 }
 
 /// Returns a table for each among. Returns `AllocError` if an allocation fails.
-pub fn tables_of<S: AmongSearch>(alloc: Global, amongs: &[Found]) -> Result<Vec<S>, AllocError>
+pub fn tables_of<S: AmongSearch>(
+    alloc: Global,
+    amongs: &[AmongStrings],
+) -> Result<Vec<S>, AllocError>
     ensures { IfOk result (λ ts. map (listed_of S S.entries S.mode) ts.items ≡ map listing_found amongs.now) }
 {
     let mut tables = Vec::new(alloc);

@@ -12,7 +12,7 @@ use std::marker::Model;
 
 /// Touches in the order of first touch, each once.
 #[derive(Drop)]
-pub struct Touched {
+pub struct TouchLog {
     touches: Vec<Touch>,
     // The round in which each routine, each of its amongs and each grouping was touched last. They grow if a touch lies
     // past their ends.
@@ -22,7 +22,7 @@ pub struct Touched {
     round: u32,
 }
 
-impl Model for Touched {
+impl Model for TouchLog {
     ghost use Rattle.std.specs.Prelude.{map, List};
     ghost use Rattle.sbl_semantics.specs.declared.touch.Touch as touch;
     ghost use Rattle.sbl_interpreter.specs.Marks.{AreMarked};
@@ -34,12 +34,12 @@ impl Model for Touched {
     ghost invariant = { λ t. AreMarked t.round t.touches.items t.entered.items (map (λ row. row.items) t.searched.items) t.tested.items };
 }
 
-impl Touched {
+impl TouchLog {
     /// Returns an empty list. Does not allocate.
-    pub fn new(alloc: Global) -> Touched
+    pub fn new(alloc: Global) -> TouchLog
         ensures { result ≡ [] }
     {
-        Touched {
+        TouchLog {
             touches: Vec::new(alloc),
             entered: Vec::new(alloc),
             searched: Vec::new(alloc),

@@ -9,7 +9,7 @@ use Rattle.sbl_ast.specs.Tree.{Argument, written_out, Term, Starter, Groups, Pla
 use Rattle.sbl_ast.specs.View.{RowView}
 use Rattle.sbl_ast.specs.Counts.{count_in_among}
 use Rattle.sbl_resolver.specs.Laws.{WellDeclaredPasses}
-use Rattle.sbl_amongs.specs.Amongs.{Held, amongs_of_body, nth_held, put_in_body}
+use Rattle.sbl_amongs.specs.Amongs.{AmongContents, amongs_of_body, nth_held, put_in_body}
 use Rattle.sbl_semantics.specs.Items.{is_among, known_in, names_by}
 use Rattle.sbl_semantics.specs.Regions.{number_after}
 use Rattle.sbl_ast.specs.Order.{ItemInMode, in_mode, in_order}
@@ -98,7 +98,7 @@ whole_same n b new =
     (same_bytes n) in
     gone new ∙ sym (gone b)
 
-pub among_same : (n : List ℕ) (k : ℕ) (b : RowView) (a : Starter × Groups) (h : Held) → nth_held k (amongs_of_body b) ≡ Some h → count_in_among a ≡ count_in_among (h.1, h.2)
+pub among_same : (n : List ℕ) (k : ℕ) (b : RowView) (a : Starter × Groups) (h : AmongContents) → nth_held k (amongs_of_body b) ≡ Some h → count_in_among a ≡ count_in_among (h.1, h.2)
     → holed_plain (same_item (Among n k)) (routine n (put_in_body b k a).0 (put_in_body b k a).1) ≡ holed_plain (same_item (Among n k)) (routine n b.0 b.1)
 among_same n k b a h at count =
     let x = body_put k a (λ j. bytes_eq n n && nat_eq k j) (λ j. ap (λ (v : Bool). v && nat_eq k j) (same_bytes n)) b h at count in
@@ -126,7 +126,7 @@ body_agree s t n text b h at is =
     (λ (z : IsSubstituted s (home_of_body s.items n) text true t).
     script_agree (same_item (Routine n)) s t (defines defined.Routine n) (routine n z.tree.0 z.tree.1) (routine n b.0 b.1) (whole_same n b z.tree) at z.items_are z.external_is)
 
-among_agree : (s t : Source) (n : List ℕ) (k : ℕ) (text : List ℕ) (b : RowView) (g : Held) (h : Home) → first_of (defines defined.Routine n) s.items ≡ Some (routine n b.0 b.1) → nth_held k (amongs_of_body b) ≡ Some g
+among_agree : (s t : Source) (n : List ℕ) (k : ℕ) (text : List ℕ) (b : RowView) (g : AmongContents) (h : Home) → first_of (defines defined.Routine n) s.items ≡ Some (routine n b.0 b.1) → nth_held k (amongs_of_body b) ≡ Some g
     → home_of_among s.items n b k g ≡ h → IsSubstituted s h text true t → AgreeOutside (same_item (Among n k)) s t
 among_agree s t n k text b g h at there is =
     subst (λ h. IsSubstituted s h text true t → AgreeOutside (same_item (Among n k)) s t) is
@@ -134,7 +134,7 @@ among_agree s t n k text b g h at there is =
     script_agree (same_item (Among n k)) s t (defines defined.Routine n) (routine n (put_in_body b k z.tree).0 (put_in_body b k z.tree).1) (routine n b.0 b.1)
     (among_same n k b z.tree g there (eqb-true _ _ z.counted)) at z.items_are z.external_is)
 
-among_by : (s t : Source) (n : List ℕ) (k : ℕ) (text : List ℕ) (b : RowView) (h : Home) → first_of (defines defined.Routine n) s.items ≡ Some (routine n b.0 b.1) → (o : Option Held) → nth_held k (amongs_of_body b) ≡ o
+among_by : (s t : Source) (n : List ℕ) (k : ℕ) (text : List ℕ) (b : RowView) (h : Home) → first_of (defines defined.Routine n) s.items ≡ Some (routine n b.0 b.1) → (o : Option AmongContents) → nth_held k (amongs_of_body b) ≡ o
     → home_of_held s.items n b k o ≡ Ok h → IsSubstituted s h text true t → AgreeOutside (same_item (Among n k)) s t
 among_by s t n k text b h at None there is = let never : home_of_held s.items n b k None ≡ Ok h = is in absurd cc
 among_by s t n k text b h at (Some g) there is = let same : home_of_among s.items n b k g ≡ h = cc in among_agree s t n k text b g h at there same

@@ -3,7 +3,7 @@ use Rattle.std.proofs.Common.{◌≡◌, ◌∙◌, ℕ, zero, suc, ◌+◌, ◌
 use Rattle.std.proofs.lemmas.Bool.{ne_eqb, eqb-true, true≢false}
 use Rattle.sbl_ast.specs.Tree.{Command, Rows, Others, Starter, Groups, bracket, simple_, literal_, name_, non_, prefixed, counted, move_, named, splice_, setlimit_, assign_, compare_, compare_values_, among_, no_rows, row, no_others, joined, no_starter, starter, bare, group, entry}
 use Rattle.sbl_ast.specs.Counts.{count_amongs, count_in_rows, count_in_others, count_in_starter, count_in_groups, count_in_among}
-use Rattle.sbl_amongs.specs.Amongs.{Held, amongs, amongs_of_body, amongs_of_rows, amongs_of_others, amongs_of_starter, amongs_of_groups, nth_held, put_among, put_in_rows, put_in_others, put_in_starter, put_in_groups}
+use Rattle.sbl_amongs.specs.Amongs.{AmongContents, amongs, amongs_of_body, amongs_of_rows, amongs_of_others, amongs_of_starter, amongs_of_groups, nth_held, put_among, put_in_rows, put_in_others, put_in_starter, put_in_groups}
 use Rattle.sbl_amongs.proofs.Held.{Counts, none_is_first, tree_counts, rows_count, others_count, starter_counts}
 use Rattle.sbl_semantics.specs.Regions.{number_after, number_after_rows, number_after_others, number_after_starter, number_after_groups}
 use Rattle.sbl_machine.specs.Holes.{blank, blanks, blanks_rows, blanks_others, blanks_starter, blanks_groups, nothing, hole, with_holes, rows_with_holes, others_with_holes, starter_with_holes, groups_with_holes}
@@ -125,20 +125,20 @@ mutual
 
 module _ (k : ℕ) (a : Starter × Groups) (holes : ℕ → Bool) (only : (j : ℕ) → holes j ≡ nat_eq k j) where
   -- the one with this number, if there is one, has as many
-  record AsMany (l : ℕ) (hs : List Held) : Type 0 where
-    is : (h : Held) → nth_held l hs ≡ Some h → count_in_among a ≡ count_in_among (h.1, h.2)
+  record AsMany (l : ℕ) (hs : List AmongContents) : Type 0 where
+    is : (h : AmongContents) → nth_held l hs ≡ Some h → count_in_among a ≡ count_in_among (h.1, h.2)
 
-  many_behind : (n : ℕ) (part : List Held → List Held) → Counts n part → (l : ℕ) (rest : List Held) → AsMany l (part rest) → AsMany (l - n) rest
+  many_behind : (n : ℕ) (part : List AmongContents → List AmongContents) → Counts n part → (l : ℕ) (rest : List AmongContents) → AsMany l (part rest) → AsMany (l - n) rest
   many_behind n part counts l rest many = record { is = λ h there. go h (l - n) refl there }
     where
-      go : (h : Held) (m : ℕ) → l - n ≡ m → nth_held m rest ≡ Some h → count_in_among a ≡ count_in_among (h.1, h.2)
+      go : (h : AmongContents) (m : ℕ) → l - n ≡ m → nth_held m rest ≡ Some h → count_in_among a ≡ count_in_among (h.1, h.2)
       go h zero e there = let never : None ≡ Some h = sym (none_is_first rest) ∙ there in absurd cc
       go h (suc m) e there =
           let x : l ≡ n + (1 + m) = omega (arith, e) in
           let y : 1 + m ≡ suc m = omega arith in
           many.is h (ap (λ (z : ℕ). nth_held z (part rest)) x ∙ counts rest m ∙ ap (λ (z : ℕ). nth_held z rest) y ∙ there)
 
-  many_inside : (l : ℕ) (g : Held) (rest : List Held) → nat_eq l 1 ≡ false → AsMany l (g ∷ rest) → AsMany (l - 1) rest
+  many_inside : (l : ℕ) (g : AmongContents) (rest : List AmongContents) → nat_eq l 1 ≡ false → AsMany l (g ∷ rest) → AsMany (l - 1) rest
   many_inside l g rest ne many = record { is = λ h there. many.is h (ap (λ (b : Bool). if b then Some g else nth_held (l - 1) rest) ne ∙ there) }
 
   -- a tree and that with the among put, where the first has j amongs of its routine before it, and the second j' ≡ j
@@ -178,7 +178,7 @@ module _ (k : ℕ) (a : Starter × Groups) (holes : ℕ → Bool) (only : (j : �
   leaf : (j : ℕ) (t : Command) → ((j' : ℕ) → with_holes holes j' t ≡ t) → TreeSame j t t
   leaf j t h = record { same = λ j' p. h j' ∙ sym (h j); count = refl }
 
-  among_put : (s : Starter) (gs : Groups) (d l j : ℕ) (rest : List Held) → l ≡ k - j → AsMany l (amongs (among_ s gs) d rest)
+  among_put : (s : Starter) (gs : Groups) (d l j : ℕ) (rest : List AmongContents) → l ≡ k - j → AsMany l (amongs (among_ s gs) d rest)
       → (nat_eq l 1 ≡ false → StarterSame (suc j) s (put_in_starter s (l - 1) a))
       → (nat_eq l 1 ≡ false → GroupsSame (number_after_starter s (suc j)) gs (put_in_groups gs (l - 1 - count_in_starter s) a))
       → (b : Bool) → nat_eq l 1 ≡ b → TreeSame j (among_ s gs) (if b then among_ a.0 a.1 else among_ (put_in_starter s (l - 1) a) (put_in_groups gs (l - 1 - count_in_starter s) a))
@@ -212,7 +212,7 @@ module _ (k : ℕ) (a : Starter × Groups) (holes : ℕ → Bool) (only : (j : �
       }
 
   mutual
-    tree_put : (t : Command) (d l j : ℕ) (rest : List Held) → l ≡ k - j → AsMany l (amongs t d rest) → TreeSame j t (put_among t l a)
+    tree_put : (t : Command) (d l j : ℕ) (rest : List AmongContents) → l ≡ k - j → AsMany l (amongs t d rest) → TreeSame j t (put_among t l a)
     tree_put (bracket rs) d l j rest e many = let x = rows_put rs (d + 1) l j rest e many in record { same = λ j' p. ap bracket (x.same j' p); count = x.count }
     tree_put (simple_ x) d l j rest e many = leaf j (simple_ x) (λ j'. refl)
     tree_put (literal_ x) d l j rest e many = leaf j (literal_ x) (λ j'. refl)
@@ -244,7 +244,7 @@ module _ (k : ℕ) (a : Starter × Groups) (holes : ℕ → Bool) (only : (j : �
         (many_behind (count_in_starter s) (λ r. amongs_of_starter s d r) (starter_counts s d) (l - 1) (amongs_of_groups gs d rest) (many_inside l (d, s, gs) more ne many)))
         (nat_eq l 1) refl
 
-    rows_put : (rs : Rows) (d l j : ℕ) (rest : List Held) → l ≡ k - j → AsMany l (amongs_of_rows rs d rest) → RowsSame j rs (put_in_rows rs l a)
+    rows_put : (rs : Rows) (d l j : ℕ) (rest : List AmongContents) → l ≡ k - j → AsMany l (amongs_of_rows rs d rest) → RowsSame j rs (put_in_rows rs l a)
     rows_put no_rows d l j rest e many = record { same = λ j' p. refl; count = refl }
     rows_put (row c os rs) d l j rest e many =
         let last = amongs_of_rows rs d rest in
@@ -270,7 +270,7 @@ module _ (k : ℕ) (a : Starter × Groups) (holes : ℕ → Bool) (only : (j : �
           count = λ i. x.count i + (y.count i + z.count i);
         }
 
-    others_put : (os : Others) (d l j : ℕ) (rest : List Held) → l ≡ k - j → AsMany l (amongs_of_others os d rest) → OthersSame j os (put_in_others os l a)
+    others_put : (os : Others) (d l j : ℕ) (rest : List AmongContents) → l ≡ k - j → AsMany l (amongs_of_others os d rest) → OthersSame j os (put_in_others os l a)
     others_put no_others d l j rest e many = record { same = λ j' p. refl; count = refl }
     others_put (joined o c os) d l j rest e many =
         let inner = amongs_of_others os d rest in
@@ -282,11 +282,11 @@ module _ (k : ℕ) (a : Starter × Groups) (holes : ℕ → Bool) (only : (j : �
         let u = put_among c l a in
         record { same = λ j' p. (λ i. joined o (x.same j' p i) (y.same (number_after u j') (tree_next c u j j' x.count p) i)); count = λ i. x.count i + y.count i }
 
-    starter_put : (s : Starter) (d l j : ℕ) (rest : List Held) → l ≡ k - j → AsMany l (amongs_of_starter s d rest) → StarterSame j s (put_in_starter s l a)
+    starter_put : (s : Starter) (d l j : ℕ) (rest : List AmongContents) → l ≡ k - j → AsMany l (amongs_of_starter s d rest) → StarterSame j s (put_in_starter s l a)
     starter_put no_starter d l j rest e many = record { same = λ j' p. refl; count = refl }
     starter_put (starter rs) d l j rest e many = let x = rows_put rs (d + 1 + 1) l j rest e many in record { same = λ j' p. ap starter (x.same j' p); count = x.count }
 
-    groups_put : (gs : Groups) (d l j : ℕ) (rest : List Held) → l ≡ k - j → AsMany l (amongs_of_groups gs d rest) → GroupsSame j gs (put_in_groups gs l a)
+    groups_put : (gs : Groups) (d l j : ℕ) (rest : List AmongContents) → l ≡ k - j → AsMany l (amongs_of_groups gs d rest) → GroupsSame j gs (put_in_groups gs l a)
     groups_put (bare es) d l j rest e many = record { same = λ j' p. refl; count = refl }
     groups_put (group v es rs gs) d l j rest e many =
         let inner = amongs_of_groups gs d rest in
@@ -303,11 +303,11 @@ module _ (k : ℕ) (a : Starter × Groups) (holes : ℕ → Bool) (only : (j : �
     pub first : with_holes holes 0 (put_among b.0 k a) ≡ with_holes holes 0 b.0
     pub others : others_with_holes holes (number_after (put_among b.0 k a) 0) (put_in_others b.1 (k - count_amongs b.0) a) ≡ others_with_holes holes (number_after b.0 0) b.1
 
-  pub body_put : (b : Command × Others) (h : Held) → nth_held k (amongs_of_body b) ≡ Some h → count_in_among a ≡ count_in_among (h.1, h.2) → BodySame b
+  pub body_put : (b : Command × Others) (h : AmongContents) → nth_held k (amongs_of_body b) ≡ Some h → count_in_among a ≡ count_in_among (h.1, h.2) → BodySame b
   body_put b h there count =
       let inner = amongs_of_others b.1 1 [] in
       let e : k ≡ k - 0 = omega arith in
-      let many : AsMany k (amongs b.0 1 inner) = record { is = λ g at. let same : h ≡ g = cc in count ∙ ap (λ (x : Held). count_in_among (x.1, x.2)) same } in
+      let many : AsMany k (amongs b.0 1 inner) = record { is = λ g at. let same : h ≡ g = cc in count ∙ ap (λ (x : AmongContents). count_in_among (x.1, x.2)) same } in
       let x = tree_put b.0 1 k 0 inner e many in
       let n = behind_is b.0 0 in
       let f : k - count_amongs b.0 ≡ k - number_after b.0 0 = omega (arith, n) in

@@ -35,7 +35,7 @@ use Rattle.sbl_ast.specs.declared.tree.Constant.{Constant}
 use Rattle.sbl_ast.specs.declared.tree.Joiner.{Joiner}
 use Rattle.sbl_ast.specs.declared.tree.DeclarationKind.{DeclarationKind}
 use Rattle.sbl_ast.specs.declared.tree.Base.{Base}
-use Rattle.sbl_ast.specs.Terminal.{Quoted}
+use Rattle.sbl_ast.specs.Terminal.{QuotedText}
 use Rattle.sbl_ast.specs.Tree.{Argument, written_out, by_name, Expression, expression, Sums, no_sums, sum, Product, product, Scales, no_scales, scale, Factor, negated, bracketed, numeral, variable, fixed, length_of, Entry, entry, Term, term}
 use Rattle.sbl_semantics.specs.Same.{same_argument, same_entry, same_expression, same_factor, same_product, same_quoted, same_scales, same_sums, same_term}
 
@@ -94,7 +94,7 @@ flag_is true false e = never e
 flag_is false true e = never e
 flag_is false false e = refl
 
-pub quoted_is : (x y : Quoted) → same_quoted x y ≡ true → x ≡ y
+pub quoted_is : (x y : QuotedText) → same_quoted x y ≡ true → x ≡ y
 quoted_is x y e =
     let h = both _ _ e in
     let p = name_is x.spelling y.spelling h.0 in

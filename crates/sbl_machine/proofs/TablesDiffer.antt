@@ -9,7 +9,7 @@ use Rattle.std.proofs.lemmas.Option.{same_Some}
 use Rattle.std.proofs.lemmas.Slice.Eq.{bytes_eq-Decides}
 use Rattle.sbl_machine.specs.Searches.{strings_read, amongs_of, TablesDiffer, SearchesAreExact}
 use Rattle.sbl_compiler.specs.Laws.{names_in}
-use Rattle.sbl_compiler.specs.NumberedAmongs.{Found, strings_in, strings_behind, found_of, found_command, found_rows, found_others, found_starter, found_groups, found_plain, found_behind}
+use Rattle.sbl_compiler.specs.NumberedAmongs.{AmongStrings, strings_in, strings_behind, found_of, found_command, found_rows, found_others, found_starter, found_groups, found_plain, found_behind}
 use Rattle.sbl_compiler.specs.NumberedNames.{Names}
 use Rattle.sbl_semantics.specs.Regions.{mode_under}
 use Rattle.sbl_resolver.specs.Amongs.{text_of, texts_of, IsSound, EachAmong, EachAmongOfRows, EachAmongOfOthers, EachAmongOfStarter, EachAmongOfGroups, EachAmongOfPlain, EachAmongOfPlains, EachAmongOfItems, AmongsAreSound}
@@ -61,13 +61,13 @@ read_differ Backward ss d = λ i j w e f. d i j (reverse w) (turned ss i w e) (t
 
 -- ---- each among of a script
 
-abbrev Differs : Found → Type 0
+abbrev Differs : AmongStrings → Type 0
 Differs f = AllDiffer (strings_read f)
 
-abbrev AllDo : List Found → Type 0
+abbrev AllDo : List AmongStrings → Type 0
 AllDo fs = AllByRecursion Differs fs
 
-one_more : (fs : List Found) (f : Found) → AllDo fs → Differs f → AllDo (fs ++ (f ∷ []))
+one_more : (fs : List AmongStrings) (f : AmongStrings) → AllDo fs → Differs f → AllDo (fs ++ (f ∷ []))
 one_more [] f a d = (d, tt)
 one_more (g ∷ fs) f a d = (a.0, one_more fs f a.1 d)
 
@@ -76,7 +76,7 @@ among_differs gs m s = read_differ m (strings_behind gs []) (subst AllDiffer (sy
 
 module _ (ns : Names) (first : ℕ) where
   mutual
-    all_in : (t : trees.Command) (m : Mode) (fs : List Found) → EachAmong IsSound t → AllDo fs → AllDo (found_command ns first m t fs)
+    all_in : (t : trees.Command) (m : Mode) (fs : List AmongStrings) → EachAmong IsSound t → AllDo fs → AllDo (found_command ns first m t fs)
     all_in (bracket rs) m fs s a = all_in_rows rs m fs s a
     all_in (simple_ x) m fs s a = a
     all_in (literal_ q) m fs s a = a
@@ -95,23 +95,23 @@ module _ (ns : Names) (first : ℕ) where
         let gs' = fs ++ (found_of ns first m gs fs ∷ []) in
         all_in_groups gs m (found_starter ns first m st gs') s.2 (all_in_starter st m gs' s.1 (one_more fs (found_of ns first m gs fs) a (among_differs gs m s.0)))
 
-    all_in_rows : (rs : trees.Rows) (m : Mode) (fs : List Found) → EachAmongOfRows IsSound rs → AllDo fs → AllDo (found_rows ns first m rs fs)
+    all_in_rows : (rs : trees.Rows) (m : Mode) (fs : List AmongStrings) → EachAmongOfRows IsSound rs → AllDo fs → AllDo (found_rows ns first m rs fs)
     all_in_rows no_rows m fs s a = a
     all_in_rows (row c os rs) m fs s a = all_in_rows rs m (found_others ns first m os (found_command ns first m c fs)) s.2 (all_in_others os m (found_command ns first m c fs) s.1 (all_in c m fs s.0 a))
 
-    all_in_others : (os : trees.Others) (m : Mode) (fs : List Found) → EachAmongOfOthers IsSound os → AllDo fs → AllDo (found_others ns first m os fs)
+    all_in_others : (os : trees.Others) (m : Mode) (fs : List AmongStrings) → EachAmongOfOthers IsSound os → AllDo fs → AllDo (found_others ns first m os fs)
     all_in_others no_others m fs s a = a
     all_in_others (joined j c os) m fs s a = all_in_others os m (found_command ns first m c fs) s.1 (all_in c m fs s.0 a)
 
-    all_in_starter : (st : trees.Starter) (m : Mode) (fs : List Found) → EachAmongOfStarter IsSound st → AllDo fs → AllDo (found_starter ns first m st fs)
+    all_in_starter : (st : trees.Starter) (m : Mode) (fs : List AmongStrings) → EachAmongOfStarter IsSound st → AllDo fs → AllDo (found_starter ns first m st fs)
     all_in_starter no_starter m fs s a = a
     all_in_starter (starter rs) m fs s a = all_in_rows rs m fs s a
 
-    all_in_groups : (gs : trees.Groups) (m : Mode) (fs : List Found) → EachAmongOfGroups IsSound gs → AllDo fs → AllDo (found_groups ns first m gs fs)
+    all_in_groups : (gs : trees.Groups) (m : Mode) (fs : List AmongStrings) → EachAmongOfGroups IsSound gs → AllDo fs → AllDo (found_groups ns first m gs fs)
     all_in_groups (bare es) m fs s a = a
     all_in_groups (group e es rs gs) m fs s a = all_in_groups gs m (found_rows ns first m rs fs) s.1 (all_in_rows rs m fs s.0 a)
 
-all_in_plain : (ns : Names) (x : trees.Plain) (m : Mode) (fs : List Found) → EachAmongOfPlain IsSound x → AllDo fs → AllDo (found_plain ns m x fs)
+all_in_plain : (ns : Names) (x : trees.Plain) (m : Mode) (fs : List AmongStrings) → EachAmongOfPlain IsSound x → AllDo fs → AllDo (found_plain ns m x fs)
 all_in_plain ns (routine n c os) m fs s a =
     all_in_others ns (length fs) os m (found_command ns (length fs) m c fs) s.1 (all_in ns (length fs) c m fs s.0 a)
 all_in_plain ns (declaration k xs) m fs s a = a
@@ -119,7 +119,7 @@ all_in_plain ns (escapes x y) m fs s a = a
 all_in_plain ns (macro n b q) m fs s a = a
 all_in_plain ns (grouping n x ts) m fs s a = a
 
-all_behind : (ns : Names) (xs : List ItemInMode) (fs : List Found) → AllByRecursion (λ x. EachAmongOfPlain IsSound x.plain) xs → AllDo fs → AllDo (found_behind ns xs fs)
+all_behind : (ns : Names) (xs : List ItemInMode) (fs : List AmongStrings) → AllByRecursion (λ x. EachAmongOfPlain IsSound x.plain) xs → AllDo fs → AllDo (found_behind ns xs fs)
 all_behind ns [] fs s a = a
 all_behind ns (x ∷ xs) fs s a = all_behind ns xs (found_plain ns x.mode x.plain fs) s.1 (all_in_plain ns x.plain x.mode fs s.0 a)
 
@@ -135,7 +135,7 @@ in_order_sound (backward xs ∷ is) s = in_mode_sound Backward xs (in_order is) 
 pub tables_differ : AmongsAreSound → TablesDiffer
 tables_differ sound script well = all_behind (names_in script.items) (in_order script.items) [] (in_order_sound script.items (sound script.items script.external well)) tt
 
-exact_in : FittingAreMatches → (fs : List Found) → AllDo fs → AllByRecursion (λ f. (x : List ℕ) (i : ℕ) → StandsIn i (fitting (strings_read f) x) ↔ Matches (strings_read f) x i) fs
+exact_in : FittingAreMatches → (fs : List AmongStrings) → AllDo fs → AllByRecursion (λ f. (x : List ℕ) (i : ℕ) → StandsIn i (fitting (strings_read f) x) ↔ Matches (strings_read f) x i) fs
 exact_in fits [] a = tt
 exact_in fits (f ∷ fs) a = (λ x i. fits (strings_read f) x a.0 i, exact_in fits fs a.1)
 

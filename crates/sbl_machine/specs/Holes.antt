@@ -4,7 +4,7 @@ use Rattle.std.specs.Prelude.{ℕ, suc, Bool, [], map, None, if◌then◌else◌
 use Rattle.sbl_semantics.specs.TouchedItems.{Item', Routine, Among, Grouping}
 use Rattle.sbl_semantics.specs.Regions.{number_after, number_after_others, number_after_rows, number_after_starter}
 use Rattle.sbl_ast.specs.Source.{Source}
-use Rattle.sbl_ast.specs.Terminal.{Quoted}
+use Rattle.sbl_ast.specs.Terminal.{QuotedText}
 use Rattle.sbl_ast.specs.Tree as trees
 use Rattle.sbl_ast.specs.Tree.{Plain, Item, bracket, prefixed, counted, setlimit_, among_, no_rows, row, no_others, joined, no_starter, starter, bare, group, entry, written_out, routine, grouping, plain, backward}
 
@@ -38,7 +38,7 @@ abbrev mutual
   blanks_groups (bare es) rest = rest
   blanks_groups (group e es rs gs) rest = blanks_rows rs (blanks_groups gs rest)
 
-abbrev pub nothing : Quoted
+abbrev pub nothing : QuotedText
 nothing = record { spelling = []; value = [] }
 
 -- an among that keeps only how many amongs it holds

@@ -5,16 +5,16 @@ use Rattle.sbl_semantics.specs.Fitting.{fitting, read_all}
 use Rattle.sbl_among_search.specs.Laws.{AllDiffer, Matches, StandsIn}
 use Rattle.sbl_ast.specs.Order.{in_order}
 use Rattle.sbl_compiler.specs.Laws.{names_in}
-use Rattle.sbl_compiler.specs.NumberedAmongs.{Found, found_behind}
+use Rattle.sbl_compiler.specs.NumberedAmongs.{AmongStrings, found_behind}
 use Rattle.sbl_resolver.specs.Checks.{WellDeclared}
 use Rattle.sbl_ast.specs.Source.{Source}
 
 -- the amongs of a script; each has a table
-abbrev pub amongs_of : Source → List Found
+abbrev pub amongs_of : Source → List AmongStrings
 amongs_of script = found_behind (names_in script.items) (in_order script.items) []
 
 -- the strings of an among, as the mode of its place reads them
-abbrev pub strings_read : Found → List (List ℕ)
+abbrev pub strings_read : AmongStrings → List (List ℕ)
 strings_read f = read_all f.strings.mode f.strings.entries
 
 -- the strings in a table of an among all differ

@@ -16,9 +16,9 @@ pub use fault::RunStop;
 pub use limit::DEFAULT_LIMIT;
 pub use machine::Machine;
 pub use meter::Meter;
-pub use outcome::{Ran, Traced, Why};
+pub use outcome::{RunReport, RunTrace, Why};
 pub use sbl_among_search::{AmongSearch, LinkedTable, PlainTable};
-pub use sbl_interpreter::Touched;
+pub use sbl_interpreter::TouchLog;
 pub use sbl_semantics::{Event, Item, Outcome, RunFault, Touch};
 
 /// The tables that a program searches.

@@ -17,11 +17,13 @@ use crate::fault::RunStop;
 use crate::marks::marks_of;
 use crate::meter::Meter;
 use crate::naming::{Names, is_touched, items_touched, routine_at};
-use crate::outcome::{Ran, Traced, Why};
+use crate::outcome::{RunReport, RunTrace, Why};
 use sbl_among_search::AmongSearch;
 use sbl_ast::Mode;
-use sbl_compiler::{Made, compile_items};
-use sbl_interpreter::{Event, Halt, RunFault, Runner, State, TableList, Touch, Touched, tables_of};
+use sbl_compiler::{Compilation, compile_items};
+use sbl_interpreter::{
+    Event, Halt, RunFault, Runner, State, TableList, Touch, TouchLog, tables_of,
+};
 use sbl_program::Program;
 use sbl_script::Script;
 use sbl_script::laws::is_spelled;
@@ -47,7 +49,7 @@ impl<S: AmongSearch> Machine<S> {
     pub fn new(alloc: Global, script: &Script) -> Result<Machine<S>, AllocError>
         ensures { IfOk result (λ m. IsMachineOf S S.entries S.mode m (source_of script.now)) }
     {
-        let Made {
+        let Compilation {
             program,
             amongs,
             routines,
@@ -79,7 +81,7 @@ impl<S: AmongSearch> Machine<S> {
         meter: &mut Meter,
         word: &[char],
         limit: u32,
-    ) -> Result<Ran, RunStop>
+    ) -> Result<RunReport, RunStop>
         requires { length word.now ≤ max_word_length }
         ensures outcome { (script : Source) → IsMachineOf S S.entries S.mode self.now script → IfOk result (λ ran. outcome_of ran.outcome ≡ run_of script word.now limit) }
         ensures touched { (script : Source) → IsMachineOf S S.entries S.mode self.now script → IfOk result (λ ran. items_in ran.touched ≡ touched_items script word.now limit) }
@@ -87,14 +89,14 @@ impl<S: AmongSearch> Machine<S> {
         ensures counted { MatchResult result (λ _. meter.new ≡ meter.old + 1) (λ _. meter.new ≡ meter.old) }
         ensures full { (result ≡ Err RunStop.MeterFull) ↔ (meter.old ≡ u64.MAX) }
     {
-        let Traced {
+        let RunTrace {
             outcome,
             touches,
             used,
         } = self.run_unless_full(alloc, meter, word, limit)?;
         let touched = self.items(alloc, touches.as_slice())?;
         meter.count_run();
-        Ok(Ran {
+        Ok(RunReport {
             outcome,
             touched,
             used,
@@ -108,7 +110,7 @@ impl<S: AmongSearch> Machine<S> {
         meter: &mut Meter,
         word: &[char],
         limit: u32,
-    ) -> Result<Traced, RunStop>
+    ) -> Result<RunTrace, RunStop>
         requires { length word.now ≤ max_word_length }
         ensures outcome { (script : Source) → IsMachineOf S S.entries S.mode self.now script → IfOk result (λ traced. outcome_of traced.outcome ≡ run_of script word.now limit) }
         ensures touches { (script : Source) → IsMachineOf S S.entries S.mode self.now script → IfOk result (λ traced. traced.touches.items ≡ touches_of script word.now limit) }
@@ -189,7 +191,7 @@ impl<S: AmongSearch> Machine<S> {
         alloc: Global,
         script: &Script,
         items: &[Item],
-    ) -> Result<Touched, AllocError>
+    ) -> Result<TouchLog, AllocError>
         ensures { IsMachineOf S S.entries S.mode self.now (source_of script.now) → list_all (has_item (names_of (source_of script.now))) (map item_of items.now) ≡ true → IfOk result (λ marks. AreMarksOf (source_of script.now) (map item_of items.now) marks) }
     {
         is_spelled(script);
@@ -204,7 +206,7 @@ impl<S: AmongSearch> Machine<S> {
         meter: &mut Meter,
         word: &[char],
         limit: u32,
-    ) -> Result<Traced, RunStop>
+    ) -> Result<RunTrace, RunStop>
         requires { length word.now ≤ max_word_length }
         ensures outcome { (script : Source) → IsMachineOf S S.entries S.mode self.now script → IfOk result (λ traced. outcome_of traced.outcome ≡ run_of script word.now limit) }
         ensures touches { (script : Source) → IsMachineOf S S.entries S.mode self.now script → IfOk result (λ traced. traced.touches.items ≡ touches_of script word.now limit) }
@@ -228,7 +230,7 @@ impl<S: AmongSearch> Machine<S> {
         spare: Vec<Touch>,
         word: &[char],
         limit: u32,
-    ) -> Result<Traced, AllocError>
+    ) -> Result<RunTrace, AllocError>
         requires { length word.now ≤ max_word_length }
         ensures outcome { (script : Source) → IsMachineOf S S.entries S.mode self.now script → IfOk result (λ traced. outcome_of traced.outcome ≡ run_of script word.now limit) }
         ensures touches { (script : Source) → IsMachineOf S S.entries S.mode self.now script → IfOk result (λ traced. traced.touches.items ≡ touches_of script word.now limit) }
@@ -253,7 +255,7 @@ impl<S: AmongSearch> Machine<S> {
         spare: Vec<Touch>,
         word: &[char],
         limit: u32,
-    ) -> Result<Traced, AllocError>
+    ) -> Result<RunTrace, AllocError>
         requires { length word.now ≤ max_word_length }
         ensures outcome { (script : Source) → IsMachineOf S S.entries S.mode self.now script → IfOk result (λ traced. outcome_of traced.outcome ≡ run_of script word.now limit) }
         ensures touches { (script : Source) → IsMachineOf S S.entries S.mode self.now script → IfOk result (λ traced. traced.touches.items ≡ touches_of script word.now limit) }
@@ -279,7 +281,7 @@ fn result_of_end(
     limit: u32,
     state: &State,
     touches: Vec<Touch>,
-) -> Result<Traced, AllocError>
+) -> Result<RunTrace, AllocError>
     ensures outcome { (e : Ending) → Follows end state.now e → IfOk result (λ traced. outcome_of traced.outcome ≡ outcome_at e) }
     ensures touches { (e : Ending) → Follows end state.now e → IfOk result (λ traced. traced.touches.items ≡ touched_at e) }
     ensures used { (e : Ending) → Follows end state.now e → IfOk result (λ traced. traced.used ≡ used_at limit e) }
@@ -293,7 +295,7 @@ fn result_of_end(
     match end {
         Err(halt) => match halt.fault() {
             None => Err(AllocError),
-            Some(fault) => Ok(Traced {
+            Some(fault) => Ok(RunTrace {
                 outcome: Outcome::Refused(fault),
                 touches,
                 used: if fault == RunFault::Steps {
@@ -303,7 +305,7 @@ fn result_of_end(
                 },
             }),
         },
-        Ok(_) => Ok(Traced {
+        Ok(_) => Ok(RunTrace {
             outcome: Outcome::Stem(Vec::from_slice(alloc, state.text())?),
             touches,
             used: paid,

@@ -13,7 +13,7 @@ use crate::among_list::AmongList;
 use crate::groupings_built::built_from;
 use crate::naming::Names;
 use sbl_compiler::NameList;
-use sbl_interpreter::Touched;
+use sbl_interpreter::TouchLog;
 use sbl_semantics::Item;
 use std::alloc::{AllocError, Global};
 
@@ -25,7 +25,7 @@ pub(crate) enum ItemKind {
 }
 
 // Adds the touch that enters the routine, or tests the grouping, with this number.
-fn mark(kind: ItemKind, number: usize, marks: &mut Touched) -> Result<(), AllocError>
+fn mark(kind: ItemKind, number: usize, marks: &mut TouchLog) -> Result<(), AllocError>
     ensures { OnOk result (marks.new ≡ with_touch (touch_of kind number) marks.old) }
 {
     match kind {
@@ -39,7 +39,7 @@ fn mark_names(
     kind: ItemKind,
     all: &[String],
     names: &NameList,
-    marks: &mut Touched,
+    marks: &mut TouchLog,
 ) -> Result<(), AllocError>
     ensures { OnOk result (marks.new ≡ with_names (touch_of kind) (is_one_of names.now) 0 (map string_bytes all.now) marks.old) }
 {
@@ -52,7 +52,7 @@ fn mark_names(
 }
 
 // Adds the touches that search these amongs of a routine. The numbers are counted from 0.
-fn mark_searches(routine: usize, amongs: &[usize], marks: &mut Touched) -> Result<(), AllocError>
+fn mark_searches(routine: usize, amongs: &[usize], marks: &mut TouchLog) -> Result<(), AllocError>
     ensures { OnOk result (marks.new ≡ with_searches routine amongs.now marks.old) }
 {
     for among in amongs {
@@ -65,7 +65,7 @@ fn mark_searches(routine: usize, amongs: &[usize], marks: &mut Touched) -> Resul
 fn mark_amongs(
     routines: &[String],
     amongs: &AmongList,
-    marks: &mut Touched,
+    marks: &mut TouchLog,
 ) -> Result<(), AllocError>
     ensures { OnOk result (marks.new ≡ searches (numbers_of amongs.now) 0 (map string_bytes routines.now) marks.old) }
 {
@@ -140,7 +140,7 @@ fn mark_all(
     amongs: &AmongList,
     routines: &NameList,
     groupings: &NameList,
-    marks: &mut Touched,
+    marks: &mut TouchLog,
 ) -> Result<(), AllocError>
     ensures { OnOk result (marks.new ≡ with_marks names.now (numbers_of amongs.now) routines.now groupings.now marks.old) }
 {
@@ -160,7 +160,7 @@ pub fn marks_of(
     names: &Names,
     script: &[sbl_ast::ScriptItem],
     items: &[Item],
-) -> Result<Touched, AllocError>
+) -> Result<TouchLog, AllocError>
     ensures { IfOk result (λ marks. marks ≡ marks_of names.now (in_order (view_items script.now)) (map item_of items.now)) }
 {
     let mut routines = NameList::new(alloc);
@@ -168,7 +168,7 @@ pub fn marks_of(
     add_names(alloc, items, &mut routines, &mut groupings)?;
     let built = built_from(alloc, script, groupings)?;
     let amongs = amongs_in(alloc, items)?;
-    let mut marks = Touched::new(alloc);
+    let mut marks = TouchLog::new(alloc);
     mark_all(names, &amongs, &routines, &built, &mut marks)?;
     Ok(marks)
 }

@@ -478,7 +478,7 @@ terms_runs : (xs : List Term) (ps : List AtDepth) (k : Stack) → Calm ps → Pa
 terms_runs [] ps k c h = skip_terms ps k c.plus h
 terms_runs (term o a ∷ xs) ps k c h = (s.argument 0 ∷ s.terms ∷ k, refl, argument_runs a 0 (placed_terms xs ps) (s.terms ∷ k) (terms_runs xs ps k c h))
 
-base_runs : (b : Option Base) (q : t.Quoted) (ps : List AtDepth) (k : Stack) → Passes ps k → Passes (placed_base b ((t.literal q, 0) ∷ ps)) (s.base ∷ s.literal ∷ k)
+base_runs : (b : Option Base) (q : t.QuotedText) (ps : List AtDepth) (k : Stack) → Passes ps k → Passes (placed_base b ((t.literal q, 0) ∷ ps)) (s.base ∷ s.literal ∷ k)
 base_runs None q ps k h = (k, refl, h)
 base_runs (Some b) q ps k h = (s.literal ∷ k, refl, (k, refl, h))
 

@@ -41,7 +41,7 @@ pub entries_push : (xs : List Entry) (x : Entry) (rest : Ts) → spelled_entries
 entries_push [] x rest = refl
 entries_push (y ∷ xs) x rest = ap (λ (r : Ts). spelled_entry y r) (entries_push xs x rest)
 
-pub entry_spelled : (q : t.Quoted) (c : Option (List ℕ)) (rest : Ts) → spelled_entry (entry q c) rest ≡ t.literal q ∷ spelled_condition c rest
+pub entry_spelled : (q : t.QuotedText) (c : Option (List ℕ)) (rest : Ts) → spelled_entry (entry q c) rest ≡ t.literal q ∷ spelled_condition c rest
 entry_spelled q None rest = refl
 entry_spelled q (Some n) rest = refl
 

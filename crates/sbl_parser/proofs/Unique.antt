@@ -1,7 +1,7 @@
 -- Two trees with the same tokens are one.
 use Rattle.std.proofs.Common.{◌≡◌, ℕ, Bool, true, false, List, [], ◌∷◌, Option, Some, None, refl, sym, ap}
 use Rattle.sbl_ast.specs.declared.tree.Base.{Base}
-use Rattle.sbl_ast.specs.Terminal.{Terminal, Quoted}
+use Rattle.sbl_ast.specs.Terminal.{Terminal, QuotedText}
 use Rattle.sbl_ast.specs.Terminal as t
 use Rattle.sbl_ast.specs.Tree.{Argument, written_out, by_name, Expression, expression, Sums, no_sums, sum, Product, product, Scales, no_scales, scale, Factor, negated, bracketed, numeral, variable, fixed, length_of, Entry, entry, Command, bracket, simple_, literal_, name_, non_, prefixed, counted, move_, named, splice_, setlimit_, assign_, compare_, compare_values_, among_, Rows, no_rows, row, Others, no_others, joined, Starter, no_starter, starter, Groups, bare, group, Term, term, Plain, declaration, escapes, macro, routine, grouping, Item, plain, backward, argument_terminal, spelled_expression, spelled_sums, spelled_product, spelled_scales, spelled_factor, spelled_entry, spelled_entries, spelled_command, spelled_rows, spelled_others, spelled_starter, spelled_groups, spelled_names, spelled_base, spelled_terms, spelled_plain, spelled_plains, spelled_item, spelled_items, script_tokens}
 
@@ -414,7 +414,7 @@ same_terms (term o p ∷ xs) (term u q ∷ ys) a b ha hb e =
     let same = same_argument p q both in
     (cc, r.1)
 
-same_base : (x y : Option Base) (p q : Quoted) (a b : Ts) → spelled_base x (t.literal p ∷ a) ≡ spelled_base y (t.literal q ∷ b) → (x ≡ y) × (p ≡ q) × (a ≡ b)
+same_base : (x y : Option Base) (p q : QuotedText) (a b : Ts) → spelled_base x (t.literal p ∷ a) ≡ spelled_base y (t.literal q ∷ b) → (x ≡ y) × (p ≡ q) × (a ≡ b)
 same_base None None p q a b e = (refl, cc, cc)
 same_base None (Some y) p q a b e = absurd cc
 same_base (Some x) None p q a b e = absurd cc

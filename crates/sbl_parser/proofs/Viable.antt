@@ -6,7 +6,7 @@ use Rattle.sbl_ast.specs.declared.tree.Comparison.{Comparison}
 use Rattle.sbl_ast.specs.declared.tree.Comparison.TheVariants as comparisons
 use Rattle.sbl_ast.specs.declared.tree.Assignment.TheVariants as assignments
 use Rattle.sbl_ast.specs.declared.tree.Additive.TheVariants as additives
-use Rattle.sbl_ast.specs.Terminal.{Terminal, Quoted}
+use Rattle.sbl_ast.specs.Terminal.{Terminal, QuotedText}
 use Rattle.sbl_ast.specs.Terminal as t
 use Rattle.sbl_ast.specs.Tree.{Argument, written_out, by_name, Expression, expression, Sums, no_sums, sum, product, Scales, no_scales, scale, Factor, negated, bracketed, numeral, variable, fixed, length_of, Entry, entry, Command, bracket, simple_, literal_, name_, non_, prefixed, counted, move_, named, splice_, setlimit_, assign_, compare_, compare_values_, among_, Rows, no_rows, row, Others, no_others, joined, Starter, no_starter, starter, Groups, bare, group, Term, term, Plain, declaration, escapes, macro, routine, grouping, Item, plain, backward, argument_terminal, spelled_expression, spelled_sums, spelled_scales, spelled_factor, spelled_entry, spelled_command, spelled_rows, spelled_others, spelled_starter, spelled_groups, spelled_names, spelled_base, spelled_terms, spelled_plain, spelled_plains, spelled_item, spelled_items}
 use Rattle.sbl_ast.specs.Places.{AtDepth, tokens}
@@ -37,12 +37,12 @@ MakesOne (s.sums d) More ts = (ss : Sums) × (rest : List Terminal) × (ts ≡ s
 MakesOne (s.starter d) More ts = (x : Starter) × (rest : List Terminal) × (ts ≡ spelled_starter x rest) × More rest
 MakesOne (s.groups d) More ts = (gs : Groups) × (rest : List Terminal) × (ts ≡ spelled_groups gs rest) × More rest
 MakesOne (s.entries d) More ts = (f : Entry → Groups) × (rest : List Terminal) × ((x : Entry) → spelled_entry x ts ≡ spelled_groups (f x) rest) × More rest
-MakesOne (s.condition d) More ts = (c : Option (List ℕ)) × (rest : List Terminal) × ((q : Quoted) → t.literal q ∷ ts ≡ spelled_entry (entry q c) rest) × More rest
+MakesOne (s.condition d) More ts = (c : Option (List ℕ)) × (rest : List Terminal) × ((q : QuotedText) → t.literal q ∷ ts ≡ spelled_entry (entry q c) rest) × More rest
 MakesOne (s.among d) More ts = (x : Starter) × (gs : Groups) × (rest : List Terminal) × (ts ≡ spelled_command (among_ x gs) rest) × More rest
 MakesOne s.inserts More ts = (a : ℕ) × (b : ℕ) × (rest : List Terminal) × (ts ≡ t.inserts a b ∷ rest) × More rest
 MakesOne s.macro More ts = (n : List ℕ) × (rest : List Terminal) × (ts ≡ t.macro_name n ∷ rest) × More rest
 MakesOne s.base More ts = (b : Option Base) × (rest : List Terminal) × (ts ≡ spelled_base b rest) × More rest
-MakesOne s.literal More ts = (q : Quoted) × (rest : List Terminal) × (ts ≡ t.literal q ∷ rest) × More rest
+MakesOne s.literal More ts = (q : QuotedText) × (rest : List Terminal) × (ts ≡ t.literal q ∷ rest) × More rest
 MakesOne s.definition More ts = (f : List ℕ → Plain) × (rest : List Terminal) × ((n : List ℕ) → t.define ∷ t.name n ∷ ts ≡ spelled_plain (f n) rest) × More rest
 MakesOne s.terms More ts = (xs : List Term) × (rest : List Terminal) × (ts ≡ spelled_terms xs rest) × More rest
 MakesOne s.names More ts = (ns : List (List ℕ)) × (rest : List Terminal) × (ts ≡ spelled_names ns rest) × More rest

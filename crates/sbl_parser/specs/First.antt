@@ -7,7 +7,7 @@ use Rattle.sbl_token.specs.declared.token.Token.{Token}
 use Rattle.sbl_token.specs.Lexemes.{number_in, spelling_in, characters_in, inserts_in}
 use Rattle.sbl_parser.specs.declared.role.Role.{Role}
 use Rattle.sbl_parser.specs.declared.role.Role.TheVariants as roles
-use Rattle.sbl_ast.specs.Terminal.{Quoted, word_terminal, sign_terminal}
+use Rattle.sbl_ast.specs.Terminal.{QuotedText, word_terminal, sign_terminal}
 use Rattle.sbl_parser.specs.Roles.{role_as}
 
 abbrev pub kind_role : Kind → Role
@@ -31,9 +31,9 @@ abbrev pub first_inserts : List Token → ℕ × ℕ
 first_inserts [] = (0, 0)
 first_inserts (t ∷ ts) = inserts_in t.value
 
-abbrev pub quoted_in : Value → Quoted
+abbrev pub quoted_in : Value → QuotedText
 quoted_in v = record { spelling = spelling_in v; value = characters_in v }
 
-abbrev pub first_literal : List Token → Quoted
+abbrev pub first_literal : List Token → QuotedText
 first_literal [] = record { spelling = []; value = [] }
 first_literal (t ∷ ts) = quoted_in t.value

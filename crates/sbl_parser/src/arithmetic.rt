@@ -10,35 +10,36 @@ ghost use Rattle.sbl_ast.specs.View.{view_expression, view_product, view_factor}
 ghost use Rattle.sbl_parser.specs.Gives.{ahead, Reads};
 
 use crate::cursor::{Cursor, Delimiter, chain};
-use crate::error::{MAX_DEPTH, Parsed, ReadError};
+use crate::error::{MAX_DEPTH, ReadError, ReadResult};
 use crate::role::Role;
 use crate::tokens::argument;
-use sbl_ast::{Added, Additive, Expression, Factor, Product, Scaled};
+use sbl_ast::{Additive, Expression, Factor, NextFactor, NextProduct, Product};
 
 /// Parses an arithmetic expression. Parentheses or a minus in it are one level deeper than `depth`.
 #[cycle(arithmetic)]
-pub fn expression(cursor: &mut Cursor<'_, '_>, depth: u8) -> Parsed<Expression>
+pub fn expression(cursor: &mut Cursor<'_, '_>, depth: u8) -> ReadResult<Expression>
     requires { depth ≤ max_depth }
     ensures { Reads (wanted.expression depth []) (λ x. spelled_expression (view_expression x)) (ahead cursor.old) result (ahead cursor.new) }
 {
-    let (first, others) = chain!(cursor, depth, product; Additive => Added { operator, product });
+    let (first, others) =
+        chain!(cursor, depth, product; Additive => NextProduct { operator, product });
     Ok(Expression { first, others })
 }
 
 /// Parses a product.
 #[cycle(arithmetic)]
-fn product(cursor: &mut Cursor<'_, '_>, depth: u8) -> Parsed<Product>
+fn product(cursor: &mut Cursor<'_, '_>, depth: u8) -> ReadResult<Product>
     requires { depth ≤ max_depth }
     ensures { Reads (wanted.factor depth ∷ wanted.scales depth ∷ []) (λ x. spelled_product (view_product x)) (ahead cursor.old) result (ahead cursor.new) }
 {
     let (first, others) =
-        chain!(cursor, depth, factor; Multiplicative => Scaled { operator, factor });
+        chain!(cursor, depth, factor; Multiplicative => NextFactor { operator, factor });
     Ok(Product { first, others })
 }
 
 /// Parses a factor.
 #[cycle(arithmetic)]
-fn factor(cursor: &mut Cursor<'_, '_>, depth: u8) -> Parsed<Factor>
+fn factor(cursor: &mut Cursor<'_, '_>, depth: u8) -> ReadResult<Factor>
     requires { depth ≤ max_depth }
     ensures { Reads (wanted.factor depth ∷ []) (λ x. spelled_factor (view_factor x)) (ahead cursor.old) result (ahead cursor.new) }
 {
@@ -55,22 +56,22 @@ fn factor(cursor: &mut Cursor<'_, '_>, depth: u8) -> Parsed<Factor>
         }
         Role::Additive(operator) => negation(cursor, depth, operator),
         Role::Open => bracket_factor(cursor, depth),
-        _ => Err(ReadError::Syntax(cursor.left())),
+        _ => Err(ReadError::Syntax(cursor.count_ahead())),
     }
 }
 
 /// Parses `- F`.
 #[cycle(arithmetic)]
-fn negation(cursor: &mut Cursor<'_, '_>, depth: u8, operator: Additive) -> Parsed<Factor>
+fn negation(cursor: &mut Cursor<'_, '_>, depth: u8, operator: Additive) -> ReadResult<Factor>
     requires first { role_of (ahead cursor.old) ≡ Role.Additive operator }
     requires shallow { depth ≤ max_depth }
     ensures { Reads (wanted.factor depth ∷ []) (λ x. spelled_factor (view_factor x)) (ahead cursor.old) result (ahead cursor.new) }
 {
     match operator {
-        Additive::Plus => Err(ReadError::Syntax(cursor.left())),
+        Additive::Plus => Err(ReadError::Syntax(cursor.count_ahead())),
         Additive::Minus => {
             if depth >= MAX_DEPTH {
-                return Err(ReadError::TooDeep(cursor.left()));
+                return Err(ReadError::TooDeep(cursor.count_ahead()));
             }
             cursor.skip();
             let inner = factor(cursor, depth + 1)?;
@@ -81,13 +82,13 @@ fn negation(cursor: &mut Cursor<'_, '_>, depth: u8, operator: Additive) -> Parse
 
 /// Parses `( E )`.
 #[cycle(arithmetic)]
-fn bracket_factor(cursor: &mut Cursor<'_, '_>, depth: u8) -> Parsed<Factor>
+fn bracket_factor(cursor: &mut Cursor<'_, '_>, depth: u8) -> ReadResult<Factor>
     requires first { role_of (ahead cursor.old) ≡ Role.Open }
     requires shallow { depth ≤ max_depth }
     ensures { Reads (wanted.factor depth ∷ []) (λ x. spelled_factor (view_factor x)) (ahead cursor.old) result (ahead cursor.new) }
 {
     if depth >= MAX_DEPTH {
-        return Err(ReadError::TooDeep(cursor.left()));
+        return Err(ReadError::TooDeep(cursor.count_ahead()));
     }
     cursor.skip();
     let inner = expression(cursor, depth + 1)?;

@@ -13,33 +13,33 @@ ghost use Rattle.std.specs.Prelude.{map};
 use crate::arithmetic::expression;
 use crate::cursor::{Cursor, Delimiter, chain};
 use crate::entries::{entries, entry};
-use crate::error::{MAX_DEPTH, Parsed, ReadError};
+use crate::error::{MAX_DEPTH, ReadError, ReadResult};
 use crate::leaves::{dollar, non};
 use crate::role::Role;
 use crate::starts::begins_command;
 use crate::tokens::{argument, name};
-use sbl_ast::{Among, Command, Count, Entry, Group, Joined, Prefix, RowOfCommands};
+use sbl_ast::{Among, Command, Count, Entry, Group, NextCommand, Prefix, RowOfCommands};
 
 /// Parses a command whose first token is at nesting depth `depth`.
 #[cycle(commands)]
-fn command(cursor: &mut Cursor<'_, '_>, depth: u8) -> Parsed<Command>
+fn command(cursor: &mut Cursor<'_, '_>, depth: u8) -> ReadResult<Command>
     requires { depth ≤ max_depth + 1 }
     ensures shallow { OnOk result (depth ≤ max_depth) }
     ensures gives { Reads (wanted.command depth ∷ []) (λ x. spelled_command (view_command x)) (ahead cursor.old) result (ahead cursor.new) }
 {
     let role = cursor.role();
     if !begins_command(role) {
-        return Err(ReadError::Syntax(cursor.left()));
+        return Err(ReadError::Syntax(cursor.count_ahead()));
     }
     if depth > MAX_DEPTH {
-        return Err(ReadError::TooDeep(cursor.left()));
+        return Err(ReadError::TooDeep(cursor.count_ahead()));
     }
     command_of(cursor, depth, role)
 }
 
 /// Parses a command whose first token has this role.
 #[cycle(commands)]
-fn command_of(cursor: &mut Cursor<'_, '_>, depth: u8, role: Role) -> Parsed<Command>
+fn command_of(cursor: &mut Cursor<'_, '_>, depth: u8, role: Role) -> ReadResult<Command>
     requires first { role_of (ahead cursor.old) ≡ role }
     requires shallow { depth ≤ max_depth }
     ensures { Reads (wanted.command depth ∷ []) (λ x. spelled_command (view_command x)) (ahead cursor.old) result (ahead cursor.new) }
@@ -85,13 +85,13 @@ fn command_of(cursor: &mut Cursor<'_, '_>, depth: u8, role: Role) -> Parsed<Comm
             cursor.skip();
             dollar(cursor, depth)
         }
-        _ => Err(ReadError::Syntax(cursor.left())),
+        _ => Err(ReadError::Syntax(cursor.count_ahead())),
     }
 }
 
 /// Parses `C`, after a `not` or a similar word.
 #[cycle(commands)]
-fn prefix_command(cursor: &mut Cursor<'_, '_>, depth: u8, prefix: Prefix) -> Parsed<Command>
+fn prefix_command(cursor: &mut Cursor<'_, '_>, depth: u8, prefix: Prefix) -> ReadResult<Command>
     requires { depth ≤ max_depth }
     ensures { Reads (wanted.command depth ∷ []) (λ x. spelled_command (view_command x)) (t.prefix prefix ∷ ahead cursor.old) result (ahead cursor.new) }
 {
@@ -101,7 +101,7 @@ fn prefix_command(cursor: &mut Cursor<'_, '_>, depth: u8, prefix: Prefix) -> Par
 
 /// Parses `E C`, after a `loop` or `atleast`.
 #[cycle(commands)]
-fn count_command(cursor: &mut Cursor<'_, '_>, depth: u8, count: Count) -> Parsed<Command>
+fn count_command(cursor: &mut Cursor<'_, '_>, depth: u8, count: Count) -> ReadResult<Command>
     requires { depth ≤ max_depth }
     ensures { Reads (wanted.command depth ∷ []) (λ x. spelled_command (view_command x)) (t.count count ∷ ahead cursor.old) result (ahead cursor.new) }
 {
@@ -113,7 +113,7 @@ fn count_command(cursor: &mut Cursor<'_, '_>, depth: u8, count: Count) -> Parsed
 
 /// Parses `setlimit C1 for C2`.
 #[cycle(commands)]
-fn set_limit(cursor: &mut Cursor<'_, '_>, depth: u8) -> Parsed<Command>
+fn set_limit(cursor: &mut Cursor<'_, '_>, depth: u8) -> ReadResult<Command>
     requires first { role_of (ahead cursor.old) ≡ Role.SetLimit }
     requires shallow { depth ≤ max_depth }
     ensures { Reads (wanted.command depth ∷ []) (λ x. spelled_command (view_command x)) (ahead cursor.old) result (ahead cursor.new) }
@@ -130,7 +130,7 @@ fn set_limit(cursor: &mut Cursor<'_, '_>, depth: u8) -> Parsed<Command>
 
 /// Parses `among ( .. )`.
 #[cycle(commands)]
-pub fn among(cursor: &mut Cursor<'_, '_>, depth: u8) -> Parsed<Among>
+pub fn among(cursor: &mut Cursor<'_, '_>, depth: u8) -> ReadResult<Among>
     requires first { role_of (ahead cursor.old) ≡ Role.Among }
     requires shallow { depth ≤ max_depth }
     ensures { Reads (wanted.among depth ∷ []) (λ x. spelled_command (among_ (view_among x).0 (view_among x).1)) (ahead cursor.old) result (ahead cursor.new) }
@@ -150,14 +150,14 @@ pub fn among(cursor: &mut Cursor<'_, '_>, depth: u8) -> Parsed<Among>
 /// Parses the starter of an `among` (the commands in parentheses before the first string), if there is one. Its
 /// parentheses are one level deeper than `depth`.
 #[cycle(commands)]
-fn starter(cursor: &mut Cursor<'_, '_>, depth: u8) -> Parsed<Option<Vec<RowOfCommands>>>
+fn starter(cursor: &mut Cursor<'_, '_>, depth: u8) -> ReadResult<Option<Vec<RowOfCommands>>>
     requires { depth ≤ max_depth }
     ensures { Reads (wanted.starter depth ∷ []) (λ x. spelled_starter (view_starter x)) (ahead cursor.old) result (ahead cursor.new) }
 {
     match cursor.role() {
         Role::Open => {
             if depth >= MAX_DEPTH {
-                return Err(ReadError::TooDeep(cursor.left()));
+                return Err(ReadError::TooDeep(cursor.count_ahead()));
             }
             cursor.skip();
             Ok(Some(block(cursor, depth + 1)?))
@@ -169,7 +169,7 @@ fn starter(cursor: &mut Cursor<'_, '_>, depth: u8) -> Parsed<Option<Vec<RowOfCom
 /// Parses the groups of an `among`, and the strings after the last group. Parentheses are one level deeper than
 /// `depth`.
 #[cycle(commands)]
-fn groups(cursor: &mut Cursor<'_, '_>, depth: u8) -> Parsed<(Vec<Group>, Vec<Entry>)>
+fn groups(cursor: &mut Cursor<'_, '_>, depth: u8) -> ReadResult<(Vec<Group>, Vec<Entry>)>
     requires { depth ≤ max_depth }
     ensures { Reads (wanted.groups depth ∷ []) (λ x. spelled_groups (view_groups x.0.items (map view_entry x.1.items))) (ahead cursor.old) result (ahead cursor.new) }
 {
@@ -180,7 +180,7 @@ fn groups(cursor: &mut Cursor<'_, '_>, depth: u8) -> Parsed<(Vec<Group>, Vec<Ent
         match cursor.role() {
             Role::Open => {
                 if depth >= MAX_DEPTH {
-                    return Err(ReadError::TooDeep(cursor.left()));
+                    return Err(ReadError::TooDeep(cursor.count_ahead()));
                 }
                 cursor.skip();
                 let rows = block(cursor, depth + 1)?;
@@ -201,7 +201,7 @@ fn groups(cursor: &mut Cursor<'_, '_>, depth: u8) -> Parsed<(Vec<Group>, Vec<Ent
 
 /// Parses the commands after a `(` at depth `depth`, and the `)`.
 #[cycle(commands)]
-fn block(cursor: &mut Cursor<'_, '_>, depth: u8) -> Parsed<Vec<RowOfCommands>>
+fn block(cursor: &mut Cursor<'_, '_>, depth: u8) -> ReadResult<Vec<RowOfCommands>>
     requires { depth ≤ max_depth }
     ensures { Reads (wanted.rows (depth + 1) ∷ wanted.closing depth ∷ []) (λ x rest. spelled_rows (view_rows x.items) (t.close_ ∷ rest)) (ahead cursor.old) result (ahead cursor.new) }
 {
@@ -212,7 +212,7 @@ fn block(cursor: &mut Cursor<'_, '_>, depth: u8) -> Parsed<Vec<RowOfCommands>>
 
 /// Parses rows up to a token that does not begin a command.
 #[cycle(commands)]
-fn rows(cursor: &mut Cursor<'_, '_>, depth: u8) -> Parsed<Vec<RowOfCommands>>
+fn rows(cursor: &mut Cursor<'_, '_>, depth: u8) -> ReadResult<Vec<RowOfCommands>>
     requires { depth ≤ max_depth + 1 }
     ensures { Reads (wanted.rows depth ∷ []) (λ x. spelled_rows (view_rows x.items)) (ahead cursor.old) result (ahead cursor.new) }
 {
@@ -225,10 +225,10 @@ fn rows(cursor: &mut Cursor<'_, '_>, depth: u8) -> Parsed<Vec<RowOfCommands>>
 
 /// Parses a command and those that `or` or `and` joins to it.
 #[cycle(commands)]
-pub fn row(cursor: &mut Cursor<'_, '_>, depth: u8) -> Parsed<RowOfCommands>
+pub fn row(cursor: &mut Cursor<'_, '_>, depth: u8) -> ReadResult<RowOfCommands>
     requires { depth ≤ max_depth + 1 }
     ensures { Reads (wanted.command depth ∷ wanted.others depth ∷ []) (λ x rest. spelled_command (view_row x).0 (spelled_others (view_row x).1 rest)) (ahead cursor.old) result (ahead cursor.new) }
 {
-    let (first, others) = chain!(cursor, depth, command; Joiner => Joined { joiner, command });
+    let (first, others) = chain!(cursor, depth, command; Joiner => NextCommand { joiner, command });
     Ok(RowOfCommands { first, others })
 }

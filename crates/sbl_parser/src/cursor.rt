@@ -57,7 +57,7 @@ impl<'a, 't> Cursor<'a, 't> {
     }
 
     /// Returns how many tokens there are still to read.
-    pub fn left(&self) -> usize
+    pub fn count_ahead(&self) -> usize
         ensures { result ≡ length (ahead self.now) }
     {
         self.tokens.len()
@@ -76,7 +76,7 @@ impl<'a, 't> Cursor<'a, 't> {
         ensures done { OnOk result (ahead self.now ≡ []) }
         ensures more { IfErr result (λ e. Fails e (fault (ahead self.now) [])) }
     {
-        let left = self.left();
+        let left = self.count_ahead();
         if left > 0 {
             return Err(ReadError::Syntax(left));
         }
@@ -97,7 +97,7 @@ impl<'a, 't> Cursor<'a, 't> {
         ensures { Reads (delimiter_symbol token depth ∷ []) (λ _ rest. delimiter_token token ∷ rest) (ahead self.old) result (ahead self.new) }
     {
         if !token.has(self.role()) {
-            return Err(ReadError::Syntax(self.left()));
+            return Err(ReadError::Syntax(self.count_ahead()));
         }
         self.skip();
         Ok(())

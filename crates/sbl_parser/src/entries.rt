@@ -9,12 +9,12 @@ ghost use Rattle.sbl_ast.specs.View.{view_name, view_entry};
 ghost use Rattle.sbl_parser.specs.Gives.{ahead, Reads};
 
 use crate::cursor::Cursor;
-use crate::error::{Parsed, ReadError};
+use crate::error::{ReadError, ReadResult};
 use crate::role::Role;
 use sbl_ast::Entry;
 
 /// Parses the condition of a string, if there is one.
-fn condition(cursor: &mut Cursor<'_, '_>, depth: u8) -> Parsed<Option<String>>
+fn condition(cursor: &mut Cursor<'_, '_>, depth: u8) -> ReadResult<Option<String>>
     requires { depth ≤ max_depth }
     ensures memory { IfErr result (λ e. e ≡ ReadError.Memory) }
     ensures gives { Reads (wanted.condition depth ∷ []) (λ x. spelled_condition (view_name x)) (ahead cursor.old) result (ahead cursor.new) }
@@ -26,7 +26,7 @@ fn condition(cursor: &mut Cursor<'_, '_>, depth: u8) -> Parsed<Option<String>>
 }
 
 /// Parses a string and its condition.
-pub fn entry(cursor: &mut Cursor<'_, '_>, depth: u8) -> Parsed<Entry>
+pub fn entry(cursor: &mut Cursor<'_, '_>, depth: u8) -> ReadResult<Entry>
     requires first { role_of (ahead cursor.old) ≡ Role.Literal }
     requires shallow { depth ≤ max_depth }
     ensures spelled { IfOk result (λ x. ahead cursor.old ≡ spelled_entry (view_entry x) (ahead cursor.new)) }
@@ -39,7 +39,7 @@ pub fn entry(cursor: &mut Cursor<'_, '_>, depth: u8) -> Parsed<Entry>
 }
 
 /// Parses more strings, if any.
-pub fn entries(cursor: &mut Cursor<'_, '_>, depth: u8) -> Parsed<Vec<Entry>>
+pub fn entries(cursor: &mut Cursor<'_, '_>, depth: u8) -> ReadResult<Vec<Entry>>
     requires { depth ≤ max_depth }
     ensures spelled { IfOk result (λ x. ahead cursor.old ≡ spelled_entries (map view_entry x.items) (ahead cursor.new)) }
     ensures faults { IfOk result (λ x. (k : wanted.Stack) → wanted.fault (ahead cursor.old) (wanted.entries depth ∷ k) ≡ wanted.fault (ahead cursor.new) (wanted.entries depth ∷ k)) }

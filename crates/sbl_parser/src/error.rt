@@ -30,7 +30,7 @@ pub enum ReadError {
 }
 
 /// What a function reads.
-pub type Parsed<T> = Result<T, ReadError>;
+pub type ReadResult<T> = Result<T, ReadError>;
 
 impl<T: Drop> From<AllocFailed<T>> for ReadError {
     ghost from_gives = { λ _ e. e ≡ Memory };

@@ -10,14 +10,14 @@ ghost use Rattle.sbl_parser.specs.Gives.{ahead, Reads};
 
 use crate::commands::row;
 use crate::cursor::{Cursor, Delimiter, chain};
-use crate::error::{Parsed, ReadError};
+use crate::error::{ReadError, ReadResult};
 use crate::role::Role;
 use crate::starts::{begins_item, begins_plain};
 use crate::tokens::{argument, name};
 use sbl_ast::{Argument, Base, DeclarationKind, Literal, Plain, ScriptItem, Term};
 
 /// Parses names up to a token that is not a name.
-fn names(cursor: &mut Cursor<'_, '_>) -> Parsed<Vec<String>>
+fn names(cursor: &mut Cursor<'_, '_>) -> ReadResult<Vec<String>>
     ensures { Reads (wanted.names ∷ []) (λ x. spelled_names (map string_bytes x.items)) (ahead cursor.old) result (ahead cursor.new) }
 {
     let mut names = Vec::new(cursor.alloc);
@@ -28,12 +28,12 @@ fn names(cursor: &mut Cursor<'_, '_>) -> Parsed<Vec<String>>
 }
 
 /// Parses the name of a macro.
-fn macro_name(cursor: &mut Cursor<'_, '_>) -> Parsed<String>
+fn macro_name(cursor: &mut Cursor<'_, '_>) -> ReadResult<String>
     ensures { Reads (wanted.macro ∷ []) (λ x rest. t.macro_name (string_bytes x) ∷ rest) (ahead cursor.old) result (ahead cursor.new) }
 {
     match cursor.role() {
         Role::MacroName => cursor.take_macro_name(),
-        _ => Err(ReadError::Syntax(cursor.left())),
+        _ => Err(ReadError::Syntax(cursor.count_ahead())),
     }
 }
 
@@ -50,24 +50,24 @@ fn base(cursor: &mut Cursor<'_, '_>) -> Option<Base>
 }
 
 /// Parses the literal of a macro.
-fn macro_literal(cursor: &mut Cursor<'_, '_>) -> Parsed<Literal>
+fn macro_literal(cursor: &mut Cursor<'_, '_>) -> ReadResult<Literal>
     ensures { Reads (wanted.literal ∷ []) (λ x rest. t.literal (view_literal x) ∷ rest) (ahead cursor.old) result (ahead cursor.new) }
 {
     match cursor.role() {
         Role::Literal => Ok(cursor.take_literal()?),
-        _ => Err(ReadError::Syntax(cursor.left())),
+        _ => Err(ReadError::Syntax(cursor.count_ahead())),
     }
 }
 
 /// Parses the terms of a grouping and returns the first one and those after it.
-pub fn terms(cursor: &mut Cursor<'_, '_>) -> Parsed<(Argument, Vec<Term>)>
+pub fn terms(cursor: &mut Cursor<'_, '_>) -> ReadResult<(Argument, Vec<Term>)>
     ensures { Reads (wanted.argument 0 ∷ wanted.terms ∷ []) (λ x rest. argument_terminal (view_argument x.0) ∷ spelled_terms (map view_term x.1.items) rest) (ahead cursor.old) result (ahead cursor.new) }
 {
     Ok(chain!(cursor, 0, argument; Additive => Term { operator, argument }))
 }
 
 /// Parses `routines ( A B .. )` and similar declarations.
-fn declaration(cursor: &mut Cursor<'_, '_>, kind: DeclarationKind) -> Parsed<Plain>
+fn declaration(cursor: &mut Cursor<'_, '_>, kind: DeclarationKind) -> ReadResult<Plain>
     requires { role_of (ahead cursor.old) ≡ Role.Declares kind }
     ensures { Reads (wanted.plain ∷ []) (λ x. spelled_plain (view_plain x)) (ahead cursor.old) result (ahead cursor.new) }
 {
@@ -79,7 +79,7 @@ fn declaration(cursor: &mut Cursor<'_, '_>, kind: DeclarationKind) -> Parsed<Pla
 }
 
 /// Parses `stringescapes AB`.
-fn string_escapes(cursor: &mut Cursor<'_, '_>) -> Parsed<Plain>
+fn string_escapes(cursor: &mut Cursor<'_, '_>) -> ReadResult<Plain>
     requires { role_of (ahead cursor.old) ≡ Role.StringEscapes }
     ensures { Reads (wanted.plain ∷ []) (λ x. spelled_plain (view_plain x)) (ahead cursor.old) result (ahead cursor.new) }
 {
@@ -89,12 +89,12 @@ fn string_escapes(cursor: &mut Cursor<'_, '_>) -> Parsed<Plain>
             let (a, b) = cursor.take_inserts();
             Ok(Plain::StringEscapes(a, b))
         }
-        _ => Err(ReadError::Syntax(cursor.left())),
+        _ => Err(ReadError::Syntax(cursor.count_ahead())),
     }
 }
 
 /// Parses `stringdef M 'abc'` and similar definitions.
-fn string_def(cursor: &mut Cursor<'_, '_>) -> Parsed<Plain>
+fn string_def(cursor: &mut Cursor<'_, '_>) -> ReadResult<Plain>
     requires { role_of (ahead cursor.old) ≡ Role.StringDef }
     ensures { Reads (wanted.plain ∷ []) (λ x. spelled_plain (view_plain x)) (ahead cursor.old) result (ahead cursor.new) }
 {
@@ -106,7 +106,7 @@ fn string_def(cursor: &mut Cursor<'_, '_>) -> Parsed<Plain>
 }
 
 /// Parses `define NAME as R` and `define NAME T1 + T2 ..`.
-fn define(cursor: &mut Cursor<'_, '_>) -> Parsed<Plain>
+fn define(cursor: &mut Cursor<'_, '_>) -> ReadResult<Plain>
     requires { role_of (ahead cursor.old) ≡ Role.Define }
     ensures { Reads (wanted.plain ∷ []) (λ x. spelled_plain (view_plain x)) (ahead cursor.old) result (ahead cursor.new) }
 {
@@ -130,7 +130,7 @@ fn define(cursor: &mut Cursor<'_, '_>) -> Parsed<Plain>
 }
 
 /// Parses an item that is allowed in a `backwardmode`.
-fn plain(cursor: &mut Cursor<'_, '_>) -> Parsed<Plain>
+fn plain(cursor: &mut Cursor<'_, '_>) -> ReadResult<Plain>
     ensures { Reads (wanted.plain ∷ []) (λ x. spelled_plain (view_plain x)) (ahead cursor.old) result (ahead cursor.new) }
 {
     match cursor.role() {
@@ -138,12 +138,12 @@ fn plain(cursor: &mut Cursor<'_, '_>) -> Parsed<Plain>
         Role::StringEscapes => string_escapes(cursor),
         Role::StringDef => string_def(cursor),
         Role::Define => define(cursor),
-        _ => Err(ReadError::Syntax(cursor.left())),
+        _ => Err(ReadError::Syntax(cursor.count_ahead())),
     }
 }
 
 /// Parses `backwardmode ( .. )`.
-fn backward_mode(cursor: &mut Cursor<'_, '_>) -> Parsed<ScriptItem>
+fn backward_mode(cursor: &mut Cursor<'_, '_>) -> ReadResult<ScriptItem>
     requires { role_of (ahead cursor.old) ≡ Role.BackwardMode }
     ensures { Reads (wanted.item ∷ []) (λ x. spelled_item (view_item x)) (ahead cursor.old) result (ahead cursor.new) }
 {
@@ -158,7 +158,7 @@ fn backward_mode(cursor: &mut Cursor<'_, '_>) -> Parsed<ScriptItem>
 }
 
 /// Parses an item.
-fn item(cursor: &mut Cursor<'_, '_>) -> Parsed<ScriptItem>
+fn item(cursor: &mut Cursor<'_, '_>) -> ReadResult<ScriptItem>
     ensures { Reads (wanted.item ∷ []) (λ x. spelled_item (view_item x)) (ahead cursor.old) result (ahead cursor.new) }
 {
     match cursor.role() {
@@ -168,7 +168,7 @@ fn item(cursor: &mut Cursor<'_, '_>) -> Parsed<ScriptItem>
 }
 
 /// Parses items up to a token that does not begin an item.
-pub fn items(cursor: &mut Cursor<'_, '_>) -> Parsed<Vec<ScriptItem>>
+pub fn items(cursor: &mut Cursor<'_, '_>) -> ReadResult<Vec<ScriptItem>>
     ensures { Reads (wanted.items ∷ []) (λ x. spelled_items (view_items x.items)) (ahead cursor.old) result (ahead cursor.new) }
 {
     let mut items = Vec::new(cursor.alloc);

@@ -12,13 +12,13 @@ ghost use Rattle.sbl_parser.specs.Steps as wanted;
 
 use crate::arithmetic::expression;
 use crate::cursor::{Cursor, Delimiter};
-use crate::error::{Parsed, ReadError};
+use crate::error::{ReadError, ReadResult};
 use crate::role::Role;
 use crate::tokens::{comparison, name};
 use sbl_ast::{Additive, Command};
 
 /// Parses `G` and `- G`, after a `non`.
-pub fn non(cursor: &mut Cursor<'_, '_>, depth: u8) -> Parsed<Command>
+pub fn non(cursor: &mut Cursor<'_, '_>, depth: u8) -> ReadResult<Command>
     requires { depth ≤ max_depth }
     ensures { Reads (wanted.command depth ∷ []) (λ x. spelled_command (view_command x)) (t.non ∷ ahead cursor.old) result (ahead cursor.new) }
 {
@@ -28,18 +28,18 @@ pub fn non(cursor: &mut Cursor<'_, '_>, depth: u8) -> Parsed<Command>
             name: cursor.take_name()?,
         }),
         Role::Additive(operator) => non_minus(cursor, depth, operator),
-        _ => Err(ReadError::Syntax(cursor.left())),
+        _ => Err(ReadError::Syntax(cursor.count_ahead())),
     }
 }
 
 /// Parses `- G`, after a `non`.
-fn non_minus(cursor: &mut Cursor<'_, '_>, depth: u8, operator: Additive) -> Parsed<Command>
+fn non_minus(cursor: &mut Cursor<'_, '_>, depth: u8, operator: Additive) -> ReadResult<Command>
     requires first { role_of (ahead cursor.old) ≡ Role.Additive operator }
     requires shallow { depth ≤ max_depth }
     ensures { Reads (wanted.command depth ∷ []) (λ x. spelled_command (view_command x)) (t.non ∷ ahead cursor.old) result (ahead cursor.new) }
 {
     match operator {
-        Additive::Plus => Err(ReadError::Syntax(cursor.left())),
+        Additive::Plus => Err(ReadError::Syntax(cursor.count_ahead())),
         Additive::Minus => {
             cursor.skip();
             let name = name(cursor, depth)?;
@@ -52,19 +52,19 @@ fn non_minus(cursor: &mut Cursor<'_, '_>, depth: u8, operator: Additive) -> Pars
 }
 
 /// Parses `X = E`, `X == E`, `( E1 == E2 )` and similar commands, after a `$`.
-pub fn dollar(cursor: &mut Cursor<'_, '_>, depth: u8) -> Parsed<Command>
+pub fn dollar(cursor: &mut Cursor<'_, '_>, depth: u8) -> ReadResult<Command>
     requires { depth ≤ max_depth }
     ensures { Reads (wanted.command depth ∷ []) (λ x. spelled_command (view_command x)) (t.dollar ∷ ahead cursor.old) result (ahead cursor.new) }
 {
     match cursor.role() {
         Role::Name => assign_command(cursor, depth),
         Role::Open => values_compared(cursor, depth),
-        _ => Err(ReadError::Syntax(cursor.left())),
+        _ => Err(ReadError::Syntax(cursor.count_ahead())),
     }
 }
 
 /// Parses `X = E` and similar commands, after a `$`.
-fn assign_command(cursor: &mut Cursor<'_, '_>, depth: u8) -> Parsed<Command>
+fn assign_command(cursor: &mut Cursor<'_, '_>, depth: u8) -> ReadResult<Command>
     requires first { role_of (ahead cursor.old) ≡ Role.Name }
     requires shallow { depth ≤ max_depth }
     ensures { Reads (wanted.command depth ∷ []) (λ x. spelled_command (view_command x)) (t.dollar ∷ ahead cursor.old) result (ahead cursor.new) }
@@ -81,13 +81,13 @@ fn assign_command(cursor: &mut Cursor<'_, '_>, depth: u8) -> Parsed<Command>
             let value = expression(cursor, depth)?;
             Ok(Command::Compare(subject, operator, value))
         }
-        Role::End => Err(ReadError::Syntax(cursor.left())),
-        _ => Err(ReadError::OutOfProfile(cursor.left())),
+        Role::End => Err(ReadError::Syntax(cursor.count_ahead())),
+        _ => Err(ReadError::OutOfProfile(cursor.count_ahead())),
     }
 }
 
 /// Parses `( E1 == E2 )` and similar commands, after a `$`.
-fn values_compared(cursor: &mut Cursor<'_, '_>, depth: u8) -> Parsed<Command>
+fn values_compared(cursor: &mut Cursor<'_, '_>, depth: u8) -> ReadResult<Command>
     requires first { role_of (ahead cursor.old) ≡ Role.Open }
     requires shallow { depth ≤ max_depth }
     ensures { Reads (wanted.command depth ∷ []) (λ x. spelled_command (view_command x)) (t.dollar ∷ ahead cursor.old) result (ahead cursor.new) }

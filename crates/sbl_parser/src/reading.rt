@@ -148,7 +148,7 @@ fn whole_among(alloc: Global, tokens: &[Token<'_>], depth: u8) -> Result<Among, 
 {
     let mut cursor = Cursor::new(alloc, tokens);
     let Role::Among = cursor.role() else {
-        return Err(ReadError::Syntax(cursor.left()));
+        return Err(ReadError::Syntax(cursor.count_ahead()));
     };
     let found = among(&mut cursor, depth)?;
     cursor.end()?;

@@ -6,7 +6,7 @@ use Rattle.std.specs.Str.{chars}
 use Rattle.std.proofs.lemmas.Option.{slice_get-map}
 use Rattle.sbl_text.specs.declared.fault.ScriptFault.{ScriptFault}
 use Rattle.sbl_text.specs.Directives.{start}
-use Rattle.sbl_text.specs.Tokens.{Placed}
+use Rattle.sbl_text.specs.Tokens.{PlacedToken}
 use Rattle.sbl_text.specs.Laws.{PlacesAreOne}
 use Rattle.sbl_ast.specs.Tree.{Item}
 use Rattle.sbl_ast.specs.Texts.{script}
@@ -27,12 +27,12 @@ pub are_tokens : PlacesAreWritten → SubjectsAreTokens
 are_tokens written ts items h = subjects_agree ts items (sym h.0 ∙ written items)
 
 -- what is at the number of the fault
-at_fault : PlacesAreWritten → (ts : List Placed) (items : List Item) (n : ℕ) (f : ScriptFault) → IsReadAs script (terminals ts) items → (h : IsFirstAfter (occurrences_of items) n f)
+at_fault : PlacesAreWritten → (ts : List PlacedToken) (items : List Item) (n : ℕ) (f : ScriptFault) → IsReadAs script (terminals ts) items → (h : IsFirstAfter (occurrences_of items) n f)
     → option_map (λ (m : SubjectToken). m.subject) (slice_get (subject_tokens ts) n) ≡ Some h.subject
 at_fault written ts items n f tree h =
     sym (slice_get-map (λ (m : SubjectToken). m.subject) (subject_tokens ts) n) ∙ ap (λ (xs : List Subject). slice_get xs n) (are_tokens written ts items tree) ∙ at_number (occurrences_of items) n f h
 
-pub has_token : PlacesAreWritten → (ts : List Placed) (items : List Item) (n : ℕ) (f : ScriptFault) → IsReadAs script (terminals ts) items → IsFirstAfter (occurrences_of items) n f
+pub has_token : PlacesAreWritten → (ts : List PlacedToken) (items : List Item) (n : ℕ) (f : ScriptFault) → IsReadAs script (terminals ts) items → IsFirstAfter (occurrences_of items) n f
     → (t : SubjectToken) × (slice_get (subject_tokens ts) n ≡ Some t)
 has_token written ts items n f tree h = go (slice_get (subject_tokens ts) n) refl (at_fault written ts items n f tree h) where
   go : (o : Option SubjectToken) → slice_get (subject_tokens ts) n ≡ o → option_map (λ (m : SubjectToken). m.subject) o ≡ Some h.subject → (t : SubjectToken) × (slice_get (subject_tokens ts) n ≡ Some t)
@@ -50,7 +50,7 @@ is_at_one places trees bytes f g t u h j =
     let items : h.items ≡ j.items = trees script h.items j.items (h.tree.0 ∙ ap terminals placed ∙ sym j.tree.0) in
     let first = subst (λ (is : List Item). IsFirstAfter (occurrences_of is) h.number f) items h.first in
     let same = after_is_one (occurrences_of j.items) h.number j.number f g first j.first in
-    (same.0, some_one t u (sym h.token ∙ ap (λ (ts : List Placed). slice_get (subject_tokens ts) h.number) placed ∙ ap (slice_get (subject_tokens j.placed)) same.1 ∙ j.token))
+    (same.0, some_one t u (sym h.token ∙ ap (λ (ts : List PlacedToken). slice_get (subject_tokens ts) h.number) placed ∙ ap (slice_get (subject_tokens j.placed)) same.1 ∙ j.token))
 
 -- ---- the faults of a text
 
@@ -76,7 +76,7 @@ fault_at_is_fault first passes bytes external f t h =
 never : {X : Type 0} (f : ScriptFault) → is_of_token f ≡ true → is_of_token f ≡ false → X
 never f h e = absurd cc
 
-fault_of_check : PlacesAreWritten → FaultIsFirst → (bytes external : List ℕ) (ts : List Placed) (f : ScriptFault) → is_of_token f ≡ true → HasTokens start bytes ts → first_left_out ts ≡ None → IsCheckFault script (λ items. items) external ts f
+fault_of_check : PlacesAreWritten → FaultIsFirst → (bytes external : List ℕ) (ts : List PlacedToken) (f : ScriptFault) → is_of_token f ≡ true → HasTokens start bytes ts → first_left_out ts ≡ None → IsCheckFault script (λ items. items) external ts f
     → (t : SubjectToken) × IsFaultAt bytes f t
 fault_of_check written first bytes external ts f of_token tokens offered h = elim (first h.tree external f h.is) [
   | inl j ↦

@@ -6,14 +6,14 @@ use Rattle.sbl_text.specs.declared.fault.ScriptFault.{ScriptFault}
 use Rattle.sbl_text.specs.declared.fault.ScriptFault.TheVariants as fault
 use Rattle.sbl_text.specs.declared.pieces.Shape.{Shape}
 use Rattle.sbl_text.specs.declared.pieces.Shape.TheVariants as shape
-use Rattle.sbl_text.specs.declared.pieces.Wanted.{Wanted}
-use Rattle.sbl_text.specs.declared.pieces.Wanted.TheVariants as wanted
+use Rattle.sbl_text.specs.declared.pieces.Expectation.{Expectation}
+use Rattle.sbl_text.specs.declared.pieces.Expectation.TheVariants as wanted
 use Rattle.sbl_text.specs.Classes.{is_white, quote, slash}
 use Rattle.sbl_text.specs.Codes.{code_of, max_hex_digits}
 use Rattle.sbl_text.specs.Directives.{Directives}
 use Rattle.sbl_text.specs.Escapes.{InForce, opens, find}
 use Rattle.sbl_text.specs.Literals.{Refusal, byte_length, code_or_fault, character_named, value_or_character, insertion_value, IsWrong}
-use Rattle.sbl_text.specs.Tokens.{Placed, starts_star, pair_fault, token_fault, fault_at, IsRefused, IsFirstFaultFrom}
+use Rattle.sbl_text.specs.Tokens.{PlacedToken, starts_star, pair_fault, token_fault, fault_at, IsRefused, IsFirstFaultFrom}
 use Rattle.sbl_ast.specs.Texts.{Text}
 use Rattle.sbl_parser.specs.Reading.{IsSyntaxAt, IsTooDeepAt, IsOutOfProfileAt}
 use Rattle.sbl_ast.specs.declared.mode.Mode.TheVariants.{Backward}
@@ -115,7 +115,7 @@ token (c ∷ cs) place = go (c == quote) (c == slash && starts_star cs) where
   go false true = refl
   go false false = refl
 
-no_piece : (w : Wanted) (text : List ℕ) (place : ℕ) → is_of_token (fault_at w text place) ≡ false
+no_piece : (w : Expectation) (text : List ℕ) (place : ℕ) → is_of_token (fault_at w text place) ≡ false
 no_piece wanted.Inserts text place = pair text place
 no_piece wanted.Token text place = token text place
 no_piece wanted.MacroName text place = token text place
@@ -137,7 +137,7 @@ not_of_text s bytes f (inr (inr (short, text, h))) = not_of_tokens s _ f h
 
 -- ---- the faults of the grammar
 
-pub not_of_grammar : (w : Text) (ts : List Placed) (end : ℕ) (f : ScriptFault) → IsUnread w ts end f → is_of_token f ≡ false
+pub not_of_grammar : (w : Text) (ts : List PlacedToken) (end : ℕ) (f : ScriptFault) → IsUnread w ts end f → is_of_token f ≡ false
 not_of_grammar w ts end f (inl (place, first, same)) = ap is_of_token same
 not_of_grammar w ts end f (inr (offered, h)) = go h.is where
   go : (IsSyntaxAt w (terminals ts) (terminals h.rest) × (f ≡ fault.Syntax (place_of end h.rest))) ⊎ (IsTooDeepAt w (terminals ts) (terminals h.rest) × (f ≡ fault.TooDeep (place_of end h.rest))) ⊎ (IsOutOfProfileAt w (terminals ts) (terminals h.rest) × (f ≡ fault.OutOfProfile (place_of end h.rest))) → is_of_token f ≡ false

@@ -7,7 +7,7 @@ use Rattle.sbl_token.specs.Lexemes.{lexeme_of}
 use Rattle.sbl_text.specs.declared.fault.ScriptFault.{ScriptFault}
 use Rattle.sbl_text.specs.declared.fault.ScriptFault.TheVariants as fault
 use Rattle.sbl_text.specs.Directives.{start}
-use Rattle.sbl_text.specs.Tokens.{Placed, placed_of, ArePlaced, IsFirstFault, piece_lexemes}
+use Rattle.sbl_text.specs.Tokens.{PlacedToken, placed_of, ArePlaced, IsFirstFault, piece_lexemes}
 use Rattle.sbl_text.specs.Laws.{PlacesAreOne, TokensOrFault}
 use Rattle.sbl_ast.specs.Terminal.{Terminal, terminal_of, terminals_of, tokens_left}
 use Rattle.sbl_ast.specs.Tree.{Item}
@@ -26,7 +26,7 @@ use Rattle.sbl_places.proofs.AtTokens.{has_token, fails}
 
 -- ---- texts without tokens, tokens without a tree
 
-pub no_tokens : TokensOrFault → (text : List ℕ) (f : ScriptFault) → IsFirstFault text f → (ts : List Placed) → ArePlaced text ts → ⊥
+pub no_tokens : TokensOrFault → (text : List ℕ) (f : ScriptFault) → IsFirstFault text f → (ts : List PlacedToken) → ArePlaced text ts → ⊥
 no_tokens either text f h ts p = either start text (piece_lexemes p.0) f (p.0, p.1, p.2, p.3, refl) h
 
 terminals_same : (ts : List Token) → terminals_of ts ≡ terminals (map placed_of ts)
@@ -47,19 +47,19 @@ no_tree none ts end f h items tree = go f h (subst (λ (x : List Terminal). IsRe
 
 -- ---- texts without a place
 
-pub no_place_without_tokens : (bytes text : List ℕ) → text ≡ bytes → ((ts : List Placed) → ArePlaced (chars text) ts → ⊥) → HasNoFaultAt bytes
+pub no_place_without_tokens : (bytes text : List ℕ) → text ≡ bytes → ((ts : List PlacedToken) → ArePlaced (chars text) ts → ⊥) → HasNoFaultAt bytes
 no_place_without_tokens bytes text is none f t h = none h.placed (subst (λ (x : List ℕ). ArePlaced (chars x) h.placed) (sym is) h.tokens.cut)
 
-same_tokens : PlacesAreOne → (bytes : List ℕ) (ts : List Placed) (f : ScriptFault) (t : SubjectToken) (h : IsFaultAt bytes f t) → ArePlaced (chars bytes) ts → h.placed ≡ ts
+same_tokens : PlacesAreOne → (bytes : List ℕ) (ts : List PlacedToken) (f : ScriptFault) (t : SubjectToken) (h : IsFaultAt bytes f t) → ArePlaced (chars bytes) ts → h.placed ≡ ts
 same_tokens places bytes ts f t h cut = places start (chars bytes) h.placed ts h.tokens.cut cut
 
-pub no_place_without_tree : PlacesAreOne → (bytes : List ℕ) (ts : List Placed) → ArePlaced (chars bytes) ts → ((items : List Item) → first_left_out ts ≡ None → IsReadAs script (terminals ts) items → ⊥) → HasNoFaultAt bytes
+pub no_place_without_tree : PlacesAreOne → (bytes : List ℕ) (ts : List PlacedToken) → ArePlaced (chars bytes) ts → ((items : List Item) → first_left_out ts ≡ None → IsReadAs script (terminals ts) items → ⊥) → HasNoFaultAt bytes
 no_place_without_tree places bytes ts cut none f t h =
     let same = same_tokens places bytes ts f t h cut in
-    none h.items (subst (λ (us : List Placed). first_left_out us ≡ None) same h.offered) (subst (λ (us : List Placed). IsReadAs script (terminals us) h.items) same h.tree)
+    none h.items (subst (λ (us : List PlacedToken). first_left_out us ≡ None) same h.offered) (subst (λ (us : List PlacedToken). IsReadAs script (terminals us) h.items) same h.tree)
 
 -- a text that is read
-pub record IsRead (bytes : List ℕ) (ts : List Placed) (items : List Item) : Type 0 where
+pub record IsRead (bytes : List ℕ) (ts : List PlacedToken) (items : List Item) : Type 0 where
   pub tokens : HasTokens start bytes ts
   pub offered : first_left_out ts ≡ None
   pub tree : IsReadAs script (terminals ts) items
@@ -77,7 +77,7 @@ is_read bytes text ts ds items is cut same tree = record {
   tree = tree.1;
 }
 
-pub no_place_without_fault : PlacesAreOne → TreesAreOne → (bytes : List ℕ) (ts : List Placed) (items : List Item) → IsRead bytes ts items → EachPasses (occurrences_of items) → HasNoFaultAt bytes
+pub no_place_without_fault : PlacesAreOne → TreesAreOne → (bytes : List ℕ) (ts : List PlacedToken) (items : List Item) → IsRead bytes ts items → EachPasses (occurrences_of items) → HasNoFaultAt bytes
 no_place_without_fault places trees bytes ts items read passes f t h =
     let same = same_tokens places bytes ts f t h read.tokens.cut in
     let tree : h.items ≡ items = trees script h.items items (h.tree.0 ∙ ap terminals same ∙ sym read.tree.0) in
@@ -85,14 +85,14 @@ no_place_without_fault places trees bytes ts items read passes f t h =
 
 -- ---- the place
 
-pub none_is_never : PlacesAreWritten → (bytes : List ℕ) (ts : List Placed) (items : List Item) (n : ℕ) (f : ScriptFault) → IsRead bytes ts items → IsFirstAfter (occurrences_of items) n f → None ≡ range_at n (subject_tokens ts) → ⊥
+pub none_is_never : PlacesAreWritten → (bytes : List ℕ) (ts : List PlacedToken) (items : List Item) (n : ℕ) (f : ScriptFault) → IsRead bytes ts items → IsFirstAfter (occurrences_of items) n f → None ≡ range_at n (subject_tokens ts) → ⊥
 none_is_never written bytes ts items n f read h none =
     let t = has_token written ts items n f read.tree h in
     never (none ∙ ap (option_map range_of) t.1) where
       never : {X : Type 0} {x : X} → None ≡ Some x → ⊥
       never e = cc
 
-pub place_is : PlacesAreWritten → (bytes : List ℕ) (ts : List Placed) (items : List Item) (n b e : ℕ) (f : ScriptFault) → IsRead bytes ts items → IsFirstAfter (occurrences_of items) n f → Some (b, e) ≡ range_at n (subject_tokens ts)
+pub place_is : PlacesAreWritten → (bytes : List ℕ) (ts : List PlacedToken) (items : List Item) (n b e : ℕ) (f : ScriptFault) → IsRead bytes ts items → IsFirstAfter (occurrences_of items) n f → Some (b, e) ≡ range_at n (subject_tokens ts)
     → IsPlaceIn bytes (record { fault = f; begin = b; end = e })
 place_is written bytes ts items n b e f read h is =
     let t = has_token written ts items n f read.tree h in

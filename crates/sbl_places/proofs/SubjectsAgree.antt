@@ -1,13 +1,13 @@
 -- What the checks look at in a tree are, one for one, the subject tokens of its text.
 use Rattle.std.proofs.Common.{◌≡◌, ℕ, ◌+◌, Bool, true, false, List, [], ◌∷◌, ◌++◌, map, Option, Some, None, refl, sym, ap, ◌∙◌, append-nil}
-use Rattle.sbl_text.specs.Tokens.{Placed}
+use Rattle.sbl_text.specs.Tokens.{PlacedToken}
 use Rattle.sbl_ast.specs.declared.mode.Mode.TheVariants.{Forward, Backward}
 use Rattle.sbl_ast.specs.declared.tree.DeclarationKind.{DeclarationKind}
 use Rattle.sbl_ast.specs.declared.tree.Simple.{Simple}
 use Rattle.sbl_ast.specs.declared.tree.Simple.TheVariants as simples
 use Rattle.sbl_ast.specs.declared.tree.Prefix.{Prefix}
 use Rattle.sbl_ast.specs.declared.tree.Prefix.TheVariants as prefixes
-use Rattle.sbl_ast.specs.Terminal.{Terminal, Quoted, terminal_of}
+use Rattle.sbl_ast.specs.Terminal.{Terminal, QuotedText, terminal_of}
 use Rattle.sbl_ast.specs.Terminal as t
 use Rattle.sbl_ast.specs.Tree.{Argument, written_out, by_name, Expression, expression, Sums, no_sums, sum, Product, product, Scales, no_scales, scale, Factor, negated, bracketed, numeral, variable, fixed, length_of, Entry, entry, Command, bracket, simple_, literal_, name_, non_, prefixed, counted, move_, named, splice_, setlimit_, assign_, compare_, compare_values_, among_, Rows, no_rows, row, Others, no_others, joined, Starter, no_starter, starter, Groups, bare, group, Term, term, Plain, declaration, escapes, macro, routine, grouping, Item, plain, backward, argument_terminal, spelled_expression, spelled_sums, spelled_product, spelled_scales, spelled_factor, spelled_entry, spelled_entries, spelled_command, spelled_rows, spelled_others, spelled_starter, spelled_groups, spelled_names, spelled_terms, spelled_plain, spelled_plains, spelled_items, script_tokens}
 use Rattle.sbl_ast.specs.Order.{ItemInMode, in_mode, in_order}
@@ -25,16 +25,16 @@ abbrev subjects_from : Bool → List Bool → List Terminal → List Subject
 subjects_from f o [] = []
 subjects_from f o (x ∷ xs) = and_more (subject_in (is_in_among o) x) (subjects_from (is_among x) (open_after f x o) xs)
 
-abbrev terminals : List Placed → List Terminal
-terminals ts = map (λ (u : Placed). terminal_of u.lexeme) ts
+abbrev terminals : List PlacedToken → List Terminal
+terminals ts = map (λ (u : PlacedToken). terminal_of u.lexeme) ts
 
-same_subjects : (f : Bool) (o : List Bool) (ts : List Placed) → subjects (subject_tokens_after f o ts) ≡ subjects_from f o (terminals ts)
+same_subjects : (f : Bool) (o : List Bool) (ts : List PlacedToken) → subjects (subject_tokens_after f o ts) ≡ subjects_from f o (terminals ts)
 same_subjects f o [] = refl
 same_subjects f o (u ∷ ts) =
     let x = terminal_of u.lexeme in
     one (subject_in (is_in_among o) x) u (subject_tokens_after (is_among x) (open_after f x o) ts)
     ∙ ap (and_more (subject_in (is_in_among o) x)) (same_subjects (is_among x) (open_after f x o) ts) where
-      one : (s : Option Subject) (v : Placed) (more : List SubjectToken) → subjects (tokens.and_more s v more) ≡ and_more s (subjects more)
+      one : (s : Option Subject) (v : PlacedToken) (more : List SubjectToken) → subjects (tokens.and_more s v more) ≡ and_more s (subjects more)
       one None v more = refl
       one (Some y) v more = refl
 
@@ -58,7 +58,7 @@ one : (n : Notice) (p : Site) (s : List Occurrence) (more : List Subject) → su
 one n p s more = put_one s (record { site = p; notice = n }) more
 
 -- a literal that is not right in the parentheses of an among is nothing to the checks
-quiet : (q : Quoted) (s : List Occurrence) (o : List Bool) (rest : List Terminal) → is_in_among o ≡ false → subjects_of s ++ at o rest ≡ subjects_of s ++ at o (t.literal q ∷ rest)
+quiet : (q : QuotedText) (s : List Occurrence) (o : List Bool) (rest : List Terminal) → is_in_among o ≡ false → subjects_of s ++ at o rest ≡ subjects_of s ++ at o (t.literal q ∷ rest)
 quiet q s o rest h = ap (λ (b : Bool). subjects_of s ++ and_more (string_if b q.value) (at o rest)) (sym h)
 
 -- ---- arithmetic
@@ -224,5 +224,5 @@ items_agree (plain x ∷ is) n s =
     items_agree is (n + 1) (noted_plain x p s) ∙ plain_agree x p s [] (spelled_items is []) refl
 items_agree (backward xs ∷ is) n s = plains_agree xs (in_order is) (spelled_items is []) (items_agree is) n s
 
-pub subjects_agree : (ts : List Placed) (items : List Item) → map (λ (t : Placed). terminal_of t.lexeme) ts ≡ script_tokens items → subjects (subject_tokens ts) ≡ subjects_of (occurrences_of items)
+pub subjects_agree : (ts : List PlacedToken) (items : List Item) → map (λ (t : PlacedToken). terminal_of t.lexeme) ts ≡ script_tokens items → subjects (subject_tokens ts) ≡ subjects_of (occurrences_of items)
 subjects_agree ts items e = same_subjects false [] ts ∙ ap (subjects_from false []) e ∙ sym (items_agree items 1 [])

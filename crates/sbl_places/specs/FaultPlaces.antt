@@ -4,7 +4,7 @@ use Rattle.std.specs.List.{slice_get}
 use Rattle.sbl_text.specs.declared.fault.ScriptFault.{ScriptFault}
 use Rattle.sbl_text.specs.declared.fault.ScriptFault.TheVariants as fault
 use Rattle.sbl_text.specs.Directives.{start}
-use Rattle.sbl_text.specs.Tokens.{Placed}
+use Rattle.sbl_text.specs.Tokens.{PlacedToken}
 use Rattle.sbl_ast.specs.Tree.{Item}
 use Rattle.sbl_ast.specs.Texts.{script}
 use Rattle.sbl_parser.specs.Reading.{IsReadAs}
@@ -18,14 +18,14 @@ use Rattle.sbl_places.specs.declared.fault_places.FaultPlace.{FaultPlace}
 
 -- what the checks look at in a tree are, one for one and in order, the subject tokens of the text that is read as it
 abbrev pub SubjectsAreTokens : Type 0
-SubjectsAreTokens = (ts : List Placed) (items : List Item) → IsReadAs script (terminals ts) items → subjects (subject_tokens ts) ≡ subjects_of (occurrences_of items)
+SubjectsAreTokens = (ts : List PlacedToken) (items : List Item) → IsReadAs script (terminals ts) items → subjects (subject_tokens ts) ≡ subjects_of (occurrences_of items)
 
 -- ---- the token of a fault
 
 -- The bytes have tokens, all of them supported, that form a tree. The first fault of its checks is f, and t is the
 -- subject token with as many subject tokens before it as tokens that the checks look at before the fault.
 pub record IsFaultAt (bytes : List ℕ) (f : ScriptFault) (t : SubjectToken) : Type 0 where
-  pub placed : List Placed
+  pub placed : List PlacedToken
   pub tokens : HasTokens start bytes placed
   pub offered : first_left_out placed ≡ None
   pub items : List Item

@@ -1,6 +1,6 @@
 -- The tokens of a text that the checks look at.
 use Rattle.std.specs.Prelude.{Bool, true, false, List, [], ◌∷◌, map, Option, Some, None, ℕ}
-use Rattle.sbl_text.specs.Tokens.{Placed}
+use Rattle.sbl_text.specs.Tokens.{PlacedToken}
 use Rattle.sbl_ast.specs.declared.tree.Simple.TheVariants as simples
 use Rattle.sbl_ast.specs.declared.tree.Prefix.TheVariants as prefixes
 use Rattle.sbl_ast.specs.Terminal.{Terminal, terminal_of}
@@ -48,21 +48,21 @@ subject_in in_among _ = None
 -- a token that the checks look at, and what it is to them
 pub record SubjectToken : Type 0 where
   pub subject : Subject
-  pub token : Placed
+  pub token : PlacedToken
 
-abbrev pub and_more : Option Subject → Placed → List SubjectToken → List SubjectToken
+abbrev pub and_more : Option Subject → PlacedToken → List SubjectToken → List SubjectToken
 and_more None t more = more
 and_more (Some x) t more = record { subject = x; token = t } ∷ more
 
 -- the same of tokens, given whether the one before them is `among`, and the parentheses that are open there
-abbrev pub subject_tokens_after : Bool → List Bool → List Placed → List SubjectToken
+abbrev pub subject_tokens_after : Bool → List Bool → List PlacedToken → List SubjectToken
 subject_tokens_after follows_among brackets [] = []
 subject_tokens_after follows_among brackets (t ∷ ts) =
     let x = terminal_of t.lexeme in
     and_more (subject_in (is_in_among brackets) x) t (subject_tokens_after (is_among x) (open_after follows_among x brackets) ts)
 
 -- the tokens that the checks look at in a text with these tokens, in order
-abbrev pub subject_tokens : List Placed → List SubjectToken
+abbrev pub subject_tokens : List PlacedToken → List SubjectToken
 subject_tokens ts = subject_tokens_after false [] ts
 
 -- what they are to the checks

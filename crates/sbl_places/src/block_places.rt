@@ -5,12 +5,12 @@ ghost use Rattle.sbl_places.specs.BlockPlaces.{IsBlockOffset, IsTokenIn};
 
 use crate::fault_places::{place_in, token_offset};
 use crate::laws::token_is_one;
-use crate::parts::Cut;
+use crate::parts::Excerpt;
 use sbl_text::ScriptFault;
 use std::alloc::{AllocError, Global};
 
 /// Returns the whole text. Returns `AllocError` if an allocation fails.
-fn join_parts(alloc: Global, cut: Cut<'_>) -> Result<Vec<u8>, AllocError>
+fn join_parts(alloc: Global, cut: Excerpt<'_>) -> Result<Vec<u8>, AllocError>
     ensures { IfOk result (λ text. text.items ≡ cut.entry.before.now ++ cut.entry.part.now ++ cut.entry.after.now) }
 {
     let mut text = Vec::from_slice(alloc, cut.before)?;
@@ -33,7 +33,7 @@ fn offset_in(begin: usize, length: usize, offset: usize) -> Option<usize>
 /// Returns the byte offset in the part of the token at which the checks find this fault in the whole text.
 fn token_offset_in(
     alloc: Global,
-    cut: Cut<'_>,
+    cut: Excerpt<'_>,
     fault: ScriptFault,
 ) -> Result<Option<usize>, AllocError>
     ensures { IfOk result (λ o. IsTokenIn cut.entry.before.now cut.entry.part.now cut.entry.after.now fault o) }
@@ -64,7 +64,7 @@ pub fn offset_in_block(
     match place_in(fault) {
         Some(place) => Ok(Some(place)),
         None => {
-            let cut = Cut {
+            let cut = Excerpt {
                 before,
                 part: block,
                 after,

@@ -2,7 +2,7 @@
 
 ghost use Rattle.std.specs.Prelude.{◌≡◌, ◌≤◌, List, None, Some, IfOk, MatchOption, length, map};
 ghost use Rattle.std.specs.Str.{IsUtf8, chars};
-ghost use Rattle.sbl_text.specs.{Directives.start, Tokens.ArePlaced, Tokens.Placed, Tokens.placed_of};
+ghost use Rattle.sbl_text.specs.{Directives.start, Tokens.ArePlaced, Tokens.PlacedToken, Tokens.placed_of};
 ghost use Rattle.sbl_ast.specs.Tree as trees;
 ghost use Rattle.sbl_ast.specs.{Texts.script, View.view_items};
 ghost use Rattle.sbl_parser.specs.Reading.{IsReadAs};
@@ -35,7 +35,7 @@ pub struct FaultPlace {
 
 /// Returns the bytes as text, or `None` if they are too long or not UTF-8.
 fn text_of(bytes: &[u8]) -> Option<&str>
-    ensures { MatchOption result ((ts : List Placed) → HasTokens start bytes.now ts → ⊥) (λ s. (s.now ≡ bytes.now) × (length bytes.now ≤ max_script) × IsUtf8 bytes.now) }
+    ensures { MatchOption result ((ts : List PlacedToken) → HasTokens start bytes.now ts → ⊥) (λ s. (s.now ≡ bytes.now) × (length bytes.now ≤ max_script) × IsUtf8 bytes.now) }
 {
     if bytes.len() > MAX_SCRIPT {
         return None;
@@ -45,7 +45,7 @@ fn text_of(bytes: &[u8]) -> Option<&str>
 
 /// Returns the tokens of a text, or `None` if it has none. Returns `AllocError` if an allocation fails.
 fn tokens_of<'a>(alloc: Global, text: &'a str) -> Result<Option<Vec<Token<'a>>>, AllocError>
-    ensures { IfOk result (λ o. MatchOption o ((ts : List Placed) → ArePlaced (chars text.now) ts → ⊥) (λ ts. ArePlaced (chars text.now) (map placed_of ts.items))) }
+    ensures { IfOk result (λ o. MatchOption o ((ts : List PlacedToken) → ArePlaced (chars text.now) ts → ⊥) (λ ts. ArePlaced (chars text.now) (map placed_of ts.items))) }
 {
     first_fault_is_one();
     match tokens(alloc, text) {

@@ -19,7 +19,7 @@ pub enum Part<'a> {
 
 /// A text that is cut at a part.
 #[derive(Clone, Copy, Debug, PartialEq, Eq)]
-pub struct Cut<'a> {
+pub struct Excerpt<'a> {
     /// The bytes before the part.
     pub before: &'a [u8],
     /// Those of the part.
@@ -147,7 +147,7 @@ fn part_tokens<'t, 'a>(tokens: &'t [Token<'a>], part: Part<'_>) -> Option<&'t [T
 }
 
 /// Returns the text cut at two offsets, or `None` if they are not in order or not in the text.
-fn cut_at(text: &[u8], begin: usize, end: usize) -> Option<Cut<'_>>
+fn cut_at(text: &[u8], begin: usize, end: usize) -> Option<Excerpt<'_>>
     ensures { IfSome result (λ c. text.now ≡ c.before.now ++ c.part.now ++ c.after.now) }
 {
     if end < begin || end > text.len() {
@@ -155,7 +155,7 @@ fn cut_at(text: &[u8], begin: usize, end: usize) -> Option<Cut<'_>>
     }
     let (before, rest) = text.split_at(begin);
     let (part, after) = rest.split_at(end - begin);
-    Some(Cut {
+    Some(Excerpt {
         before,
         part,
         after,
@@ -163,7 +163,7 @@ fn cut_at(text: &[u8], begin: usize, end: usize) -> Option<Cut<'_>>
 }
 
 /// Returns the text cut before the first of these tokens and after the last.
-fn cut_at_tokens<'a>(text: &'a [u8], tokens: &[Token<'_>]) -> Option<Cut<'a>>
+fn cut_at_tokens<'a>(text: &'a [u8], tokens: &[Token<'_>]) -> Option<Excerpt<'a>>
     ensures { IfSome result (λ c. text.now ≡ c.before.now ++ c.part.now ++ c.after.now) }
 {
     match (tokens.first(), tokens.last()) {
@@ -178,7 +178,7 @@ pub fn cut_at_part<'a>(
     alloc: Global,
     text: &'a str,
     part: Part<'_>,
-) -> Result<Option<Cut<'a>>, AllocError>
+) -> Result<Option<Excerpt<'a>>, AllocError>
     ensures { IfOk result (λ o. IfSome o (λ c. text.now ≡ c.before.now ++ c.part.now ++ c.after.now)) }
 {
     match tokens(alloc, text) {

@@ -1,5 +1,5 @@
 pub mod Adding
 pub mod Spelled
-pub mod Spaced
+pub mod SpacedToken
 pub mod Roles
-pub mod Placed
+pub mod PlacedToken

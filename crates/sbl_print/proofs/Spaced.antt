@@ -5,7 +5,7 @@ use Rattle.std.specs.List.{flat_map, join_by}
 use Rattle.std.proofs.lemmas.Str.{encode_ascii}
 use Rattle.sbl_text.specs.Classes.{is_white}
 use Rattle.sbl_token.specs.Lexemes.{Lexeme}
-use Rattle.sbl_text.specs.SpacedTokens.{Spaced, are_white, lexeme_text, lexemes_of, spaced_text}
+use Rattle.sbl_text.specs.SpacedTokens.{SpacedToken, are_white, lexeme_text, lexemes_of, spaced_text}
 use Rattle.sbl_ast.specs.Terminal.{Terminal, lexeme_as}
 use Rattle.sbl_ast.specs.Terminal as t
 use Rattle.sbl_ast.specs.Tree.{Plain, declaration, escapes, macro, routine, grouping, Item, plain, backward, spelled_plain, spelled_plains, spelled_item, spelled_items, script_tokens}
@@ -22,7 +22,7 @@ one_byte c h = ap (λ (x : List ℕ). x ++ []) (encode_ascii c h)
 
 -- ---- one line
 
-abbrev behind_first : Terminal → List Terminal → List Spaced
+abbrev behind_first : Terminal → List Terminal → List SpacedToken
 behind_first x [] = record { lexeme = lexeme_as x; space = 10 } ∷ []
 behind_first x (y ∷ ys) = record { lexeme = lexeme_as x; space = 32 } ∷ behind_first y ys
 
@@ -54,11 +54,11 @@ map_both : (us vs : List Terminal) → map lexeme_as (us ++ vs) ≡ map lexeme_a
 map_both [] vs = refl
 map_both (u ∷ us) vs = ap (λ (ls : List Lexeme). lexeme_as u ∷ ls) (map_both us vs)
 
-tokens_both : (ps qs : List Spaced) → lexemes_of (ps ++ qs) ≡ lexemes_of ps ++ lexemes_of qs
+tokens_both : (ps qs : List SpacedToken) → lexemes_of (ps ++ qs) ≡ lexemes_of ps ++ lexemes_of qs
 tokens_both [] qs = refl
 tokens_both (p ∷ ps) qs = ap (λ (ls : List Lexeme). p.lexeme ∷ ls) (tokens_both ps qs)
 
-white_both : (ps qs : List Spaced) → are_white ps ≡ true → are_white qs ≡ true → are_white (ps ++ qs) ≡ true
+white_both : (ps qs : List SpacedToken) → are_white ps ≡ true → are_white qs ≡ true → are_white (ps ++ qs) ≡ true
 white_both [] qs h k = k
 white_both (p ∷ ps) qs h k = at (is_white p.space) (λ g. white_both ps qs g k) h
   where
@@ -66,7 +66,7 @@ white_both (p ∷ ps) qs h k = at (is_white p.space) (λ g. white_both ps qs g k
     at true more g = more g
     at false more g = absurd cc
 
-text_both : (ps qs : List Spaced) → spaced_text (ps ++ qs) ≡ spaced_text ps ++ spaced_text qs
+text_both : (ps qs : List SpacedToken) → spaced_text (ps ++ qs) ≡ spaced_text ps ++ spaced_text qs
 text_both [] qs = refl
 text_both (p ∷ ps) qs =
     ap (λ (b : List ℕ). lexeme_text p.lexeme ++ (encode_utf8_all (p.space ∷ []) ++ b)) (text_both ps qs)

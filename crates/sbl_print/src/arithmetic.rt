@@ -7,7 +7,7 @@ ghost use Rattle.sbl_print.specs.Adding.{Adds};
 
 use crate::tokens::{put, put_argument, put_name, put_number, put_operations, put_sign, put_word};
 use crate::words::{additive_text, constant_text, multiplicative_text};
-use sbl_ast::{Added, Expression, Factor, Product, Scaled};
+use sbl_ast::{Expression, Factor, NextFactor, NextProduct, Product};
 use sbl_token::{Sign, Word};
 use std::alloc::{AllocError, Global};
 
@@ -33,14 +33,14 @@ fn put_product(alloc: Global, out: &mut String, product: &Product) -> Result<(),
 }
 
 #[cycle(arithmetic)]
-fn put_sums(alloc: Global, out: &mut String, others: &Vec<Added>) -> Result<(), AllocError>
+fn put_sums(alloc: Global, out: &mut String, others: &Vec<NextProduct>) -> Result<(), AllocError>
     ensures { OnOk result (Adds (string_bytes out.old) (string_bytes out.new) (spelled_sums (view_sums others.now.items))) }
 {
     put_operations!(alloc, out, others: additive_text(operator), put_product(product))
 }
 
 #[cycle(arithmetic)]
-fn put_scales(alloc: Global, out: &mut String, others: &Vec<Scaled>) -> Result<(), AllocError>
+fn put_scales(alloc: Global, out: &mut String, others: &Vec<NextFactor>) -> Result<(), AllocError>
     ensures { OnOk result (Adds (string_bytes out.old) (string_bytes out.new) (spelled_scales (view_scales others.now.items))) }
 {
     put_operations!(alloc, out, others: multiplicative_text(operator), put_factor(factor))

@@ -15,7 +15,7 @@ use crate::words::{
     simple_text, splice_text,
 };
 use sbl_ast::{
-    Among, Argument, Command, Comparison, Entry, Expression, Group, Joined, Move, Naming,
+    Among, Argument, Command, Comparison, Entry, Expression, Group, Move, Naming, NextCommand,
     RowOfCommands, Splice,
 };
 use sbl_token::{Sign, Word};
@@ -223,7 +223,7 @@ fn put_rows(alloc: Global, out: &mut String, rows: &Vec<RowOfCommands>) -> Resul
 }
 
 #[cycle(commands)]
-fn put_others(alloc: Global, out: &mut String, others: &Vec<Joined>) -> Result<(), AllocError>
+fn put_others(alloc: Global, out: &mut String, others: &Vec<NextCommand>) -> Result<(), AllocError>
     ensures { OnOk result (Adds (string_bytes out.old) (string_bytes out.new) (spelled_others (view_others others.now.items))) }
 {
     put_operations!(alloc, out, others: joiner_text(joiner), put_command(command))

@@ -49,11 +49,11 @@ scaled_step a = (a.operator, a.number)
 abbrev pub view_number : Arithmetic → programs.Arithmetic
 view_number = fold-Arithmetic programs.Arithmetic AddedView ScaledView number_step added_step scaled_step
 
-abbrev pub view_added : Addend → AddedView
-view_added = fold-Addend programs.Arithmetic AddedView ScaledView number_step added_step scaled_step
+abbrev pub view_next_product : Addend → AddedView
+view_next_product = fold-Addend programs.Arithmetic AddedView ScaledView number_step added_step scaled_step
 
-abbrev pub view_scaled : Multiplicand → ScaledView
-view_scaled = fold-Multiplicand programs.Arithmetic AddedView ScaledView number_step added_step scaled_step
+abbrev pub view_next_factor : Multiplicand → ScaledView
+view_next_factor = fold-Multiplicand programs.Arithmetic AddedView ScaledView number_step added_step scaled_step
 
 abbrev pub view_action : Action → programs.Action
 view_action (actions.Match t) = programs.match (view_text t)
@@ -112,8 +112,8 @@ joined_step o = (o.joiner, o.command)
 abbrev pub view_node : (ℕ → Listed) → Node → programs.Node
 view_node tables = fold-Node programs.Node JoinedView (node_step tables) joined_step
 
-abbrev pub view_joined : (ℕ → Listed) → JoinedNode → JoinedView
-view_joined tables = fold-JoinedNode programs.Node JoinedView (node_step tables) joined_step
+abbrev pub view_next_command : (ℕ → Listed) → JoinedNode → JoinedView
+view_next_command tables = fold-JoinedNode programs.Node JoinedView (node_step tables) joined_step
 
 abbrev pub view_nodes : (ℕ → Listed) → List Node → programs.Nodes
 view_nodes tables ns = commands_of (map (view_node tables) ns)

@@ -5,7 +5,7 @@ use sbl_ast::Mode;
 
 /// An among.
 #[derive(Drop)]
-pub struct Found {
+pub struct AmongStrings {
     /// Its number in its routine.
     pub number: usize,
     /// The mode at its position.

@@ -7,5 +7,5 @@ mod among;
 mod node;
 
 pub use action::{Action, Addend, Arithmetic, Change, Multiplicand, Relation, StringTerm};
-pub use among::Found;
+pub use among::AmongStrings;
 pub use node::{Candidate, JoinedNode, Node, Program, Routine};

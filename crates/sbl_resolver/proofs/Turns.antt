@@ -7,7 +7,7 @@ use Rattle.std.proofs.lemmas.List.Folds.{list_any-append}
 use Rattle.sbl_text.specs.declared.fault.ScriptFault.{ScriptFault}
 use Rattle.sbl_ast.specs.declared.tree.DeclarationKind.{DeclarationKind}
 use Rattle.sbl_ast.specs.declared.tree.DeclarationKind.TheVariants as kinds
-use Rattle.sbl_resolver.specs.declared.checks.Met.{Met}
+use Rattle.sbl_resolver.specs.declared.checks.CheckState.{CheckState}
 use Rattle.sbl_resolver.specs.declared.occurrences.Occurrence as noted
 use Rattle.sbl_ast.specs.declared.mode.Mode.TheVariants.{Forward}
 use Rattle.sbl_resolver.specs.declared.occurrences.Notice.TheVariants as notices
@@ -40,7 +40,7 @@ is_awaited-push [] m b = refl
 is_awaited-push (x ∷ ms) m b = is_awaited-push ms m (waits_after x.notice b)
 
 -- one more occurrence is met
-pub met_more : (old new : Met) (ms : List Occurrence) (m : Occurrence) → HasMet old ms → Notes old new m → HasMet new (ms ++ m ∷ [])
+pub met_more : (old new : CheckState) (ms : List Occurrence) (m : Occurrence) → HasMet old ms → Notes old new m → HasMet new (ms ++ m ∷ [])
 met_more old new ms m met notes = record {
   kinds = λ n. notes.kinds n ∙ ap (λ (o : Option DeclarationKind). option_or o (declared_as n m.notice)) (met.kinds n) ∙ sym (kind_of-push n ms m);
   strings = λ i k t. notes.strings i k t ∙ ap (λ (b : Bool). b || is_text_of i k t m) (met.strings i k t) ∙ sym (has_text-push i k t ms m);

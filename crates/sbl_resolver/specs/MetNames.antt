@@ -10,7 +10,7 @@ use Rattle.sbl_text.specs.declared.fault.ScriptFault.{ScriptFault}
 use Rattle.sbl_text.specs.declared.fault.ScriptFault.TheVariants as fault
 use Rattle.sbl_ast.specs.declared.tree.DeclarationKind.{DeclarationKind}
 use Rattle.sbl_resolver.specs.declared.occurrences.Site.{Site}
-use Rattle.sbl_resolver.specs.declared.checks.Met.{Met}
+use Rattle.sbl_resolver.specs.declared.checks.CheckState.{CheckState}
 use Rattle.sbl_resolver.specs.Occurrences.{Occurrence}
 use Rattle.sbl_resolver.specs.Checks.{kind_of, definition_of, has_text, is_awaited, declared_as, is_text_of, waits_after, is_routine, is_grouping}
 
@@ -27,13 +27,13 @@ abbrev pub HasPlaces : BTreeMap (Bor (List ℕ)) Site → List Occurrence → Ty
 HasPlaces m ms = (n : List ℕ) → at_name m n ≡ definition_of n ms
 
 -- the kinds of the names, the strings of the amongs, and whether a substring is still without its among
-pub record HasMet (met : Met) (ms : List Occurrence) : Type 0 where
+pub record HasMet (met : CheckState) (ms : List Occurrence) : Type 0 where
   pub kinds : (n : List ℕ) → at_name met.kinds n ≡ kind_of n ms
   pub strings : (item k : ℕ) (text : List ℕ) → has_string met.strings item k text ≡ has_text item k text ms
   pub waits : met.waits ≡ is_awaited ms false
 
 -- what is remembered after one more occurrence
-pub record Notes (old new : Met) (m : Occurrence) : Type 0 where
+pub record Notes (old new : CheckState) (m : Occurrence) : Type 0 where
   pub kinds : (n : List ℕ) → at_name new.kinds n ≡ option_or (at_name old.kinds n) (declared_as n m.notice)
   pub strings : (item k : ℕ) (text : List ℕ) → has_string new.strings item k text ≡ (has_string old.strings item k text || is_text_of item k text m)
   pub waits : new.waits ≡ waits_after m.notice old.waits

@@ -169,7 +169,7 @@ fn is_followed(mode: Mode, occurrences: &[Occurrence]) -> bool
 
 /// What the checks remember of the occurrences so far.
 #[derive(Drop)]
-pub struct Met<'a> {
+pub struct CheckState<'a> {
     /// The kind that each name is declared as.
     pub kinds: BTreeMap<&'a str, DeclarationKind>,
     /// The strings of each among, with the number of its item and the number of the among in the item.
@@ -178,7 +178,7 @@ pub struct Met<'a> {
     pub waits: bool,
 }
 
-fn kind_of(met: &Met, name: &str) -> Option<DeclarationKind>
+fn kind_of(met: &CheckState, name: &str) -> Option<DeclarationKind>
     ensures { result ≡ at_name met.now.kinds name.now }
 {
     met.kinds.get(name).copied()
@@ -196,7 +196,7 @@ fn fault_at<'a>(
     occurrence: &Occurrence<'a>,
     after: &[Occurrence<'a>],
     sites: &BTreeMap<&'a str, Site>,
-    met: &Met<'a>,
+    met: &CheckState<'a>,
 ) -> Option<ScriptFault>
     ensures { (all before : List PlainOccurrence) → HasPlaces sites.now all → HasMet met.now before → result ≡ spec.fault_at all before (view_occurrence occurrence.now) (view_occurrences after.now) }
 {
@@ -273,7 +273,7 @@ fn keep_string<'a>(
 }
 
 /// Updates what the checks remember after an occurrence. Returns `AllocError` if an allocation fails.
-fn note<'a>(occurrence: &Occurrence<'a>, met: &mut Met<'a>) -> Result<(), AllocError>
+fn note<'a>(occurrence: &Occurrence<'a>, met: &mut CheckState<'a>) -> Result<(), AllocError>
     ensures { OnOk result (Notes met.old met.new (view_occurrence occurrence.now)) }
 {
     match occurrence.notice {
@@ -328,10 +328,10 @@ fn sites_of<'a>(
 }
 
 /// Returns the state before the first occurrence.
-fn met_nothing<'a>(alloc: Global) -> Met<'a>
+fn met_nothing<'a>(alloc: Global) -> CheckState<'a>
     ensures { HasMet result [] }
 {
-    Met {
+    CheckState {
         kinds: BTreeMap::new(alloc),
         strings: BTreeSet::new(alloc),
         waits: false,
@@ -363,7 +363,7 @@ fn number_after(notice: Notice<'_>, number: usize) -> usize
 fn fault_among<'a>(
     occurrences: &[Occurrence<'a>],
     sites: &BTreeMap<&'a str, Site>,
-    met: &mut Met<'a>,
+    met: &mut CheckState<'a>,
 ) -> Result<Option<(usize, ScriptFault)>, AllocError>
     requires sites { HasPlaces sites.now (view_occurrences occurrences.now) }
     requires met { HasMet met.old [] }
@@ -386,7 +386,7 @@ fn fault_among<'a>(
 fn check_occurrences<'a>(
     occurrences: &[Occurrence<'a>],
     sites: &BTreeMap<&'a str, Site>,
-    met: &mut Met<'a>,
+    met: &mut CheckState<'a>,
 ) -> Result<(), ScriptFault>
     requires sites { HasPlaces sites.now (view_occurrences occurrences.now) }
     requires met { HasMet met.old [] }

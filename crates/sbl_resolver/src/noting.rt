@@ -10,9 +10,9 @@ ghost use Rattle.sbl_resolver.specs.OccurrenceView.{Adds, noted_names, view_occu
 use crate::occurrences::{Notice, Occurrence, Site, Use};
 use crate::sofar::SoFar;
 use sbl_ast::{
-    Added, Among, Argument, Command, DeclarationKind, Entry, Expression, Factor, Group, ItemInMode,
-    Joined, Mode, Naming, Plain, Prefix, Product, RowOfCommands, Scaled, ScriptItem, Simple, Term,
-    items_in_order,
+    Among, Argument, Command, DeclarationKind, Entry, Expression, Factor, Group, ItemInMode, Mode,
+    Naming, NextCommand, NextFactor, NextProduct, Plain, Prefix, Product, RowOfCommands,
+    ScriptItem, Simple, Term, items_in_order,
 };
 use std::alloc::{AllocError, Global};
 
@@ -110,14 +110,14 @@ impl<'a> SoFar<'a> {
     }
 
     #[cycle(arithmetic)]
-    fn note_sums(&mut self, others: &'a Vec<Added>, site: Site) -> Result<(), AllocError>
+    fn note_sums(&mut self, others: &'a Vec<NextProduct>, site: Site) -> Result<(), AllocError>
         ensures { OnOk result (Adds self.old self.new (spec.noted_sums (view_sums others.now.items) site)) }
     {
         each!(others, added => self.note_product(&added.product, site))
     }
 
     #[cycle(arithmetic)]
-    fn note_scales(&mut self, others: &'a Vec<Scaled>, site: Site) -> Result<(), AllocError>
+    fn note_scales(&mut self, others: &'a Vec<NextFactor>, site: Site) -> Result<(), AllocError>
         ensures { OnOk result (Adds self.old self.new (spec.noted_scales (view_scales others.now.items) site)) }
     {
         each!(others, scaled => self.note_factor(&scaled.factor, site))
@@ -221,7 +221,7 @@ impl<'a> SoFar<'a> {
     }
 
     #[cycle(commands)]
-    fn note_others(&mut self, others: &'a Vec<Joined>, site: Site) -> Result<(), AllocError>
+    fn note_others(&mut self, others: &'a Vec<NextCommand>, site: Site) -> Result<(), AllocError>
         ensures { OnOk result (Adds self.old self.new (spec.noted_others (view_others others.now.items) site)) }
     {
         each!(others, joined => self.note_command(&joined.command, site))

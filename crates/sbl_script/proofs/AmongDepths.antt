@@ -11,7 +11,7 @@ use Rattle.sbl_ast.specs.Texts.{body, places_in}
 use Rattle.sbl_ast.specs.Texts as texts
 use Rattle.sbl_ast.specs.Tree.{Argument, written_out, by_name, Expression, expression, Sums, no_sums, sum, Product, product, Scales, no_scales, scale, Factor, negated, bracketed, numeral, variable, fixed, length_of, Entry, entry, Command, bracket, simple_, literal_, name_, non_, prefixed, counted, move_, named, splice_, setlimit_, assign_, compare_, compare_values_, among_, Rows, no_rows, row, Others, no_others, joined, Starter, no_starter, starter, Groups, bare, group, Item, argument_terminal}
 use Rattle.sbl_ast.specs.View.{RowView}
-use Rattle.sbl_amongs.specs.Amongs.{Held, amongs, amongs_of_rows, amongs_of_others, amongs_of_starter, amongs_of_groups, amongs_of_body, nth_held, put_in_body}
+use Rattle.sbl_amongs.specs.Amongs.{AmongContents, amongs, amongs_of_rows, amongs_of_others, amongs_of_starter, amongs_of_groups, amongs_of_body, nth_held, put_in_body}
 use Rattle.sbl_amongs.specs.Replacement.{IsBetween, is_among}
 use Rattle.sbl_amongs.proofs.Swapped.{body_one}
 use Rattle.sbl_script.specs.declared.edit_fault.ScriptEditFault.TheVariants as edits
@@ -22,7 +22,7 @@ abbrev Ps : Type 0
 Ps = List AtDepth
 
 abbrev Hs : Type 0
-Hs = List Held
+Hs = List AmongContents
 
 -- the depths of the words
 abbrev D : Ps → List ℕ
@@ -114,11 +114,11 @@ mutual
 body_d : (b : RowView) → depths (amongs_of_body b) ≡ among_depths b
 body_d b = tree_d b.0 1 (amongs_of_others b.1 1 []) (placed_others b.1 1 []) (others_d b.1 1 [] [] refl)
 
-nth_d : (hs : Hs) (k : ℕ) → nth k (depths hs) ≡ option_map (λ (h : Held). h.0) (nth_held k hs)
+nth_d : (hs : Hs) (k : ℕ) → nth k (depths hs) ≡ option_map (λ (h : AmongContents). h.0) (nth_held k hs)
 nth_d [] k = refl
 nth_d (h ∷ hs) k = go (nat_eq k 1) (nth_d hs (k - 1)) where
-  go : (b : Bool) → nth (k - 1) (depths hs) ≡ option_map (λ (x : Held). x.0) (nth_held (k - 1) hs)
-      → (if b then Some h.0 else nth (k - 1) (depths hs)) ≡ option_map (λ (x : Held). x.0) (if b then Some h else nth_held (k - 1) hs)
+  go : (b : Bool) → nth (k - 1) (depths hs) ≡ option_map (λ (x : AmongContents). x.0) (nth_held (k - 1) hs)
+      → (if b then Some h.0 else nth (k - 1) (depths hs)) ≡ option_map (λ (x : AmongContents). x.0) (if b then Some h else nth_held (k - 1) hs)
   go true e = refl
   go false e = e
 
@@ -201,7 +201,7 @@ same_eq f l x y = go (nat_eq x y) refl where
   go false e = ne_eqb (f + (x + l)) (f + (y + l)) (λ g. let same : x ≡ y = omega (arith, g) in true≢false (sym (ap (nat_eq x) (sym same) ∙ self x) ∙ e))
 
 -- the body holds as many amongs as before if the new among holds as many as the old one
-keeps : (b : RowView) (k : ℕ) (h : Held) (a : Starter × Groups) → nth_held k (amongs_of_body b) ≡ Some h
+keeps : (b : RowView) (k : ℕ) (h : AmongContents) (a : Starter × Groups) → nth_held k (amongs_of_body b) ≡ Some h
     → nat_eq (length (among_depths (put_in_body b k a))) (length (among_depths b)) ≡ nat_eq (count_in_among a) (count_in_among (h.1, h.2))
 keeps b k h a e =
     let two = body_one b k a h e in
@@ -213,7 +213,7 @@ keeps b k h a e =
 
 pub home_same : (items : List Item) (n : List ℕ) (b : RowView) (k : ℕ) → ok_or (option_map (home_at_among items n b k) (nth k (among_depths b))) edits.NoAmong ≡ home_of_held items n b k (nth_held k (amongs_of_body b))
 home_same items n b k = ap (λ (o : Option ℕ). ok_or (option_map (home_at_among items n b k) o) edits.NoAmong) (ap (nth k) (sym (body_d b)) ∙ nth_d (amongs_of_body b) k) ∙ go (nth_held k (amongs_of_body b)) refl where
-  go : (o : Option Held) → nth_held k (amongs_of_body b) ≡ o → ok_or (option_map (home_at_among items n b k) (option_map (λ (h : Held). h.0) o)) edits.NoAmong ≡ home_of_held items n b k o
+  go : (o : Option AmongContents) → nth_held k (amongs_of_body b) ≡ o → ok_or (option_map (home_at_among items n b k) (option_map (λ (h : AmongContents). h.0) o)) edits.NoAmong ≡ home_of_held items n b k o
   go None e = refl
   go (Some h) e =
       let old = home_of_among items n b k h in

@@ -5,8 +5,8 @@ use Rattle.sbl_text.specs.declared.fault.ScriptFault.{ScriptFault}
 use Rattle.sbl_text.specs.declared.fault.ScriptFault.TheVariants as fault
 use Rattle.sbl_text.specs.Escapes.{InForce}
 use Rattle.sbl_text.specs.Directives.{Directives, start_under}
-use Rattle.sbl_text.specs.Tokens.{Placed, ArePlacedFrom, IsFirstFaultFrom}
-use Rattle.sbl_amongs.specs.Amongs.{Held, amongs_of_body, nth_held}
+use Rattle.sbl_text.specs.Tokens.{PlacedToken, ArePlacedFrom, IsFirstFaultFrom}
+use Rattle.sbl_amongs.specs.Amongs.{AmongContents, amongs_of_body, nth_held}
 use Rattle.sbl_ast.specs.Tree.{Argument, Term, Plain, routine, grouping, Item}
 use Rattle.sbl_ast.specs.Texts.{TreeOf}
 use Rattle.sbl_ast.specs.View.{RowView}
@@ -22,7 +22,7 @@ use Rattle.sbl_script.specs.Edits.{ScriptEdit, body, among, terms, Home, IsEditF
 use Rattle.sbl_script.specs.Homes.{home_of_among, IsFaultAt, home_of_body, home_of_held, home_of_terms}
 use Rattle.sbl_script.proofs.AmongDepths.{home_same}
 
-pub tokens_there : (e f : InForce) (text bytes : List ℕ) (ts : List Placed) → e ≡ f → text ≡ bytes → length bytes ≤ max_script → IsUtf8 bytes → ArePlacedFrom (start_under e) (chars text) ts → HasTokens (start_under f) bytes ts
+pub tokens_there : (e f : InForce) (text bytes : List ℕ) (ts : List PlacedToken) → e ≡ f → text ≡ bytes → length bytes ≤ max_script → IsUtf8 bytes → ArePlacedFrom (start_under e) (chars text) ts → HasTokens (start_under f) bytes ts
 tokens_there e f text bytes ts same is short utf8 cut = record {
   short = short;
   text = utf8;
@@ -46,7 +46,7 @@ body_home items n b is = ap (λ (o : Option Plain). home_in items o (body n)) is
 pub no_among : (items : List Item) (n : List ℕ) (k : ℕ) (b : RowView) → first_of (defines kinds.Routine n) items ≡ Some (routine n b.0 b.1) → nth_held k (amongs_of_body b) ≡ None → home items (among n k) ≡ Err edits.NoAmong
 no_among items n k b is none = ap (λ (o : Option Plain). home_in items o (among n k)) is ∙ home_same items n b k ∙ ap (home_of_held items n b k) none
 
-pub among_home : (items : List Item) (n : List ℕ) (k : ℕ) (b : RowView) (h : Held) → first_of (defines kinds.Routine n) items ≡ Some (routine n b.0 b.1) → nth_held k (amongs_of_body b) ≡ Some h → home items (among n k) ≡ Ok (home_of_among items n b k h)
+pub among_home : (items : List Item) (n : List ℕ) (k : ℕ) (b : RowView) (h : AmongContents) → first_of (defines kinds.Routine n) items ≡ Some (routine n b.0 b.1) → nth_held k (amongs_of_body b) ≡ Some h → home items (among n k) ≡ Ok (home_of_among items n b k h)
 among_home items n k b h is there = ap (λ (o : Option Plain). home_in items o (among n k)) is ∙ home_same items n b k ∙ ap (home_of_held items n b k) there
 
 pub terms_home : (items : List Item) (n : List ℕ) (a : Argument) (ts : List Term) → first_of (defines kinds.Grouping n) items ≡ Some (grouping n a ts) → home items (terms n) ≡ Ok (home_of_terms items n)
@@ -77,18 +77,18 @@ pub text_told : (s : Source) (h : Home) (text : List ℕ) (f : ScriptFault) → 
 text_told s h text f (inl m) = inl m
 text_told s h text f (inr x) = inr (inl x)
 
-pub unread_told : (s : Source) (h : Home) (text : List ℕ) (ts : List Placed) (f : ScriptFault) → HasTokens h.state text ts → (f ≡ fault.OutOfMemory) ⊎ IsUnread h.text ts (length text) f → (f ≡ fault.OutOfMemory) ⊎ IsFaultAt s h text f
+pub unread_told : (s : Source) (h : Home) (text : List ℕ) (ts : List PlacedToken) (f : ScriptFault) → HasTokens h.state text ts → (f ≡ fault.OutOfMemory) ⊎ IsUnread h.text ts (length text) f → (f ≡ fault.OutOfMemory) ⊎ IsFaultAt s h text f
 unread_told s h text ts f tokens (inl m) = inl m
 unread_told s h text ts f tokens (inr u) = inr (inr (inl (ts, tokens, u)))
 
-pub check_told : (s : Source) (h : Home) (text : List ℕ) (ts : List Placed) (x : TreeOf h.text) (f : ScriptFault) → HasTokens h.state text ts → first_left_out ts ≡ None → IsReadAs h.text (terminals ts) x
+pub check_told : (s : Source) (h : Home) (text : List ℕ) (ts : List PlacedToken) (x : TreeOf h.text) (f : ScriptFault) → HasTokens h.state text ts → first_left_out ts ≡ None → IsReadAs h.text (terminals ts) x
     → (f ≡ fault.OutOfMemory) ⊎ (fault_of (h.around x) s.external ≡ Some f) → (f ≡ fault.OutOfMemory) ⊎ IsFaultAt s h text f
 check_told s h text ts x f tokens offered read (inl m) = inl m
 check_told s h text ts x f tokens offered read (inr g) = inr (inr (inr (ts, tokens, offered, record { tree = x; read = read; is = g })))
 
 -- ---- the script
 
-pub substituted : (s t : Source) (h : Home) (text : List ℕ) (ts : List Placed) (x : TreeOf h.text) (n : Bool) → HasTokens h.state text ts → first_left_out ts ≡ None → IsReadAs h.text (terminals ts) x
+pub substituted : (s t : Source) (h : Home) (text : List ℕ) (ts : List PlacedToken) (x : TreeOf h.text) (n : Bool) → HasTokens h.state text ts → first_left_out ts ≡ None → IsReadAs h.text (terminals ts) x
     → t.items ≡ h.around x → t.external ≡ s.external → WellDeclared t.items t.external → h.keeps_count x ≡ n → IsSubstituted s h text n t
 substituted s t h text ts x n tokens offered read items external well counted = record { placed = ts; tree = x; tokens = tokens; offered = offered; read = read; items_are = items; external_is = external; well_declared = well; counted = counted }
 
@@ -105,7 +105,7 @@ if_err (Err e) P Q f h = f e h
 pub text_moved : (s : Directives) (a b : List ℕ) (f : ScriptFault) → a ≡ b → IsTextFault s a f → IsTextFault s b f
 text_moved s a b f e h = subst (λ (x : List ℕ). IsTextFault s x f) e h
 
-pub has_tokens : {X : Type 0} (r : Result X ScriptFault) (placed : X → List Placed) (e f : InForce) (text bytes own : List ℕ) → e ≡ f → text ≡ bytes → bytes ≡ own → length bytes ≤ max_script → IsUtf8 bytes
+pub has_tokens : {X : Type 0} (r : Result X ScriptFault) (placed : X → List PlacedToken) (e f : InForce) (text bytes own : List ℕ) → e ≡ f → text ≡ bytes → bytes ≡ own → length bytes ≤ max_script → IsUtf8 bytes
     → IfOk r (λ x. ArePlacedFrom (start_under e) (chars text) (placed x)) → IfOk r (λ x. HasTokens (start_under f) own (placed x))
 has_tokens r placed e f text bytes own same is there short utf8 h =
     if_ok r (λ x. ArePlacedFrom (start_under e) (chars text) (placed x)) (λ x. HasTokens (start_under f) own (placed x))

@@ -5,12 +5,12 @@ use Rattle.std.proofs.lemmas.Bool.Decides.{nat_tests}
 use Rattle.std.proofs.lemmas.List.Folds.{list_any-append}
 use Rattle.sbl_text.specs.declared.fault.ScriptFault.{ScriptFault}
 use Rattle.sbl_text.specs.declared.fault.ScriptFault.TheVariants as fault
-use Rattle.sbl_text.specs.Tokens.{Placed}
+use Rattle.sbl_text.specs.Tokens.{PlacedToken}
 use Rattle.sbl_ast.specs.Order.{in_order}
 use Rattle.sbl_ast.specs.Tree.{Plain, declaration, escapes, macro, routine, grouping, Item}
 use Rattle.sbl_ast.specs.Texts.{TreeOf}
 use Rattle.sbl_ast.specs.declared.tree.DeclarationKind.TheVariants as declared_kinds
-use Rattle.sbl_amongs.specs.Amongs.{Held, amongs_of_body, nth_held, put_in_body}
+use Rattle.sbl_amongs.specs.Amongs.{AmongContents, amongs_of_body, nth_held, put_in_body}
 use Rattle.sbl_resolver.specs.declared.occurrences.Site.{Site}
 use Rattle.sbl_resolver.specs.Occurrences.{Occurrence, Notice, declares, defines_routine, defines_grouping, uses, substring, among, string, backwards, region_end, noted_items, occurrences_of}
 use Rattle.sbl_script.specs.declared.edit_fault.ScriptEditFault.{ScriptEditFault}
@@ -377,7 +377,7 @@ place_of items (body n) h (Some (routine m c os)) at is =
     subst (IsPlaced items (body n)) (home_one (home_in items (Some (routine m c os)) (body n)) (home_of_body items n) h refl is)
     (λ b. record { kind = kinds.Routine; name = n; item = routine n b.0 b.1; which = refl; there = is_there (first_of (defines kinds.Routine n) items) (routine m c os) at; same = same_name n; is = refl })
 place_of items (script.among n k) h (Some (routine m c os)) at is = held (nth_held k (amongs_of_body (c, os))) (sym (home_same items n (c, os) k) ∙ is) where
-  held : (o : Option Held) → home_of_held items n (c, os) k o ≡ Ok h → IsPlaced items (script.among n k) h
+  held : (o : Option AmongContents) → home_of_held items n (c, os) k o ≡ Ok h → IsPlaced items (script.among n k) h
   held None e = absurd cc
   held (Some g) e =
       subst (IsPlaced items (script.among n k)) (home_one (home_of_held items n (c, os) k (Some g)) (home_of_among items n (c, os) k g) h refl e)
@@ -402,7 +402,7 @@ place_of items (terms n) h (Some (macro m b q)) at is = absurd cc
 place_of items (terms n) h (Some (routine m c os)) at is = absurd cc
 
 -- a check that fails tells the item
-check_tells : (s : Source) (e : ScriptEdit) (h : Home) (ts : List Placed) (f : ScriptFault) → WellDeclared s.items s.external → home s.items e ≡ Ok h → IsCheckFault h.text h.around s.external ts f →
+check_tells : (s : Source) (e : ScriptEdit) (h : Home) (ts : List PlacedToken) (f : ScriptFault) → WellDeclared s.items s.external → home s.items e ≡ Ok h → IsCheckFault h.text h.around s.external ts f →
     (i : ℕ) × (item_of f ≡ Some i) × (number_of (changes e) s.items ≡ Some i)
 check_tells s e h ts f well there bad =
     let r = place_of s.items e h (first_of (changes e) s.items) refl there bad.tree in

@@ -5,7 +5,7 @@ use Rattle.sbl_text.specs.declared.fault.ScriptFault.{ScriptFault}
 use Rattle.sbl_text.specs.declared.fault.ScriptFault.TheVariants as fault
 use Rattle.sbl_token.specs.declared.token.Token.{Token}
 use Rattle.sbl_token.specs.Lexemes.{lexeme_of}
-use Rattle.sbl_text.specs.Tokens.{Placed, placed_of}
+use Rattle.sbl_text.specs.Tokens.{PlacedToken, placed_of}
 use Rattle.sbl_ast.specs.Terminal.{Terminal, terminal_of, terminals_of, tokens_left}
 use Rattle.sbl_parser.specs.Reading.{IsSyntaxAt, IsTooDeepAt, IsOutOfProfileAt}
 use Rattle.sbl_ast.specs.Texts.{Text}
@@ -59,6 +59,6 @@ pub read_as : {X : Type 0} (r : Result X ScriptFault) (P : List Terminal → X �
 read_as (Ok x) P ts h = subst (λ (t : List Terminal). P t x) (terminals_same ts) h
 read_as (Err f) P ts h = h
 
-pub offered_too : {X : Type 0} (r : Result X ScriptFault) (ts : List Placed) → first_left_out ts ≡ None → IfOk r (λ x. first_left_out ts ≡ None)
+pub offered_too : {X : Type 0} (r : Result X ScriptFault) (ts : List PlacedToken) → first_left_out ts ≡ None → IfOk r (λ x. first_left_out ts ≡ None)
 offered_too (Ok x) ts h = h
 offered_too (Err f) ts h = tt

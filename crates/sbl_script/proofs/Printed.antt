@@ -5,7 +5,7 @@ use Rattle.std.specs.List.{list_any}
 use Rattle.std.specs.Str.{chars, IsUtf8}
 use Rattle.sbl_token.specs.Lexemes.{Lexeme}
 use Rattle.sbl_text.specs.Directives.{start}
-use Rattle.sbl_text.specs.Tokens.{Placed, AreTokensFrom, MayEnd, placed_from}
+use Rattle.sbl_text.specs.Tokens.{PlacedToken, AreTokensFrom, MayEnd, placed_from}
 use Rattle.sbl_text.specs.SpacedTokens.{after_all, AreSaid, spaced_text}
 use Rattle.sbl_text.specs.Laws.{SpacedAreRead}
 use Rattle.sbl_ast.specs.Terminal.{Terminal, lexeme_as, terminal_of}
@@ -37,12 +37,12 @@ pub record Kept (s : Source) : Type 0 where
   pub spelled : AreSpelled s.items
   pub ends : MayEnd (after_all start (lexemes_of s.items))
 
-abbrev lexemes : List Placed → List Lexeme
-lexemes ts = map (λ (p : Placed). p.lexeme) ts
+abbrev lexemes : List PlacedToken → List Lexeme
+lexemes ts = map (λ (p : PlacedToken). p.lexeme) ts
 
 -- ---- tokens that are left out
 
-none_offered : (ts : List Placed) → list_any is_left_out (lexemes ts) ≡ false → first_left_out ts ≡ None
+none_offered : (ts : List PlacedToken) → list_any is_left_out (lexemes ts) ≡ false → first_left_out ts ≡ None
 none_offered [] h = refl
 none_offered (t ∷ ts) h = at (is_left_out t.lexeme) refl (none_offered ts)
   where
@@ -52,7 +52,7 @@ none_offered (t ∷ ts) h = at (is_left_out t.lexeme) refl (none_offered ts)
 
 -- ---- tokens and lexemes
 
-terminals_are : Known → (ts : List Placed) (us : List Terminal) → lexemes ts ≡ map lexeme_as us → terminals ts ≡ us
+terminals_are : Known → (ts : List PlacedToken) (us : List Terminal) → lexemes ts ≡ map lexeme_as us → terminals ts ≡ us
 terminals_are k [] [] e = refl
 terminals_are k [] (u ∷ us) e = absurd cc
 terminals_are k (t ∷ ts) [] e = absurd cc

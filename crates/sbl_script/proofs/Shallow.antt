@@ -2,7 +2,7 @@
 use Rattle.std.proofs.Common.{◌≡◌, ◌≤◌, ℕ, Bool, true, false, List, [], ◌∷◌, Option, Some, None, if◌then◌else◌, refl, ap, subst, ◌∙◌, arith}
 use Rattle.std.specs.List.{list_any}
 use Rattle.std.specs.Option.{option_or}
-use Rattle.sbl_amongs.specs.Amongs.{FitsAt, Held, nth_held}
+use Rattle.sbl_amongs.specs.Amongs.{FitsAt, AmongContents, nth_held}
 use Rattle.sbl_ast.specs.Terminal as t
 use Rattle.sbl_ast.specs.Tree.{Argument, Term, Plain, routine, grouping, Item, plain, backward, Starter, Groups, among_}
 use Rattle.sbl_ast.specs.Places.{AtDepth, placed_command, placed_plain, placed_plains, placed_items, AreShallow}
@@ -85,8 +85,8 @@ pub body_shallow : (n : List ℕ) (items : List Item) (b : RowView) → AreShall
 body_shallow n items b h is = (first_shallow (defines kinds.Routine n) items (routine n b.0 b.1) h is).1.1.1
 
 -- what is read where an among stands may stand there
-held_one : (o : Option Held) (d g : Held) → o ≡ Some d → o ≡ Some g → d ≡ g
+held_one : (o : Option AmongContents) (d g : AmongContents) → o ≡ Some d → o ≡ Some g → d ≡ g
 held_one o d g e f = cc
 
-pub fits : (k : ℕ) (hs : List Held) (d : Held) (a : Starter × Groups) → nth_held k hs ≡ Some d → AreShallow (places_in (among d.0) a) → FitsAt k hs a
-fits k hs d a there h g is = subst (λ (z : Held). AreShallow (placed_command (among_ a.0 a.1) z.0 [])) (held_one (nth_held k hs) d g there is) h
+pub fits : (k : ℕ) (hs : List AmongContents) (d : AmongContents) (a : Starter × Groups) → nth_held k hs ≡ Some d → AreShallow (places_in (among d.0) a) → FitsAt k hs a
+fits k hs d a there h g is = subst (λ (z : AmongContents). AreShallow (placed_command (among_ a.0 a.1) z.0 [])) (held_one (nth_held k hs) d g there is) h

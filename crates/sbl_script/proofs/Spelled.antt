@@ -7,7 +7,7 @@ use Rattle.sbl_text.specs.Escapes.{InForce, nothing_set}
 use Rattle.sbl_token.specs.Lexemes.{Lexeme}
 use Rattle.sbl_text.specs.Directives.{Directives, after, no_directive, start}
 use Rattle.sbl_text.specs.Literals.{byte_length}
-use Rattle.sbl_text.specs.Tokens.{Placed, Piece, MayEnd, and_more, placed_from, put_placed, piece_lexemes}
+use Rattle.sbl_text.specs.Tokens.{PlacedToken, Piece, MayEnd, and_more, placed_from, put_placed, piece_lexemes}
 use Rattle.sbl_text.specs.SpacedTokens.{IsSaid, AreSaid, after_all}
 use Rattle.sbl_text.proofs.Spaced.{tokens_said}
 use Rattle.sbl_ast.specs.declared.tree.Base.TheVariants as bases
@@ -245,21 +245,21 @@ found_said p (backward xs ∷ is) e y i h = in_said p xs e y (first_of p is) ((t
 
 -- ---- what is read
 
-lexemes_there : (ts : List Placed) → map lexeme_as (terminals ts) ≡ map (λ (x : Placed). x.lexeme) ts
+lexemes_there : (ts : List PlacedToken) → map lexeme_as (terminals ts) ≡ map (λ (x : PlacedToken). x.lexeme) ts
 lexemes_there [] = refl
 lexemes_there (x ∷ ts) = ap (λ (l : Lexeme). l ∷ map lexeme_as (terminals ts)) (there x.lexeme) ∙ ap (λ (ls : List Lexeme). x.lexeme ∷ ls) (lexemes_there ts)
 
-said_there : (ps : List Piece) (place : ℕ) → map (λ (x : Placed). x.lexeme) (placed_from place ps) ≡ piece_lexemes ps
+said_there : (ps : List Piece) (place : ℕ) → map (λ (x : PlacedToken). x.lexeme) (placed_from place ps) ≡ piece_lexemes ps
 said_there [] place = refl
 said_there (p ∷ ps) place = go p.lexeme (said_there ps (place + byte_length p.text)) where
-  go : (o : Option Lexeme) → map (λ (x : Placed). x.lexeme) (placed_from (place + byte_length p.text) ps) ≡ piece_lexemes ps → map (λ (x : Placed). x.lexeme) (put_placed place p.text o (placed_from (place + byte_length p.text) ps)) ≡ and_more o (piece_lexemes ps)
+  go : (o : Option Lexeme) → map (λ (x : PlacedToken). x.lexeme) (placed_from (place + byte_length p.text) ps) ≡ piece_lexemes ps → map (λ (x : PlacedToken). x.lexeme) (put_placed place p.text o (placed_from (place + byte_length p.text) ps)) ≡ and_more o (piece_lexemes ps)
   go None more = more
   go (Some l) more = ap (λ (ls : List Lexeme). l ∷ ls) more
 
-pub read_said : (s : Directives) (bytes : List ℕ) (ts : List Placed) (w : Text) (x : TreeOf w) → HasTokens s bytes ts → IsReadAs w (terminals ts) x → AreSaid s (map lexeme_as (tokens_of w x))
+pub read_said : (s : Directives) (bytes : List ℕ) (ts : List PlacedToken) (w : Text) (x : TreeOf w) → HasTokens s bytes ts → IsReadAs w (terminals ts) x → AreSaid s (map lexeme_as (tokens_of w x))
 read_said s bytes ts w x has read =
     let cut = has.cut in
-    let is : map lexeme_as (tokens_of w x) ≡ piece_lexemes cut.0 = ap (map lexeme_as) read.0 ∙ lexemes_there ts ∙ ap (map (λ (z : Placed). z.lexeme)) cut.4 ∙ said_there cut.0 0 in
+    let is : map lexeme_as (tokens_of w x) ≡ piece_lexemes cut.0 = ap (map lexeme_as) read.0 ∙ lexemes_there ts ∙ ap (map (λ (z : PlacedToken). z.lexeme)) cut.4 ∙ said_there cut.0 0 in
     subst (AreSaid s) (sym is) (tokens_said s bytes (piece_lexemes cut.0) has.text (cut.0, cut.1, cut.2, cut.3, refl)).0
 
 -- ---- scripts
@@ -270,7 +270,7 @@ written_said items h = subst (λ (ts : List Terminal). AreSaid start (map lexeme
 said_written : (items : List Item) → Say start (places items) → AreSpelled items
 said_written items h = subst (λ (ts : List Terminal). AreSaid start (map lexeme_as ts)) (places_tokens items) h
 
-pub script_said : (bytes : List ℕ) (ts : List Placed) (items : List Item) → HasTokens start bytes ts → IsReadAs script (terminals ts) items → AreSpelled items
+pub script_said : (bytes : List ℕ) (ts : List PlacedToken) (items : List Item) → HasTokens start bytes ts → IsReadAs script (terminals ts) items → AreSpelled items
 script_said bytes ts items has read = said_written items (read_said start bytes ts script items has read)
 
 pub definition_replaced : (k : DefinitionKind) (n : List ℕ) (y : Plain) (items : List Item) → defines k n y ≡ true → AreSpelled items → IsSpelled (state_before (defines k n) items) y → AreSpelled (items_with (defines k n) y items)

@@ -6,15 +6,15 @@ use Rattle.sbl_text.specs.declared.fault.ScriptFault.{ScriptFault}
 use Rattle.sbl_text.specs.declared.fault.ScriptFault.TheVariants as fault
 use Rattle.sbl_text.specs.declared.pieces.Shape.{Shape}
 use Rattle.sbl_text.specs.declared.pieces.Shape.TheVariants as shape
-use Rattle.sbl_text.specs.declared.pieces.Wanted.{Wanted}
-use Rattle.sbl_text.specs.declared.pieces.Wanted.TheVariants as wanted
+use Rattle.sbl_text.specs.declared.pieces.Expectation.{Expectation}
+use Rattle.sbl_text.specs.declared.pieces.Expectation.TheVariants as wanted
 use Rattle.sbl_text.specs.Classes.{is_white, quote, slash}
 use Rattle.sbl_text.specs.declared.escapes.Inserts.{Inserts}
 use Rattle.sbl_text.specs.Escapes.{InForce, find, opens}
 use Rattle.sbl_text.specs.Literals.{Refusal, byte_length, code_or_fault, character_named, value_or_character, insertion_value, FirstWrong}
 use Rattle.sbl_text.specs.Codes.{code_of}
 use Rattle.sbl_text.specs.Directives.{Directives}
-use Rattle.sbl_text.specs.Tokens.{Placed, starts_star, pair_fault, token_fault, fault_at, IsRefused}
+use Rattle.sbl_text.specs.Tokens.{PlacedToken, starts_star, pair_fault, token_fault, fault_at, IsRefused}
 use Rattle.sbl_ast.specs.Texts.{Text}
 use Rattle.sbl_script.specs.OnlyTheItem.{item_of}
 use Rattle.sbl_script.specs.Reading.{IsTextFault, IsUnread}
@@ -95,7 +95,7 @@ token_of_text (c ∷ cs) place = at (c == quote) (c == slash && starts_star cs) 
   at false true = refl
   at false false = refl
 
-front_of_text : (w : Wanted) (text : List ℕ) (place : ℕ) → IsOfText (fault_at w text place)
+front_of_text : (w : Expectation) (text : List ℕ) (place : ℕ) → IsOfText (fault_at w text place)
 front_of_text wanted.Inserts text place = pair_of_text text place
 front_of_text wanted.Token text place = token_of_text text place
 front_of_text wanted.MacroName text place = token_of_text text place
@@ -125,6 +125,6 @@ text_fault s bytes f (inr (inl (short, none, said))) = as_said f _ refl said
 text_fault s bytes f (inr (inr (short, is, (before, rest, ps, t, parts, cut, inl (ends, none, said))))) = as_said f _ (front_of_text t.wanted rest _) said
 text_fault s bytes f (inr (inr (short, is, (before, rest, ps, t, parts, cut, inr (k, x, more, split, piece, bad))))) = piece_of_text t k x _ f bad
 
-pub unread : (w : Text) (ts : List Placed) (end : ℕ) (f : ScriptFault) → IsUnread w ts end f → is_checked f ≡ false
+pub unread : (w : Text) (ts : List PlacedToken) (end : ℕ) (f : ScriptFault) → IsUnread w ts end f → is_checked f ≡ false
 unread w ts end f (inl (place, left, said)) = as_said f _ refl said
 unread w ts end f (inr (offered, g)) = one_of_three f _ _ _ refl refl refl g.is

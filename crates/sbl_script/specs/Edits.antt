@@ -8,7 +8,7 @@ use Rattle.sbl_text.specs.declared.directives.Coding.{Coding}
 use Rattle.sbl_text.specs.declared.directives.Coding.TheVariants as coding
 use Rattle.sbl_text.specs.Escapes.{InForce, nothing_set, with_inserts}
 use Rattle.sbl_text.specs.Directives.{Directives, start_under, value_for_macro, defined_as}
-use Rattle.sbl_text.specs.Tokens.{Placed}
+use Rattle.sbl_text.specs.Tokens.{PlacedToken}
 use Rattle.sbl_ast.specs.declared.tree.Base.{Base}
 use Rattle.sbl_ast.specs.declared.tree.Base.TheVariants as bases
 use Rattle.sbl_amongs.specs.Amongs.{put_in_body}
@@ -153,7 +153,7 @@ home items e = home_in items (first_of (changes e) items) e
 -- The text, read in this place, has a tree. With this tree the script passes all checks and is t. `as_many` is true if
 -- the tree holds as many amongs as what it replaces.
 pub record IsSubstituted (s : Source) (h : Home) (text : List ℕ) (as_many : Bool) (t : Source) : Type 0 where
-  pub placed : List Placed
+  pub placed : List PlacedToken
   pub tree : TreeOf h.text
   pub tokens : HasTokens h.state text placed
   pub offered : first_left_out placed ≡ None

@@ -3,7 +3,7 @@ use Rattle.std.specs.Prelude.{ℕ, Bool, nat_eq, true, List, Option, Result}
 use Rattle.std.specs.List.{list_any}
 use Rattle.std.specs.Option.{ok_or, option_map}
 use Rattle.sbl_text.specs.declared.fault.ScriptFault.{ScriptFault}
-use Rattle.sbl_amongs.specs.Amongs.{Held, put_in_body}
+use Rattle.sbl_amongs.specs.Amongs.{AmongContents, put_in_body}
 use Rattle.sbl_ast.specs.Counts.{count_in_among}
 use Rattle.sbl_ast.specs.Texts as texts
 use Rattle.sbl_ast.specs.Tree.{Plain, routine, grouping, Item, plain, backward}
@@ -19,11 +19,11 @@ abbrev pub home_of_body : List Item → List ℕ → Home
 home_of_body items n = home_at items (defines kinds.Routine n) texts.body (λ b. routine n b.0 b.1) (λ b. true)
 
 -- where the among is found in the tree: as deep as it is there, and with as many amongs
-abbrev pub home_of_among : List Item → List ℕ → RowView → ℕ → Held → Home
+abbrev pub home_of_among : List Item → List ℕ → RowView → ℕ → AmongContents → Home
 home_of_among items n b k h =
     home_at items (defines kinds.Routine n) (texts.among h.0) (λ a. routine n (put_in_body b k a).0 (put_in_body b k a).1) (λ a. nat_eq (count_in_among a) (count_in_among (h.1, h.2)))
 
-abbrev pub home_of_held : List Item → List ℕ → RowView → ℕ → Option Held → Result Home ScriptEditFault
+abbrev pub home_of_held : List Item → List ℕ → RowView → ℕ → Option AmongContents → Result Home ScriptEditFault
 home_of_held items n b k o = ok_or (option_map (home_of_among items n b k) o) edits.NoAmong
 
 abbrev pub home_of_terms : List Item → List ℕ → Home

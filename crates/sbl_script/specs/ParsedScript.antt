@@ -5,12 +5,12 @@ use Rattle.sbl_ast.specs.View.{RowView, view_items}
 use Rattle.sbl_resolver.specs.Bodies.{body_in}
 use Rattle.sbl_ast.specs.Source.{Source}
 
-pub record Parsed : Type 0 where
+pub record ParsedScript : Type 0 where
   pub items : List declared.ScriptItem
   pub external : List ℕ
 
 -- the script that the code's value represents
-abbrev pub source_of : Parsed → Source
+abbrev pub source_of : ParsedScript → Source
 source_of p = record { items = view_items p.items; external = p.external }
 
 -- the body of the external that is run

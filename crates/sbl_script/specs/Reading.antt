@@ -4,7 +4,7 @@ use Rattle.std.specs.Str.{IsUtf8, chars}
 use Rattle.sbl_text.specs.declared.fault.ScriptFault.{ScriptFault}
 use Rattle.sbl_text.specs.declared.fault.ScriptFault.TheVariants as fault
 use Rattle.sbl_text.specs.Directives.{Directives, start}
-use Rattle.sbl_text.specs.Tokens.{Placed, ArePlacedFrom, IsFirstFaultFrom}
+use Rattle.sbl_text.specs.Tokens.{PlacedToken, ArePlacedFrom, IsFirstFaultFrom}
 use Rattle.sbl_ast.specs.Terminal.{Terminal, terminal_of}
 use Rattle.sbl_ast.specs.Tree.{Item}
 use Rattle.sbl_ast.specs.Texts.{Text, TreeOf, script}
@@ -18,16 +18,16 @@ abbrev pub max_script : ℕ
 max_script = 1048576
 
 -- the bytes are UTF-8 text, not too long, and have these tokens if the text begins in state s
-pub record HasTokens (s : Directives) (bytes : List ℕ) (ts : List Placed) : Type 0 where
+pub record HasTokens (s : Directives) (bytes : List ℕ) (ts : List PlacedToken) : Type 0 where
   pub short : length bytes ≤ max_script
   pub text : IsUtf8 bytes
   pub cut : ArePlacedFrom s (chars bytes) ts
 
-abbrev pub terminals : List Placed → List Terminal
-terminals ts = map (λ (t : Placed). terminal_of t.lexeme) ts
+abbrev pub terminals : List PlacedToken → List Terminal
+terminals ts = map (λ (t : PlacedToken). terminal_of t.lexeme) ts
 
 -- the position of the first token that this workbench does not support
-abbrev pub first_left_out : List Placed → Option ℕ
+abbrev pub first_left_out : List PlacedToken → Option ℕ
 first_left_out [] = None
 first_left_out (t ∷ ts) = if is_left_out t.lexeme then Some t.start else first_left_out ts
 
@@ -36,7 +36,7 @@ first_left_out (t ∷ ts) = if is_left_out t.lexeme then Some t.start else first
 -- The bytes are read as this script with this external. They are UTF-8 text. The tokens of the text are those of the
 -- tree. No token is too deep, and the script is well declared.
 pub record IsScriptOf (bytes external : List ℕ) (s : Source) : Type 0 where
-  pub placed : List Placed
+  pub placed : List PlacedToken
   pub tokens : HasTokens start bytes placed
   pub offered : first_left_out placed ≡ None
   pub tree : IsReadAs script (terminals placed) s.items
@@ -53,14 +53,14 @@ IsTextFault s bytes f =
     ⊎ ((length bytes ≤ max_script) × IsUtf8 bytes × IsFirstFaultFrom s (chars bytes) f)
 
 -- the position of the first token, or the length of the text if there is none
-abbrev pub place_of : ℕ → List Placed → ℕ
+abbrev pub place_of : ℕ → List PlacedToken → ℕ
 place_of end [] = end
 place_of end (t ∷ ts) = t.start
 
 -- the tokens, in a text of this length, form no tree, or one is too deep
-pub record IsGrammarFault (w : Text) (ts : List Placed) (end : ℕ) (f : ScriptFault) : Type 0 where
-  pub before : List Placed
-  pub rest : List Placed
+pub record IsGrammarFault (w : Text) (ts : List PlacedToken) (end : ℕ) (f : ScriptFault) : Type 0 where
+  pub before : List PlacedToken
+  pub rest : List PlacedToken
   pub parts : ts ≡ before ++ rest
   pub is :
       (IsSyntaxAt w (terminals ts) (terminals rest) × (f ≡ fault.Syntax (place_of end rest)))
@@ -68,12 +68,12 @@ pub record IsGrammarFault (w : Text) (ts : List Placed) (end : ℕ) (f : ScriptF
       ⊎ (IsOutOfProfileAt w (terminals ts) (terminals rest) × (f ≡ fault.OutOfProfile (place_of end rest)))
 
 -- a token is not supported, or the tokens form no tree
-abbrev pub IsUnread : Text → List Placed → ℕ → ScriptFault → Type 0
+abbrev pub IsUnread : Text → List PlacedToken → ℕ → ScriptFault → Type 0
 IsUnread w ts end f = ((place : ℕ) × (first_left_out ts ≡ Some place) × (f ≡ fault.OutOfProfile place)) ⊎ ((first_left_out ts ≡ None) × IsGrammarFault w ts end f)
 
 -- The tokens form a tree, and a check of the script with this tree fails with fault f. `around` makes the items of the
 -- script from the tree.
-pub record IsCheckFault (w : Text) (around : TreeOf w → List Item) (external : List ℕ) (ts : List Placed) (f : ScriptFault) : Type 0 where
+pub record IsCheckFault (w : Text) (around : TreeOf w → List Item) (external : List ℕ) (ts : List PlacedToken) (f : ScriptFault) : Type 0 where
   pub tree : TreeOf w
   pub read : IsReadAs w (terminals ts) tree
   pub is : fault_of (around tree) external ≡ Some f
@@ -82,8 +82,8 @@ pub record IsCheckFault (w : Text) (around : TreeOf w → List Item) (external :
 abbrev pub IsFaultIn : (w : Text) → Directives → (TreeOf w → List Item) → List ℕ → List ℕ → ScriptFault → Type 0
 IsFaultIn w s around external text f =
     IsTextFault s text f
-    ⊎ ((ts : List Placed) × HasTokens s text ts × IsUnread w ts (length text) f)
-    ⊎ ((ts : List Placed) × HasTokens s text ts × (first_left_out ts ≡ None) × IsCheckFault w around external ts f)
+    ⊎ ((ts : List PlacedToken) × HasTokens s text ts × IsUnread w ts (length text) f)
+    ⊎ ((ts : List PlacedToken) × HasTokens s text ts × (first_left_out ts ≡ None) × IsCheckFault w around external ts f)
 
 -- f is the fault of these bytes as a script with this external
 abbrev pub IsFaultOf : List ℕ → List ℕ → ScriptFault → Type 0

@@ -128,12 +128,12 @@ impl Model for Script {
     ghost use Rattle.std.specs.Coded.{codes};
     ghost use Rattle.sbl_ast.specs.contracts.tree.ScriptItem as e;
     ghost use Rattle.sbl_ast.specs.View.{view_items};
-    ghost use Rattle.sbl_script.specs.ParsedScript.{Parsed};
+    ghost use Rattle.sbl_script.specs.ParsedScript.{ParsedScript};
     ghost use Rattle.sbl_resolver.specs.Checks.{WellDeclared};
     ghost use Rattle.sbl_ast.specs.Places.{places, AreShallow};
     ghost use Rattle.sbl_script.specs.SpelledScript.{AreSpelled};
 
-    ghost Value = { Parsed };
+    ghost Value = { ParsedScript };
 
     ghost coded = { Prim.hlevel (codes, e.the_row.coded) };
 

@@ -6,7 +6,7 @@ use Rattle.std.specs.declared.vec.Vec.{Vec}
 use Rattle.std.specs.declared.alloc.Global.{Global}
 use Rattle.sbl_text.specs.declared.fault.ScriptFault.{ScriptFault}
 use Rattle.sbl_text.specs.declared.fault.ScriptFault.TheVariants as script
-use Rattle.sbl_script.specs.ParsedScript.{Parsed, source_of}
+use Rattle.sbl_script.specs.ParsedScript.{ParsedScript, source_of}
 use Rattle.sbl_ast.specs.Source.{Source}
 use Rattle.sbl_script.specs.Reading.{IsFaultOf, IsScriptOf}
 use Rattle.sbl_bench.specs.Contents.{IsFaultOrMemory, Contents, Opens, opening_fault}
@@ -67,7 +67,7 @@ word_unread a b taken line fault free fit text other fits took (inr bad) =
 -- ---- behind the block
 
 -- a script that was parsed from a block
-pub script_parsed : (old new : Option (List ℕ)) (text : Vec ℕ Global) (bytes external : List ℕ) (p : Parsed) → ReadsScript old new (Ok text) → bytes ≡ text.items
+pub script_parsed : (old new : Option (List ℕ)) (text : Vec ℕ Global) (bytes external : List ℕ) (p : ParsedScript) → ReadsScript old new (Ok text) → bytes ≡ text.items
     → IsScriptOf bytes external (source_of p) → TookSource old new external (source_of p)
 script_parsed old new text bytes external p reads whole is =
     (reads.0, reads.1, subst (λ (t : List ℕ). IsScriptOf t external (source_of p)) (whole ∙ reads.2) is)

@@ -14,7 +14,7 @@ use Rattle.std.specs.List.{All}
 use Rattle.std.proofs.lemmas.List.Elements.{All-append, All-cons, All-nil}
 use Rattle.sbl_token.specs.Lexemes.{Lexeme, lexeme_of, SaysFitting}
 use Rattle.sbl_text.specs.Directives.{Directives, setting_of, after}
-use Rattle.sbl_text.specs.Tokens.{Says, Piece, after_piece, AreCut, and_more, piece_lexemes, AreTokensFrom, Placed, placed_of, put_placed, placed_from, ArePlacedFrom, IsFirstFaultFrom, Stops, IsAt, Advances, Reading, IsAnswer, IsNext}
+use Rattle.sbl_text.specs.Tokens.{Says, Piece, after_piece, AreCut, and_more, piece_lexemes, AreTokensFrom, PlacedToken, placed_of, put_placed, placed_from, ArePlacedFrom, IsFirstFaultFrom, Stops, IsAt, Advances, Reading, IsAnswer, IsNext}
 use Rattle.sbl_text.proofs.Written.{sign_found_as}
 
 pub append_nil : {X : Type 0} (xs : List X) → xs ++ [] ≡ xs
@@ -52,7 +52,7 @@ cut_total s t text rest [] h = let k = ap byte_length h.0 in omega arith
 cut_total s t text rest (p ∷ ps) h =
     let k = ap byte_length h.1 ∙ bytes_append p.text h.0 in let r = cut_total (after_piece s p.lexeme) t h.0 rest ps h.4 in omega arith
 
-placed_more : (place : ℕ) (x : List ℕ) (o : Option Lexeme) (xs ys zs : List Placed) → zs ≡ xs ++ ys → put_placed place x o zs ≡ put_placed place x o xs ++ ys
+placed_more : (place : ℕ) (x : List ℕ) (o : Option Lexeme) (xs ys zs : List PlacedToken) → zs ≡ xs ++ ys → put_placed place x o zs ≡ put_placed place x o xs ++ ys
 placed_more place x None xs ys zs h = h
 placed_more place x (Some l) xs ys zs h = ap (put_placed place x (Some l)) h
 
@@ -96,12 +96,12 @@ over_gaps first source s rest at ts b g = (
   b.0 ++ as_pieces g.0,
   cut_append first s s source rest at b.0 (as_pieces g.0) b.1 (gaps_cut s rest at g.0 g.1),
   b.2 ∙ sym (said_append b.0 (as_pieces g.0) ∙ ap (λ (t : List Lexeme). piece_lexemes b.0 ++ t) (said_gaps g.0) ∙ append_nil (piece_lexemes b.0)),
-  b.3 ∙ sym (placed_append 0 (total b.0) b.0 (as_pieces g.0) (omega arith) ∙ ap (λ (t : List Placed). placed_from 0 b.0 ++ t) (placed_gaps (total b.0) g.0) ∙ append_nil (placed_from 0 b.0)),
+  b.3 ∙ sym (placed_append 0 (total b.0) b.0 (as_pieces g.0) (omega arith) ∙ ap (λ (t : List PlacedToken). placed_from 0 b.0 ++ t) (placed_gaps (total b.0) g.0) ∙ append_nil (placed_from 0 b.0)),
 )
 
 same_placed : (t : Token) (x before : List ℕ) (n : ℕ) → byte_length before ≡ n → IsAt before x t → placed_of t ∷ [] ≡ put_placed n x (Some (lexeme_of t)) []
 same_placed t x before n h a =
-    let make : List ℕ → ℕ → ℕ → List Placed = λ b i j. record { lexeme = lexeme_of t; text = b; start = i; end = j } ∷ [] in
+    let make : List ℕ → ℕ → ℕ → List PlacedToken = λ b i j. record { lexeme = lexeme_of t; text = b; start = i; end = j } ∷ [] in
     ap (λ (b : List ℕ). make b t.start t.end) a.0 ∙ ap (λ (i : ℕ). make (encode_utf8_all x) i t.end) (a.1 ∙ h) ∙ ap (make (encode_utf8_all x) n) (a.2 ∙ ap (λ (m : ℕ). m + byte_length x) h)
 
 one_more : (first : Directives) (source : List ℕ) (s : Directives) (at x rest before : List ℕ) (k : Shape) (t : Token) (ts : List Token) → SoFar first source s at ts → at ≡ x ++ rest → source ≡ before ++ at → IsPiece (setting_of s) k x rest
@@ -112,7 +112,7 @@ one_more first source s at x rest before k t ts b is front p says place =
       b.0 ++ q ∷ [],
       cut_append first s (after s (lexeme_of t)) source at rest b.0 (q ∷ []) b.1 (rest, is, p, says, (refl, refl)),
       map_append lexeme_of ts t ∙ ap (λ (l : List Lexeme). l ++ lexeme_of t ∷ []) b.2 ∙ sym (said_append b.0 (q ∷ [])),
-      map_append placed_of ts t ∙ ap (λ (l : List Placed). l ++ placed_of t ∷ []) b.3 ∙ ap (λ (l : List Placed). placed_from 0 b.0 ++ l) (same_placed t x before (total b.0) n place)
+      map_append placed_of ts t ∙ ap (λ (l : List PlacedToken). l ++ placed_of t ∷ []) b.3 ∙ ap (λ (l : List PlacedToken). placed_from 0 b.0 ++ l) (same_placed t x before (total b.0) n place)
           ∙ sym (placed_append 0 (total b.0) b.0 (q ∷ []) (omega arith)),
     )
 

@@ -7,8 +7,8 @@ use Rattle.std.proofs.lemmas.Str.{encodes-append, encodes-chars, length-encode}
 use Rattle.sbl_token.specs.declared.words.Word.{Word}
 use Rattle.sbl_text.specs.declared.pieces.Shape.{Shape}
 use Rattle.sbl_text.specs.declared.pieces.Shape.TheVariants as shape
-use Rattle.sbl_text.specs.declared.pieces.Wanted.{Wanted}
-use Rattle.sbl_text.specs.declared.pieces.Wanted.TheVariants as wanted
+use Rattle.sbl_text.specs.declared.pieces.Expectation.{Expectation}
+use Rattle.sbl_text.specs.declared.pieces.Expectation.TheVariants as wanted
 use Rattle.sbl_text.specs.declared.escapes.Inserts.{Inserts}
 use Rattle.sbl_text.specs.declared.fault.ScriptFault.{ScriptFault}
 use Rattle.sbl_text.specs.declared.fault.ScriptFault.TheVariants as fault
@@ -161,13 +161,13 @@ wrong_literal s e text letters inner place f same is l (inr h) =
 
 -- ---- what is set
 
-pub same_setting : (s : Directives) (f : InForce) (i : Option Inserts) (w : Wanted) → i ≡ f.inserts → f ≡ s.escapes → w ≡ s.wanted → setting i w ≡ setting_of s
+pub same_setting : (s : Directives) (f : InForce) (i : Option Inserts) (w : Expectation) → i ≡ f.inserts → f ≡ s.escapes → w ≡ s.wanted → setting i w ≡ setting_of s
 same_setting s f i w a b c = ap (λ (j : Option Inserts). setting j w) (a ∙ ap (λ (g : InForce). g.inserts) b) ∙ ap (setting s.escapes.inserts) c
 
 pub nothing_defined : (s t : Directives) (v : List ℕ) → s.defining ≡ None → t ≡ no_directive s.escapes → (w : List ℕ) × (value_for s.defining v ≡ Some w) × (t ≡ no_directive (defined_by s.escapes s.defining v))
 nothing_defined s t v d h = (v, ap (λ (o : Option Defining). value_for o v) d, h ∙ ap (λ (o : Option Defining). no_directive (defined_by s.escapes o v)) (sym d))
 
-pub undefined : {D : Type 0} (f : D → Defining) (s : Directives) (o : Option D) (e : InForce) (w : Wanted) → (let u : Directives = record { escapes = e; wanted = w; defining = option_map f o } in u) ≡ s → o ≡ None → s.defining ≡ None
+pub undefined : {D : Type 0} (f : D → Defining) (s : Directives) (o : Option D) (e : InForce) (w : Expectation) → (let u : Directives = record { escapes = e; wanted = w; defining = option_map f o } in u) ≡ s → o ≡ None → s.defining ≡ None
 undefined f s o e w is h = ap (λ (u : Directives). u.defining) (sym is) ∙ ap (option_map f) h
 
 pub after_first : (text cs : List ℕ) (c place n : ℕ) → text ≡ c ∷ cs → (c ≡ 39 → ⊥) → n ≡ byte_length (c ∷ []) → fault.BadCharacter (place + n) ≡ pair_fault text place

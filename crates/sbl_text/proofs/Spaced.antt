@@ -15,8 +15,8 @@ use Rattle.sbl_token.specs.declared.signs.Sign.{Sign}
 use Rattle.sbl_token.specs.declared.signs.Sign.TheVariants as signs
 use Rattle.sbl_text.specs.declared.pieces.Shape.{Shape}
 use Rattle.sbl_text.specs.declared.pieces.Shape.TheVariants as shape
-use Rattle.sbl_text.specs.declared.pieces.Wanted.{Wanted}
-use Rattle.sbl_text.specs.declared.pieces.Wanted.TheVariants as wanted
+use Rattle.sbl_text.specs.declared.pieces.Expectation.{Expectation}
+use Rattle.sbl_text.specs.declared.pieces.Expectation.TheVariants as wanted
 use Rattle.sbl_text.specs.declared.escapes.Inserts.{Inserts}
 use Rattle.sbl_text.specs.Classes.{is_white, is_digit, is_word}
 use Rattle.sbl_token.specs.Words.{word_text, words, word_of}
@@ -27,7 +27,7 @@ use Rattle.sbl_text.specs.Scan.{IsCutFrom, Cut, cut_in, past_literal}
 use Rattle.sbl_token.specs.Lexemes.{Lexeme, number}
 use Rattle.sbl_text.specs.Directives.{Directives, after}
 use Rattle.sbl_text.specs.Tokens.{digits_value, number_of, word_or_name, Told, Says, Piece, MaySay, after_piece, AreCut, and_more, piece_lexemes, MayEnd, AreTokensFrom}
-use Rattle.sbl_text.specs.SpacedTokens.{lexeme_text, IsSaidBy, IsSaid, after_all, AreSaid, Spaced, lexemes_of, are_white, spaced_text}
+use Rattle.sbl_text.specs.SpacedTokens.{lexeme_text, IsSaidBy, IsSaid, after_all, AreSaid, SpacedToken, lexemes_of, are_white, spaced_text}
 use Rattle.sbl_text.proofs.Written.{sign_found_as}
 use Rattle.sbl_text.proofs.Cuts.{and_left, and_right, literal_ends}
 use Rattle.sbl_text.proofs.Whole.{no_eq, if_same, LeavesCut, longest, cut_is}
@@ -257,7 +257,7 @@ nothing_more : (x : List ℕ) → x ++ [] ≡ x
 nothing_more [] = refl
 nothing_more (c ∷ x) = ap (λ (t : List ℕ). c ∷ t) (nothing_more x)
 
-alone : (i : Option Inserts) (w : Wanted) (k : Shape) (x rest : List ℕ) → Stands (setting i w) k x rest → ((d : ℕ) (z more : List ℕ) → rest ≡ d ∷ (z ++ more) → Has i k (x ++ d ∷ z) → ⊥) → IsPiece (setting i w) k x rest
+alone : (i : Option Inserts) (w : Expectation) (k : Shape) (x rest : List ℕ) → Stands (setting i w) k x rest → ((d : ℕ) (z more : List ℕ) → rest ≡ d ∷ (z ++ more) → Has i k (x ++ d ∷ z) → ⊥) → IsPiece (setting i w) k x rest
 alone i w k x rest st never = at (cut_in i w (x ++ rest)) (longest (setting i w) k x rest st) (cut_is i w (x ++ rest))
   where
     same : (j : Shape) (y z r : List ℕ) → j ≡ k → y ≡ x ++ z → rest ≡ z ++ r → IsPiece (setting i w) j y r → IsPiece (setting i w) k x rest
@@ -270,16 +270,16 @@ alone i w k x rest st never = at (cut_in i w (x ++ rest)) (longest (setting i w)
     at None l c = absurd l
     at (Some p) l c = let f = further x c.0 rest p.1 c.1 l.1 in same p.0 c.0 f.0 p.1 l.0 f.1 f.2 c.2
 
-blank_comes : (w : Wanted) → may_come w shape.Blank ≡ true
+blank_comes : (w : Expectation) → may_come w shape.Blank ≡ true
 blank_comes wanted.Token = refl
 blank_comes wanted.Inserts = refl
 blank_comes wanted.MacroName = refl
 
-blank_piece : (i : Option Inserts) (w : Wanted) (c : ℕ) (more : List ℕ) → is_white c ≡ true → IsPiece (setting i w) shape.Blank (c ∷ []) more
+blank_piece : (i : Option Inserts) (w : Expectation) (c : ℕ) (more : List ℕ) → is_white c ≡ true → IsPiece (setting i w) shape.Blank (c ∷ []) more
 blank_piece i w c more h =
     alone i w shape.Blank (c ∷ []) more (record { has = (c, refl, h); comes = blank_comes w; no_comment = λ j b. cc }) (λ d z m is g. let l = ap length g.1 in omega (arith, l))
 
-said_piece : (i : Option Inserts) (w : Wanted) (k : Shape) (x : List ℕ) (c : ℕ) (more : List ℕ) → Has i k x → may_come w k ≡ true → is_gap k ≡ false → is_white c ≡ true → IsPiece (setting i w) k x (c ∷ more)
+said_piece : (i : Option Inserts) (w : Expectation) (k : Shape) (x : List ℕ) (c : ℕ) (more : List ℕ) → Has i k x → may_come w k ≡ true → is_gap k ≡ false → is_white c ≡ true → IsPiece (setting i w) k x (c ∷ more)
 said_piece i w k x c more has may gap h =
     alone i w k x (c ∷ more) (record { has = has; comes = may; no_comment = free })
     (λ d z m is g. let e : c ≡ d = cc in no_longer i k x d z (ap is_white (sym e) ∙ h) gap has g)
@@ -301,10 +301,10 @@ space_chars c rest h =
     let u : IsUtf8 (encode_utf8_all (c ∷ [])) = (c ∷ [], (white_scalar c h, refl)) in
     chars-append (encode_utf8_all (c ∷ [])) rest u ∙ ap (λ (t : List ℕ). t ++ chars rest) (sym (chars_from_encodes (c ∷ []) (encode_utf8_all (c ∷ [])) u refl))
 
-abbrev Read : Directives → List Spaced → Type 0
+abbrev Read : Directives → List SpacedToken → Type 0
 Read s ps = (qs : List Piece) × AreCut s (chars (spaced_text ps)) qs (after_all s (lexemes_of ps)) [] × (lexemes_of ps ≡ piece_lexemes qs)
 
-read : (s : Directives) (ps : List Spaced) → are_white ps ≡ true → AreSaid s (lexemes_of ps) → Read s ps
+read : (s : Directives) (ps : List SpacedToken) → are_white ps ≡ true → AreSaid s (lexemes_of ps) → Read s ps
 read s [] w h = ([], (chars-nil, refl), refl)
 read s (p ∷ ps) w h =
     let l = p.lexeme in
@@ -329,7 +329,7 @@ read s (p ∷ ps) w h =
       ap (λ (ls : List Lexeme). l ∷ ls) r.2,
     )
 
-pub spaced_read : (s : Directives) (ps : List Spaced) → are_white ps ≡ true → AreSaid s (lexemes_of ps) → MayEnd (after_all s (lexemes_of ps)) → AreTokensFrom s (chars (spaced_text ps)) (lexemes_of ps)
+pub spaced_read : (s : Directives) (ps : List SpacedToken) → are_white ps ≡ true → AreSaid s (lexemes_of ps) → MayEnd (after_all s (lexemes_of ps)) → AreTokensFrom s (chars (spaced_text ps)) (lexemes_of ps)
 spaced_read s ps w h end = let r = read s ps w h in (r.0, after_all s (lexemes_of ps), r.1, end, r.2)
 
 -- ---- and what a text says is said

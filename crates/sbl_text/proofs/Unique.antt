@@ -15,7 +15,7 @@ use Rattle.sbl_text.specs.Pieces.{Setting, IsPiece, is_gap}
 use Rattle.sbl_text.specs.Scan.{Cut, cut_in}
 use Rattle.sbl_token.specs.Lexemes.{Lexeme, lexeme_of, sign, literal, inserts}
 use Rattle.sbl_text.specs.Directives.{Directives, setting_of, value_for, after}
-use Rattle.sbl_text.specs.Tokens.{Told, HasValue, Piece, MaySay, after_piece, AreCut, piece_lexemes, MayEnd, AreTokensFrom, Placed, placed_from, ArePlacedFrom, IsRefused, IsFault, IsFirstFaultFrom, Advances, Reading, IsAnswer, IsNext}
+use Rattle.sbl_text.specs.Tokens.{Told, HasValue, Piece, MaySay, after_piece, AreCut, piece_lexemes, MayEnd, AreTokensFrom, PlacedToken, placed_from, ArePlacedFrom, IsRefused, IsFault, IsFirstFaultFrom, Advances, Reading, IsAnswer, IsNext}
 use Rattle.sbl_text.proofs.Written.{signs_differ}
 use Rattle.sbl_text.proofs.Cuts.{and_left, and_right}
 use Rattle.sbl_text.proofs.Whole.{LeavesCut, longest}
@@ -254,7 +254,7 @@ pub tokens_one : (s : Directives) (text : List ℕ) (ls ms : List Lexeme) → Ar
 tokens_one s text ls ms a b =
     a.4 ∙ ap piece_lexemes (sym (same_at_end a.0 b.0 a.1 b.1 (two_cuts s text a.0 b.0 a.1 [] b.1 [] a.2 b.2))) ∙ sym b.4
 
-pub placed_tokens_one : (s : Directives) (text : List ℕ) (ts us : List Placed) → ArePlacedFrom s text ts → ArePlacedFrom s text us → ts ≡ us
+pub placed_tokens_one : (s : Directives) (text : List ℕ) (ts us : List PlacedToken) → ArePlacedFrom s text ts → ArePlacedFrom s text us → ts ≡ us
 placed_tokens_one s text ts us a b =
     a.4 ∙ ap (placed_from 0) (sym (same_at_end a.0 b.0 a.1 b.1 (two_cuts s text a.0 b.0 a.1 [] b.1 [] a.2 b.2))) ∙ sym b.4
 

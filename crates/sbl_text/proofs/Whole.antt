@@ -6,8 +6,8 @@ use Rattle.std.proofs.lemmas.List.{length-append}
 use Rattle.sbl_token.specs.declared.signs.Sign.{Sign}
 use Rattle.sbl_text.specs.declared.pieces.Shape.{Shape}
 use Rattle.sbl_text.specs.declared.pieces.Shape.TheVariants as shape
-use Rattle.sbl_text.specs.declared.pieces.Wanted.{Wanted}
-use Rattle.sbl_text.specs.declared.pieces.Wanted.TheVariants as wanted
+use Rattle.sbl_text.specs.declared.pieces.Expectation.{Expectation}
+use Rattle.sbl_text.specs.declared.pieces.Expectation.TheVariants as wanted
 use Rattle.sbl_text.specs.declared.pieces.Start.{Start}
 use Rattle.sbl_text.specs.declared.pieces.Start.TheVariants as start
 use Rattle.sbl_text.specs.declared.escapes.Inserts.{Inserts}
@@ -232,7 +232,7 @@ longest_name e shape.Literal y more h may = absurd (cc)
 longest_name e shape.Sign y more h may = absurd (cc)
 longest_name e shape.Inserts y more h may = absurd (cc)
 
-longest_in : (e : Option Inserts) (w : Wanted) (k : Shape) (y more : List ℕ) → Has e k y → may_come w k ≡ true → (k ≡ shape.Sign → BeginsComment (y ++ more) → ⊥) → LeavesCut k (length more) (cut_in e w (y ++ more))
+longest_in : (e : Option Inserts) (w : Expectation) (k : Shape) (y more : List ℕ) → Has e k y → may_come w k ≡ true → (k ≡ shape.Sign → BeginsComment (y ++ more) → ⊥) → LeavesCut k (length more) (cut_in e w (y ++ more))
 longest_in e wanted.Token k y more h may free = longest_token e k y more h may free
 longest_in e wanted.Inserts k y more h may free = longest_pair e k y more h may
 longest_in e wanted.MacroName k y more h may free = longest_name e k y more h may
@@ -278,7 +278,7 @@ unfolding name_cut
 found_name e [] = tt
 found_name e (c ∷ cs) = name_at e c cs (is_white c) refl
 
-found_in : (e : Option Inserts) (w : Wanted) (text : List ℕ) → FoundIn (setting e w) text (cut_in e w text)
+found_in : (e : Option Inserts) (w : Expectation) (text : List ℕ) → FoundIn (setting e w) text (cut_in e w text)
 found_in e wanted.Token text = found_token e text (cut e text) (found e text)
 found_in e wanted.Inserts text = found_pair e text
 found_in e wanted.MacroName text = found_name e text
@@ -298,11 +298,11 @@ cut_is_at e text (Some p) h f = (
     shorter : (x y rest more : List ℕ) → x ++ rest ≡ y ++ more → length rest ≤ length more → length y ≤ length x
     shorter x y rest more is h = omega (arith, length-append x rest, length-append y more, ap length is)
 
-pub cut_is : (i : Option Inserts) (w : Wanted) (text : List ℕ) → IsCutFrom (setting i w) text (cut_in i w text)
+pub cut_is : (i : Option Inserts) (w : Expectation) (text : List ℕ) → IsCutFrom (setting i w) text (cut_in i w text)
 cut_is i w text = cut_is_at (setting i w) text (cut_in i w text) refl (found_in i w text)
 
 -- the same of what the code answers
-pub given : {B : Type 0} (i : Option Inserts) (w : Wanted) (text : List ℕ) (view : B → List ℕ) (IsLess : B → Type 0) (o : Option (Shape × B))
+pub given : {B : Type 0} (i : Option Inserts) (w : Expectation) (text : List ℕ) (view : B → List ℕ) (IsLess : B → Type 0) (o : Option (Shape × B))
     → MatchOption o (cut_in i w text ≡ None) (λ p. (cut_in i w text ≡ Some (p.0, view p.1)) × IsLess p.1)
     → MatchOption o (NoPiece (setting i w) text) (λ p. (x : List ℕ) × (text ≡ x ++ view p.1) × IsPiece (setting i w) p.0 x (view p.1))
 given i w text view IsLess None h = subst (IsCutFrom (setting i w) text) h (cut_is i w text)

@@ -3,8 +3,8 @@ use denote.Enum.Bare.{sameb}
 use Rattle.std.specs.Option.{option_map_or}
 use Rattle.std.specs.Str.{chars}
 use Rattle.std.specs.Prelude.{ℕ, nat_le, if◌then◌else◌, List, length, Option, Some, None, option_and_then}
-use Rattle.sbl_text.specs.declared.pieces.Wanted.{Wanted}
-use Rattle.sbl_text.specs.declared.pieces.Wanted.TheVariants as wanted
+use Rattle.sbl_text.specs.declared.pieces.Expectation.{Expectation}
+use Rattle.sbl_text.specs.declared.pieces.Expectation.TheVariants as wanted
 use Rattle.sbl_text.specs.contracts.directives.Coding as codings
 use Rattle.sbl_text.specs.declared.directives.Coding.{Coding}
 use Rattle.sbl_text.specs.declared.directives.Coding.TheVariants as coding
@@ -23,7 +23,7 @@ pub record Defining : Type 0 where
 -- the insert characters and macros in force, what may come next, and the macro that is being defined
 pub record Directives : Type 0 where
   pub escapes : InForce
-  pub wanted : Wanted
+  pub wanted : Expectation
   pub defining : Option Defining
 
 abbrev pub setting_of : Directives → Setting

@@ -9,10 +9,10 @@ use Rattle.sbl_token.specs.Signs.{sign_text}
 use Rattle.sbl_token.specs.Words.{word_of, word_text}
 use Rattle.sbl_token.specs.Lexemes.{Lexeme, literal, lexeme_of}
 use Rattle.sbl_text.specs.Directives.{Directives, max_macro}
-use Rattle.sbl_text.specs.Tokens.{Placed, AreTokensFrom, ArePlacedFrom, IsFirstFaultFrom, Reading, IsNext, MayEnd}
+use Rattle.sbl_text.specs.Tokens.{PlacedToken, AreTokensFrom, ArePlacedFrom, IsFirstFaultFrom, Reading, IsNext, MayEnd}
 use Rattle.sbl_text.specs.Escapes.{InForce, Definition}
 use Rattle.sbl_text.specs.Literals.{IsLiteral}
-use Rattle.sbl_text.specs.SpacedTokens.{after_all, AreSaid, Spaced, lexemes_of, are_white, spaced_text}
+use Rattle.sbl_text.specs.SpacedTokens.{after_all, AreSaid, SpacedToken, lexemes_of, are_white, spaced_text}
 use Rattle.std.specs.Str.{chars, IsUtf8}
 
 -- a text has at most one list of tokens
@@ -21,7 +21,7 @@ TokensAreOne = (s : Directives) (text : List ℕ) (ls ms : List Lexeme) → AreT
 
 -- a text has at most one list of tokens with positions
 abbrev pub PlacesAreOne : Type 0
-PlacesAreOne = (s : Directives) (text : List ℕ) (ts us : List Placed) → ArePlacedFrom s text ts → ArePlacedFrom s text us → ts ≡ us
+PlacesAreOne = (s : Directives) (text : List ℕ) (ts us : List PlacedToken) → ArePlacedFrom s text ts → ArePlacedFrom s text us → ts ≡ us
 
 -- a text has at most one first fault
 abbrev pub FirstFaultIsOne : Type 0
@@ -47,7 +47,7 @@ SignsDiffer = (s t : Sign) → sign_text s ≡ sign_text t → s ≡ t
 -- lexemes that can be written, each followed by a white space character, are the tokens of that text
 abbrev pub SpacedAreRead : Type 0
 SpacedAreRead =
-    (s : Directives) (ps : List Spaced) → are_white ps ≡ true → AreSaid s (lexemes_of ps) → MayEnd (after_all s (lexemes_of ps)) → AreTokensFrom s (chars (spaced_text ps)) (lexemes_of ps)
+    (s : Directives) (ps : List SpacedToken) → are_white ps ≡ true → AreSaid s (lexemes_of ps) → MayEnd (after_all s (lexemes_of ps)) → AreTokensFrom s (chars (spaced_text ps)) (lexemes_of ps)
 
 -- the tokens of a text can be written
 abbrev pub TokensAreSaid : Type 0

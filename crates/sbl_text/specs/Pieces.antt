@@ -8,8 +8,8 @@ use Rattle.sbl_text.specs.declared.pieces.Shape.{Shape}
 use Rattle.sbl_text.specs.declared.pieces.Shape.TheVariants as shape
 use Rattle.sbl_text.specs.declared.escapes.Inserts.{Inserts}
 use Rattle.sbl_text.specs.Classes.{is_white, is_letter, is_digit, is_word, line_feed, quote, slash, star, begins_with}
-use Rattle.sbl_text.specs.declared.pieces.Wanted.{Wanted}
-use Rattle.sbl_text.specs.declared.pieces.Wanted.TheVariants as wanted
+use Rattle.sbl_text.specs.declared.pieces.Expectation.{Expectation}
+use Rattle.sbl_text.specs.declared.pieces.Expectation.TheVariants as wanted
 use Rattle.sbl_token.specs.Signs.{sign_text}
 use Rattle.sbl_text.specs.Escapes.{opens, closes}
 
@@ -41,7 +41,7 @@ Has e shape.Inserts x = (a : ℕ) × (b : ℕ) × (x ≡ a ∷ b ∷ []) × (a =
 Has e shape.MacroName x = (c : ℕ) × (cs : List ℕ) × (x ≡ c ∷ cs) × (is_white c ≡ false) × (list_all (λ d. not (is_white d)) cs ≡ true)
 
 -- the shapes that may come: after a word that requires insert characters or a macro's name, only those and white space
-abbrev pub may_come : Wanted → Shape → Bool
+abbrev pub may_come : Expectation → Shape → Bool
 may_come wanted.Inserts k = is_one_of (shape.Blank ∷ shape.Inserts ∷ []) k
 may_come wanted.MacroName k = is_one_of (shape.Blank ∷ shape.MacroName ∷ []) k
 may_come wanted.Token k = not (is_one_of (shape.Inserts ∷ shape.MacroName ∷ []) k)
@@ -49,9 +49,9 @@ may_come wanted.Token k = not (is_one_of (shape.Inserts ∷ shape.MacroName ∷ 
 -- the insert characters in force, and what may come
 pub record Setting : Type 0 where
   pub inserts : Option Inserts
-  pub wanted : Wanted
+  pub wanted : Expectation
 
-abbrev pub setting : Option Inserts → Wanted → Setting
+abbrev pub setting : Option Inserts → Expectation → Setting
 setting i w = record { inserts = i; wanted = w }
 
 abbrev pub BeginsComment : List ℕ → Type 0

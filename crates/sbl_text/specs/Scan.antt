@@ -5,8 +5,8 @@ use Rattle.std.specs.Borrow.{Bor}
 use Rattle.std.specs.Str.{chars}
 use Rattle.sbl_text.specs.declared.pieces.Shape.{Shape}
 use Rattle.sbl_text.specs.declared.pieces.Shape.TheVariants as shape
-use Rattle.sbl_text.specs.declared.pieces.Wanted.{Wanted}
-use Rattle.sbl_text.specs.declared.pieces.Wanted.TheVariants as wanted
+use Rattle.sbl_text.specs.declared.pieces.Expectation.{Expectation}
+use Rattle.sbl_text.specs.declared.pieces.Expectation.TheVariants as wanted
 use Rattle.sbl_text.specs.declared.pieces.Start.{Start}
 use Rattle.sbl_text.specs.declared.pieces.Start.TheVariants as start
 use Rattle.sbl_text.specs.declared.escapes.Inserts.{Inserts}
@@ -75,7 +75,7 @@ unfoldable pub name_cut : List ℕ → Cut
 name_cut [] = None
 name_cut (c ∷ cs) = if is_white c then Some (shape.Blank, cs) else Some (shape.MacroName, past (λ d. not (is_white d)) cs)
 
-abbrev pub cut_in : Option Inserts → Wanted → List ℕ → Cut
+abbrev pub cut_in : Option Inserts → Expectation → List ℕ → Cut
 cut_in e wanted.Token text = cut e text
 cut_in e wanted.Inserts text = pair_cut text
 cut_in e wanted.MacroName text = name_cut text

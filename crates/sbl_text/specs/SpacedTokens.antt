@@ -41,17 +41,17 @@ AreSaid s [] = Unit {0}
 AreSaid s (l ∷ ls) = IsSaid s l × AreSaid (after s l) ls
 
 -- a lexeme, and the white space character written after it
-pub record Spaced : Type 0 where
+pub record SpacedToken : Type 0 where
   pub lexeme : Lexeme
   pub space : ℕ
 
-abbrev pub lexemes_of : List Spaced → List Lexeme
+abbrev pub lexemes_of : List SpacedToken → List Lexeme
 lexemes_of ps = map (λ p. p.lexeme) ps
 
-abbrev pub are_white : List Spaced → Bool
+abbrev pub are_white : List SpacedToken → Bool
 are_white ps = list_all (λ p. is_white p.space) ps
 
 -- the text of all of them, as UTF-8 bytes
-abbrev pub spaced_text : List Spaced → List ℕ
+abbrev pub spaced_text : List SpacedToken → List ℕ
 spaced_text [] = []
 spaced_text (p ∷ ps) = lexeme_text p.lexeme ++ (encode_utf8_all (p.space ∷ []) ++ spaced_text ps)

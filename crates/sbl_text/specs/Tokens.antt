@@ -11,8 +11,8 @@ use Rattle.sbl_text.specs.declared.fault.ScriptFault.TheVariants as fault
 use Rattle.sbl_token.specs.declared.token.Token.{Token}
 use Rattle.sbl_token.specs.Signs.{sign_text}
 use Rattle.sbl_token.specs.Words.{word_of}
-use Rattle.sbl_text.specs.declared.pieces.Wanted.{Wanted}
-use Rattle.sbl_text.specs.declared.pieces.Wanted.TheVariants as wanted
+use Rattle.sbl_text.specs.declared.pieces.Expectation.{Expectation}
+use Rattle.sbl_text.specs.declared.pieces.Expectation.TheVariants as wanted
 use Rattle.sbl_text.specs.Pieces.{IsPiece, NoPiece, AfterGaps, is_gap}
 use Rattle.sbl_text.specs.Directives.{Directives, start, setting_of, value_for, after}
 use Rattle.sbl_text.specs.Literals.{byte_length, Means, FirstWrong}
@@ -80,33 +80,33 @@ AreTokens text ls = AreTokensFrom start text ls
 -- ---- positions
 
 -- a lexeme, the bytes of its text, and the byte offsets of its start and end
-pub record Placed : Type 0 where
+pub record PlacedToken : Type 0 where
   pub lexeme : Lexeme
   pub text : List ℕ
   pub start : ℕ
   pub end : ℕ
 
-abbrev pub placed_of : Token → Placed
+abbrev pub placed_of : Token → PlacedToken
 placed_of t = record { lexeme = lexeme_of t; text = t.text.now; start = t.start; end = t.end }
 
 -- the tokens among the pieces, starting at this byte offset
-abbrev pub placed_from : ℕ → List Piece → List Placed
+abbrev pub placed_from : ℕ → List Piece → List PlacedToken
 placed_from place [] = []
 placed_from place (p ∷ ps) =
     cons_option (option_map (λ l. record { lexeme = l; text = encode_utf8_all p.text; start = place; end = place + byte_length p.text }) p.lexeme)
     (placed_from (place + byte_length p.text) ps)
 
 -- the tokens of a text with their positions
-abbrev pub ArePlacedFrom : Directives → List ℕ → List Placed → Type 0
+abbrev pub ArePlacedFrom : Directives → List ℕ → List PlacedToken → Type 0
 ArePlacedFrom s text ts = (ps : List Piece) × (t : Directives) × AreCut s text ps t [] × MayEnd t × (ts ≡ placed_from 0 ps)
 
-abbrev pub ArePlaced : List ℕ → List Placed → Type 0
+abbrev pub ArePlaced : List ℕ → List PlacedToken → Type 0
 ArePlaced text ts = ArePlacedFrom start text ts
 
 -- ---- faults
 
 -- the fault if there is no piece; if two insert characters are expected, it is at a quote, or after the first character
-abbrev pub fault_at : Wanted → List ℕ → ℕ → ScriptFault
+abbrev pub fault_at : Expectation → List ℕ → ℕ → ScriptFault
 fault_at wanted.Inserts [] place = fault.BadCharacter place
 fault_at wanted.Inserts (c ∷ cs) place = if c == quote then fault.BadCharacter place else fault.BadCharacter (place + byte_length (c ∷ []))
 fault_at _ text place =
@@ -213,7 +213,7 @@ after_piece s o = option_map_or (after s) o s
 abbrev pub and_more : Option Lexeme → List Lexeme → List Lexeme
 and_more o ls = cons_option o ls
 
-abbrev pub put_placed : ℕ → List ℕ → Option Lexeme → List Placed → List Placed
+abbrev pub put_placed : ℕ → List ℕ → Option Lexeme → List PlacedToken → List PlacedToken
 put_placed place x o ts =
     cons_option (option_map (λ l. record { lexeme = l; text = encode_utf8_all x; start = place; end = place + byte_length x }) o) ts
 

@@ -9,7 +9,7 @@ ghost use Rattle.sbl_text.specs.Directives as spec;
 use crate::codes::{Characters, MAX_DECIMAL_DIGITS, MAX_HEX_DIGITS, codes};
 use crate::escapes::Escapes;
 use crate::fault::ScriptFault;
-use crate::pieces::Wanted;
+use crate::pieces::Expectation;
 use sbl_token::{Kind, Token, Value, Word};
 use std::alloc::Global;
 use std::marker::Model;
@@ -39,7 +39,7 @@ struct Defining<'a> {
 #[derive(Drop)]
 pub struct Directives<'a> {
     escapes: Escapes,
-    wanted: Wanted,
+    wanted: Expectation,
     defining: Option<Defining<'a>>,
 }
 
@@ -128,7 +128,7 @@ impl<'a> Directives<'a> {
     {
         Directives {
             escapes,
-            wanted: Wanted::Token,
+            wanted: Expectation::Token,
             defining: None,
         }
     }
@@ -141,7 +141,7 @@ impl<'a> Directives<'a> {
     }
 
     /// Returns what may come next.
-    pub fn next_wanted(&self) -> Wanted
+    pub fn next_wanted(&self) -> Expectation
         ensures { result ≡ self.now.wanted }
     {
         self.wanted
@@ -150,7 +150,7 @@ impl<'a> Directives<'a> {
     fn settle(&mut self)
         ensures { self.new ≡ spec.no_directive self.old.escapes }
     {
-        self.wanted = Wanted::Token;
+        self.wanted = Expectation::Token;
         self.defining = None;
     }
 
@@ -160,19 +160,19 @@ impl<'a> Directives<'a> {
     {
         match word {
             Word::StringEscapes => {
-                self.wanted = Wanted::Inserts;
+                self.wanted = Expectation::Inserts;
                 self.defining = None;
             }
             Word::StringDef => {
-                self.wanted = Wanted::MacroName;
+                self.wanted = Expectation::MacroName;
                 self.defining = None;
             }
             Word::Hex => {
-                self.wanted = Wanted::Token;
+                self.wanted = Expectation::Token;
                 self.defining = with_coding(self.defining, Coding::Hex);
             }
             Word::Decimal => {
-                self.wanted = Wanted::Token;
+                self.wanted = Expectation::Token;
                 self.defining = with_coding(self.defining, Coding::Decimal);
             }
             _ => self.settle(),
@@ -189,9 +189,9 @@ impl<'a> Directives<'a> {
 
     /// Updates the state after the name of a macro.
     pub fn after_name(&mut self, name: &'a str)
-        ensures { self.new ≡ record { escapes = self.old.escapes; wanted = Wanted.Token; defining = Some (record { name = chars name.now; coding = Coding.Plain }) } }
+        ensures { self.new ≡ record { escapes = self.old.escapes; wanted = Expectation.Token; defining = Some (record { name = chars name.now; coding = Coding.Plain }) } }
     {
-        self.wanted = Wanted::Token;
+        self.wanted = Expectation::Token;
         self.defining = Some(Defining {
             name,
             coding: Coding::Plain,

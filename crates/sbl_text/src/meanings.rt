@@ -11,7 +11,7 @@ use crate::directives::Directives;
 use crate::fault::ScriptFault;
 use crate::front::{between_quotes, place_of};
 use crate::literals::literal_value;
-use crate::pieces::{Shape, Wanted};
+use crate::pieces::{Expectation, Shape};
 use sbl_token::{Kind, Value, sign_of, split_first, word_of};
 use std::alloc::Global;
 
@@ -156,11 +156,11 @@ fn pair_fault(text: &str, place: usize) -> ScriptFault
 
 /// Returns `Ok` if the text is at its end and no insert characters are expected, otherwise the fault of a text that
 /// does not begin with a piece.
-pub fn end_or_fault(wanted: Wanted, text: &str, place: usize) -> Result<(), ScriptFault>
+pub fn end_or_fault(wanted: Expectation, text: &str, place: usize) -> Result<(), ScriptFault>
     requires { place + length text.now < 2 ^ 64 }
-    ensures { MatchResult result (λ _. (chars text.now ≡ []) × (wanted ≡ Wanted.Inserts → ⊥)) (λ f. (chars text.now ≡ [] → wanted ≡ Wanted.Inserts) × (f ≡ spec.fault_at wanted (chars text.now) place)) }
+    ensures { MatchResult result (λ _. (chars text.now ≡ []) × (wanted ≡ Expectation.Inserts → ⊥)) (λ f. (chars text.now ≡ [] → wanted ≡ Expectation.Inserts) × (f ≡ spec.fault_at wanted (chars text.now) place)) }
 {
-    if wanted == Wanted::Inserts {
+    if wanted == Expectation::Inserts {
         return Err(pair_fault(text, place));
     }
     let Some((c, rest)) = split_first(text) else {

@@ -25,7 +25,7 @@ pub enum Shape {
 
 /// What may come next, apart from white space: an ordinary piece, or what a word before it requires.
 #[derive(Clone, Copy, Debug, PartialEq, Eq)]
-pub enum Wanted {
+pub enum Expectation {
     Token,
     Inserts,
     MacroName,
@@ -167,18 +167,18 @@ fn name_cut(text: &str) -> Option<(Shape, &str)>
     }
 }
 
-fn cut_in(inserts: Option<Inserts>, wanted: Wanted, text: &str) -> Option<(Shape, &str)>
+fn cut_in(inserts: Option<Inserts>, wanted: Expectation, text: &str) -> Option<(Shape, &str)>
     ensures { spec.IsCut text.now (spec.cut_in inserts wanted (chars text.now)) result }
 {
     match wanted {
-        Wanted::Token => cut(inserts, text),
-        Wanted::Inserts => pair_cut(text),
-        Wanted::MacroName => name_cut(text),
+        Expectation::Token => cut(inserts, text),
+        Expectation::Inserts => pair_cut(text),
+        Expectation::MacroName => name_cut(text),
     }
 }
 
 /// Returns the shape of the longest piece at the start of the text and the text after it, or `None` if there is none.
-pub fn piece(inserts: Option<Inserts>, wanted: Wanted, text: &str) -> Option<(Shape, &str)>
+pub fn piece(inserts: Option<Inserts>, wanted: Expectation, text: &str) -> Option<(Shape, &str)>
     ensures value { MatchOption result (pieces.NoPiece (pieces.setting inserts wanted) (chars text.now)) (λ p. spec.Piece_at (pieces.setting inserts wanted) p.0 (chars text.now) (chars p.1.now)) }
     ensures within { IfSome result (λ p. length p.1.now < length text.now) }
 {
@@ -197,7 +197,7 @@ fn is_gap(shape: Shape) -> bool
 /// Skips white space and comments. Returns the text after them, and the token there as its shape and the text after it.
 pub fn past_gaps(
     inserts: Option<Inserts>,
-    wanted: Wanted,
+    wanted: Expectation,
     mut text: &str,
 ) -> (&str, Option<(Shape, &str)>)
     ensures gaps { pieces.AfterGaps (pieces.setting inserts wanted) (chars text.entry.now) (chars result.0.now) }

@@ -2,7 +2,7 @@
 use Rattle.std.specs.Prelude.{ℕ, suc, List, [], ◌∷◌, ◌++◌, map}
 use Rattle.std.specs.BTreeMap.{insert_entry}
 use Rattle.std.specs.List.{flat_map}
-use Rattle.sbl_amongs.specs.Amongs.{Held, amongs_of_body}
+use Rattle.sbl_amongs.specs.Amongs.{AmongContents, amongs_of_body}
 use Rattle.sbl_semantics.specs.TouchedItems.{Item', Routine, Among, Grouping, item_cmp}
 use Rattle.sbl_ast.specs.Source.{Source}
 use Rattle.sbl_ast.specs.Order.{in_order}
@@ -27,8 +27,8 @@ amongs_from k n [] = []
 amongs_from k n (gs ∷ rest) = (Among n k, strings_of gs) ∷ amongs_from (suc k) n rest
 
 -- the groups of amongs
-abbrev pub groups_held : List Held → List Groups
-groups_held hs = map (λ (h : Held). h.2) hs
+abbrev pub groups_held : List AmongContents → List Groups
+groups_held hs = map (λ (h : AmongContents). h.2) hs
 
 -- the parts that a definition adds: a routine and its amongs in the order of their words `among`, or a grouping
 abbrev pub parts_by : Plain → List Part

@@ -8,7 +8,7 @@ ghost use Rattle.sbl_unused.specs.Parts.{groups_held, string_of, strings_of};
 ghost use Rattle.sbl_unused.specs.GatheredGroups.{gathered_command, gathered_groups, gathered_others, gathered_rows};
 ghost use Rattle.sbl_unused.specs.Views.{texts_of, view_amongs};
 
-use sbl_ast::{Among, Command, Entry, Group, Joined, RowOfCommands};
+use sbl_ast::{Among, Command, Entry, Group, NextCommand, RowOfCommands};
 use std::alloc::{AllocError, Global};
 
 /// Appends the amongs of a command. Returns `AllocError` if an allocation fails.
@@ -70,7 +70,7 @@ fn add_row<'a>(row: &'a RowOfCommands, all: &mut Vec<&'a Among>) -> Result<(), A
 }
 
 #[cycle(list)]
-fn add_others<'a>(others: &'a Vec<Joined>, all: &mut Vec<&'a Among>) -> Result<(), AllocError>
+fn add_others<'a>(others: &'a Vec<NextCommand>, all: &mut Vec<&'a Among>) -> Result<(), AllocError>
     ensures { OnOk result (view_amongs all.new.items ≡ gathered_others (view_others others.now.items) (view_amongs all.old.items)) }
 {
     for joined in others {

@@ -2,7 +2,7 @@
 
 use crate::messages::{FAILED, NO_KEYS, REFUSED, fail_memory, print_line};
 use crate::talk::{Lead, Talk};
-use crate::watching::{Context, Quiet, Watched, file_text};
+use crate::watching::{Context, Quiet, WatchedReader, file_text};
 use sbl_diagnostics::fault_of;
 use sbl_work::{Paths, work};
 use snowbench::{CommandLine, Device, Face, Lines, Sink, Source};
@@ -102,7 +102,7 @@ fn work_in_text(
         script: Some(paths.script.as_str()),
         prompts,
     };
-    let reader = Device::new(Watched::new(rt, context, rt.stdin(), talk)?);
+    let reader = Device::new(WatchedReader::new(rt, context, rt.stdin(), talk)?);
     let mut writer = Device::new(Quiet::new(rt.stdout(), talk));
     let mut errors = Device::new(Vec::new(rt.alloc()));
     let status = work_over(rt, keys, paths, prompts, reader, &mut writer, &mut errors)?;

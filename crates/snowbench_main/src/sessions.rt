@@ -5,9 +5,9 @@ use crate::faults::{hint, run_fault_text};
 use crate::file_names::{FileNames, STANDARD_INPUT, file_name};
 use crate::messages::{FAILED, NO_KEYS, REFUSED, count_and_word, fail_memory, print_line};
 use crate::run_result::RunResult;
-use crate::streams::{Front, Kept, Output};
+use crate::streams::{FirstBytes, Front, Output};
 use crate::talk::{Lead, Talk};
-use crate::watching::{Context, Quiet, Watched};
+use crate::watching::{Context, Quiet, WatchedReader};
 use snowbench::{CommandLine, Device, Lines, Source, Verb, run};
 use std::alloc::{AllocError, Global};
 use std::cell::RefCell;
@@ -56,7 +56,7 @@ fn run_watched<'x, R: Read + Drop>(
         script: None,
         prompts: false,
     };
-    let reader = Watched::new(rt, context, reader, talk)?;
+    let reader = WatchedReader::new(rt, context, reader, talk)?;
     let mut lines = Lines::new(rt.alloc(), Device::new(reader))?;
     let said = Vec::with_capacity(rt.alloc(), MAX_FAULT_LINE)?;
     let mut writer = Device::new(Quiet::new(Output::new(rt.stdout()), talk));
@@ -114,7 +114,7 @@ fn print_fault(
 
 /// Runs what the command line asks for over standard input, and returns the exit status.
 pub(crate) fn run_input(rt: &HostRuntime, command_line: &CommandLine) -> u8 {
-    let kept = RefCell::new(Kept::new(rt.alloc(), command_line.shows_places));
+    let kept = RefCell::new(FirstBytes::new(rt.alloc(), command_line.shows_places));
     let talk = RefCell::new(Talk::new(rt.alloc(), Lead::Session));
     let Ok(ended) = run_front(rt, command_line, &kept, &talk) else {
         return fail_memory(rt);
@@ -134,7 +134,7 @@ pub(crate) fn run_input(rt: &HostRuntime, command_line: &CommandLine) -> u8 {
 fn run_front(
     rt: &HostRuntime,
     command_line: &CommandLine,
-    kept: &RefCell<Kept>,
+    kept: &RefCell<FirstBytes>,
     talk: &RefCell<Talk>,
 ) -> Result<RunResult, AllocError> {
     let front = Front::new(rt.stdin(), kept);

@@ -10,15 +10,15 @@ const MOST_KEPT: usize = 2_097_152;
 
 /// The first bytes that were read, and whether they are all.
 #[derive(Drop)]
-pub(crate) struct Kept {
+pub(crate) struct FirstBytes {
     bytes: Vec<u8>,
     is_whole: bool,
 }
 
-impl Kept {
+impl FirstBytes {
     /// Returns no bytes. More are kept only if they are wanted.
-    pub(crate) fn new(alloc: Global, is_wanted: bool) -> Kept {
-        Kept {
+    pub(crate) fn new(alloc: Global, is_wanted: bool) -> FirstBytes {
+        FirstBytes {
             bytes: Vec::new(alloc),
             is_whole: is_wanted,
         }
@@ -50,12 +50,12 @@ impl Kept {
 #[derive(Drop)]
 pub(crate) struct Front<'a, R> {
     inner: R,
-    kept: &'a RefCell<Kept>,
+    kept: &'a RefCell<FirstBytes>,
 }
 
 impl<'a, R> Front<'a, R> {
     /// Returns the reader before its first read.
-    pub(crate) fn new(inner: R, kept: &'a RefCell<Kept>) -> Front<'a, R> {
+    pub(crate) fn new(inner: R, kept: &'a RefCell<FirstBytes>) -> Front<'a, R> {
         Front { inner, kept }
     }
 }
@@ -104,13 +104,13 @@ fn part_after(part: LinePart, byte: u8) -> LinePart {
 
 /// What lines were.
 #[derive(Drop)]
-struct Seen {
+struct LineCounts {
     part: LinePart,
     lines: u64,
     has_refusal: bool,
 }
 
-impl Seen {
+impl LineCounts {
     /// Notes more bytes of the lines.
     fn note(&mut self, bytes: &[u8]) {
         let is_outside = self.part == LinePart::Nothing || self.part == LinePart::Other;
@@ -177,14 +177,14 @@ fn short_feed_count(bytes: &[u8]) -> u8 {
 #[derive(Drop)]
 pub(crate) struct Output<W> {
     inner: W,
-    seen: Seen,
+    seen: LineCounts,
     is_closed: bool,
 }
 
 impl<W> Output<W> {
     /// Returns the writer before its first write.
     pub(crate) fn new(inner: W) -> Output<W> {
-        let seen = Seen {
+        let seen = LineCounts {
             part: LinePart::Nothing,
             lines: 0,
             has_refusal: false,

@@ -30,7 +30,7 @@ pub(crate) struct Context<'a> {
 
 /// A reader that reads a line at most at a time, and shows places.
 #[derive(Drop)]
-pub(crate) struct Watched<'a, R> {
+pub(crate) struct WatchedReader<'a, R> {
     rt: &'a HostRuntime,
     context: Context<'a>,
     inner: R,
@@ -128,16 +128,16 @@ fn show(rt: &HostRuntime, context: Context<'_>, talk: &Talk) {
     }
 }
 
-impl<'a, R: Drop> Watched<'a, R> {
+impl<'a, R: Drop> WatchedReader<'a, R> {
     /// Returns the reader before its first read. Returns `AllocError` if an allocation fails.
     pub(crate) fn new(
         rt: &'a HostRuntime,
         context: Context<'a>,
         inner: R,
         talk: &'a RefCell<Talk>,
-    ) -> Result<Watched<'a, R>, AllocError> {
+    ) -> Result<WatchedReader<'a, R>, AllocError> {
         let chunk = vec![in rt.alloc(); 0u8; CHUNK]?;
-        Ok(Watched {
+        Ok(WatchedReader {
             rt,
             context,
             inner,
@@ -189,7 +189,7 @@ impl<'a, R: Drop> Watched<'a, R> {
     }
 }
 
-impl<R: Read + Drop> Read for Watched<'_, R> {
+impl<R: Read + Drop> Read for WatchedReader<'_, R> {
     fn read(&mut self, buf: &mut [u8]) -> io::Result<usize> {
         if self.asks(buf.len()) {
             return give(QUESTION, buf);

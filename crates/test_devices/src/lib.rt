@@ -91,14 +91,14 @@ pub fn in_pieces<D>(inner: D, piece: usize, fails_at: u64, interruptions: u64) -
 
 /// What was written, and how it ended.
 #[derive(Debug, Drop)]
-pub struct Written<E> {
+pub struct WriteLog<E> {
     /// The bytes that were written.
     pub text: Vec<u8>,
     /// How it ended.
     pub ending: E,
 }
 
-impl<E: PartialEq> Written<E> {
+impl<E: PartialEq> WriteLog<E> {
     /// Returns whether this text was written and it ended so.
     pub fn is(&self, text: &[u8], ending: &E) -> bool {
         self.text.as_slice() == text && self.ending == *ending

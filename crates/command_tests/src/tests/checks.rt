@@ -5,7 +5,7 @@ use sbl_io::{Device, ServeFault};
 use sbl_script::Script;
 use std::alloc::Global;
 use std::test::Fail;
-use test_devices::{Pieces, Written, in_pieces};
+use test_devices::{Pieces, WriteLog, in_pieces};
 
 const PREFIXES: &[u8] =
     b"externals ( stem )\ndefine stem as ( [ among ( 'un' () 're' () ) ] delete )\n";
@@ -29,11 +29,11 @@ fn check_of(
     mut writer: Device<Pieces<Vec<u8>>>,
     words: &[u8],
     expected: &[u8],
-) -> Result<Written<Ending>, Fail> {
+) -> Result<WriteLog<Ending>, Fail> {
     let script = Script::parse(alloc, PREFIXES, "stem")?;
     let ending = check(alloc, &script, words, expected, &mut writer);
     script.discard();
-    Ok(Written {
+    Ok(WriteLog {
         text: writer.into_inner().inner,
         ending,
     })

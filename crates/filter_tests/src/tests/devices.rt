@@ -5,10 +5,10 @@ use sbl_io::{Device, Lines, ServeFault};
 use sbl_sessions::LoadFault;
 use std::alloc::{AllocError, Global};
 use std::test::Fail;
-use test_devices::{Written, in_pieces, outputs_within};
+use test_devices::{WriteLog, in_pieces, outputs_within};
 
 /// What a filter wrote, and how it ended.
-type Ended = Written<Result<(), LoadFault>>;
+type Ended = WriteLog<Result<(), LoadFault>>;
 
 const SCRIPT: &[u8] =
     b"externals ( stem )\ndefine stem as ( [ among ( 'un' () 're' () ) ] delete )\n.\n";
@@ -32,7 +32,7 @@ fn filtered(alloc: Global, read: u64, write: u64, interruptions: u64) -> Result<
     let reader = Device::new(in_pieces(input.as_slice(), 1, read, interruptions));
     let mut lines = Lines::new(alloc, reader)?;
     let ending = filter(&mut lines, "stem", &mut writer);
-    Ok(Written {
+    Ok(WriteLog {
         text: writer.into_inner().inner,
         ending,
     })

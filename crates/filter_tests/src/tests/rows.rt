@@ -7,7 +7,7 @@ use sbl_script::ScriptFault;
 use sbl_sessions::LoadFault;
 use std::alloc::Global;
 use std::test::Fail;
-use test_devices::{Written, in_pieces};
+use test_devices::{WriteLog, in_pieces};
 
 const UN: &[u8] =
     b"externals ( stem )\ndefine stem as ( [ among ( 'un' () 're' () ) ] delete )\n.\n";
@@ -17,7 +17,7 @@ const LOOP: &[u8] = b"externals ( stem ) define stem as ( 'a' repeat true )\n.\n
 /// What a filter wrote, how it ended, and the line after what it has read.
 #[derive(Debug, Drop)]
 struct FilterEnd {
-    written: Written<Result<(), LoadFault>>,
+    written: WriteLog<Result<(), LoadFault>>,
     next: Vec<u8>,
 }
 
@@ -34,7 +34,7 @@ fn filtered(alloc: Global, script: &[u8], rest: &[u8]) -> Result<FilterEnd, Fail
     }
     let text = writer.into_inner().inner;
     Ok(FilterEnd {
-        written: Written { text, ending },
+        written: WriteLog { text, ending },
         next,
     })
 }
@@ -163,7 +163,7 @@ fn a_word_and_a_line_have_a_longest_length(rt: HostRuntime) -> Result<(), Fail> 
         words.extend_from_slice(vec![in rt.alloc(); b'a'; length]?.as_slice())?;
         words.extend_from_slice(rest)?;
         let ended = filtered(rt.alloc(), UN, words.as_slice())?;
-        let Written { text, ending: end } = &ended.written;
+        let WriteLog { text, ending: end } = &ended.written;
         assert!(rt; *end == ending, "{length}: {end:?}");
         assert!(rt; text.starts_with(b"undo,stem,do\n"), "{length}");
         assert!(rt; text.len() == written, "{length}");

@@ -4,7 +4,7 @@ use snowbench::{CommandLine, Device, Lines, Verb, run};
 use std::alloc::Global;
 use std::hash::RandomState;
 use std::test::Fail;
-use test_devices::{Pieces, SameBytes, Written, in_pieces};
+use test_devices::{Pieces, SameBytes, WriteLog, in_pieces};
 
 /// Returns a writer in memory that takes four bytes at each write and fails at write `fails_at` (0 for never).
 fn writer(alloc: Global, fails_at: u64) -> Device<Pieces<Vec<u8>>> {
@@ -13,8 +13,8 @@ fn writer(alloc: Global, fails_at: u64) -> Device<Pieces<Vec<u8>>> {
 
 /// What a run of the program wrote, its status, and what it wrote to the writer of faults.
 #[derive(Debug, Drop)]
-struct Ran {
-    written: Written<u8>,
+struct RunReport {
+    written: WriteLog<u8>,
     errors: Vec<u8>,
 }
 
@@ -26,7 +26,7 @@ fn run_of(
     script: &[u8],
     rest: &[u8],
     fails_at: u64,
-) -> Result<Ran, Fail> {
+) -> Result<RunReport, Fail> {
     let mut input = Vec::from_slice(alloc, script)?;
     input.extend_from_slice(rest)?;
     let keys = RandomState::new(&SameBytes)?;
@@ -46,8 +46,8 @@ fn run_of(
     };
     let ending = run(&command_line, keys, &mut lines, &mut text, &mut errors);
     let text = text.into_inner().inner;
-    Ok(Ran {
-        written: Written { text, ending },
+    Ok(RunReport {
+        written: WriteLog { text, ending },
         errors: errors.into_inner().inner,
     })
 }

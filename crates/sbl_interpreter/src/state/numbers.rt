@@ -4,7 +4,7 @@ ghost use Rattle.std.specs.Prelude.{◌≡◌, ◌<◌, ℤ, pos, length, map, O
 ghost use Rattle.std.specs.Int.{w32};
 ghost use Rattle.sbl_interpreter.specs.Arithmetic.{value, changed_value, holds, assign, compare};
 ghost use Rattle.sbl_semantics.specs.Numbers.{with_both, value_in_range, rounded_quotient, limit_value, integer_at, natural};
-ghost use Rattle.sbl_program.specs.ProgramOf.{view_added, view_number, view_scaled};
+ghost use Rattle.sbl_program.specs.ProgramOf.{view_next_product, view_number, view_next_factor};
 ghost use Rattle.sbl_interpreter.specs.Rows.{product_of, scales_to, sum_of, sums_to};
 ghost use Rattle.sbl_semantics.specs.Control.{count_of};
 ghost use Rattle.sbl_interpreter.specs.Endings.{Leads, Follows};
@@ -63,7 +63,7 @@ impl State {
     // Adds and subtracts the other terms of a sum.
     #[cycle(value)]
     fn sum(&self, mode: Mode, start: i32, others: &[Addend]) -> Result<i32, RunFault>
-        ensures { result ≡ sums_to (map view_added others.now) (Ok start) mode self.now }
+        ensures { result ≡ sums_to (map view_next_product others.now) (Ok start) mode self.now }
     {
         let mut total = start;
         for other in others {
@@ -75,7 +75,7 @@ impl State {
     // Adds or subtracts one term.
     #[cycle(value)]
     fn sum_with(&self, mode: Mode, total: i32, other: &Addend) -> Result<i32, RunFault>
-        ensures { result ≡ with_both (Ok total) (value (view_added other.now).1 mode self.now) (sum_of (view_added other.now).0) }
+        ensures { result ≡ with_both (Ok total) (value (view_next_product other.now).1 mode self.now) (sum_of (view_next_product other.now).0) }
     {
         let number = self.value(mode, &other.number)?;
         sum_of(other.operator, total, number)
@@ -84,7 +84,7 @@ impl State {
     // Multiplies and divides by the other factors of a product.
     #[cycle(value)]
     fn product(&self, mode: Mode, start: i32, others: &[Multiplicand]) -> Result<i32, RunFault>
-        ensures { result ≡ scales_to (map view_scaled others.now) (Ok start) mode self.now }
+        ensures { result ≡ scales_to (map view_next_factor others.now) (Ok start) mode self.now }
     {
         let mut total = start;
         for other in others {
@@ -96,7 +96,7 @@ impl State {
     // Multiplies or divides by one factor.
     #[cycle(value)]
     fn product_with(&self, mode: Mode, total: i32, other: &Multiplicand) -> Result<i32, RunFault>
-        ensures { result ≡ with_both (Ok total) (value (view_scaled other.now).1 mode self.now) (product_of (view_scaled other.now).0) }
+        ensures { result ≡ with_both (Ok total) (value (view_next_factor other.now).1 mode self.now) (product_of (view_next_factor other.now).0) }
     {
         let number = self.value(mode, &other.number)?;
         product_of(other.operator, total, number)

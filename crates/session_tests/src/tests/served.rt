@@ -5,14 +5,14 @@ use sbl_sessions::{LoadFault, load, serve};
 use std::alloc::Global;
 use std::hash::RandomState;
 use std::test::Fail;
-use test_devices::{Pieces, SameBytes, Written};
+use test_devices::{Pieces, SameBytes, WriteLog};
 
 /// A script that deletes a first `un` or `re`.
 pub(crate) const UN: &[u8] =
     b"externals ( stem )\ndefine stem as ( [ among ( 'un' () 're' () ) ] delete )\n.\n";
 
 /// What a session wrote, and how it ended.
-pub(crate) type Ended = Written<Result<(), LoadFault>>;
+pub(crate) type Ended = WriteLog<Result<(), LoadFault>>;
 
 /// Runs the session of these lines.
 pub(crate) fn served(
@@ -28,7 +28,7 @@ pub(crate) fn served(
         }
         Err(fault) => Err(fault),
     };
-    Ok(Written {
+    Ok(WriteLog {
         text: writer.into_inner().inner,
         ending,
     })

@@ -1,5 +1,5 @@
 use Rattle.std.proofs.Common.{◌≡◌, ◌++◌, drop, map}
-use Rattle.sbl_ast.specs.View.{view_row, view_group, view_joined}
+use Rattle.sbl_ast.specs.View.{view_row, view_group, view_next_command}
 use Rattle.sbl_ast.proofs.copies.+copies.Given as goal
 
 abbrev pub invariant-copy_rows-loop-row : goal.invariant-copy_rows-loop-row
@@ -9,4 +9,4 @@ abbrev pub invariant-copy_groups-loop-group : goal.invariant-copy_groups-loop-gr
 invariant-copy_groups-loop-group l = map view_group l.copies.items ++ map view_group (drop l.group-index l.groups.items) ≡ map view_group l.groups.items
 
 abbrev pub invariant-copy_others-loop-other : goal.invariant-copy_others-loop-other
-invariant-copy_others-loop-other l = map view_joined l.copies.items ++ map view_joined (drop l.other-index l.others.items) ≡ map view_joined l.others.items
+invariant-copy_others-loop-other l = map view_next_command l.copies.items ++ map view_next_command (drop l.other-index l.others.items) ≡ map view_next_command l.others.items

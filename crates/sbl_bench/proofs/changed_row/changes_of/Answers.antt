@@ -1,6 +1,6 @@
 use Rattle.std.proofs.Common.{◌∙◌, ◌++◌, List, ℕ, Option, map, ap}
 use Rattle.std.specs.Option.{option_to_list}
-use Rattle.sbl_machine.specs.declared.outcome.Traced.{Traced}
+use Rattle.sbl_machine.specs.declared.outcome.RunTrace.{RunTrace}
 use Rattle.sbl_bench.specs.ChangedRows.{view_changed_row}
 use Rattle.sbl_bench.specs.Last.{changed_since}
 use Rattle.sbl_bench.specs.Pairs.{find}
@@ -14,5 +14,5 @@ loop-change-preserved c =
     let old = map view_changed_row c.loop-change.changes.items in
     last_step es c.args.last.now c.loop-change.change-index change change old (map view_changed_row c.push_changed.new.changes.items)
     _ c.loop-change-test.true c.change-item.is
-    (c.in_ok-push_changed.ensures ∙ ap (λ (o : Option Traced). old ++ option_to_list (changed_since change o)) (c.get.ensures.value ∙ ap (λ (w : List ℕ). find w es) c.as_slice.ensures.value))
+    (c.in_ok-push_changed.ensures ∙ ap (λ (o : Option RunTrace). old ++ option_to_list (changed_since change o)) (c.get.ensures.value ∙ ap (λ (w : List ℕ). find w es) c.as_slice.ensures.value))
     c.loop-change.invariant

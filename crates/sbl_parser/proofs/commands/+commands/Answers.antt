@@ -3,7 +3,7 @@ use Rattle.std.proofs.lemmas.List.{map_push}
 use Rattle.std.proofs.lemmas.Result.{err_from_is_err_and}
 use Rattle.sbl_ast.specs.declared.tree.Entry.{Entry}
 use Rattle.sbl_ast.specs.declared.tree.Group.{Group}
-use Rattle.sbl_ast.specs.declared.tree.Joined.{Joined}
+use Rattle.sbl_ast.specs.declared.tree.NextCommand.{NextCommand}
 use Rattle.sbl_ast.specs.declared.tree.RowOfCommands.{RowOfCommands as Row}
 use Rattle.sbl_ast.specs.Terminal.{Terminal}
 use Rattle.sbl_ast.specs.Terminal as t
@@ -56,10 +56,10 @@ pub row-loop-joiner-preserved : goal.row-loop-joiner-preserved
 row-loop-joiner-preserved t_ c =
     let first : ahead c.loop-joiner.cursor ≡ t.joiner c.in-Joiner.joiner ∷ ahead c.skip.new.self = d.headed (ahead c.loop-joiner.cursor) (ahead c.skip.new.self) (t.joiner c.in-Joiner.joiner) (of_role.as_terminal (ahead c.loop-joiner.cursor) (t.joiner c.in-Joiner.joiner) refl (sym c.role.ensures ∙ c.in-Joiner.is)) c.skip.ensures in
     let last : view.JoinedView = (c.in-Joiner.joiner, view.view_command c.in_ok-command.field-0) in
-    let more : map view.view_joined c.push.new.self.items ≡ map view.view_joined c.loop-joiner.others.items ++ last ∷ [] = ap (λ (xs : List Joined). map view.view_joined xs) c.in_ok-push.ensures.items ∙ map_push view.view_joined c.loop-joiner.others.items _ ∙ ap (λ (x : view.JoinedView). map view.view_joined c.loop-joiner.others.items ++ x ∷ []) (views.view_of_joined (record { joiner = c.in-Joiner.joiner; command = c.in_ok-command.field-0 })) in
+    let more : map view.view_next_command c.push.new.self.items ≡ map view.view_next_command c.loop-joiner.others.items ++ last ∷ [] = ap (λ (xs : List NextCommand). map view.view_next_command xs) c.in_ok-push.ensures.items ∙ map_push view.view_next_command c.loop-joiner.others.items _ ∙ ap (λ (x : view.JoinedView). map view.view_next_command c.loop-joiner.others.items ++ x ∷ []) (views.view_of_joined (record { joiner = c.in-Joiner.joiner; command = c.in_ok-command.field-0 })) in
     record {
       shallow = c.loop-joiner.invariant.shallow;
-      spelled = turns.next_joined (trees.spelled_command (view.view_command _)) (map view.view_joined c.loop-joiner.others.items) (map view.view_joined c.push.new.self.items) last _ (ahead c.loop-joiner.cursor) (ahead c.command-in-Joiner.new.cursor) c.loop-joiner.invariant.spelled (first ∙ ap (λ (r : List Terminal). t.joiner c.in-Joiner.joiner ∷ r) c.in_ok-command.ensures.gives.0) more;
+      spelled = turns.next_joined (trees.spelled_command (view.view_command _)) (map view.view_next_command c.loop-joiner.others.items) (map view.view_next_command c.push.new.self.items) last _ (ahead c.loop-joiner.cursor) (ahead c.command-in-Joiner.new.cursor) c.loop-joiner.invariant.spelled (first ∙ ap (λ (r : List Terminal). t.joiner c.in-Joiner.joiner ∷ r) c.in_ok-command.ensures.gives.0) more;
       faults = λ k. c.loop-joiner.invariant.faults k ∙ d.goes_on (ahead c.loop-joiner.cursor) (t.joiner c.in-Joiner.joiner) (ahead c.skip.new.self) (s.others c.args.depth ∷ k) (s.command c.args.depth ∷ s.others c.args.depth ∷ k) c.args.depth first refl c.loop-joiner.invariant.shallow ∙ c.in_ok-command.ensures.gives.1 (s.others c.args.depth ∷ k);
     }
 

@@ -1,7 +1,7 @@
 use Rattle.std.proofs.Common.{List, ℕ, decimal, refl, subst, sym}
 use Rattle.std.specs.Str.{chars}
 use Rattle.sbl_bench.specs.Edits as edits
-use Rattle.sbl_bench.specs.KeptRuns.{Kept, contents_of}
+use Rattle.sbl_bench.specs.KeptRuns.{KeptRuns, contents_of}
 use Rattle.sbl_print.specs.Canonical.{canonical}
 use Rattle.sbl_sessions.specs.Answers.{with_line_feed}
 use Rattle.sbl_sessions.specs.CommandViews.{IsAnswer, IsEditAnswer}
@@ -48,7 +48,7 @@ returns-in-Classes c =
     let s = contents_of c.keep_classes.new.bench in
     let r = c.report-in-Classes.result in
     let a : IsAnswer s Classes r s = report_answer c.classes_text.result r s (classes_text s) c.classes_text.ensures c.report-in-Classes.ensures.made c.report-in-Classes.ensures.refused in
-    subst (λ (x : Command). IsAnswer (contents_of c.args.bench.now) x r s) c.in-Classes.ensures (subst (λ (k : Kept). IsAnswer (contents_of k) Classes r s) c.keep_classes.ensures a)
+    subst (λ (x : Command). IsAnswer (contents_of c.args.bench.now) x r s) c.in-Classes.ensures (subst (λ (k : KeptRuns). IsAnswer (contents_of k) Classes r s) c.keep_classes.ensures a)
 
 pub returns-in-Script : goal.returns-in-Script
 returns-in-Script c =
@@ -61,7 +61,7 @@ returns-in-Class c =
     let s = contents_of c.keep_classes-in-Class.new.bench in
     let r = c.class_reply.result in
     subst (λ (x : Command). IsAnswer (contents_of c.args.bench.now) x r s) c.in-Class.ensures
-    (subst (λ (k : Kept). IsAnswer (contents_of k) (Class (chars c.in-Class.word.now)) r s) c.keep_classes-in-Class.ensures c.class_reply.ensures)
+    (subst (λ (k : KeptRuns). IsAnswer (contents_of k) (Class (chars c.in-Class.word.now)) r s) c.keep_classes-in-Class.ensures c.class_reply.ensures)
 
 pub returns-in-Trace : goal.returns-in-Trace
 returns-in-Trace c =

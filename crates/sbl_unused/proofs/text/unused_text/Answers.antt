@@ -3,7 +3,7 @@ use Rattle.std.specs.Borrow.{Bor}
 use Rattle.std.specs.List.{flat_map}
 use Rattle.sbl_bench.specs.KeptRuns.{setting_of}
 use Rattle.sbl_io.specs.Records.{records_text}
-use Rattle.sbl_script.specs.ParsedScript.{Parsed, source_of}
+use Rattle.sbl_script.specs.ParsedScript.{ParsedScript, source_of}
 use Rattle.sbl_unused.specs.Parts.{Part, parts_of}
 use Rattle.sbl_unused.specs.Unused.{entry_rows, item_rows, unused_text}
 use Rattle.sbl_unused.specs.Views.{HasMet, HasTaken, texts_of, view_parts}
@@ -19,7 +19,7 @@ returns c =
     let also : texts_of c.deref-2.result.now ≡ words = ap (λ (l : List (Bor (List ℕ))). texts_of l) c.deref-2.ensures.value ∙ c.in_ok-words.ensures in
     let met : HasMet s words c.in_ok-met.met = c.in_ok-met.ensures are in
     let taken : HasTaken s words c.in_ok-taken.taken = subst (λ (ws : List (List ℕ)). HasTaken s ws c.in_ok-taken.taken) also c.in_ok-taken.ensures in
-    let parts : view_parts c.in_ok-parts.parts.entries ≡ parts_of s.script = c.in_ok-parts.ensures ∙ ap (λ (p : Parsed). parts_of (source_of p)) c.script.ensures in
+    let parts : view_parts c.in_ok-parts.parts.entries ≡ parts_of s.script = c.in_ok-parts.ensures ∙ ap (λ (p : ParsedScript). parts_of (source_of p)) c.script.ensures in
     let items = λ (ps : List Part). flat_map (λ (p : Part). item_rows s words p.0) ps in
     let entries = λ (ps : List Part). flat_map (entry_rows s words) ps in
     c.in_ok-push_entries.ensures s words met taken

@@ -2,7 +2,7 @@ use Rattle.std.proofs.Common.{◌≡◌, ◌-◌, List, drop, map}
 use Rattle.sbl_ast.specs.Counts.{count_in_rows, count_in_others, count_in_groups}
 use Rattle.sbl_amongs.specs.Amongs.{put_in_rows, put_in_others, put_in_groups}
 use Rattle.sbl_ast.specs.Tree as trees
-use Rattle.sbl_ast.specs.View.{view_among, view_row, view_joined, view_group, view_rows, view_others, view_groups}
+use Rattle.sbl_ast.specs.View.{view_among, view_row, view_next_command, view_group, view_rows, view_others, view_groups}
 use Rattle.sbl_amongs.proofs.Putting.{then_rows, then_others, then_groups}
 use Rattle.sbl_amongs.proofs.replacing.Replacement.+put_among.Given as goal
 
@@ -14,7 +14,7 @@ invariant-put_in_rows-loop-row l = record {
 
 abbrev pub invariant-put_behind-loop-joined : goal.invariant-put_behind-loop-joined
 invariant-put_behind-loop-joined l = record {
-  put : then_others (map view_joined l.copies.items) (put_in_others (view_others (drop l.joined-index l.others.items)) l.rest (view_among l.self.among.now)) ≡ put_in_others (view_others l.others.items) l.at (view_among l.self.among.now);
+  put : then_others (map view_next_command l.copies.items) (put_in_others (view_others (drop l.joined-index l.others.items)) l.rest (view_among l.self.among.now)) ≡ put_in_others (view_others l.others.items) l.at (view_among l.self.among.now);
   rest : l.rest - count_in_others (view_others (drop l.joined-index l.others.items)) ≡ l.at - count_in_others (view_others l.others.items);
 }
 

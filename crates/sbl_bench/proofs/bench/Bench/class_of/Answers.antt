@@ -4,7 +4,7 @@ use Rattle.sbl_bench.specs.Setting.{under}
 use Rattle.sbl_semantics.specs.declared.outcome.Outcome.{Outcome}
 use Rattle.sbl_semantics.specs.Outcome.{outcome_of}
 use Rattle.sbl_bench.specs.Classes.{class_of, class_with, in_order, stem_of, words_with}
-use Rattle.sbl_bench.specs.KeptRuns.{setting_of, Kept, words_in}
+use Rattle.sbl_bench.specs.KeptRuns.{setting_of, KeptRuns, words_in}
 use Rattle.sbl_bench.specs.Rows.{rows_of}
 use Rattle.sbl_bench.proofs.ClassFacts.{class_found}
 use Rattle.sbl_bench.proofs.bench.Bench.class_of.Goals as goal
@@ -20,17 +20,17 @@ returns-in_ok-stem-in-Stem c =
     }))
     ∙ ap (λ (o : Outcome). option_map (class_with rows) (stem_of (outcome_of o))) (sym c.in-Stem.is ∙ c.outcome.ensures)
     ∙ class_found (under (source_of b.script) b.limit) b.traces.entries c.args.word.now c.self.invariant.1.fresh (Some c.in-Some.last.now) c.in-Some.ensures.value
-    ∙ ap (λ (k : Kept). class_of (rows_of (setting_of k) k.words) c.args.word.now) c.self.view_is
+    ∙ ap (λ (k : KeptRuns). class_of (rows_of (setting_of k) k.words) c.args.word.now) c.self.view_is
 
 pub returns-in-Refused : goal.returns-in-Refused
 returns-in-Refused c =
     let b = c.self.inside in
     ap (λ (o : Outcome). option_map (class_with (rows_of (under (source_of b.script) b.limit) (words_in b.traces.entries))) (stem_of (outcome_of o))) (sym c.in-Refused.is ∙ c.outcome.ensures)
     ∙ class_found (under (source_of b.script) b.limit) b.traces.entries c.args.word.now c.self.invariant.1.fresh (Some c.in-Some.last.now) c.in-Some.ensures.value
-    ∙ ap (λ (k : Kept). class_of (rows_of (setting_of k) k.words) c.args.word.now) c.self.view_is
+    ∙ ap (λ (k : KeptRuns). class_of (rows_of (setting_of k) k.words) c.args.word.now) c.self.view_is
 
 pub returns-in_default : goal.returns-in_default
 returns-in_default c =
     let b = c.self.inside in
     class_found (under (source_of b.script) b.limit) b.traces.entries c.args.word.now c.self.invariant.1.fresh None c.in_default.ensures.value
-    ∙ ap (λ (k : Kept). class_of (rows_of (setting_of k) k.words) c.args.word.now) c.self.view_is
+    ∙ ap (λ (k : KeptRuns). class_of (rows_of (setting_of k) k.words) c.args.word.now) c.self.view_is

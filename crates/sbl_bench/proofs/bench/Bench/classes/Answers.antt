@@ -3,7 +3,7 @@ use Rattle.sbl_script.specs.ParsedScript.{source_of}
 use Rattle.sbl_bench.specs.Setting.{under}
 use Rattle.sbl_bench.specs.Classes.{classes_of}
 use Rattle.sbl_bench.specs.Grouping.{put_pairs}
-use Rattle.sbl_bench.specs.KeptRuns.{setting_of, Kept, words_in}
+use Rattle.sbl_bench.specs.KeptRuns.{setting_of, KeptRuns, words_in}
 use Rattle.sbl_bench.specs.Pairs.{IsIndexed}
 use Rattle.sbl_bench.specs.Rows.{rows_of}
 use Rattle.sbl_bench.proofs.ClassFacts.{kept_sorted}
@@ -21,7 +21,7 @@ returns-in-Some c =
     is
     ∙ ap (put_pairs []) (kept_sorted s b.traces.entries set c.self.invariant.1.fresh c.words_are_unique.ensures (subst (IsIndexed b.traces.entries) c.in-Some.is c.self.invariant.2) c.classes_among.ensures.ordered (own_keys set))
     ∙ grouped_rows (rows_of s (words_in b.traces.entries))
-    ∙ ap (λ (k : Kept). classes_of (rows_of (setting_of k) k.words)) c.self.view_is)
+    ∙ ap (λ (k : KeptRuns). classes_of (rows_of (setting_of k) k.words)) c.self.view_is)
     c.classes_among.ensures.classes
 
 pub returns-in_ok-pairs-in-None : goal.returns-in_ok-pairs-in-None
@@ -34,5 +34,5 @@ returns-in_ok-pairs-in-None c =
     is
     ∙ ap (put_pairs []) (kept_sorted s b.traces.entries set c.self.invariant.1.fresh c.words_are_unique.ensures c.in_ok-pairs-in-None.ensures c.classes_among-in-None.ensures.ordered (own_keys set))
     ∙ grouped_rows (rows_of s (words_in b.traces.entries))
-    ∙ ap (λ (k : Kept). classes_of (rows_of (setting_of k) k.words)) c.self.view_is)
+    ∙ ap (λ (k : KeptRuns). classes_of (rows_of (setting_of k) k.words)) c.self.view_is)
     c.classes_among-in-None.ensures.classes

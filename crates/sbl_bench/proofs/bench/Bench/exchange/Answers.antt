@@ -3,7 +3,7 @@ use Rattle.std.proofs.lemmas.Result.{err_from_is_err_and}
 use Rattle.sbl_script.specs.ParsedScript.{source_of}
 use Rattle.sbl_bench.specs.Changes.{Brings, IsExchange, affected_of}
 use Rattle.sbl_bench.specs.Contents.{Contents}
-use Rattle.sbl_bench.specs.KeptRuns.{Kept, contents_of, words_in}
+use Rattle.sbl_bench.specs.KeptRuns.{KeptRuns, contents_of, words_in}
 use Rattle.sbl_bench.specs.Setting.{under}
 use Rattle.sbl_bench.proofs.Bringing.{exchange_brings}
 use Rattle.sbl_bench.proofs.bench.Bench.exchange.Goals as goal
@@ -21,9 +21,9 @@ take_script-requires c =
     let s : Contents = record { setting = under p l; words = words_in c.self.inside.traces.entries; count = c.self.inside.meter } in
     let e = c.requires.0 in
     let a = affected_of c.in_ok-affected.affected in
-    let is : IsExchange s e q = subst (λ (k : Kept). IsExchange (contents_of k) e q) (sym c.self.view_is) c.requires.1 in
+    let is : IsExchange s e q = subst (λ (k : KeptRuns). IsExchange (contents_of k) e q) (sym c.self.view_is) c.requires.1 in
     let b : Brings s e (under q l) a = exchange_brings c.differing_stay.ensures s e q is c.is_well_declared.ensures a (c.in_ok-affected.ensures c.self.invariant.0) in
-    (e, subst (λ (k : Kept). Brings (contents_of k) e (under q k.limit) a) c.self.view_is b)
+    (e, subst (λ (k : KeptRuns). Brings (contents_of k) e (under q k.limit) a) c.self.view_is b)
 
 pub returns-clause-edits : goal.returns-clause-edits
 returns-clause-edits c e given =
@@ -32,6 +32,6 @@ returns-clause-edits c e given =
     let l = c.self.inside.limit in
     let s : Contents = record { setting = under p l; words = words_in c.self.inside.traces.entries; count = c.self.inside.meter } in
     let a = affected_of c.in_ok-affected.affected in
-    let is : IsExchange s e q = subst (λ (k : Kept). IsExchange (contents_of k) e q) (sym c.self.view_is) given in
+    let is : IsExchange s e q = subst (λ (k : KeptRuns). IsExchange (contents_of k) e q) (sym c.self.view_is) given in
     let b : Brings s e (under q l) a = exchange_brings c.differing_stay.ensures s e q is c.is_well_declared.ensures a (c.in_ok-affected.ensures c.self.invariant.0) in
-    c.take_script.ensures.edits e (subst (λ (k : Kept). Brings (contents_of k) e (under q k.limit) a) c.self.view_is b)
+    c.take_script.ensures.edits e (subst (λ (k : KeptRuns). Brings (contents_of k) e (under q k.limit) a) c.self.view_is b)

@@ -2,7 +2,7 @@ use Rattle.std.proofs.Common.{◌∙◌, List, ap}
 use Rattle.sbl_semantics.specs.TouchedItems.{items_in, items_of, names_of}
 use Rattle.sbl_semantics.specs.declared.touch.Touch.{Touch}
 use Rattle.sbl_script.specs.ParsedScript.{source_of}
-use Rattle.sbl_bench.specs.KeptRuns.{Kept, setting_of}
+use Rattle.sbl_bench.specs.KeptRuns.{KeptRuns, setting_of}
 use Rattle.sbl_bench.specs.Setting.{under}
 use Rattle.sbl_bench.specs.Traces.{trace_of}
 use Rattle.sbl_bench.proofs.Tracing.{no_trace, not_absent, trace_found}
@@ -10,7 +10,7 @@ use Rattle.sbl_bench.proofs.bench.Bench.items_of_trace.Goals as goal
 
 pub returns-in_err-items-in-Some-clause-absent : goal.returns-in_err-items-in-Some-clause-absent
 returns-in_err-items-in-Some-clause-absent c = λ absent.
-    absurd (not_absent c.args.word.now c.self.inside.traces.entries c.in-Some.last.now c.args.self.now.words c.in-Some.ensures.value (ap (λ (k : Kept). k.words) c.self.view_is) absent)
+    absurd (not_absent c.args.word.now c.self.inside.traces.entries c.in-Some.last.now c.args.self.now.words c.in-Some.ensures.value (ap (λ (k : KeptRuns). k.words) c.self.view_is) absent)
 
 pub returns-in_ok-items-in-Some-clause-touched : goal.returns-in_ok-items-in-Some-clause-touched
 returns-in_ok-items-in-Some-clause-touched c =
@@ -18,14 +18,14 @@ returns-in_ok-items-in-Some-clause-touched c =
     let script = source_of b.script in
     trace_found (under script b.limit) c.args.word.now b.traces.entries c.in-Some.last.now (items_in c.in_ok-items-in-Some.items) c.self.invariant.1.fresh c.in-Some.ensures.value
     (c.in_ok-items-in-Some.ensures script c.self.invariant.0 ∙ ap (λ (ts : List Touch). items_of (names_of script) ts) c.touches.ensures)
-    ∙ ap (λ (k : Kept). trace_of (setting_of k) k.words c.args.word.now) c.self.view_is
+    ∙ ap (λ (k : KeptRuns). trace_of (setting_of k) k.words c.args.word.now) c.self.view_is
 
 pub returns-in_ok-items-in-Some-clause-absent : goal.returns-in_ok-items-in-Some-clause-absent
 returns-in_ok-items-in-Some-clause-absent c = λ absent.
-    absurd (not_absent c.args.word.now c.self.inside.traces.entries c.in-Some.last.now c.args.self.now.words c.in-Some.ensures.value (ap (λ (k : Kept). k.words) c.self.view_is) absent)
+    absurd (not_absent c.args.word.now c.self.inside.traces.entries c.in-Some.last.now c.args.self.now.words c.in-Some.ensures.value (ap (λ (k : KeptRuns). k.words) c.self.view_is) absent)
 
 pub returns-in-None-clause-touched : goal.returns-in-None-clause-touched
 returns-in-None-clause-touched c =
     let b = c.self.inside in
     no_trace (under (source_of b.script) b.limit) c.args.word.now b.traces.entries c.in-None.ensures.value
-    ∙ ap (λ (k : Kept). trace_of (setting_of k) k.words c.args.word.now) c.self.view_is
+    ∙ ap (λ (k : KeptRuns). trace_of (setting_of k) k.words c.args.word.now) c.self.view_is

@@ -2,7 +2,7 @@ use Rattle.std.proofs.Common.{◌≡◌, ◌∙◌, ap, sym, subst, is_some, Lis
 use Rattle.sbl_script.specs.ParsedScript.{source_of}
 use Rattle.sbl_bench.specs.declared.fault.EditFault.TheVariants.{Absent}
 use Rattle.sbl_bench.specs.Edits.{Edits, Remove}
-use Rattle.sbl_bench.specs.KeptRuns.{IsKept, Kept, KeptWord, contents_of, words_in}
+use Rattle.sbl_bench.specs.KeptRuns.{IsKept, KeptRuns, KeptWord, contents_of, words_in}
 use Rattle.sbl_bench.specs.ChangedRows.{changed_rows}
 use Rattle.sbl_bench.specs.LeavesChanges.{rows_now}
 use Rattle.sbl_bench.specs.Rows.{rows_of}
@@ -22,7 +22,7 @@ returns-in_default-clause-edits c =
     let s : Contents = record { setting = under (source_of c.self.inside.script) c.self.inside.limit; words = words_in es; count = c.self.inside.meter } in
     let same : words_in c.shift_remove_entry.new.self.entries ≡ words_in es = ap words_in c.in_default.ensures.unchanged in
     let absent = sym (found_word word es) ∙ ap is_some (sym c.in_default.ensures.value) in
-    subst (λ (k : Kept). Edits (Err Absent) (contents_of k) (Remove word) (record { setting = under (source_of c.self.inside.script) c.self.inside.limit; words = words_in c.shift_remove_entry.new.self.entries; count = c.self.inside.meter })) c.self.view_is
+    subst (λ (k : KeptRuns). Edits (Err Absent) (contents_of k) (Remove word) (record { setting = under (source_of c.self.inside.script) c.self.inside.limit; words = words_in c.shift_remove_entry.new.self.entries; count = c.self.inside.meter })) c.self.view_is
     (subst (λ (ws : List (List ℕ)). Edits (Err Absent) s (Remove word) (record s { words = ws })) (sym same) (no_word s word absent))
 
 pub invariant_of-self-2 : goal.invariant_of-self-2
@@ -39,18 +39,18 @@ pub returns-clause-edits : goal.returns-clause-edits
 returns-clause-edits c =
     let es = c.self.inside.traces.entries in
     let word = c.args.word.now in
-    subst (λ (k : Kept). Edits (Ok tt) (contents_of k) (Remove word) (record { setting = under (source_of c.self.inside.script) c.self.inside.limit; words = words_in c.shift_remove_entry.new.self.entries; count = c.self.inside.meter })) c.self.view_is
+    subst (λ (k : KeptRuns). Edits (Ok tt) (contents_of k) (Remove word) (record { setting = under (source_of c.self.inside.script) c.self.inside.limit; words = words_in c.shift_remove_entry.new.self.entries; count = c.self.inside.meter })) c.self.view_is
     (removes (record { setting = under (source_of c.self.inside.script) c.self.inside.limit; words = words_in es; count = c.self.inside.meter }) word (words_in c.shift_remove_entry.new.self.entries)
     (sym (found_word word es) ∙ ap is_some (sym c.in-Some.ensures.value))
     (ap words_in c.in-Some.ensures.entries ∙ words-remove word es))
 
 pub returns-in_default-clause-changes : goal.returns-in_default-clause-changes
 returns-in_default-clause-changes c =
-    ap (λ (es : List KeptWord). last_changes es c.self.inside.last.items) c.in_default.ensures.unchanged ∙ ap (λ (k : Kept). k.changes) c.self.view_is
+    ap (λ (es : List KeptWord). last_changes es c.self.inside.last.items) c.in_default.ensures.unchanged ∙ ap (λ (k : KeptRuns). k.changes) c.self.view_is
 
 pub returns-clause-changes : goal.returns-clause-changes
 returns-clause-changes c =
     let script = under (source_of c.self.inside.script) c.self.inside.limit in
     let words = words_in c.shift_remove_entry.new.self.entries in
     ap (last_changes c.shift_remove_entry.new.self.entries) c.new.ensures.items
-    ∙ subst (λ (k : Kept). [] ≡ changed_rows (rows_now k) (rows_of script words)) c.self.view_is (sym (no_rows_change script (words_in c.self.inside.traces.entries) words))
+    ∙ subst (λ (k : KeptRuns). [] ≡ changed_rows (rows_now k) (rows_of script words)) c.self.view_is (sym (no_rows_change script (words_in c.self.inside.traces.entries) words))

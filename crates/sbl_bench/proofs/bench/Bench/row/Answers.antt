@@ -5,7 +5,7 @@ use Rattle.sbl_script.specs.ParsedScript.{source_of}
 use Rattle.sbl_bench.specs.Setting.{under}
 use Rattle.sbl_semantics.specs.declared.outcome.Outcome.{Outcome}
 use Rattle.sbl_semantics.specs.Outcome.{outcome_of}
-use Rattle.sbl_bench.specs.KeptRuns.{setting_of, Kept}
+use Rattle.sbl_bench.specs.KeptRuns.{setting_of, KeptRuns}
 use Rattle.sbl_bench.specs.Rows.{Row, rows_of}
 use Rattle.sbl_bench.proofs.Words.{shown, rows_shown}
 use Rattle.sbl_bench.proofs.bench.Bench.row.Goals as goal
@@ -22,4 +22,4 @@ returns c =
     ∙ ap (option_map shown) c.in_ok-word.ensures.entry
     ∙ sym (slice_get-map shown es c.args.i)
     ∙ ap (λ (rows : List Row). slice_get rows c.args.i) (rows_shown (under (source_of c.self.inside.script) c.self.inside.limit) es c.self.invariant.1.fresh)
-    ∙ ap (λ (k : Kept). slice_get (rows_of (setting_of k) k.words) c.args.i) c.self.view_is
+    ∙ ap (λ (k : KeptRuns). slice_get (rows_of (setting_of k) k.words) c.args.i) c.self.view_is

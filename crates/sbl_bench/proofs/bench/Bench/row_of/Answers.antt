@@ -3,7 +3,7 @@ use Rattle.std.specs.Str.{bytes_eq}
 use Rattle.sbl_script.specs.ParsedScript.{source_of}
 use Rattle.sbl_semantics.specs.declared.outcome.Outcome.{Outcome}
 use Rattle.sbl_semantics.specs.Outcome.{outcome_of}
-use Rattle.sbl_bench.specs.KeptRuns.{setting_of, Kept}
+use Rattle.sbl_bench.specs.KeptRuns.{setting_of, KeptRuns}
 use Rattle.sbl_bench.specs.Rows.{Row, rows_of}
 use Rattle.sbl_bench.specs.Setting.{under}
 use Rattle.sbl_bench.proofs.ClassFacts.{no_row, row_there}
@@ -19,9 +19,9 @@ returns-in-Some c =
     ap (λ (o : Outcome). row_with c.as_slice.result.now o) c.outcome.ensures
     ∙ ap (λ (w : List ℕ). row_with w c.in-Some.last.now.outcome) c.as_slice.ensures.value
     ∙ row_there (under (source_of c.self.inside.script) c.self.inside.limit) c.args.word.now es c.in-Some.word.now c.in-Some.last.now c.self.invariant.1.fresh c.in-Some.ensures.key c.in-Some.ensures.value
-    ∙ ap (λ (k : Kept). find (λ (r : Row). bytes_eq c.args.word.now r.word) (rows_of (setting_of k) k.words)) c.self.view_is
+    ∙ ap (λ (k : KeptRuns). find (λ (r : Row). bytes_eq c.args.word.now r.word) (rows_of (setting_of k) k.words)) c.self.view_is
 
 pub returns-in-None : goal.returns-in-None
 returns-in-None c =
     no_row (under (source_of c.self.inside.script) c.self.inside.limit) c.args.word.now c.self.inside.traces.entries c.self.invariant.1.fresh c.in-None.ensures.value
-    ∙ ap (λ (k : Kept). find (λ (r : Row). bytes_eq c.args.word.now r.word) (rows_of (setting_of k) k.words)) c.self.view_is
+    ∙ ap (λ (k : KeptRuns). find (λ (r : Row). bytes_eq c.args.word.now r.word) (rows_of (setting_of k) k.words)) c.self.view_is

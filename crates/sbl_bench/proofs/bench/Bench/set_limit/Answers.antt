@@ -4,7 +4,7 @@ use Rattle.std.proofs.lemmas.Result.{err_from_is_err_and}
 use Rattle.sbl_script.specs.ParsedScript.{source_of}
 use Rattle.sbl_bench.specs.Changes.{Brings, affected_of}
 use Rattle.sbl_bench.specs.Edits.{Edit, Edits, Limit, is_limit}
-use Rattle.sbl_bench.specs.KeptRuns.{KeptWord, IsWord, Kept, contents_of, words_in}
+use Rattle.sbl_bench.specs.KeptRuns.{KeptWord, IsWord, KeptRuns, contents_of, words_in}
 use Rattle.sbl_bench.specs.ChangedRows.{changed_rows}
 use Rattle.sbl_bench.specs.Contents.{Contents}
 use Rattle.sbl_bench.specs.Last.{Follows, last_changes}
@@ -41,7 +41,7 @@ returns-in_err-changes-clause-edits c =
     let f = err_from_is_err_and c.from_residual.result c.from_residual.ensures.1 in
     let after : Contents = record { setting = under p l; words = words_in es; count = c.rerun.new.meter } in
     rw (f.1, f.2) (subst (λ (m : ℕ). Edits (Err g) (contents_of c.args.self.now) (Limit m) after) c.in-Some.ensures.0
-    (subst (λ (k : Kept). Edits (Err g) (contents_of k) e after) c.self.view_is
+    (subst (λ (k : KeptRuns). Edits (Err g) (contents_of k) e after) c.self.view_is
     (stopped s e t a es b refl c.self.invariant.1.fresh g c.rerun.new.meter c.in_err-changes.ensures.stop)))
 
 pub make_changes-before-requires-clause-changes : goal.make_changes-before-requires-clause-changes
@@ -100,7 +100,7 @@ returns-clause-edits c =
     let b : Brings s e t a = subst (Brings s e t) (sym c.above_smaller-affected.ensures) (limit_brings c.used_steps_suffice.ensures.suffice c.used_steps_suffice.ensures.touch s n ok) in
     let after : Contents = record { setting = t; words = words_in c.make_changes-before.new.traces.entries; count = c.rerun.new.meter } in
     subst (λ (m : ℕ). Edits (Ok tt) (contents_of c.args.self.now) (Limit m) after) c.in-Some.ensures.0
-    (subst (λ (k : Kept). Edits (Ok tt) (contents_of k) e after) c.self.view_is
+    (subst (λ (k : KeptRuns). Edits (Ok tt) (contents_of k) e after) c.self.view_is
     (made s e t a es b refl c.self.invariant.1.fresh c.make_changes-before.new.traces.entries c.rerun.new.meter c.make_changes-before.ensures.words c.in_ok-changes.ensures.room c.in_ok-changes.ensures.counted))
 
 pub returns-clause-changes : goal.returns-clause-changes
@@ -117,5 +117,5 @@ returns-clause-changes c =
     let s : Contents = record { setting = under p l; words = words_in es; count = c.self.inside.meter } in
     let ok : is_limit n ≡ true = subst (λ (m : ℕ). is_limit m ≡ true) (sym c.in-Some.ensures.0) c.in-Some.ensures.1 in
     let b : Brings s e t a = subst (Brings s e t) (sym c.above_smaller-affected.ensures) (limit_brings c.used_steps_suffice.ensures.suffice c.used_steps_suffice.ensures.touch s n ok) in
-    subst (λ (k : Kept). last_changes fs ls ≡ changed_rows (rows_now k) (rows_of t (words_in fs))) c.self.view_is
+    subst (λ (k : KeptRuns). last_changes fs ls ≡ changed_rows (rows_now k) (rows_of t (words_in fs))) c.self.view_is
     (edit_changes s.setting t a es fs c.in_ok-changes.changes.items ls b.stays c.self.invariant.1.fresh (c.in_ok-changes.ensures.changes p c.self.invariant.0) c.make_changes-before.ensures.last c.make_changes-before.ensures.words)

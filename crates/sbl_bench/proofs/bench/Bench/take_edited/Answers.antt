@@ -5,7 +5,7 @@ use Rattle.sbl_semantics.specs.TouchedItems.{item_of}
 use Rattle.sbl_bench.specs.Changes.{Brings, IsTaken, affected_of}
 use Rattle.sbl_bench.specs.Contents.{Contents}
 use Rattle.sbl_bench.specs.Edits.{Replace}
-use Rattle.sbl_bench.specs.KeptRuns.{Kept, contents_of, words_in}
+use Rattle.sbl_bench.specs.KeptRuns.{KeptRuns, contents_of, words_in}
 use Rattle.sbl_bench.specs.Setting.{under}
 use Rattle.sbl_bench.proofs.Bringing.{edited_brings}
 use Rattle.sbl_bench.proofs.bench.Bench.take_edited.Goals as goal
@@ -25,9 +25,9 @@ take_script-requires c =
     let x = item_of c.args.item.now in
     let s : Contents = record { setting = under p l; words = words_in c.self.inside.traces.entries; count = c.self.inside.meter } in
     let a = affected_of c.in_ok-affected.affected in
-    let taken : IsTaken s e text q x = subst (λ (k : Kept). IsTaken (contents_of k) e text q x) (sym c.self.view_is) c.requires.2 in
+    let taken : IsTaken s e text q x = subst (λ (k : KeptRuns). IsTaken (contents_of k) e text q x) (sym c.self.view_is) c.requires.2 in
     let b : Brings s (Replace e text) (under q l) a = edited_brings c.untouched_stay.ensures c.one_item_alone.ensures.meets c.edits_agree.ensures.there s e text q x taken c.is_well_declared.ensures (map item_of c.from_ref-items.result.now) (ap (map item_of) c.from_ref-items.ensures.value) a (c.in_ok-affected.ensures c.self.invariant.0) in
-    (Replace e text, subst (λ (k : Kept). Brings (contents_of k) (Replace e text) (under q k.limit) a) c.self.view_is b)
+    (Replace e text, subst (λ (k : KeptRuns). Brings (contents_of k) (Replace e text) (under q k.limit) a) c.self.view_is b)
 
 pub returns-clause-edits : goal.returns-clause-edits
 returns-clause-edits c e text is =
@@ -37,6 +37,6 @@ returns-clause-edits c e text is =
     let x = item_of c.args.item.now in
     let s : Contents = record { setting = under p l; words = words_in c.self.inside.traces.entries; count = c.self.inside.meter } in
     let a = affected_of c.in_ok-affected.affected in
-    let taken : IsTaken s e text q x = subst (λ (k : Kept). IsTaken (contents_of k) e text q x) (sym c.self.view_is) is in
+    let taken : IsTaken s e text q x = subst (λ (k : KeptRuns). IsTaken (contents_of k) e text q x) (sym c.self.view_is) is in
     let b : Brings s (Replace e text) (under q l) a = edited_brings c.untouched_stay.ensures c.one_item_alone.ensures.meets c.edits_agree.ensures.there s e text q x taken c.is_well_declared.ensures (map item_of c.from_ref-items.result.now) (ap (map item_of) c.from_ref-items.ensures.value) a (c.in_ok-affected.ensures c.self.invariant.0) in
-    c.take_script.ensures.edits (Replace e text) (subst (λ (k : Kept). Brings (contents_of k) (Replace e text) (under q k.limit) a) c.self.view_is b)
+    c.take_script.ensures.edits (Replace e text) (subst (λ (k : KeptRuns). Brings (contents_of k) (Replace e text) (under q k.limit) a) c.self.view_is b)

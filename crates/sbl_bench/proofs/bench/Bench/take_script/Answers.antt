@@ -1,11 +1,11 @@
 use Rattle.std.proofs.Common.{◌≡◌, List, All, Ok, Err, inl, length, ap, sym, refl, subst, arith}
 use Rattle.std.proofs.lemmas.List.{length-map}
 use Rattle.std.proofs.lemmas.Result.{err_from_is_err_and}
-use Rattle.sbl_script.specs.ParsedScript.{Parsed, source_of}
+use Rattle.sbl_script.specs.ParsedScript.{ParsedScript, source_of}
 use Rattle.sbl_machine.specs.MachineOf.{IsLinkedMachineOf}
 use Rattle.sbl_bench.specs.Changes.{Brings, affected_of}
 use Rattle.sbl_bench.specs.Edits.{Edits}
-use Rattle.sbl_bench.specs.KeptRuns.{KeptWord, IsKept, IsWord, Kept, contents_of, words_in}
+use Rattle.sbl_bench.specs.KeptRuns.{KeptWord, IsKept, IsWord, KeptRuns, contents_of, words_in}
 use Rattle.sbl_bench.specs.ChangedRows.{changed_rows}
 use Rattle.sbl_bench.specs.Contents.{Contents}
 use Rattle.sbl_bench.specs.Last.{Follows, last_changes}
@@ -36,11 +36,11 @@ returns-in_err-changes-clause-edits c e brings =
     let a = affected_of c.args.affected.now in
     let t = under q l in
     let s : Contents = record { setting = under p l; words = words_in es; count = c.self.inside.meter } in
-    let b : Brings s e t a = subst (λ (k : Kept). Brings (contents_of k) e (under q k.limit) a) (sym c.self.view_is) brings in
+    let b : Brings s e t a = subst (λ (k : KeptRuns). Brings (contents_of k) e (under q k.limit) a) (sym c.self.view_is) brings in
     let g = c.in_err-changes.field-0.0 in
     let f = err_from_is_err_and c.from_residual-in_err-changes.result c.from_residual-in_err-changes.ensures.1 in
     let after : Contents = record { setting = under p l; words = words_in es; count = c.rerun.new.meter } in
-    rw (f.1, f.2) (subst (λ (k : Kept). Edits (Err g) (contents_of k) e after) c.self.view_is
+    rw (f.1, f.2) (subst (λ (k : KeptRuns). Edits (Err g) (contents_of k) e after) c.self.view_is
     (stopped s e t a es b refl c.self.invariant.1.fresh g c.rerun.new.meter c.in_err-changes.ensures.stop))
 
 pub make_changes-last-requires-clause-changes : goal.make_changes-last-requires-clause-changes
@@ -53,7 +53,7 @@ make_changes-last-requires-clause-changes c =
     let a = affected_of c.args.affected.now in
     let t = under q l in
     let s : Contents = record { setting = under p l; words = words_in es; count = c.self.inside.meter } in
-    let b : Brings s e t a = subst (λ (k : Kept). Brings (contents_of k) e (under q k.limit) a) (sym c.self.view_is) c.requires.1 in
+    let b : Brings s e t a = subst (λ (k : KeptRuns). Brings (contents_of k) e (under q k.limit) a) (sym c.self.view_is) c.requires.1 in
     (t, anew a t es c.in_ok-changes.changes.items (c.in_ok-changes.ensures.changes q c.in_ok-after.ensures) (still s.setting t a b.stays es c.self.invariant.1.fresh))
 
 pub make_changes-last-requires-clause-apart : goal.make_changes-last-requires-clause-apart
@@ -71,10 +71,10 @@ invariant_of-self-2 c =
     let a = affected_of c.args.affected.now in
     let t = under q l in
     let s : Contents = record { setting = under p l; words = words_in es; count = c.self.inside.meter } in
-    let b : Brings s e t a = subst (λ (k : Kept). Brings (contents_of k) e (under q k.limit) a) (sym c.self.view_is) c.requires.1 in
+    let b : Brings s e t a = subst (λ (k : KeptRuns). Brings (contents_of k) e (under q k.limit) a) (sym c.self.view_is) c.requires.1 in
     let fs = c.make_changes-last.new.traces.entries in
     let words = c.make_changes-last.ensures.words in
-    subst (λ (x : Parsed). IsLinkedMachineOf c.in_ok-after.after (source_of x) × IsKept (under (source_of x) l) fs × IsIndexed fs c.follow.result) (sym c.swap.ensures.x_after) (
+    subst (λ (x : ParsedScript). IsLinkedMachineOf c.in_ok-after.after (source_of x) × IsKept (under (source_of x) l) fs × IsIndexed fs c.follow.result) (sym c.swap.ensures.x_after) (
       c.in_ok-after.ensures,
       record {
         fresh = c.make_changes-last.ensures.fresh t (anew a t es c.in_ok-changes.changes.items (c.in_ok-changes.ensures.changes q c.in_ok-after.ensures) (still s.setting t a b.stays es c.self.invariant.1.fresh));
@@ -93,11 +93,11 @@ returns-clause-edits c e brings =
     let a = affected_of c.args.affected.now in
     let t = under q l in
     let s : Contents = record { setting = under p l; words = words_in es; count = c.self.inside.meter } in
-    let b : Brings s e t a = subst (λ (k : Kept). Brings (contents_of k) e (under q k.limit) a) (sym c.self.view_is) brings in
+    let b : Brings s e t a = subst (λ (k : KeptRuns). Brings (contents_of k) e (under q k.limit) a) (sym c.self.view_is) brings in
     let fs = c.make_changes-last.new.traces.entries in
     let after : Contents = record { setting = t; words = words_in fs; count = c.rerun.new.meter } in
-    subst (λ (x : Parsed). Edits (Ok tt) (contents_of c.args.self.now) e (record { setting = under (source_of x) l; words = words_in fs; count = c.rerun.new.meter })) (sym c.swap.ensures.x_after)
-    (subst (λ (k : Kept). Edits (Ok tt) (contents_of k) e after) c.self.view_is
+    subst (λ (x : ParsedScript). Edits (Ok tt) (contents_of c.args.self.now) e (record { setting = under (source_of x) l; words = words_in fs; count = c.rerun.new.meter })) (sym c.swap.ensures.x_after)
+    (subst (λ (k : KeptRuns). Edits (Ok tt) (contents_of k) e after) c.self.view_is
     (made s e t a es b refl c.self.invariant.1.fresh c.make_changes-last.new.traces.entries c.rerun.new.meter c.make_changes-last.ensures.words c.in_ok-changes.ensures.room c.in_ok-changes.ensures.counted))
 
 pub returns-clause-changes : goal.returns-clause-changes
@@ -112,7 +112,7 @@ returns-clause-changes c =
     let a = affected_of c.args.affected.now in
     let t = under q l in
     let s : Contents = record { setting = under p l; words = words_in es; count = c.self.inside.meter } in
-    let b : Brings s e t a = subst (λ (k : Kept). Brings (contents_of k) e (under q k.limit) a) (sym c.self.view_is) c.requires.1 in
-    subst (λ (x : Parsed). last_changes fs ls ≡ changed_rows (rows_now c.args.self.now) (rows_of (under (source_of x) l) (words_in fs))) (sym c.swap.ensures.x_after)
-    (subst (λ (k : Kept). last_changes fs ls ≡ changed_rows (rows_now k) (rows_of t (words_in fs))) c.self.view_is
+    let b : Brings s e t a = subst (λ (k : KeptRuns). Brings (contents_of k) e (under q k.limit) a) (sym c.self.view_is) c.requires.1 in
+    subst (λ (x : ParsedScript). last_changes fs ls ≡ changed_rows (rows_now c.args.self.now) (rows_of (under (source_of x) l) (words_in fs))) (sym c.swap.ensures.x_after)
+    (subst (λ (k : KeptRuns). last_changes fs ls ≡ changed_rows (rows_now k) (rows_of t (words_in fs))) c.self.view_is
     (edit_changes s.setting t a es fs c.in_ok-changes.changes.items ls b.stays c.self.invariant.1.fresh (c.in_ok-changes.ensures.changes q c.in_ok-after.ensures) c.make_changes-last.ensures.last c.make_changes-last.ensures.words))

@@ -2,7 +2,7 @@ use Rattle.std.proofs.Common.{◌≡◌, ℕ, suc, ◌+◌, ◌*◌, ◌≤◌, 
 use Rattle.std.specs.Prelude.{List}
 use Rattle.sbl_semantics.specs.Fitting.{first}
 use Rattle.sbl_interpreter.specs.Listing.{fits_at}
-use Rattle.sbl_program.specs.ProgramOf.{program_of, view_joined, view_node, view_nodes}
+use Rattle.sbl_program.specs.ProgramOf.{program_of, view_next_command, view_node, view_nodes}
 use Rattle.sbl_interpreter.specs.Run.{runs, all_run, calls}
 use Rattle.sbl_semantics.specs.Control.{turns, times, seeks}
 use Rattle.sbl_interpreter.specs.Rows.{others_run, row_runs}
@@ -97,7 +97,7 @@ abbrev pub invariant-run_row-loop-joined : goal.invariant-run_row-loop-joined
 invariant-run_row-loop-joined g l =
     let T = g.T.Tables.listed l.self.tables.now in
     let p = program_of T l.self.program.now in
-    (others_run p l.self.levels l.self.mode l.from (map (view_joined T) (drop l.joined-index l.others)) (Signals l.signal l.state) ≡ row_runs p l.self.levels (view_node T l.first) (map (view_joined T) l.others) l.self.mode l.fn.state) × (l.state.steps ≤ l.fn.state.steps)
+    (others_run p l.self.levels l.self.mode l.from (map (view_next_command T) (drop l.joined-index l.others)) (Signals l.signal l.state) ≡ row_runs p l.self.levels (view_node T l.first) (map (view_next_command T) l.others) l.self.mode l.fn.state) × (l.state.steps ≤ l.fn.state.steps)
 
 -- turns enough for the steps that are left do from here what all of them do from the start
 abbrev pub invariant-run_turns-loop-state : goal.invariant-run_turns-loop-state

@@ -5,7 +5,7 @@ use Rattle.sbl_interpreter.proofs.Rows.{row_does}
 use Rattle.sbl_interpreter.specs.Rows.{row_runs}
 use Rattle.sbl_semantics.specs.State.{State, Signals, after, then_on, saved_cursor, put_back}
 use Rattle.sbl_program.specs.declared.node.Node.{Node}
-use Rattle.sbl_program.specs.ProgramOf.{program_of, view_joined, view_node, view_nodes, view_number}
+use Rattle.sbl_program.specs.ProgramOf.{program_of, view_next_command, view_node, view_nodes, view_number}
 use Rattle.sbl_interpreter.specs.Run.{runs_paid, runs, all_run, calls}
 use Rattle.sbl_semantics.specs.Control.{backwards_end, backwards_from, turns, times, seeks, count_of, limits, restore_limit, limit_here}
 use Rattle.sbl_ast.specs.declared.mode.Mode.TheVariants.{Backward}
@@ -95,10 +95,10 @@ run_paid-returns-in-Row-clause-follows g t c =
     let m = c.args.self.now.mode in
     let q = c.args.state.now in
     let a = c.in-Row in
-    let os = map (view_joined T) a.others.items in
+    let os = map (view_next_command T) a.others.items in
     let first = c.deref-in-Row.result.now in
     let p = ap (λ n. runs_paid P levels (view_node T n) m q) a.is ∙ row_does T P levels a.first a.others m q in
-    let d = ap (λ n. row_runs P levels (view_node T n) os m q) (sym c.deref-in-Row.ensures) ∙ ap (λ xs. row_runs P levels (view_node T first) (map (view_joined T) xs) m q) (sym c.deref-in-Row-2.ensures.value) in
+    let d = ap (λ n. row_runs P levels (view_node T n) os m q) (sym c.deref-in-Row.ensures) ∙ ap (λ xs. row_runs P levels (view_node T first) (map (view_next_command T) xs) m q) (sym c.deref-in-Row-2.ensures.value) in
     follows_at c.run_row.result c.run_row.new.state _ _ (p ∙ d) c.run_row.ensures.follows
 
 pub run_paid-returns-in-Not-clause-follows : goal.run_paid-returns-in-Not-clause-follows

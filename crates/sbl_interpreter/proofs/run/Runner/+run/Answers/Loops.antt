@@ -15,7 +15,7 @@ use Rattle.sbl_program.specs.declared.action.Action.TheVariants.{Grouping, NonGr
 use Rattle.sbl_program.specs.declared.node.Node.{Node}
 use Rattle.sbl_program.specs.declared.node.Node.TheVariants.{Act, Sequence}
 use Rattle.sbl_program.specs.declared.node.Routine.{Routine}
-use Rattle.sbl_program.specs.ProgramOf.{program_of, view_action, view_joined, view_node, view_nodes, view_number, view_routine}
+use Rattle.sbl_program.specs.ProgramOf.{program_of, view_action, view_next_command, view_node, view_nodes, view_number, view_routine}
 use Rattle.sbl_semantics.specs.Control.{pay_first, turns, times, seeks, count_of, back_in, enter}
 use Rattle.sbl_interpreter.specs.Run.{runs, runs_paid, all_run, group_runs, nth_runs, calls}
 use Rattle.sbl_interpreter.specs.Arithmetic.{value}
@@ -255,13 +255,13 @@ run_row-returns-in_err-signal-clause-follows g t c =
     let m = c.args.self.now.mode in
     let s = c.args.state.now in
     let xs = c.args.others.now in
-    let os = map (view_joined T) xs in
+    let os = map (view_next_command T) xs in
     let first = view_node T c.args.first.now in
     let from = c.saved_cursor-from.result in
     let q = c.pay_for.new.self in
     let go = λ (v : State). others_run P levels m (saved_cursor v) os (runs P levels first m v) in
     let n0 : c.saturating_sub.result ≡ length xs - 1 = search rules in
-    let n : c.saturating_sub.result ≡ length os - 1 = n0 ∙ ap (λ k. k - 1) (sym (length-map xs (view_joined T))) in
+    let n : c.saturating_sub.result ≡ length os - 1 = n0 ∙ ap (λ k. k - 1) (sym (length-map xs (view_next_command T))) in
     let pay_first : pays (length os - 1) s ≡ Signals true q = ap (λ k. pays k s) (sym n) ∙ c.in_ok-pay_for.ensures.leads in
     let begun : row_runs P levels first os m s ≡ others_run P levels m from os (runs P levels first m q) = ap (λ r. then_on r go) pay_first ∙ ap (λ k. others_run P levels m k os (runs P levels first m q)) (sym c.saved_cursor-from.ensures.value) in
     let u = c.run_command.new.state in
@@ -277,13 +277,13 @@ run_row-loop-joined-init g t c =
     let m = c.args.self.now.mode in
     let s = c.args.state.now in
     let xs = c.args.others.now in
-    let os = map (view_joined T) xs in
+    let os = map (view_next_command T) xs in
     let first = view_node T c.args.first.now in
     let from = c.saved_cursor-from.result in
     let q = c.pay_for.new.self in
     let go = λ (v : State). others_run P levels m (saved_cursor v) os (runs P levels first m v) in
     let n0 : c.saturating_sub.result ≡ length xs - 1 = search rules in
-    let n : c.saturating_sub.result ≡ length os - 1 = n0 ∙ ap (λ k. k - 1) (sym (length-map xs (view_joined T))) in
+    let n : c.saturating_sub.result ≡ length os - 1 = n0 ∙ ap (λ k. k - 1) (sym (length-map xs (view_next_command T))) in
     let pay_first : pays (length os - 1) s ≡ Signals true q = ap (λ k. pays k s) (sym n) ∙ c.in_ok-pay_for.ensures.leads in
     let begun : row_runs P levels first os m s ≡ others_run P levels m from os (runs P levels first m q) = ap (λ r. then_on r go) pay_first ∙ ap (λ k. others_run P levels m k os (runs P levels first m q)) (sym c.saved_cursor-from.ensures.value) in
     let u = c.run_command.new.state in
@@ -303,14 +303,14 @@ run_row-returns-in_err-signal-2-clause-follows g t c =
     let xs = c.args.others.now in
     let i = c.loop-joined.joined-index in
     let x = c.joined-item.result in
-    let o = view_joined T x in
+    let o = view_next_command T x in
     let b = c.loop-joined.signal in
     let v = c.loop-joined.state in
     let from = c.saved_cursor-from.result in
     let inv = c.loop-joined.invariant in
-    let rest = map (view_joined T) (drop (i + 1) xs) in
-    let at = part_is (view_joined T) xs i x c.loop-joined-test.true c.joined-item.is in
-    let step : others_run P levels m from (map (view_joined T) (drop i xs)) (Signals b v) ≡ others_run P levels m from rest (joined_runs P levels m from o b v) = ap (λ ys. others_run P levels m from ys (Signals b v)) at ∙ ap (others_run P levels m from rest) (after_signal P levels m from o b v) in
+    let rest = map (view_next_command T) (drop (i + 1) xs) in
+    let at = part_is (view_next_command T) xs i x c.loop-joined-test.true c.joined-item.is in
+    let step : others_run P levels m from (map (view_next_command T) (drop i xs)) (Signals b v) ≡ others_run P levels m from rest (joined_runs P levels m from o b v) = ap (λ ys. others_run P levels m from ys (Signals b v)) at ∙ ap (others_run P levels m from rest) (after_signal P levels m from o b v) in
     let u = c.run_joined.new.state in
     let halt = c.in_err-signal-2.field-0.0 in
     let r : c.from_residual-in_err-signal-2.result ≡ Err halt = search rules in
@@ -325,14 +325,14 @@ run_row-loop-joined-preserved g t c =
     let xs = c.args.others.now in
     let i = c.loop-joined.joined-index in
     let x = c.joined-item.result in
-    let o = view_joined T x in
+    let o = view_next_command T x in
     let b = c.loop-joined.signal in
     let v = c.loop-joined.state in
     let from = c.saved_cursor-from.result in
     let inv = c.loop-joined.invariant in
-    let rest = map (view_joined T) (drop (i + 1) xs) in
-    let at = part_is (view_joined T) xs i x c.loop-joined-test.true c.joined-item.is in
-    let step : others_run P levels m from (map (view_joined T) (drop i xs)) (Signals b v) ≡ others_run P levels m from rest (joined_runs P levels m from o b v) = ap (λ ys. others_run P levels m from ys (Signals b v)) at ∙ ap (others_run P levels m from rest) (after_signal P levels m from o b v) in
+    let rest = map (view_next_command T) (drop (i + 1) xs) in
+    let at = part_is (view_next_command T) xs i x c.loop-joined-test.true c.joined-item.is in
+    let step : others_run P levels m from (map (view_next_command T) (drop i xs)) (Signals b v) ≡ others_run P levels m from rest (joined_runs P levels m from o b v) = ap (λ ys. others_run P levels m from ys (Signals b v)) at ∙ ap (others_run P levels m from rest) (after_signal P levels m from o b v) in
     let u = c.run_joined.new.state in
     let k : joined_runs P levels m from o b v ≡ Signals c.in_ok-signal-2.signal u = c.in_ok-signal-2.ensures.follows in
     let no_more : u.steps ≤ v.steps = c.in_ok-signal-2.ensures.no_more in
@@ -347,7 +347,7 @@ run_row-returns-clause-follows g t c =
     let i = c.loop-joined.joined-index in
     let inv = c.loop-joined.invariant in
     let none : drop i xs ≡ [] = drop_all i xs (omega arith) in
-    sym inv.0 ∙ ap (λ ys. others_run P c.args.self.now.levels c.args.self.now.mode c.saved_cursor-from.result (map (view_joined T) ys) (Signals c.loop-joined.signal c.loop-joined.state)) none
+    sym inv.0 ∙ ap (λ ys. others_run P c.args.self.now.levels c.args.self.now.mode c.saved_cursor-from.result (map (view_next_command T) ys) (Signals c.loop-joined.signal c.loop-joined.state)) none
 
 pub run_seek-returns-in-Grouping-clause-follows : goal.run_seek-returns-in-Grouping-clause-follows
 run_seek-returns-in-Grouping-clause-follows g t c =

@@ -3,7 +3,7 @@ use Rattle.std.proofs.lemmas.List.{length-map}
 use Rattle.sbl_semantics.specs.declared.touch.Touch.TheVariants.{Searched}
 use Rattle.sbl_interpreter.specs.Marks.{AreMarked}
 use Rattle.sbl_interpreter.proofs.Marked.{grown_marks, searched_marks}
-use Rattle.sbl_interpreter.proofs.touches.Touched.search.Goals as goal
+use Rattle.sbl_interpreter.proofs.touches.TouchLog.search.Goals as goal
 
 pub invariant_of-self-2 : goal.invariant_of-self-2
 invariant_of-self-2 c =
