@@ -245,7 +245,7 @@ pub fn copy_names(alloc: Global, names: &Vec<String>) -> Result<Vec<String>, All
 pub fn copy_terms(alloc: Global, terms: &Vec<Term>) -> Result<Vec<Term>, AllocError>
     ensures { IfOk result (λ copy. map view_term copy.items ≡ map view_term terms.now.items) }
 {
-    Ok(copy_operations!(alloc, terms, copy_argument, Term { operator, argument }))
+    Ok(copy_operations!(alloc, terms, copy_argument, Term: operator, argument))
 }
 
 /// Returns a copy of an item that is allowed in a `backwardmode`. Returns `AllocError` if an allocation fails.

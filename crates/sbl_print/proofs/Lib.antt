@@ -1,5 +1,5 @@
 pub mod Adding
 pub mod Spelled
-pub mod SpacedToken
+pub mod Spaced
 pub mod Roles
-pub mod PlacedToken
+pub mod Placed

@@ -9,6 +9,6 @@ pub mod Numbers
 pub mod Spellings
 pub mod Parted
 pub mod Unique
-pub mod SpacedToken
+pub mod Spaced
 pub mod Bounded
 pub mod Short
