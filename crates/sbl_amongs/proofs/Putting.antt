@@ -5,14 +5,14 @@ use Rattle.std.proofs.Math.ListN.{get_or, drop_of_length-le}
 use Rattle.sbl_ast.specs.Tree as trees
 use Rattle.sbl_ast.specs.Counts.{count_amongs, count_in_rows, count_in_others, count_in_groups, count_in_starter, count_in_among}
 use Rattle.sbl_amongs.specs.Amongs.{put_among, put_in_among, put_in_body, put_in_rows, put_in_others, put_in_starter, put_in_groups}
-use Rattle.sbl_ast.specs.View.{RowView, JoinedView, GroupView, rows_of, others_of, groups_of}
+use Rattle.sbl_ast.specs.View.{RowView, NextCommandView, GroupView, rows_of, others_of, groups_of}
 
 -- rows, joined commands and groups, and then others
 abbrev pub then_rows : List RowView → trees.Rows → trees.Rows
 then_rows [] rest = rest
 then_rows (x ∷ xs) rest = trees.row x.0 x.1 (then_rows xs rest)
 
-abbrev pub then_others : List JoinedView → trees.Others → trees.Others
+abbrev pub then_others : List NextCommandView → trees.Others → trees.Others
 then_others [] rest = rest
 then_others (x ∷ xs) rest = trees.joined x.0 x.1 (then_others xs rest)
 
@@ -24,7 +24,7 @@ pub rows_one : (xs : List RowView) (x : RowView) (rest : trees.Rows) → then_ro
 rows_one [] x rest = refl
 rows_one (y ∷ ys) x rest = ap (trees.row y.0 y.1) (rows_one ys x rest)
 
-pub others_one : (xs : List JoinedView) (x : JoinedView) (rest : trees.Others) → then_others (xs ++ x ∷ []) rest ≡ then_others xs (trees.joined x.0 x.1 rest)
+pub others_one : (xs : List NextCommandView) (x : NextCommandView) (rest : trees.Others) → then_others (xs ++ x ∷ []) rest ≡ then_others xs (trees.joined x.0 x.1 rest)
 others_one [] x rest = refl
 others_one (y ∷ ys) x rest = ap (trees.joined y.0 y.1) (others_one ys x rest)
 
@@ -36,7 +36,7 @@ pub rows_end : (xs : List RowView) → then_rows xs trees.no_rows ≡ rows_of xs
 rows_end [] = refl
 rows_end (y ∷ ys) = ap (trees.row y.0 y.1) (rows_end ys)
 
-pub others_end : (xs : List JoinedView) → then_others xs trees.no_others ≡ others_of xs
+pub others_end : (xs : List NextCommandView) → then_others xs trees.no_others ≡ others_of xs
 others_end [] = refl
 others_end (y ∷ ys) = ap (trees.joined y.0 y.1) (others_end ys)
 
@@ -76,15 +76,15 @@ pub rows_left : (x : RowView) (whole left : List RowView) (all rest after : ℕ)
 rows_left x whole left all rest after k w h =
     ap (λ (m : ℕ). m - count_in_rows (rows_of left)) k ∙ sym (less_three rest (count_amongs x.0) (count_in_others x.1) (count_in_rows (rows_of left))) ∙ ap (λ (r : List RowView). rest - count_in_rows (rows_of r)) (sym w) ∙ h
 
-pub others_put : (copies new : List JoinedView) (y x : JoinedView) (whole left : List JoinedView) (all : trees.Others) (rest after : ℕ) (a : trees.Starter × trees.Groups) → new ≡ copies ++ y ∷ [] → y ≡ (x.0, put_among x.1 rest a) → after ≡ rest - count_amongs x.1 → whole ≡ x ∷ left
+pub others_put : (copies new : List NextCommandView) (y x : NextCommandView) (whole left : List NextCommandView) (all : trees.Others) (rest after : ℕ) (a : trees.Starter × trees.Groups) → new ≡ copies ++ y ∷ [] → y ≡ (x.0, put_among x.1 rest a) → after ≡ rest - count_amongs x.1 → whole ≡ x ∷ left
     → then_others copies (put_in_others (others_of whole) rest a) ≡ all → then_others new (put_in_others (others_of left) after a) ≡ all
 others_put copies new y x whole left all rest after a n e k w h =
-    ap (λ (r : List JoinedView). then_others r (put_in_others (others_of left) after a)) n ∙ others_one copies y (put_in_others (others_of left) after a) ∙ ap (λ (z : JoinedView). then_others copies (trees.joined z.0 z.1 (put_in_others (others_of left) after a))) e
-    ∙ ap (λ (m : ℕ). then_others copies (trees.joined x.0 (put_among x.1 rest a) (put_in_others (others_of left) m a))) k ∙ ap (λ (r : List JoinedView). then_others copies (put_in_others (others_of r) rest a)) (sym w) ∙ h
+    ap (λ (r : List NextCommandView). then_others r (put_in_others (others_of left) after a)) n ∙ others_one copies y (put_in_others (others_of left) after a) ∙ ap (λ (z : NextCommandView). then_others copies (trees.joined z.0 z.1 (put_in_others (others_of left) after a))) e
+    ∙ ap (λ (m : ℕ). then_others copies (trees.joined x.0 (put_among x.1 rest a) (put_in_others (others_of left) m a))) k ∙ ap (λ (r : List NextCommandView). then_others copies (put_in_others (others_of r) rest a)) (sym w) ∙ h
 
-pub others_left : (x : JoinedView) (whole left : List JoinedView) (all rest after : ℕ) → after ≡ rest - count_amongs x.1 → whole ≡ x ∷ left → rest - count_in_others (others_of whole) ≡ all → after - count_in_others (others_of left) ≡ all
+pub others_left : (x : NextCommandView) (whole left : List NextCommandView) (all rest after : ℕ) → after ≡ rest - count_amongs x.1 → whole ≡ x ∷ left → rest - count_in_others (others_of whole) ≡ all → after - count_in_others (others_of left) ≡ all
 others_left x whole left all rest after k w h =
-    ap (λ (m : ℕ). m - count_in_others (others_of left)) k ∙ sym (less_two rest (count_amongs x.1) (count_in_others (others_of left))) ∙ ap (λ (r : List JoinedView). rest - count_in_others (others_of r)) (sym w) ∙ h
+    ap (λ (m : ℕ). m - count_in_others (others_of left)) k ∙ sym (less_two rest (count_amongs x.1) (count_in_others (others_of left))) ∙ ap (λ (r : List NextCommandView). rest - count_in_others (others_of r)) (sym w) ∙ h
 
 pub groups_put : (copies new : List GroupView) (y x : GroupView) (whole left : List GroupView) (es : List trees.Entry) (all : trees.Groups) (rest after : ℕ) (a : trees.Starter × trees.Groups) → new ≡ copies ++ y ∷ [] → y ≡ record { first = x.first; others = x.others; rows = put_in_rows x.rows rest a } → after ≡ rest - count_in_rows x.rows → whole ≡ x ∷ left
     → then_groups copies (put_in_groups (groups_of whole es) rest a) ≡ all → then_groups new (put_in_groups (groups_of left es) after a) ≡ all
@@ -104,8 +104,8 @@ among_left at inside behind rest s gs a b c = omega arith
 pub rows_done : (copies whole : List RowView) (all : trees.Rows) (rest : ℕ) (a : trees.Starter × trees.Groups) → whole ≡ [] → then_rows copies (put_in_rows (rows_of whole) rest a) ≡ all → rows_of copies ≡ all
 rows_done copies whole all rest a e h = sym (rows_end copies) ∙ ap (λ (r : List RowView). then_rows copies (put_in_rows (rows_of r) rest a)) (sym e) ∙ h
 
-pub others_done : (copies whole : List JoinedView) (all : trees.Others) (rest : ℕ) (a : trees.Starter × trees.Groups) → whole ≡ [] → then_others copies (put_in_others (others_of whole) rest a) ≡ all → others_of copies ≡ all
-others_done copies whole all rest a e h = sym (others_end copies) ∙ ap (λ (r : List JoinedView). then_others copies (put_in_others (others_of r) rest a)) (sym e) ∙ h
+pub others_done : (copies whole : List NextCommandView) (all : trees.Others) (rest : ℕ) (a : trees.Starter × trees.Groups) → whole ≡ [] → then_others copies (put_in_others (others_of whole) rest a) ≡ all → others_of copies ≡ all
+others_done copies whole all rest a e h = sym (others_end copies) ∙ ap (λ (r : List NextCommandView). then_others copies (put_in_others (others_of r) rest a)) (sym e) ∙ h
 
 pub groups_done : (copies whole : List GroupView) (es : List trees.Entry) (all : trees.Groups) (rest : ℕ) (a : trees.Starter × trees.Groups) → whole ≡ [] → then_groups copies (put_in_groups (groups_of whole es) rest a) ≡ all → groups_of copies es ≡ all
 groups_done copies whole es all rest a e h = sym (groups_end copies es) ∙ ap (λ (r : List GroupView). then_groups copies (put_in_groups (groups_of r es) rest a)) (sym e) ∙ h

@@ -13,7 +13,7 @@ use Rattle.sbl_ast.specs.Tree.{Command, bracket, counted, setlimit_, among_, Row
 use Rattle.sbl_amongs.specs.Amongs.{AmongContents, amongs, amongs_of_rows, amongs_of_others, amongs_of_starter, amongs_of_groups, nth_held}
 use Rattle.sbl_amongs.specs.WalkEnds.{Finds}
 use Rattle.sbl_ast.specs.Places.{AtDepth, placed_expression, placed_entry, placed_entries, placed_command, placed_rows, placed_others, placed_starter, placed_groups, AreShallow}
-use Rattle.sbl_ast.specs.View.{AmongView, RowView, JoinedView, GroupView, among_step, command_step, group_step, joined_step, row_step, rows_of, others_of, groups_of, view_among, view_command, view_entry, view_groups, view_others, view_row}
+use Rattle.sbl_ast.specs.View.{AmongView, RowView, NextCommandView, GroupView, among_step, command_step, group_step, next_command_step, row_step, rows_of, others_of, groups_of, view_among, view_command, view_entry, view_groups, view_others, view_row}
 use Rattle.sbl_ast.proofs.Behind.{IsBefore, by_itself, behind_it, with_behind, entry_before, entries_before, expression_before, tree_before, rows_before, others_before, starter_before, groups_before}
 
 abbrev Hs : Type 0
@@ -61,10 +61,10 @@ bare_in (g ∷ gs) es d h =
     with_behind part before (placed_groups (groups_of gs []) d []) (by_itself part before (placed_groups (groups_of gs es) d []) h) (bare_in gs es d (behind_it part before (placed_groups (groups_of gs es) d []) h))
 
 pub seen_groups : (a : Among) → (view_among a).1 ≡ view_groups (out-Among a).groups.items (map view_entry (out-Among a).bare.items)
-seen_groups a = ap (λ (x : AmongView). x.1) (fold_out-Among Command AmongView GroupView JoinedView RowView command_step among_step group_step joined_step row_step a)
+seen_groups a = ap (λ (x : AmongView). x.1) (fold_out-Among Command AmongView GroupView NextCommandView RowView command_step among_step group_step next_command_step row_step a)
 
 pub seen_row : (r : Row) → view_row r ≡ (view_command (out-RowOfCommands r).first, view_others (out-RowOfCommands r).others.items)
-seen_row r = fold_out-RowOfCommands Command AmongView GroupView JoinedView RowView command_step among_step group_step joined_step row_step r
+seen_row r = fold_out-RowOfCommands Command AmongView GroupView NextCommandView RowView command_step among_step group_step next_command_step row_step r
 
 pub groups_in : (s : Starter) (all : Groups) (gs : List GroupView) (es : List Entry) (d : ℕ) → all ≡ groups_of gs es → AreShallow (placed_command (among_ s all) d []) → AreShallow (placed_groups (groups_of gs []) d [])
 groups_in s all gs es d is h =
@@ -97,11 +97,11 @@ rows_on x whole left d is h =
     let start = subst (λ (z : List RowView). AreShallow (placed_rows (rows_of z) d [])) is h in
     behind_it (placed_others x.1 d) (others_before x.1 d) more (behind_it (placed_command x.0 d) (tree_before x.0 d) (placed_others x.1 d more) start)
 
-pub joined_in : (x : JoinedView) (whole left : List JoinedView) (d : ℕ) → whole ≡ x ∷ left → AreShallow (placed_others (others_of whole) d []) → AreShallow (placed_command x.1 d [])
-joined_in x whole left d is h = by_itself (placed_command x.1 d) (tree_before x.1 d) (placed_others (others_of left) d []) (subst (λ (z : List JoinedView). AreShallow (placed_others (others_of z) d [])) is h).1
+pub joined_in : (x : NextCommandView) (whole left : List NextCommandView) (d : ℕ) → whole ≡ x ∷ left → AreShallow (placed_others (others_of whole) d []) → AreShallow (placed_command x.1 d [])
+joined_in x whole left d is h = by_itself (placed_command x.1 d) (tree_before x.1 d) (placed_others (others_of left) d []) (subst (λ (z : List NextCommandView). AreShallow (placed_others (others_of z) d [])) is h).1
 
-pub others_on : (x : JoinedView) (whole left : List JoinedView) (d : ℕ) → whole ≡ x ∷ left → AreShallow (placed_others (others_of whole) d []) → AreShallow (placed_others (others_of left) d [])
-others_on x whole left d is h = behind_it (placed_command x.1 d) (tree_before x.1 d) (placed_others (others_of left) d []) (subst (λ (z : List JoinedView). AreShallow (placed_others (others_of z) d [])) is h).1
+pub others_on : (x : NextCommandView) (whole left : List NextCommandView) (d : ℕ) → whole ≡ x ∷ left → AreShallow (placed_others (others_of whole) d []) → AreShallow (placed_others (others_of left) d [])
+others_on x whole left d is h = behind_it (placed_command x.1 d) (tree_before x.1 d) (placed_others (others_of left) d []) (subst (λ (z : List NextCommandView). AreShallow (placed_others (others_of z) d [])) is h).1
 
 pub first_in : (b : RowView) (c : Command) (os : Others) (d : ℕ) → b ≡ (c, os) → AreShallow (placed_command b.0 d (placed_others b.1 d [])) → AreShallow (placed_command c d [])
 first_in b c os d is h = by_itself (placed_command c d) (tree_before c d) (placed_others os d []) (subst (λ (z : RowView). AreShallow (placed_command z.0 d (placed_others z.1 d []))) is h)
@@ -202,7 +202,7 @@ GroupsSofar b n whole all d = AreShallow (placed_groups (groups_of all []) d [])
 abbrev pub RowsSofar : ℕ → ℕ → List RowView → List RowView → ℕ → Type 0
 RowsSofar b n whole all d = AreShallow (placed_rows (rows_of all) d []) → AreShallow (placed_rows (rows_of whole) d []) × ((rest : Hs) → nth_held b (amongs_of_rows (rows_of whole) d rest) ≡ nth_held n (amongs_of_rows (rows_of all) d rest))
 
-abbrev pub OthersSofar : ℕ → ℕ → List JoinedView → List JoinedView → ℕ → Type 0
+abbrev pub OthersSofar : ℕ → ℕ → List NextCommandView → List NextCommandView → ℕ → Type 0
 OthersSofar b n whole all d = AreShallow (placed_others (others_of all) d []) → AreShallow (placed_others (others_of whole) d []) × ((rest : Hs) → nth_held b (amongs_of_others (others_of whole) d rest) ≡ nth_held n (amongs_of_others (others_of all) d rest))
 
 -- the rows of a group are two deeper
@@ -243,17 +243,17 @@ rows_next b n m d x whole left all is inv f h =
 abbrev pub OthersFind : WalkEnd → ℕ → Others → ℕ → Type 0
 OthersFind r n os d = AreShallow (placed_others os d []) → Finds r n (λ rest. amongs_of_others os d rest)
 
-pub others_there : (dd : ℕ) (p : Place) (b n d : ℕ) (x : JoinedView) (whole left all : List JoinedView) → whole ≡ x ∷ left → OthersSofar b n whole all d → TreeFinds (ends.There dd p) b x.1 d → OthersFind (ends.There dd p) n (others_of all) d
+pub others_there : (dd : ℕ) (p : Place) (b n d : ℕ) (x : NextCommandView) (whole left all : List NextCommandView) → whole ≡ x ∷ left → OthersSofar b n whole all d → TreeFinds (ends.There dd p) b x.1 d → OthersFind (ends.There dd p) n (others_of all) d
 others_there dd p b n d x whole left all is inv f h =
     let now = inv h in
     let found_ = f (joined_in x whole left d is now.0) in
-    (found_.0, λ rest. sym (now.1 rest) ∙ ap (λ (z : List JoinedView). nth_held b (amongs_of_others (others_of z) d rest)) is ∙ found_.1 (amongs_of_others (others_of left) d rest))
+    (found_.0, λ rest. sym (now.1 rest) ∙ ap (λ (z : List NextCommandView). nth_held b (amongs_of_others (others_of z) d rest)) is ∙ found_.1 (amongs_of_others (others_of left) d rest))
 
-pub others_next : (b n m d : ℕ) (x : JoinedView) (whole left all : List JoinedView) → whole ≡ x ∷ left → OthersSofar b n whole all d → TreeFinds (ends.Behind m) b x.1 d → OthersSofar m n left all d
+pub others_next : (b n m d : ℕ) (x : NextCommandView) (whole left all : List NextCommandView) → whole ≡ x ∷ left → OthersSofar b n whole all d → TreeFinds (ends.Behind m) b x.1 d → OthersSofar m n left all d
 others_next b n m d x whole left all is inv f h =
     let now = inv h in
     let found_ = f (joined_in x whole left d is now.0) in
-    (others_on x whole left d is now.0, λ rest. sym (found_ (amongs_of_others (others_of left) d rest)) ∙ ap (λ (z : List JoinedView). nth_held b (amongs_of_others (others_of z) d rest)) (sym is) ∙ now.1 rest)
+    (others_on x whole left d is now.0, λ rest. sym (found_ (amongs_of_others (others_of left) d rest)) ∙ ap (λ (z : List NextCommandView). nth_held b (amongs_of_others (others_of z) d rest)) (sym is) ∙ now.1 rest)
 
 row_as_seen : (r : WalkEnd) (n d : ℕ) (b : RowView) (c : Command) (os : Others) → b ≡ (c, os) → Finds r n (λ rest. amongs c d (amongs_of_others os d rest)) → Finds r n (λ rest. amongs b.0 d (amongs_of_others b.1 d rest))
 row_as_seen r n d b c os is f = finds_there r n (λ rest. amongs c d (amongs_of_others os d rest)) (λ rest. amongs b.0 d (amongs_of_others b.1 d rest)) (λ rest. ap (λ (z : RowView). amongs z.0 d (amongs_of_others z.1 d rest)) (sym is)) f

@@ -48,13 +48,13 @@ abbrev pub NextFactorView : Type 0
 NextFactorView = Multiplicative × trees.Factor
 
 -- one level, with the view of each child
-abbrev pub added_step : NextProduct-F trees.Factor NextProductView trees.Expression trees.Product NextFactorView → NextProductView
-added_step a = (a.operator, a.product)
+abbrev pub next_product_step : NextProduct-F trees.Factor trees.Expression NextFactorView NextProductView trees.Product → NextProductView
+next_product_step a = (a.operator, a.product)
 
-abbrev pub expression_step : Expression-F trees.Factor NextProductView trees.Expression trees.Product NextFactorView → trees.Expression
+abbrev pub expression_step : Expression-F trees.Factor trees.Expression NextFactorView NextProductView trees.Product → trees.Expression
 expression_step e = trees.expression e.first (foldr (λ s. trees.sum s.0 s.1) trees.no_sums e.others.items)
 
-abbrev pub factor_step : Factor-F trees.Factor NextProductView trees.Expression trees.Product NextFactorView → trees.Factor
+abbrev pub factor_step : Factor-F trees.Factor trees.Expression NextFactorView NextProductView trees.Product → trees.Factor
 factor_step (Factor-F.Minus f) = trees.negated f.value
 factor_step (Factor-F.Bracket e) = trees.bracketed e.value
 factor_step (Factor-F.Number n) = trees.numeral n
@@ -62,26 +62,26 @@ factor_step (Factor-F.Name n) = trees.variable (string_bytes n)
 factor_step (Factor-F.Constant c) = trees.fixed c
 factor_step (Factor-F.LenOf a) = trees.length_of (view_argument a)
 
-abbrev pub product_step : Product-F trees.Factor NextProductView trees.Expression trees.Product NextFactorView → trees.Product
+abbrev pub product_step : Product-F trees.Factor trees.Expression NextFactorView NextProductView trees.Product → trees.Product
 product_step p = trees.product p.first (foldr (λ s. trees.scale s.0 s.1) trees.no_scales p.others.items)
 
-abbrev pub scaled_step : NextFactor-F trees.Factor NextProductView trees.Expression trees.Product NextFactorView → NextFactorView
-scaled_step s = (s.operator, s.factor)
+abbrev pub next_factor_step : NextFactor-F trees.Factor trees.Expression NextFactorView NextProductView trees.Product → NextFactorView
+next_factor_step s = (s.operator, s.factor)
 
 abbrev pub view_next_product : NextProduct → NextProductView
-view_next_product = fold-NextProduct trees.Factor NextProductView trees.Expression trees.Product NextFactorView factor_step added_step expression_step product_step scaled_step
+view_next_product = fold-NextProduct trees.Factor trees.Expression NextFactorView NextProductView trees.Product factor_step expression_step next_factor_step next_product_step product_step
 
 abbrev pub view_expression : Expression → trees.Expression
-view_expression = fold-Expression trees.Factor NextProductView trees.Expression trees.Product NextFactorView factor_step added_step expression_step product_step scaled_step
+view_expression = fold-Expression trees.Factor trees.Expression NextFactorView NextProductView trees.Product factor_step expression_step next_factor_step next_product_step product_step
 
 abbrev pub view_factor : Factor → trees.Factor
-view_factor = fold-Factor trees.Factor NextProductView trees.Expression trees.Product NextFactorView factor_step added_step expression_step product_step scaled_step
+view_factor = fold-Factor trees.Factor trees.Expression NextFactorView NextProductView trees.Product factor_step expression_step next_factor_step next_product_step product_step
 
 abbrev pub view_product : Product → trees.Product
-view_product = fold-Product trees.Factor NextProductView trees.Expression trees.Product NextFactorView factor_step added_step expression_step product_step scaled_step
+view_product = fold-Product trees.Factor trees.Expression NextFactorView NextProductView trees.Product factor_step expression_step next_factor_step next_product_step product_step
 
 abbrev pub view_next_factor : NextFactor → NextFactorView
-view_next_factor = fold-NextFactor trees.Factor NextProductView trees.Expression trees.Product NextFactorView factor_step added_step expression_step product_step scaled_step
+view_next_factor = fold-NextFactor trees.Factor trees.Expression NextFactorView NextProductView trees.Product factor_step expression_step next_factor_step next_product_step product_step
 
 abbrev pub view_sums : List NextProduct → trees.Sums
 view_sums ss = foldr (λ s. trees.sum s.0 s.1) trees.no_sums (map view_next_product ss)
@@ -137,26 +137,26 @@ command_step (Command-F.Among a) = trees.among_ a.0 a.1
 abbrev pub group_step : Group-F trees.Command AmongView GroupView NextCommandView RowView → GroupView
 group_step g = record { first = view_entry g.first; others = map view_entry g.others.items; rows = rows_of g.rows.items }
 
-abbrev pub joined_step : NextCommand-F trees.Command AmongView GroupView NextCommandView RowView → NextCommandView
-joined_step o = (o.joiner, o.command)
+abbrev pub next_command_step : NextCommand-F trees.Command AmongView GroupView NextCommandView RowView → NextCommandView
+next_command_step o = (o.joiner, o.command)
 
 abbrev pub row_step : RowOfCommands-F trees.Command AmongView GroupView NextCommandView RowView → RowView
 row_step r = (r.first, foldr (λ o. trees.joined o.0 o.1) trees.no_others r.others.items)
 
 abbrev pub view_among : Among → AmongView
-view_among = fold-Among trees.Command AmongView GroupView NextCommandView RowView command_step among_step group_step joined_step row_step
+view_among = fold-Among trees.Command AmongView GroupView NextCommandView RowView command_step among_step group_step next_command_step row_step
 
 abbrev pub view_command : Command → trees.Command
-view_command = fold-Command trees.Command AmongView GroupView NextCommandView RowView command_step among_step group_step joined_step row_step
+view_command = fold-Command trees.Command AmongView GroupView NextCommandView RowView command_step among_step group_step next_command_step row_step
 
 abbrev pub view_group : Group → GroupView
-view_group = fold-Group trees.Command AmongView GroupView NextCommandView RowView command_step among_step group_step joined_step row_step
+view_group = fold-Group trees.Command AmongView GroupView NextCommandView RowView command_step among_step group_step next_command_step row_step
 
 abbrev pub view_next_command : NextCommand → NextCommandView
-view_next_command = fold-NextCommand trees.Command AmongView GroupView NextCommandView RowView command_step among_step group_step joined_step row_step
+view_next_command = fold-NextCommand trees.Command AmongView GroupView NextCommandView RowView command_step among_step group_step next_command_step row_step
 
 abbrev pub view_row : Row → RowView
-view_row = fold-RowOfCommands trees.Command AmongView GroupView NextCommandView RowView command_step among_step group_step joined_step row_step
+view_row = fold-RowOfCommands trees.Command AmongView GroupView NextCommandView RowView command_step among_step group_step next_command_step row_step
 
 -- the rows that were read so far
 abbrev pub view_rows : List Row → trees.Rows

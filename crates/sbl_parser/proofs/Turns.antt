@@ -4,16 +4,16 @@ use Rattle.sbl_ast.specs.declared.tree.Additive.{Additive}
 use Rattle.sbl_ast.specs.Terminal.{Terminal}
 use Rattle.sbl_ast.specs.Terminal as t
 use Rattle.sbl_ast.specs.Tree.{Argument, Entry, entry, Term, term, Plain, Item, argument_terminal, spelled_sums, spelled_product, spelled_scales, spelled_factor, spelled_condition, spelled_entry, spelled_entries, spelled_command, spelled_rows, spelled_others, spelled_groups, spelled_names, spelled_terms, spelled_plain, spelled_plains, spelled_item, spelled_items}
-use Rattle.sbl_ast.specs.View.{AddedView, ScaledView, RowView, JoinedView, GroupView, sums_of, scales_of, rows_of, others_of, groups_of}
+use Rattle.sbl_ast.specs.View.{NextProductView, NextFactorView, RowView, NextCommandView, GroupView, sums_of, scales_of, rows_of, others_of, groups_of}
 
 abbrev Ts : Type 0
 Ts = List Terminal
 
-pub sums_push : (xs : List AddedView) (x : AddedView) (rest : Ts) → spelled_sums (sums_of (xs ++ x ∷ [])) rest ≡ spelled_sums (sums_of xs) (t.additive x.0 ∷ spelled_product x.1 rest)
+pub sums_push : (xs : List NextProductView) (x : NextProductView) (rest : Ts) → spelled_sums (sums_of (xs ++ x ∷ [])) rest ≡ spelled_sums (sums_of xs) (t.additive x.0 ∷ spelled_product x.1 rest)
 sums_push [] x rest = refl
 sums_push (y ∷ xs) x rest = ap (λ (r : Ts). t.additive y.0 ∷ spelled_product y.1 r) (sums_push xs x rest)
 
-pub scales_push : (xs : List ScaledView) (x : ScaledView) (rest : Ts) → spelled_scales (scales_of (xs ++ x ∷ [])) rest ≡ spelled_scales (scales_of xs) (t.multiplicative x.0 ∷ spelled_factor x.1 rest)
+pub scales_push : (xs : List NextFactorView) (x : NextFactorView) (rest : Ts) → spelled_scales (scales_of (xs ++ x ∷ [])) rest ≡ spelled_scales (scales_of xs) (t.multiplicative x.0 ∷ spelled_factor x.1 rest)
 scales_push [] x rest = refl
 scales_push (y ∷ xs) x rest = ap (λ (r : Ts). t.multiplicative y.0 ∷ spelled_factor y.1 r) (scales_push xs x rest)
 
@@ -21,7 +21,7 @@ pub rows_push : (xs : List RowView) (x : RowView) (rest : Ts) → spelled_rows (
 rows_push [] x rest = refl
 rows_push (y ∷ xs) x rest = ap (λ (r : Ts). spelled_command y.0 (spelled_others y.1 r)) (rows_push xs x rest)
 
-pub others_push : (xs : List JoinedView) (x : JoinedView) (rest : Ts) → spelled_others (others_of (xs ++ x ∷ [])) rest ≡ spelled_others (others_of xs) (t.joiner x.0 ∷ spelled_command x.1 rest)
+pub others_push : (xs : List NextCommandView) (x : NextCommandView) (rest : Ts) → spelled_others (others_of (xs ++ x ∷ [])) rest ≡ spelled_others (others_of xs) (t.joiner x.0 ∷ spelled_command x.1 rest)
 others_push [] x rest = refl
 others_push (y ∷ xs) x rest = ap (λ (r : Ts). t.joiner y.0 ∷ spelled_command y.1 r) (others_push xs x rest)
 
@@ -81,14 +81,14 @@ far a b next c h e g = omega (arith, ap length e, length-drop 1 b)
 
 -- ---- one more turn, after what precedes the list
 
-pub next_sum : (front : Ts → Ts) (xs ys : List AddedView) (x : AddedView) (start now next : Ts) → start ≡ front (spelled_sums (sums_of xs) now) → now ≡ t.additive x.0 ∷ spelled_product x.1 next → ys ≡ xs ++ x ∷ [] → start ≡ front (spelled_sums (sums_of ys) next)
-next_sum front xs ys x start now next h e m = h ∙ ap (λ (r : Ts). front r) (ap (λ (r : Ts). spelled_sums (sums_of xs) r) e ∙ sym (sums_push xs x next) ∙ ap (λ (zs : List AddedView). spelled_sums (sums_of zs) next) (sym m))
+pub next_sum : (front : Ts → Ts) (xs ys : List NextProductView) (x : NextProductView) (start now next : Ts) → start ≡ front (spelled_sums (sums_of xs) now) → now ≡ t.additive x.0 ∷ spelled_product x.1 next → ys ≡ xs ++ x ∷ [] → start ≡ front (spelled_sums (sums_of ys) next)
+next_sum front xs ys x start now next h e m = h ∙ ap (λ (r : Ts). front r) (ap (λ (r : Ts). spelled_sums (sums_of xs) r) e ∙ sym (sums_push xs x next) ∙ ap (λ (zs : List NextProductView). spelled_sums (sums_of zs) next) (sym m))
 
-pub next_scale : (front : Ts → Ts) (xs ys : List ScaledView) (x : ScaledView) (start now next : Ts) → start ≡ front (spelled_scales (scales_of xs) now) → now ≡ t.multiplicative x.0 ∷ spelled_factor x.1 next → ys ≡ xs ++ x ∷ [] → start ≡ front (spelled_scales (scales_of ys) next)
-next_scale front xs ys x start now next h e m = h ∙ ap (λ (r : Ts). front r) (ap (λ (r : Ts). spelled_scales (scales_of xs) r) e ∙ sym (scales_push xs x next) ∙ ap (λ (zs : List ScaledView). spelled_scales (scales_of zs) next) (sym m))
+pub next_scale : (front : Ts → Ts) (xs ys : List NextFactorView) (x : NextFactorView) (start now next : Ts) → start ≡ front (spelled_scales (scales_of xs) now) → now ≡ t.multiplicative x.0 ∷ spelled_factor x.1 next → ys ≡ xs ++ x ∷ [] → start ≡ front (spelled_scales (scales_of ys) next)
+next_scale front xs ys x start now next h e m = h ∙ ap (λ (r : Ts). front r) (ap (λ (r : Ts). spelled_scales (scales_of xs) r) e ∙ sym (scales_push xs x next) ∙ ap (λ (zs : List NextFactorView). spelled_scales (scales_of zs) next) (sym m))
 
-pub next_joined : (front : Ts → Ts) (xs ys : List JoinedView) (x : JoinedView) (start now next : Ts) → start ≡ front (spelled_others (others_of xs) now) → now ≡ t.joiner x.0 ∷ spelled_command x.1 next → ys ≡ xs ++ x ∷ [] → start ≡ front (spelled_others (others_of ys) next)
-next_joined front xs ys x start now next h e m = h ∙ ap (λ (r : Ts). front r) (ap (λ (r : Ts). spelled_others (others_of xs) r) e ∙ sym (others_push xs x next) ∙ ap (λ (zs : List JoinedView). spelled_others (others_of zs) next) (sym m))
+pub next_joined : (front : Ts → Ts) (xs ys : List NextCommandView) (x : NextCommandView) (start now next : Ts) → start ≡ front (spelled_others (others_of xs) now) → now ≡ t.joiner x.0 ∷ spelled_command x.1 next → ys ≡ xs ++ x ∷ [] → start ≡ front (spelled_others (others_of ys) next)
+next_joined front xs ys x start now next h e m = h ∙ ap (λ (r : Ts). front r) (ap (λ (r : Ts). spelled_others (others_of xs) r) e ∙ sym (others_push xs x next) ∙ ap (λ (zs : List NextCommandView). spelled_others (others_of zs) next) (sym m))
 
 pub next_term : (head : Terminal) (xs ys : List Term) (o : Additive) (a : Argument) (start now next : Ts) → start ≡ head ∷ spelled_terms xs now → now ≡ t.additive o ∷ argument_terminal a ∷ next → ys ≡ xs ++ term o a ∷ [] → start ≡ head ∷ spelled_terms ys next
 next_term head xs ys o a start now next h e m = h ∙ ap (λ (r : Ts). head ∷ r) (ap (λ (r : Ts). spelled_terms xs r) e ∙ sym (terms_push xs o a next) ∙ ap (λ (zs : List Term). spelled_terms zs next) (sym m))

@@ -55,13 +55,13 @@ in_groups-loop-group-preserved t c =
 pub in_others-returns-in-There : goal.in_others-returns-in-There
 in_others-returns-in-There t c =
     let front = p.at_front view.view_next_command c.args.others.now.items c.deref-joined-items.result.now c.loop-joined.joined-index c.joined-item.result c.deref-joined-items.ensures.value c.loop-joined-test.true c.joined-item.is in
-    let whole = front ∙ ap (λ (y : view.JoinedView). y ∷ map view.view_next_command (drop (c.loop-joined.joined-index + 1) c.args.others.now.items)) (views.seen_joined c.joined-item.result) in
+    let whole = front ∙ ap (λ (y : view.NextCommandView). y ∷ map view.view_next_command (drop (c.loop-joined.joined-index + 1) c.args.others.now.items)) (views.seen_next_command c.joined-item.result) in
     f.others_there c.in-There.depth c.in-There.among c.loop-joined.behind c.args.number c.args.depth (c.joined-item.result.joiner, view.view_command c.joined-item.result.command) _ _ (map view.view_next_command c.args.others.now.items) whole c.loop-joined.invariant c.in-There.ensures
 
 pub in_others-loop-joined-preserved : goal.in_others-loop-joined-preserved
 in_others-loop-joined-preserved t c =
     let front = p.at_front view.view_next_command c.args.others.now.items c.deref-joined-items.result.now c.loop-joined.joined-index c.joined-item.result c.deref-joined-items.ensures.value c.loop-joined-test.true c.joined-item.is in
-    let whole = front ∙ ap (λ (y : view.JoinedView). y ∷ map view.view_next_command (drop (c.loop-joined.joined-index + 1) c.args.others.now.items)) (views.seen_joined c.joined-item.result) in
+    let whole = front ∙ ap (λ (y : view.NextCommandView). y ∷ map view.view_next_command (drop (c.loop-joined.joined-index + 1) c.args.others.now.items)) (views.seen_next_command c.joined-item.result) in
     f.others_next c.loop-joined.behind c.args.number c.in-Behind.next c.args.depth (c.joined-item.result.joiner, view.view_command c.joined-item.result.command) _ _ (map view.view_next_command c.args.others.now.items) whole c.loop-joined.invariant c.in-Behind.ensures
 
 pub in_row-returns-in-Behind : goal.in_row-returns-in-Behind

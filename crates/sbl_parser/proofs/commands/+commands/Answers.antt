@@ -55,8 +55,8 @@ row-loop-joiner-smaller t_ c = turns.shorter (ahead c.loop-joiner.cursor) (ahead
 pub row-loop-joiner-preserved : goal.row-loop-joiner-preserved
 row-loop-joiner-preserved t_ c =
     let first : ahead c.loop-joiner.cursor ≡ t.joiner c.in-Joiner.joiner ∷ ahead c.skip.new.self = d.headed (ahead c.loop-joiner.cursor) (ahead c.skip.new.self) (t.joiner c.in-Joiner.joiner) (of_role.as_terminal (ahead c.loop-joiner.cursor) (t.joiner c.in-Joiner.joiner) refl (sym c.role.ensures ∙ c.in-Joiner.is)) c.skip.ensures in
-    let last : view.JoinedView = (c.in-Joiner.joiner, view.view_command c.in_ok-command.field-0) in
-    let more : map view.view_next_command c.push.new.self.items ≡ map view.view_next_command c.loop-joiner.others.items ++ last ∷ [] = ap (λ (xs : List NextCommand). map view.view_next_command xs) c.in_ok-push.ensures.items ∙ map_push view.view_next_command c.loop-joiner.others.items _ ∙ ap (λ (x : view.JoinedView). map view.view_next_command c.loop-joiner.others.items ++ x ∷ []) (views.view_of_joined (record { joiner = c.in-Joiner.joiner; command = c.in_ok-command.field-0 })) in
+    let last : view.NextCommandView = (c.in-Joiner.joiner, view.view_command c.in_ok-command.field-0) in
+    let more : map view.view_next_command c.push.new.self.items ≡ map view.view_next_command c.loop-joiner.others.items ++ last ∷ [] = ap (λ (xs : List NextCommand). map view.view_next_command xs) c.in_ok-push.ensures.items ∙ map_push view.view_next_command c.loop-joiner.others.items _ ∙ ap (λ (x : view.NextCommandView). map view.view_next_command c.loop-joiner.others.items ++ x ∷ []) (views.view_of_next_command (record { joiner = c.in-Joiner.joiner; command = c.in_ok-command.field-0 })) in
     record {
       shallow = c.loop-joiner.invariant.shallow;
       spelled = turns.next_joined (trees.spelled_command (view.view_command _)) (map view.view_next_command c.loop-joiner.others.items) (map view.view_next_command c.push.new.self.items) last _ (ahead c.loop-joiner.cursor) (ahead c.command-in-Joiner.new.cursor) c.loop-joiner.invariant.spelled (first ∙ ap (λ (r : List Terminal). t.joiner c.in-Joiner.joiner ∷ r) c.in_ok-command.ensures.gives.0) more;
