@@ -17,7 +17,8 @@ use Rattle.sbl_resolver.specs.declared.occurrences.Site.{Site}
 use Rattle.sbl_resolver.specs.Occurrences.{Occurrence, Notice, put, uses, substring, among, string, backwards, region_end, declares, defines_routine, defines_grouping, amongs_in, noted_expression, noted_sums, noted_product, noted_scales, noted_factor, noted_simple, noted_prefix, site_behind, use_of, noted_entry, noted_entries, has_starter, is_empty, noted_command, noted_rows, noted_others, noted_starter, noted_groups, noted_terms, noted_plain, noted_items, occurrences_of, noted_name}
 use Rattle.sbl_resolver.specs.OccurrenceView.{noted_names}
 use Rattle.sbl_resolver.specs.Subjects.{Subject, subject_of, subjects_of, and_more}
-use Rattle.sbl_places.specs.SubjectTokens.{SubjectToken, subject_in, string_if, is_among, is_in_among, open_after, subject_tokens, subject_tokens_after, subjects}
+use Rattle.sbl_places.specs.SubjectTokens.{SubjectToken, string_if, is_in_among, subject_tokens, subject_tokens_after, subjects}
+use Rattle.sbl_places.proofs.Roles.{is_among, open_after, subject_in, same}
 use Rattle.sbl_places.specs.SubjectTokens as tokens
 
 -- ---- tokens without their places
@@ -33,8 +34,15 @@ same_subjects : (f : Bool) (o : List Bool) (ts : List PlacedToken) → subjects 
 same_subjects f o [] = refl
 same_subjects f o (u ∷ ts) =
     let x = terminal_of u.lexeme in
-    one (subject_in (is_in_among o) x) u (subject_tokens_after (is_among x) (open_after f x o) ts)
-    ∙ ap (and_more (subject_in (is_in_among o) x)) (same_subjects (is_among x) (open_after f x o) ts) where
+    let found = tokens.subject_in (is_in_among o) u.lexeme in
+    let follows = tokens.is_among u.lexeme in
+    let brackets = tokens.open_after f u.lexeme o in
+    let by_role = same u.lexeme in
+    one found u (subject_tokens_after follows brackets ts)
+    ∙ ap (and_more found) (same_subjects follows brackets ts)
+    ∙ ap (λ (y : Option Subject). and_more y (subjects_from follows brackets (terminals ts))) (by_role.0 (is_in_among o))
+    ∙ ap (λ (b : Bool). and_more (subject_in (is_in_among o) x) (subjects_from b brackets (terminals ts))) by_role.1
+    ∙ ap (λ (r : List Bool). and_more (subject_in (is_in_among o) x) (subjects_from (is_among x) r (terminals ts))) (by_role.2 f o) where
       one : (s : Option Subject) (v : PlacedToken) (more : List SubjectToken) → subjects (tokens.and_more s v more) ≡ and_more s (subjects more)
       one None v more = refl
       one (Some y) v more = refl
