@@ -25,11 +25,14 @@ ended() {
 ended_telling() {
   [ "$status" -eq "$1" ] && grep -q "$2" "$room/err"
 }
-# Waits for a condition, minutes at most: other work on the machine can make a step long.
+# Waits for a condition, minutes at most: other work on the machine can make a step long. It says so if it waited in vain.
 soon() {
   local end=$((SECONDS + 240))
   until "$@"; do
-    [ "$SECONDS" -lt "$end" ] || return
+    if [ "$SECONDS" -ge "$end" ]; then
+      echo "${0##*/}: waited in vain for $*"
+      return 1
+    fi
     sleep 0.02
   done
 }
