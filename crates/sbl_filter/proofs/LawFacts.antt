@@ -21,11 +21,11 @@ use Rattle.sbl_filter.proofs.RowFacts.{filtered-append}
 use Rattle.sbl_semantics.specs.Limit.{default_limit}
 use Rattle.sbl_io.specs.Records.{records_text}
 use Rattle.sbl_ast.specs.Source.{Source}
-use Rattle.sbl_sessions.specs.Loading.{IsInput, IsLoaded}
-use Rattle.sbl_sessions.specs.OneLoading.{IsToldByBytes, LoadingIsOne}
-use Rattle.sbl_sessions.specs.Rows.{row_fields, stems_text}
-use Rattle.sbl_sessions.specs.declared.faults.LoadFault.{LoadFault}
-use Rattle.sbl_sessions.specs.declared.faults.LoadFault.TheVariants.{Open}
+use Rattle.sbl_formats.specs.Loading.{IsInput, IsLoaded}
+use Rattle.sbl_formats.specs.OneLoading.{IsToldByBytes, LoadingIsOne}
+use Rattle.sbl_formats.specs.Rows.{row_fields, stems_text}
+use Rattle.sbl_formats.specs.declared.faults.LoadFault.{LoadFault}
+use Rattle.sbl_formats.specs.declared.faults.LoadFault.TheVariants.{Open}
 
 pub parts : PartsMakeWhole
 parts s first rest = filtered-append s first rest

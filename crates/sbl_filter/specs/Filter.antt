@@ -12,11 +12,11 @@ use Rattle.sbl_io.specs.declared.faults.ServeFault.TheVariants as fault
 use Rattle.sbl_semantics.specs.Limit.{default_limit, max_word_length}
 use Rattle.sbl_io.specs.Records.{records_text}
 use Rattle.sbl_ast.specs.Source.{Source}
-use Rattle.sbl_sessions.specs.Block.{point}
-use Rattle.sbl_sessions.specs.Loading.{IsInput, ReadsScript, TookFault, TookSource, TookWords, WordLines}
-use Rattle.sbl_sessions.specs.Rows.{row_fields}
-use Rattle.sbl_sessions.specs.declared.faults.LoadFault.{LoadFault}
-use Rattle.sbl_sessions.specs.declared.faults.LoadFault.TheVariants.{Input, Script, Open}
+use Rattle.sbl_formats.specs.Block.{point}
+use Rattle.sbl_formats.specs.Loading.{IsInput, ReadsScript, TookFault, TookSource, TookWords, WordLines}
+use Rattle.sbl_formats.specs.Rows.{row_fields}
+use Rattle.sbl_formats.specs.declared.faults.LoadFault.{LoadFault}
+use Rattle.sbl_formats.specs.declared.faults.LoadFault.TheVariants.{Input, Script, Open}
 
 -- ---- the rows
 

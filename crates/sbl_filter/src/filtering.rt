@@ -10,15 +10,15 @@ ghost use Rattle.sbl_io.specs.declared.faults.LineFault.{LineFault};
 ghost use Rattle.sbl_machine.specs.MachineOf.{IsLinkedMachineOf};
 ghost use Rattle.sbl_ast.specs.Source.{Source};
 ghost use Rattle.sbl_script.specs.ParsedScript.{source_of};
-ghost use Rattle.sbl_sessions.specs.Faults.{left_by_load};
-ghost use Rattle.sbl_sessions.specs.Loading.{HasReason};
+ghost use Rattle.sbl_formats.specs.Faults.{left_by_load};
+ghost use Rattle.sbl_formats.specs.Loading.{HasReason};
 
 use crate::rows::{RowWriter, row_text};
 use sbl_bench::{EditFault, MAX_WORD_LENGTH};
+use sbl_formats::{LoadFault, read_script};
 use sbl_io::{Lines, ServeFault, Sink, Source, write_all};
 use sbl_machine::{Machine, Meter, Table};
 use sbl_script::Script;
-use sbl_sessions::{LoadFault, read_script};
 use std::alloc::Global;
 
 /// Writes the row of the word in a line; an empty line has no row. Returns `NotText` if the line is not UTF-8, `WordTooLong`

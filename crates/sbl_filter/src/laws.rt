@@ -1,8 +1,8 @@
 //! Laws of the rows that a filter writes.
 ghost use Rattle.sbl_filter.specs.Laws as spec;
 
+use sbl_formats::loading_is_one;
 use sbl_script::laws::one_reading;
-use sbl_sessions::loading_is_one;
 
 /// The rows of a list of words are the rows of its parts, one after another.
 pub fn parts_make_whole()

@@ -8,13 +8,13 @@ ghost use Rattle.sbl_machine.specs.MachineOf.{IsLinkedMachineOf};
 ghost use Rattle.sbl_io.specs.Records as texts;
 ghost use Rattle.sbl_ast.specs.Source.{Source};
 ghost use Rattle.sbl_filter.specs.LineWriter.{IsBetweenLines};
-ghost use Rattle.sbl_sessions.specs.Rows.{row_fields};
+ghost use Rattle.sbl_formats.specs.Rows.{row_fields};
 
 use crate::lines::{line_writer, next_line};
 use csv::Writer;
+use sbl_formats::outcome_fields;
 use sbl_io::TextBuffer;
 use sbl_machine::{DEFAULT_LIMIT, Machine, Meter, Table};
-use sbl_sessions::outcome_fields;
 use std::alloc::{AllocError, Global};
 
 /// What makes the text of one row after another. It keeps its buffers from row to row. The run of a word and the text of its row

@@ -1,12 +1,7 @@
-pub mod BlockFacts
 pub mod EditFacts
 pub mod FirstFacts
-pub mod LoadFacts
-pub mod WordListFacts
 pub mod ReportFacts
 pub mod SessionFacts
 pub mod CommandFacts
 pub mod NumberFacts
 pub mod OneAnswer
-pub mod InputFacts
-pub mod OneLoading

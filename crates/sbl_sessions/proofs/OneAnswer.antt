@@ -9,8 +9,8 @@ use Rattle.sbl_print.specs.Canonical.{canonical}
 use Rattle.sbl_sessions.specs.Answers.{Answers, BlockRefused, Enough, IsEdit, IsNoText, IsReplyTo, IsReport, Memory, RefusedAfter, Tells, edit_text, with_line_feed}
 use Rattle.sbl_sessions.specs.Commands.{Command, Nothing, Makes, Stems, Classes, Script, Class, Trace, Runs, HasNoNumber, HasNoText, Bad, command_of}
 use Rattle.sbl_sessions.specs.OneAnswer.{AnswersAreOne}
-use Rattle.sbl_sessions.specs.Rows.{class_text, classes_text, stems_text}
-use Rattle.sbl_sessions.specs.Traces.{trace_text}
+use Rattle.sbl_formats.specs.Rows.{class_text, classes_text, stems_text}
+use Rattle.sbl_formats.specs.Traces.{trace_text}
 
 tells-one : (s : Contents) (expected a b : List ℕ) (t u : Contents) → Tells s expected a t → Tells s expected b u → (a ≡ b) × (t ≡ u)
 tells-one s expected a b t u p q = (p.0 ∙ sym q.0, p.1 ∙ sym q.1)

@@ -1,27 +1,24 @@
 -- Reports: the rows and classes that they write, and the row of a word.
-use Rattle.std.proofs.Common.{append_assoc, get_or, length, subst, ◌<◌, ◌++◌, ◌≡◌, ◌∙◌, ◌+◌, ℕ, Bool, true, false, List, [], ◌∷◌, Option, Some, None, Result, Ok, Err, IfOk, OnErr, OnOk, refl, sym, ap, map, take, slice_get, suc}
+use Rattle.std.proofs.Common.{subst, ◌≡◌, ◌∙◌, ℕ, Bool, true, false, List, [], ◌∷◌, Option, Some, None, Result, Ok, Err, IfOk, OnErr, refl, sym, ap, map, take, slice_get, suc}
 use Prim.Native.Nat.{zero}
 use Rattle.std.specs.List.{find}
 use Rattle.std.specs.declared.vec.Vec.{Vec}
 use Rattle.std.specs.declared.alloc.Global.{Global}
 use Rattle.std.specs.declared.alloc.AllocError.{AllocError}
-use Rattle.csv.specs.declared.writer.Writer.{Writer}
 use Rattle.sbl_bench.specs.Contents.{Contents}
-use Rattle.std.proofs.lemmas.List.{flat_map_more, map-append, take_more}
 use Rattle.std.specs.Option.{option_map, option_map_or}
-use Rattle.std.specs.Str.{bytes_eq, encode_utf8_all}
-use Rattle.sbl_bench.specs.Classes.{Class, class_of, words_of}
+use Rattle.std.specs.Str.{bytes_eq}
+use Rattle.sbl_bench.specs.Classes.{Class, class_of}
 use Rattle.sbl_bench.specs.Rows.{Row}
 use Rattle.sbl_bench.specs.Traces.{trace_of}
 use Rattle.sbl_bench.specs.Vocabulary.{is_word}
 use Rattle.sbl_bench.specs.declared.fault.EditFault.TheVariants as fault
 use Rattle.sbl_semantics.specs.TouchedItems.{Item', touched_items}
-use Rattle.sbl_io.specs.Records.{record_line, records_text}
+use Rattle.sbl_io.specs.Records.{records_text}
 use Rattle.sbl_sessions.specs.Answers.{Enough, IsReport, Memory, RefusedAfter, edit_text}
 use Rattle.sbl_sessions.specs.CommandViews.{IsReply}
-use Rattle.sbl_sessions.specs.Rows.{class_fields, class_or_row_text, class_text, row_fields, rows_now}
-use Rattle.sbl_sessions.specs.RowWriter.{Writes}
-use Rattle.sbl_sessions.specs.Traces.{items_text, trace_text}
+use Rattle.sbl_formats.specs.Rows.{class_fields, class_or_row_text, class_text, row_fields, rows_now}
+use Rattle.sbl_formats.specs.Traces.{items_text, trace_text}
 use Rattle.sbl_sessions.specs.declared.replies.Reply.{Reply}
 
 pub map_twice : {A B C : Type 0} (g : B → C) (f : A → B) (xs : List A) → map (λ (x : A). g (f x)) xs ≡ map g (map f xs)
@@ -84,32 +81,6 @@ missed {A} p (y ∷ xs) (suc i) x none at fails = by (λ rest. missed p xs i x r
 pub class_text_is : (s : Contents) (word : List ℕ) (row : Option Row) → find (λ (r : Row). bytes_eq word r.word) (rows_now s) ≡ row → class_text s word ≡ option_map (class_or_row_text s word) row
 unfolding class_text
 class_text_is s word row is = ap (option_map (class_or_row_text s word)) is
-
--- ---- the fields of a class
-
-pub word_field : (words : List (Vec ℕ Global)) (i : ℕ) (w : Vec ℕ Global) (first old new : List (List ℕ)) → i < length words → w ≡ get_or words i w
-    → old ≡ first ++ map encode_utf8_all (words_of (take i words)) → new ≡ old ++ encode_utf8_all w.items ∷ []
-    → new ≡ first ++ map encode_utf8_all (words_of (take (i + 1) words))
-word_field words i w first old new lt is before more =
-    let enc = encode_utf8_all in
-    let one : words_of (take (i + 1) words) ≡ words_of (take i words) ++ w.items ∷ [] =
-    ap words_of (take_more words i w lt ∙ ap (λ (x : Vec ℕ Global). take i words ++ x ∷ []) (sym is)) ∙ map-append {A = Vec ℕ Global} (λ x. x.items) (take i words) (w ∷ []) in
-    more ∙ ap (λ (x : List (List ℕ)). x ++ enc w.items ∷ []) before ∙ append_assoc first (map enc (words_of (take i words))) (enc w.items ∷ [])
-    ∙ ap (λ (x : List (List ℕ)). first ++ x) (sym (ap (map enc) one ∙ map-append enc (words_of (take i words)) (w.items ∷ [])))
-
--- ---- the text of records
-
--- a record is written, by its fields in another form
-pub writes_same : (r : Result (Unit {0}) AllocError) (fields shown : List (List ℕ)) (old new : Writer (Vec ℕ Global)) → fields ≡ shown → OnOk r (Writes fields old new)
-    → OnOk r (Writes shown old new)
-writes_same r fields shown old new is written = subst (λ (f : List (List ℕ)). OnOk r (Writes f old new)) is written
-
--- one more record
-pub records_more : {X : Type 0} (fields : X → List (List ℕ)) (xs : List X) (i : ℕ) (x : X) → i < length xs → x ≡ get_or xs i x
-    → records_text (map fields (take i xs)) ++ record_line (fields x) ≡ records_text (map fields (take (i + 1) xs))
-records_more {X} fields xs i x lt is =
-    let one : take i xs ++ x ∷ [] ≡ take (i + 1) xs = ap (λ (y : X). take i xs ++ y ∷ []) is ∙ sym (take_more xs i x lt) in
-    flat_map_more record_line [] (map fields (take i xs)) (fields x) ∙ ap records_text (sym (map-append fields (take i xs) (x ∷ [])) ∙ ap (map fields) one)
 
 -- ---- the trace of a word
 

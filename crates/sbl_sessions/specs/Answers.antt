@@ -8,8 +8,8 @@ use Rattle.sbl_bench.specs.declared.fault.EditFault.TheVariants as fault
 use Rattle.sbl_print.specs.Canonical.{canonical}
 use Rattle.sbl_sessions.specs.Commands.{Command, Nothing, Makes, Stems, Classes, Script, Class, Trace, Runs, HasNoNumber, HasNoText, Bad, command_of}
 use Rattle.sbl_sessions.specs.Requests.{Request}
-use Rattle.sbl_sessions.specs.Rows.{class_text, classes_text, stems_text}
-use Rattle.sbl_sessions.specs.Traces.{trace_text}
+use Rattle.sbl_formats.specs.Rows.{class_text, classes_text, stems_text}
+use Rattle.sbl_formats.specs.Traces.{trace_text}
 
 -- a text and the line feed that ends it
 abbrev pub with_line_feed : List ℕ → List ℕ

@@ -8,7 +8,7 @@ use Rattle.sbl_script.specs.Edits.{ScriptEdit, among, body, terms}
 use Rattle.sbl_sessions.specs.Commands as command
 use Rattle.sbl_bench.specs.Contents.{Contents}
 use Rattle.sbl_sessions.specs.Answers.{IsReplyTo, Memory}
-use Rattle.sbl_sessions.specs.Block.{BlockLines, Breaks}
+use Rattle.sbl_formats.specs.Block.{BlockLines, Breaks}
 use Rattle.sbl_io.specs.HeldInput.{AllFit, Took}
 use Rattle.sbl_sessions.specs.Requests as request
 use Rattle.sbl_sessions.specs.Requests.{IsRequest, asks_block, block_lines}

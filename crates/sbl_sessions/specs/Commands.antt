@@ -6,7 +6,7 @@ use Rattle.sbl_bench.specs.Edits as edits
 use Rattle.sbl_script.specs.Edits.{ScriptEdit, among, body, terms}
 use Rattle.sbl_text.specs.declared.fault.ScriptFault.{ScriptFault}
 use Rattle.sbl_text.specs.declared.fault.ScriptFault.TheVariants as fault
-use Rattle.sbl_sessions.specs.Block.{made_text, max_script}
+use Rattle.sbl_formats.specs.Block.{made_text, max_script}
 use Rattle.sbl_sessions.specs.Numbers.{number_in}
 use Rattle.sbl_sessions.specs.Requests.{BlockWord, Request, Routine, Among, Grouping, block_word}
 use Rattle.sbl_sessions.specs.Words.{argument, command_word}

@@ -3,7 +3,7 @@ use Rattle.std.specs.Prelude.{◌≡◌, ◌≤◌, ℕ, length, Bool, true, fal
 use Rattle.std.specs.List.{All, flat_map}
 use Rattle.std.specs.Option.{is_some}
 use Rattle.std.specs.Str.{bytes_eq}
-use Rattle.sbl_sessions.specs.Block.{BlockLines, NoPoint, point}
+use Rattle.sbl_formats.specs.Block.{BlockLines, NoPoint, point}
 use Rattle.sbl_io.specs.HeldInput.{AllFit, Took}
 use Rattle.sbl_io.specs.LinesOf.{max_line}
 use Rattle.sbl_sessions.specs.Words.{command_word}

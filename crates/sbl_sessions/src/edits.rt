@@ -4,15 +4,15 @@ ghost use Rattle.std.specs.Str.{chars, is_utf8};
 ghost use Rattle.sbl_bench.specs.KeptRuns.{contents_of};
 ghost use Rattle.sbl_bench.specs.Edits as edits;
 ghost use Rattle.sbl_sessions.specs.Answers as spec;
-ghost use Rattle.sbl_sessions.specs.Block.{HoldsText};
+ghost use Rattle.sbl_formats.specs.Block.{HoldsText};
 ghost use Rattle.sbl_sessions.specs.CommandViews.{FindsTarget, IsEditAnswer, IsTextAnswer, view_target};
 ghost use Rattle.sbl_sessions.specs.Commands.{block_command};
 
-use crate::block_text::{BlockFault, BlockText};
 use crate::commands::Target;
 use crate::replies::{BAD_COMMAND, edit_text};
 use sbl_bench::laws::words_fit;
 use sbl_bench::{Bench, EditFault, MAX_WORD_LENGTH};
+use sbl_formats::{BlockFault, BlockText};
 use sbl_script::ScriptFault;
 use std::alloc::AllocError;
 

@@ -7,14 +7,14 @@ ghost use Rattle.sbl_bench.specs.{KeptRuns.contents_of, Rows.view_row};
 ghost use Rattle.sbl_semantics.specs.TouchedItems.{items_in};
 ghost use Rattle.sbl_print.specs.Canonical.{canonical};
 ghost use Rattle.sbl_sessions.specs.{Answers.with_line_feed, CommandViews.IsAnswer, Commands.Class, Commands.Trace};
-ghost use Rattle.sbl_sessions.specs.Rows as spec;
-ghost use Rattle.sbl_sessions.specs.Traces as traces;
+ghost use Rattle.sbl_formats.specs.Rows as spec;
+ghost use Rattle.sbl_formats.specs.Traces as traces;
 
 use crate::edits::{MAX_LOOKED_AT, first_characters};
-use crate::records::records_text;
 use crate::replies::{Reply, edit_text, report};
 use sbl_bench::laws::words_fit;
 use sbl_bench::{Bench, EditFault, Row};
+use sbl_formats::records_text;
 use sbl_machine::Item;
 use std::alloc::{AllocError, Global};
 use std::collections::BTreeSet;

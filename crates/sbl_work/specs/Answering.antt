@@ -3,7 +3,7 @@ use Rattle.std.specs.Prelude.{◌≡◌, ℕ, true, List, Option}
 use Rattle.sbl_bench.specs.Contents.{Contents}
 use Rattle.sbl_io.specs.HeldInput.{AllFit, Took}
 use Rattle.sbl_io.specs.declared.faults.ServeFault.{ServeFault}
-use Rattle.sbl_sessions.specs.Block.{BlockLines, Breaks}
+use Rattle.sbl_formats.specs.Block.{BlockLines, Breaks}
 use Rattle.sbl_sessions.specs.Requests.{HasBlock, block_lines}
 use Rattle.sbl_sessions.specs.declared.replies.Reply.{Reply}
 use Rattle.sbl_work.specs.Commands.{asks_work_block, by_work_block}

@@ -5,8 +5,8 @@ ghost use Rattle.sbl_work.specs.WholeWork.{IsOpened};
 
 use crate::words::words_in;
 use sbl_bench::Bench;
+use sbl_formats::LoadFault;
 use sbl_script::Script;
-use sbl_sessions::LoadFault;
 use std::alloc::{AllocError, Global};
 use std::hash::RandomState;
 use std::rt::Files;

@@ -3,7 +3,7 @@ ghost use Rattle.std.specs.Prelude.{◌≡◌, ℕ, List, Some, codes};
 ghost use Rattle.std.specs.Str.{bytes_eq};
 ghost use Rattle.sbl_bench.specs.Edits.{Whole};
 ghost use Rattle.sbl_bench.specs.KeptRuns.{contents_of};
-ghost use Rattle.sbl_sessions.specs.Block.{HoldsText, made_text};
+ghost use Rattle.sbl_formats.specs.Block.{HoldsText, made_text};
 ghost use Rattle.sbl_sessions.specs.CommandViews.{FindsTarget, view_target};
 ghost use Rattle.sbl_sessions.specs.Commands.{target_of, text_of_block};
 ghost use Rattle.sbl_work.specs.Commands as spec;
@@ -16,9 +16,10 @@ use crate::replies::{NOT_TEXT, edit_reply};
 use crate::requests::BlockRequest;
 use sbl_bench::{Bench, EditFault};
 use sbl_desk::{Desk, families_text, without_head};
+use sbl_formats::{BlockFault, BlockText};
 use sbl_places::Part;
 use sbl_script::ScriptFault;
-use sbl_sessions::{BAD_COMMAND, BlockFault, BlockText, Reply, Target, report};
+use sbl_sessions::{BAD_COMMAND, Reply, Target, report};
 use std::alloc::{AllocError, Global};
 
 /// Returns the text of a block, or the fault of an edit by it.

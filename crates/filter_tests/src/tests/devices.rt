@@ -1,8 +1,8 @@
 //! Tests of readers and writers that fail at each of their calls, and of interruptions.
 
 use sbl_filter::filter;
+use sbl_formats::LoadFault;
 use sbl_io::{Device, Lines, ServeFault};
-use sbl_sessions::LoadFault;
 use std::alloc::{AllocError, Global};
 use std::test::Fail;
 use test_devices::{WriteLog, in_pieces, outputs_within};

@@ -2,9 +2,9 @@
 
 use sbl_bench::EditFault;
 use sbl_filter::filter;
+use sbl_formats::LoadFault;
 use sbl_io::{Device, Lines, ServeFault};
 use sbl_script::ScriptFault;
-use sbl_sessions::LoadFault;
 use std::alloc::Global;
 use std::test::Fail;
 use test_devices::{WriteLog, in_pieces};

@@ -1,7 +1,8 @@
 //! A session over a reader and a writer in memory, from its script to its end.
 
+use sbl_formats::{LoadFault, load};
 use sbl_io::{Device, Lines};
-use sbl_sessions::{LoadFault, load, serve};
+use sbl_sessions::serve;
 use std::alloc::Global;
 use std::hash::RandomState;
 use std::test::Fail;

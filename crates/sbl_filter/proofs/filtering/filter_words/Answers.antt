@@ -4,7 +4,7 @@ use Rattle.sbl_filter.proofs.FilterFacts.{filters-broken, filters-end, filters-f
 use Rattle.sbl_filter.specs.Filter.{WritesLine}
 use Rattle.sbl_io.specs.HeldInput.{GivesLine, fault_of, input_of, line_of}
 use Rattle.sbl_script.specs.ParsedScript.{source_of}
-use Rattle.sbl_sessions.specs.Block.{point}
+use Rattle.sbl_formats.specs.Block.{point}
 use Rattle.sbl_filter.proofs.filtering.filter_words.Goals as goal
 
 pub returns-in_err-machine-clause-filters : goal.returns-in_err-machine-clause-filters

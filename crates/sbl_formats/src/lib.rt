@@ -1,0 +1,16 @@
+//! What sessions and filters read and write: the script block and the words of an input, and the records of rows, classes and
+//! items.
+#![tactic(auto)]
+
+mod block_text;
+mod faults;
+mod laws;
+mod loading;
+mod records;
+mod word_list;
+
+pub use block_text::{BlockFault, BlockText, read_block};
+pub use faults::LoadFault;
+pub use laws::loading_is_one;
+pub use loading::{load, read_script};
+pub use records::{Record, RecordWriter, outcome_fields, records_text};
