@@ -1,5 +1,5 @@
 -- What an edit makes of a script, as its tokens say it, is what the tree in its place makes of it.
-use Rattle.std.proofs.Common.{◌≡◌, ◌⊎◌, ℕ, ◌+◌, ◌-◌, Bool, true, false, cond, nat_eq, List, [], ◌∷◌, ◌++◌, length, map, take, Option, Some, None, option_map, is_some, Result, Ok, Err, if◌then◌else◌, refl, sym, ap, subst, ◌∙◌, arith}
+use Rattle.std.proofs.Common.{◌≡◌, ◌⊎◌, ℕ, ◌+◌, ◌-◌, Bool, true, false, cond, not, ◌||◌, nat_eq, suc, List, [], ◌∷◌, ◌++◌, append_assoc, length, map, take, Option, Some, None, option_map, is_some, Result, Ok, Err, if◌then◌else◌, refl, sym, ap, subst, ◌∙◌, arith}
 use Rattle.std.specs.List.{before_first, filter, find, fold, list_any, prefix_len}
 use Rattle.std.specs.Option.{ok_or, option_or}
 use Rattle.sbl_text.specs.declared.fault.ScriptFault.{ScriptFault}
@@ -87,13 +87,16 @@ module _ (p : Plain → Bool) where
       ap (λ (l : List Plain). walk_in p l e) (back_plains xs (in_order is)) ∙ walk_both xs (plains_of is) e
       ∙ ap (λ (r : Reached). if (walk_in p xs e).1 then walk_in p xs e else r) (walk_items is (walk_in p xs e).0)
 
+  more : (n : ℕ) (x : Plain) (xs : List Plain) → take (1 + n) (x ∷ xs) ≡ x ∷ take n xs
+  more n x xs = let is : 1 + n ≡ suc n = omega arith in ap (λ (k : ℕ). take k (x ∷ xs)) is
+
   walk_before : (xs : List Plain) (e : InForce) → fold escapes_behind e (before_first p xs) ≡ (walk_in p xs e).0
   walk_before [] e = refl
   walk_before (x ∷ xs) e = go (p x) (walk_before xs (escapes_behind e x)) where
     go : (b : Bool) → fold escapes_behind (escapes_behind e x) (before_first p xs) ≡ (walk_in p xs (escapes_behind e x)).0
-        → fold escapes_behind e (take (cond (cond b false true) (1 + prefix_len (λ y. cond (p y) false true) xs) 0) (x ∷ xs)) ≡ (if b then (e, true) else walk_in p xs (escapes_behind e x)).0
+        → fold escapes_behind e (take (cond (not b) (1 + prefix_len (λ y. not (p y)) xs) 0) (x ∷ xs)) ≡ (if b then (e, true) else walk_in p xs (escapes_behind e x)).0
     go true h = refl
-    go false h = h
+    go false h = ap (λ (l : List Plain). fold escapes_behind e l) (more (prefix_len (λ y. not (p y)) xs) x xs) ∙ h
 
   pub state_same : (is : List Item) → state_before p is ≡ state_reached p is
   state_same is = ap start_under (walk_before (plains_of is) nothing_set ∙ ap (λ (r : Reached). r.0) (walk_items is nothing_set))
@@ -153,9 +156,6 @@ count_same (p ∷ ps) = go (is_among p.0) (count_same ps) where
   go true e = omega (arith, e)
   go false e = e
 
-alone : AtDepth → ℕ
-alone p = N (p ∷ [])
-
 one_word : (p : AtDepth) → is_among p.0 ≡ true → N (p ∷ []) ≡ 1
 one_word p e = ap (λ (b : Bool). length (map (λ (x : AtDepth). x.1) (cond b (p ∷ []) []))) e
 
@@ -189,17 +189,15 @@ plain_one x y e = go (trees_are_one texts.script (plain x ∷ []) (plain y ∷ [
   go : plain x ∷ [] ≡ plain y ∷ [] → x ≡ y
   go h = cc
 
-abbrev written : Starter × Groups → ℕ → Ps → Ps
-written a d r = placed_command (among_ a.0 a.1) d r
-
-inside : Starter × Groups → ℕ → Ps → Ps
+-- the tokens of an among after the word, and those behind it
+abbrev inside : Starter × Groups → ℕ → Ps → Ps
 inside a d r = (t.open_, d) ∷ placed_starter a.0 d (placed_groups a.1 d ((t.close_, d) ∷ r))
 
 parts : (a : Starter × Groups) (d : ℕ) (front behind ps : Ps) → ps ≡ front ++ places_in (texts.among d) a ++ behind → ps ≡ front ++ (t.among, d) ∷ inside a d behind
-parts a d front behind ps e = e ∙ ap (λ (l : Ps). front ++ l) (sym (tree_before (among_ a.0 a.1) d [] behind))
+parts a d front behind ps e = e ∙ append_assoc front (places_in (texts.among d) a) behind ∙ ap (λ (l : Ps). front ++ l) (sym (tree_before (among_ a.0 a.1) d [] behind))
 
-spelled : (a : Starter × Groups) (d : ℕ) (front behind ps : Ps) → ps ≡ front ++ places_in (texts.among d) a ++ behind → tokens ps ≡ tokens front ++ tokens (places_in (texts.among d) a) ++ tokens behind
-spelled a d front behind ps e = ap tokens e ∙ tokens_both front (places_in (texts.among d) a ++ behind) ∙ ap (λ (l : List Terminal). tokens front ++ l) (tokens_both (places_in (texts.among d) a) behind)
+spelled : (a : Starter × Groups) (d : ℕ) (front behind ps : Ps) → ps ≡ front ++ places_in (texts.among d) a ++ behind → tokens ps ≡ tokens front ++ (tokens (places_in (texts.among d) a) ++ tokens behind)
+spelled a d front behind ps e = ap tokens (e ∙ append_assoc front (places_in (texts.among d) a) behind) ∙ tokens_both front (places_in (texts.among d) a ++ behind) ∙ ap (λ (l : List Terminal). tokens front ++ l) (tokens_both (places_in (texts.among d) a) behind)
 
 -- one definition has the among in that place
 replaced_one : (k d : ℕ) (a : Starter × Groups) (old x y : Plain) → IsAmongReplaced k d a old x → IsAmongReplaced k d a old y → x ≡ y
@@ -212,7 +210,7 @@ replaced_one k d a old x y g h =
     let new = tokens (places_in (texts.among d) a) in
     plain_one x y
     (spelled a d g.front g.behind (placed_plain x []) g.is
-    ∙ ap (λ (f : Ps). tokens f ++ new ++ tokens g.behind) c.0 ∙ ap (λ (l : List Terminal). tokens h.front ++ new ++ l) behind
+    ∙ ap (λ (f : Ps). tokens f ++ (new ++ tokens g.behind)) c.0 ∙ ap (λ (l : List Terminal). tokens h.front ++ (new ++ l)) behind
     ∙ sym (spelled a d h.front h.behind (placed_plain y []) h.is))
 
 -- the definition with the among put in its place has it there
@@ -220,14 +218,14 @@ replaced_there : (n : List ℕ) (b : RowView) (k : ℕ) (a : Starter × Groups) 
     → IsAmongReplaced k h.0 a (routine n b.0 b.1) (routine n (put_in_body b k a).0 (put_in_body b k a).1)
 replaced_there n b k a h e =
     let two = body_one b k a h e in
-    let head : Ps = (t.define, 0) ∷ (t.name n, 0) ∷ (t.as_, 0) ∷ [] in
+    let front : Ps = (t.define, 0) ∷ (t.name n, 0) ∷ (t.as_, 0) ∷ two.front in
     record {
-      front = (t.define, 0) ∷ (t.name n, 0) ∷ (t.as_, 0) ∷ two.front;
+      front = front;
       replaced = (h.1, h.2);
       behind = two.behind;
       number = two.number ∙ ap (λ (z : ℕ). z + 1) (count_same two.front);
-      was = ap (λ (l : Ps). (t.define, 0) ∷ (t.name n, 0) ∷ (t.as_, 0) ∷ l) (two.was ∙ ap (λ (l : Ps). two.front ++ l) (tree_before (among_ h.1 h.2) h.0 [] two.behind));
-      is = ap (λ (l : Ps). (t.define, 0) ∷ (t.name n, 0) ∷ (t.as_, 0) ∷ l) (two.is ∙ ap (λ (l : Ps). two.front ++ l) (tree_before (among_ a.0 a.1) h.0 [] two.behind));
+      was = ap (λ (l : Ps). (t.define, 0) ∷ (t.name n, 0) ∷ (t.as_, 0) ∷ l) (two.was ∙ ap (λ (l : Ps). two.front ++ l) (tree_before (among_ h.1 h.2) h.0 [] two.behind)) ∙ sym (append_assoc front (places_in (texts.among h.0) (h.1, h.2)) two.behind);
+      is = ap (λ (l : Ps). (t.define, 0) ∷ (t.name n, 0) ∷ (t.as_, 0) ∷ l) (two.is ∙ ap (λ (l : Ps). two.front ++ l) (tree_before (among_ a.0 a.1) h.0 [] two.behind)) ∙ sym (append_assoc front (places_in (texts.among h.0) a) two.behind);
     }
 
 -- ---- how many words `among` items have with another definition
@@ -242,7 +240,7 @@ module _ (p : Plain → Bool) (y old : Plain) where
   any_first : (xs : List Plain) → list_any p xs ≡ is_some (first_in p xs)
   any_first [] = refl
   any_first (x ∷ xs) = go (p x) (any_first xs) where
-    go : (b : Bool) → list_any p xs ≡ is_some (first_in p xs) → cond b true (list_any p xs) ≡ is_some (option_or (if b then Some x else None) (first_in p xs))
+    go : (b : Bool) → list_any p xs ≡ is_some (first_in p xs) → (b || list_any p xs) ≡ is_some (option_or (if b then Some x else None) (first_in p xs))
     go true e = refl
     go false e = e
 

@@ -128,23 +128,26 @@ text_at o = option_map (λ p. texts.among p.1) o
 abbrev text_of : Option AmongContents → Option Text
 text_of o = option_map (λ (h : AmongContents). texts.among h.0) o
 
-numbered : (hs : Hs) (m j : ℕ) → text_at (find (λ p. nat_eq p.0 (m + j)) (enumerate_from m (depths hs))) ≡ text_of (nth_held (j + 1) hs)
+abbrev IsNumbered : Hs → ℕ → ℕ → Type 0
+IsNumbered hs m j = text_at (find (λ p. nat_eq p.0 (m + j)) (enumerate_from m (depths hs))) ≡ text_of (nth_held (j + 1) hs)
+
+numbered : (hs : Hs) (m j : ℕ) → IsNumbered hs m j
 numbered [] m j = refl
-numbered (h ∷ hs) m j = go (nat_eq m (m + j)) (nat_eq (j + 1) 1) (same_test m (m + j) (j + 1) 1 (λ e. omega (arith, e)) (λ e. omega (arith, e))) refl where
-  later : 1 ≤ j → text_at (find (λ p. nat_eq p.0 (m + j)) (enumerate_from (m + 1) (depths hs))) ≡ text_of (nth_held (j + 1 - 1) hs)
-  later e =
+numbered (h ∷ hs) m j = go (nat_eq m (m + j)) (nat_eq (j + 1) 1) (same_test m (m + j) (j + 1) 1 (λ e. omega (arith, e)) (λ e. omega (arith, e))) refl (numbered hs (m + 1) (j - 1)) where
+  later : 1 ≤ j → IsNumbered hs (m + 1) (j - 1) → text_at (find (λ p. nat_eq p.0 (m + j)) (enumerate_from (m + 1) (depths hs))) ≡ text_of (nth_held (j + 1 - 1) hs)
+  later e rest =
       let one : m + j ≡ m + 1 + (j - 1) = omega (arith, e) in
       let two : j - 1 + 1 ≡ j + 1 - 1 = omega (arith, e) in
-      ap (λ z. text_at (find (λ p. nat_eq p.0 z) (enumerate_from (m + 1) (depths hs)))) one ∙ numbered hs (m + 1) (j - 1) ∙ ap (λ z. text_of (nth_held z hs)) two
+      ap (λ z. text_at (find (λ p. nat_eq p.0 z) (enumerate_from (m + 1) (depths hs)))) one ∙ rest ∙ ap (λ z. text_of (nth_held z hs)) two
 
   some : nat_eq m (m + j) ≡ false → 1 ≤ j
   some e = grind (arith, nat_tests, e)
 
-  go : (x y : Bool) → x ≡ y → nat_eq m (m + j) ≡ x → text_at (cond x (Some (m, h.0)) (find (λ p. nat_eq p.0 (m + j)) (enumerate_from (m + 1) (depths hs)))) ≡ text_of (if y then Some h else nth_held (j + 1 - 1) hs)
-  go true true e f = refl
-  go false false e f = later (some f)
-  go true false e f = absurd cc
-  go false true e f = absurd cc
+  go : (x y : Bool) → x ≡ y → nat_eq m (m + j) ≡ x → IsNumbered hs (m + 1) (j - 1) → text_at (cond x (Some (m, h.0)) (find (λ p. nat_eq p.0 (m + j)) (enumerate_from (m + 1) (depths hs)))) ≡ text_of (if y then Some h else nth_held (j + 1 - 1) hs)
+  go true true e f rest = refl
+  go false false e f rest = later (some f) rest
+  go true false e f rest = absurd cc
+  go false true e f rest = absurd cc
 
 never : (ds : List ℕ) (m : ℕ) → find (λ p. nat_eq p.0 0) (enumerate_from (m + 1) ds) ≡ None
 never [] m = refl
