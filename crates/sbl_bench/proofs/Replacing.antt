@@ -1,6 +1,6 @@
 -- What an edit of the script that is refused for its name, its number or its text answers.
 use Rattle.std.proofs.Common.{◌≡◌, ◌⊎◌, ℕ, true, List, Result, Ok, Err, inl, inr, refl, sym, ap}
-use Rattle.sbl_script.specs.Edits.{ScriptEdit, IsEditFault, home}
+use Rattle.sbl_script.specs.Edits.{ScriptEdit, IsEditFault, text_for}
 use Rattle.sbl_script.specs.declared.edit_fault.ScriptEditFault as declared
 use Rattle.sbl_script.specs.declared.edit_fault.ScriptEditFault.TheVariants as script
 use Rattle.sbl_bench.specs.declared.fault.EditFault.{EditFault}
@@ -25,7 +25,7 @@ not_made : {A : Type 0} (r : Result A declared.ScriptEditFault) (a : A) (f : dec
 not_made r a f made missing = cc
 
 module _ {A : Type 0} (s : Contents) (what : ScriptEdit) (text : List ℕ) (r : Result A declared.ScriptEditFault)
-    (missing : (f : declared.ScriptEditFault) → home s.setting.script.items what ≡ Err f → r ≡ Err f) where
+    (missing : (f : declared.ScriptEditFault) → text_for s.setting.script.items what ≡ Err f → r ≡ Err f) where
   -- where memory was refused, it is for its text that the edit is refused, if it is
   for_its_text : (g : declared.ScriptEditFault) (f : EditFault) → r ≡ Err script.OutOfMemory → IsEditFault s.setting.script what text g → f ≡ fault_of_script g → is_of_text f ≡ true
   for_its_text script.NoRoutine f out is same = absurd (not_routine r out (missing script.NoRoutine is))

@@ -67,7 +67,6 @@ fn first_in<'a>(plains: &'a [Plain], kind: DefinitionKind, name: &str) -> Option
 }
 
 /// Returns the first definition of this kind and name, in text order; `None` if there is none.
-#[tactic(auto, using(crate::proofs::Agreement::first_same))]
 pub fn definition_of<'a>(
     items: &'a [ScriptItem],
     kind: DefinitionKind,
