@@ -18,3 +18,4 @@ pub mod Printed
 pub mod Compared
 pub mod ItemSteps
 pub mod AmongDepths
+pub mod Agreement
