@@ -3,9 +3,7 @@ use Rattle.std.specs.Prelude.{ℕ, ◌+◌, Bool, true, false, List, [], ◌∷�
 use Rattle.std.specs.List.{fold}
 use Rattle.std.specs.Option.{option_map_or}
 use Rattle.sbl_ast.specs.declared.tree.DeclarationKind.{DeclarationKind}
-use Rattle.sbl_ast.specs.declared.tree.Simple.{Simple}
 use Rattle.sbl_ast.specs.declared.tree.Simple.TheVariants as simples
-use Rattle.sbl_ast.specs.declared.tree.Prefix.{Prefix}
 use Rattle.sbl_ast.specs.declared.tree.Prefix.TheVariants as prefixes
 use Rattle.sbl_ast.specs.declared.tree.Naming.{Naming}
 use Rattle.sbl_ast.specs.declared.tree.Naming.TheVariants as namings
@@ -49,7 +47,7 @@ amongs_after _ k = k
 
 -- the number of amongs in the last routine of these occurrences; if there is no routine, k plus all amongs
 abbrev pub amongs_in : List Occurrence → ℕ → ℕ
-amongs_in ms k = fold (λ k m. amongs_after m.notice k) k ms
+amongs_in ms k = fold (λ j m. amongs_after m.notice j) k ms
 
 -- ---- names of strings and integers
 
