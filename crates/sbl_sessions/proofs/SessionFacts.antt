@@ -12,7 +12,9 @@ use Rattle.sbl_formats.specs.Block.{BlockLines, Breaks, HoldsText, ReadsBlock, p
 use Rattle.sbl_sessions.specs.CommandViews.{IsAnswer, IsAnswered, IsReply, IsTextAnswer}
 use Rattle.sbl_sessions.specs.Commands.{block_command, command_of, line_command}
 use Rattle.sbl_io.specs.HeldInput.{AllFit, BeginsLong, BreaksOff, GivesLine, Took, TookWhole}
-use Rattle.sbl_sessions.specs.Requests.{BlockWord, HasBlock, IsBegun, IsRequest, Request, TookRequests, asks_block, block_lines, block_word, lines_in, lines_in_all}
+use Rattle.sbl_script.specs.Edits.{ScriptEdit}
+use Rattle.sbl_sessions.specs.Words.{command_word}
+use Rattle.sbl_sessions.specs.Requests.{IsBegun, IsRequest, Request, TookRequests, asks_block, block_lines, block_word, lines_in, lines_in_all}
 use Rattle.sbl_sessions.specs.Session.{Answered, HalfAnswered, IsSession, Served}
 use Rattle.sbl_formats.specs.declared.block_text.BlockText.{BlockText}
 use Rattle.sbl_io.specs.Faults.{serve_fault_of}
@@ -122,17 +124,17 @@ session_at_write a b c d h i j s t u line reply n so gives fits is writes = (
 
 -- ---- the answer to a request
 
-pub asks : (line : List ℕ) {word : BlockWord} → block_word line ≡ Some word → asks_block line ≡ true
+pub asks : (line : List ℕ) {target : List ℕ → Option ScriptEdit} → block_word (command_word line) ≡ Some target → asks_block line ≡ true
 asks line is = ap is_some is
 
-pub asks_none : (line : List ℕ) → block_word line ≡ None → asks_block line ≡ false
+pub asks_none : (line : List ℕ) → block_word (command_word line) ≡ None → asks_block line ≡ false
 asks_none line is = ap is_some is
 
 -- a line that asks for no block
 pub answered_line : (a : Option (List ℕ)) (line : List ℕ) (s t : Contents) (reply : Reply) → asks_block line ≡ false → IsAnswer s (line_command line) reply t → IsAnswered a a line s reply t
 answered_line a line s t reply asks is = record {
   block = None;
-  formed = subst (λ (b : Bool). HasBlock b None) (sym asks) tt;
+  formed = (asks, tt);
   fit = tt;
   took = took-none a;
   answer = is;
@@ -145,7 +147,7 @@ answered_block a b line s t block text reply asks reads is shown =
     let answer = is reads.0 reads.2 in
     record {
       block = Some reads.0;
-      formed = subst (λ (b : Bool). HasBlock b (Some reads.0)) (sym asks) reads.1.0.0;
+      formed = (asks, reads.1.0.0);
       fit = all_fit-push reads.0 point reads.1.0.1 (omega arith);
       took = reads.1.1;
       answer = (answer.0, text, shown, answer.1);

@@ -1,14 +1,14 @@
 -- The commands of requests.
 use Rattle.std.specs.Prelude.{ℕ, List, [], ◌∷◌, codes, if◌then◌else◌, length, nat_lt, Option, Some, None, Result, Ok, Err}
-use Rattle.std.specs.Option.{option_and_then, option_map, option_map_or}
+use Rattle.std.specs.Option.{option_and_then, option_map_or}
 use Rattle.std.specs.Str.{bytes_eq, chars, is_utf8}
 use Rattle.sbl_bench.specs.Edits as edits
-use Rattle.sbl_script.specs.Edits.{ScriptEdit, among, body, terms}
+use Rattle.sbl_script.specs.Edits.{ScriptEdit}
 use Rattle.sbl_text.specs.declared.fault.ScriptFault.{ScriptFault}
 use Rattle.sbl_text.specs.declared.fault.ScriptFault.TheVariants as fault
 use Rattle.sbl_formats.specs.Block.{made_text, max_script}
 use Rattle.sbl_sessions.specs.Numbers.{number_in}
-use Rattle.sbl_sessions.specs.Requests.{BlockWord, Request, Routine, Among, Grouping, block_word}
+use Rattle.sbl_sessions.specs.Requests.{Request, block_word}
 use Rattle.sbl_sessions.specs.Words.{argument, command_word}
 
 -- nothing, an edit, the rows, the classes, the script, the class of a word, what its run touches, the number of runs, a limit
@@ -54,16 +54,9 @@ text_of_block lines =
     if nat_lt max_script (length (made_text lines)) then Err fault.ScriptTooLong
     else (if is_utf8 (made_text lines) then Ok (made_text lines) else Err fault.NotUtf8)
 
--- what a block word and its argument replace: the body of the routine of this name; an among, with a name, a space and a number
--- as the argument; the terms of the grouping of this name; none if the line is bad
-abbrev pub target_by : BlockWord → List ℕ → Option ScriptEdit
-target_by Routine name = Some (body name)
-target_by Among text = option_map (among (command_word text)) (number_in (argument text))
-target_by Grouping name = Some (terms name)
-
 -- what a line replaces; a line that is not UTF-8 is bad
 abbrev pub target_of : List ℕ → Option ScriptEdit
-target_of line = if is_utf8 line then option_and_then (λ word. target_by word (argument line)) (block_word line) else None
+target_of line = if is_utf8 line then option_and_then (λ target. target (argument line)) (block_word (command_word line)) else None
 
 abbrev pub with_text : ScriptEdit → Result (List ℕ) ScriptFault → Command
 with_text what (Ok text) = Makes (edits.Replace what text)
