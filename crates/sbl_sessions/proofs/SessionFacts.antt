@@ -1,5 +1,5 @@
 -- A session goes on request by request.
-use Rattle.std.proofs.Common.{◌⊎◌, Bool, true, false, ◌≡◌, ◌∙◌, ◌++◌, ◌≤◌, ℕ, List, [], ◌∷◌, Option, Some, None, Ok, Err, refl, take, sym, ap, subst, append_assoc, arith, length}
+use Rattle.std.proofs.Common.{◌⊎◌, inl, inr, Bool, true, false, ◌≡◌, ◌∙◌, ◌++◌, ◌≤◌, ℕ, List, [], ◌∷◌, Option, Some, None, Ok, Err, refl, take, sym, ap, subst, append_assoc, arith, length}
 use Rattle.std.proofs.lemmas.List.{append-nil}
 use Rattle.std.proofs.lemmas.List.Elements.{All-append, All-cons, All-nil}
 use Rattle.std.proofs.lemmas.Grind.{flat_map-append}
@@ -94,16 +94,16 @@ session_ends a b c h i s t so keeps end =
 pub session_at_line : (a b c h i : Option (List ℕ)) (s t : Contents) (k : Option LineFault) (part : List ℕ) (f : LineFault) → Served a b h i s t → k ≡ None
     → (f ≡ read.Read → TookWhole a b) → (f ≡ read.TooLong → BeginsLong b ⊎ (k ≡ Some f)) → (f ≡ read.Read → k ≡ None → BreaksOff b c part)
     → IsSession a c h i s t (Err (serve_fault_of f))
-session_at_line a b c h i s t k part read.Read so none whole long cut = (b, whole refl, so, broken IsBegun b b c k [] part read.Read tt (took-none b) none long cut)
-session_at_line a b c h i s t k part read.TooLong so none whole long cut = (b, so, broken IsBegun b b c k [] part read.TooLong tt (took-none b) none long cut)
+session_at_line a b c h i s t k part read.Read so none whole long cut = (b, λ _. whole refl, so, broken IsBegun b b c k [] part read.Read (inl refl) (took-none b) none long cut)
+session_at_line a b c h i s t k part read.TooLong so none whole long cut = (b, λ is. cc is, so, broken IsBegun b b c k [] part read.TooLong (inl refl) (took-none b) none long cut)
 
 -- where a block has no end
 pub session_open : (a b c d h i : Option (List ℕ)) (s t : Contents) (line : List ℕ) (f : ServeFault) → Served a b h i s t → GivesLine b c line → length line ≤ 65536
     → asks_block line ≡ true → (f ≡ fault.Read → TookWhole a b) → Breaks BlockLines c d f → IsSession a d h i s t (Err f)
 session_open a b c d h i s t line fault.Read so gives fits asks whole breaks =
-    (b, whole refl, so, (line ∷ breaks.0, breaks.1, breaks.2, (asks, fits, breaks.3), took-trans b c breaks.1 (line ∷ []) breaks.0 gives breaks.4, breaks.5))
+    (b, whole, so, (line ∷ breaks.0, breaks.1, breaks.2, inr (asks, fits, breaks.3), took-trans b c breaks.1 (line ∷ []) breaks.0 gives breaks.4, breaks.5))
 session_open a b c d h i s t line fault.LineTooLong so gives fits asks whole breaks =
-    (b, so, (line ∷ breaks.0, breaks.1, (asks, fits, breaks.2), took-trans b c breaks.1 (line ∷ []) breaks.0 gives breaks.3, breaks.4))
+    (b, whole, so, (line ∷ breaks.0, breaks.1, inr (asks, fits, breaks.2), took-trans b c breaks.1 (line ∷ []) breaks.0 gives breaks.3, breaks.4))
 session_open a b c d h i s t line fault.Cut so gives fits asks whole breaks =
     (b, so, (line ∷ breaks.0, (asks, fits, breaks.1), took-trans b c d (line ∷ []) breaks.0 gives breaks.2, breaks.3))
 session_open a b c d h i s t line fault.Write so gives fits asks whole breaks = absurd breaks

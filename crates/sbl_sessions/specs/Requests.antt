@@ -1,5 +1,5 @@
 -- The requests of a session: a line, and the block after it if its command word asks for one.
-use Rattle.std.specs.Prelude.{◌≡◌, ◌≤◌, ℕ, length, Bool, true, List, [], ◌∷◌, ◌++◌, Option, Some, None, ⊤, codes, if◌then◌else◌}
+use Rattle.std.specs.Prelude.{◌≡◌, ◌⊎◌, ◌≤◌, ℕ, length, Bool, true, List, [], ◌∷◌, ◌++◌, Option, Some, None, codes, if◌then◌else◌}
 use Rattle.std.specs.List.{All, flat_map}
 use Rattle.std.specs.Option.{IfSome, is_some, option_map, option_map_or}
 use Rattle.std.specs.Str.{bytes_eq}
@@ -48,11 +48,6 @@ abbrev pub IsOpen : List (List ℕ) → Type 0
 IsOpen [] = ⊥
 IsOpen (line ∷ lines) = (asks_block line ≡ true) × (length line ≤ max_line) × BlockLines lines
 
--- the lines of a request that is not whole: none yet, or these
-abbrev pub IsBegun : List (List ℕ) → Type 0
-IsBegun [] = ⊤
-IsBegun (line ∷ lines) = IsOpen (line ∷ lines)
-
 -- ---- names for proofs
 
 -- the lines of a block, and its line `.`
@@ -61,3 +56,7 @@ block_lines block = option_map_or (λ lines. lines ++ point ∷ []) block []
 
 abbrev pub lines_in : Request → List (List ℕ)
 lines_in r = r.line ∷ block_lines r.block
+
+-- the lines of a request that is not whole: none yet, or these
+abbrev pub IsBegun : List (List ℕ) → Type 0
+IsBegun lines = (lines ≡ []) ⊎ IsOpen lines

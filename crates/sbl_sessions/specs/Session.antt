@@ -7,7 +7,7 @@ use Rattle.sbl_formats.specs.Block.{Breaks}
 use Rattle.sbl_sessions.specs.Commands.{command_of}
 use Rattle.sbl_io.specs.Devices.{HasStopped, Tally}
 use Rattle.sbl_io.specs.HeldInput.{HasCause, TookWhole, fault_of}
-use Rattle.sbl_sessions.specs.Requests.{IsBegun, IsOpen, Request, TookRequests}
+use Rattle.sbl_sessions.specs.Requests.{IsOpen, Request, TookRequests}
 use Rattle.sbl_io.specs.declared.lines.Lines.{Lines}
 use Rattle.sbl_io.specs.declared.faults.LineFault.TheVariants as line
 use Rattle.sbl_io.specs.declared.faults.ServeFault.{ServeFault}
@@ -43,10 +43,9 @@ IsSession input new_input held new_held s t (Err fault.Write) =
     (requests : List Request) × (request : Request) × TookRequests input new_input (requests ++ request ∷ []) × HalfAnswered s requests request held new_held t
 IsSession input new_input held new_held s t (Err fault.Cut) =
     (between : Option (List ℕ)) × Served input between held new_held s t × Breaks IsOpen between new_input fault.Cut
-IsSession input new_input held new_held s t (Err fault.Read) =
-    (between : Option (List ℕ)) × TookWhole input between × Served input between held new_held s t × Breaks IsBegun between new_input fault.Read
 IsSession input new_input held new_held s t (Err f) =
-    (between : Option (List ℕ)) × Served input between held new_held s t × Breaks IsBegun between new_input f
+    (between : Option (List ℕ)) × (f ≡ fault.Read → TookWhole input between) × Served input between held new_held s t
+    × Breaks (λ lines. (lines ≡ []) ⊎ IsOpen lines) between new_input f
 
 -- Why a session may end. A fault of reading or writing is caused by the device or a bound, or the lines returned it before. A
 -- line that is too long, or a block that the end of input cuts off, is in the input, as defined above.
