@@ -1,6 +1,7 @@
 -- The edits of a bench: when each is refused, which words it runs, and the bench after it.
 use Rattle.std.specs.Prelude.{◌≡◌, ◌≢◌, ◌≤◌, ◌⊎◌, ◌&&◌, ℕ, ◌+◌, ◌-◌, min, Bool, true, false, List, [], ◌∷◌, ◌++◌, length, Option, Some, None, Result, Ok, Err, nat_le, nat_lt, if◌then◌else◌}
 use Rattle.std.specs.List.{filter}
+use Rattle.std.specs.Option.{option_map_or}
 use Rattle.std.specs.Str.{bytes_eq}
 use Rattle.sbl_script.specs.declared.edit_fault.ScriptEditFault as declared
 use Rattle.sbl_script.specs.declared.edit_fault.ScriptEditFault.TheVariants as script
@@ -101,11 +102,6 @@ words_after s (Add word) = s.words ++ word ∷ []
 words_after s (Remove word) = without word s.words
 words_after s _ = s.words
 
--- whether the run of a word meets one of the listed items, by what each of them affects; true if there is no list
-abbrev pub meets_listed : Option (List Item') → Source → List ℕ → ℕ → Bool
-meets_listed (Some items) script word limit = meets_one items script word limit
-meets_listed None script word limit = true
-
 -- Whether an edit has to run this word; t is the setting after the edit. An added word: only that word. A replacement: each
 -- word whose run before the edit touches the replaced item or, if that is a grouping, one that is built from it in the script
 -- before the edit. A whole script, read or installed: each word whose run before the edit touches an item in which the two
@@ -116,7 +112,7 @@ needs_run s (Add word) t w = bytes_eq word w
 needs_run s (Remove word) t w = false
 needs_run s (Replace what text) t w = meets_one (edited_item what ∷ []) s.setting.script w s.setting.limit
 needs_run s (Limit n) t w = nat_lt (min s.setting.limit n) (used_of s.setting.script w s.setting.limit)
-needs_run s e t w = meets_listed (differs s.setting.script t.script) s.setting.script w s.setting.limit
+needs_run s e t w = option_map_or (λ items. meets_one items s.setting.script w s.setting.limit) (differs s.setting.script t.script) true
 
 -- how many words of the vocabulary after the edit have to be run
 abbrev pub runs_needed : Contents → Edit → Setting → ℕ
@@ -130,18 +126,14 @@ lacks_counts s e t = nat_lt (max_runs - s.count) (runs_needed s e t)
 abbrev pub count_runs : ℕ → Contents → Contents
 count_runs n s = record s { count = s.count + n }
 
--- the bench after an accepted edit with this setting after it: each word that the edit has to run was run once
-abbrev pub contents_after : Contents → Edit → Setting → Contents
-contents_after s e t = record { setting = t; words = words_after s e; count = s.count + runs_needed s e t }
-
 -- ---- the verdict
 
--- the edit is accepted, and this is the bench after it
+-- the edit is accepted, and this is the bench after it: each word that the edit has to run was run once
 pub record IsAccepted (s : Contents) (e : Edit) (t : Contents) : Type 0 where
   pub setting : Setting
   pub after : IsSettingAfter s e setting
   pub counts : lacks_counts s e setting ≡ false
-  pub is : t ≡ contents_after s e setting
+  pub is : t ≡ record { setting = setting; words = words_after s e; count = s.count + runs_needed s e setting }
 
 -- The verdict on the edit, none if it is accepted, and the bench after it. An edit that is not refused otherwise is refused if too
 -- few counts are left for the runs that it needs. A refused edit changes nothing.
@@ -171,6 +163,14 @@ Edits (Err fault.OutOfMemory) s e t = IsOutOfMemory s e t
 Edits (Err f) s e t = IsVerdict s e (Some f) t
 
 -- ---- names for proofs
+
+-- whether the run of a word meets one of the listed items, by what each of them affects; true if there is no list
+abbrev pub meets_listed : Option (List Item') → Source → List ℕ → ℕ → Bool
+meets_listed listed script word limit = option_map_or (λ items. meets_one items script word limit) listed true
+
+-- the bench after an accepted edit with this setting after it
+abbrev pub contents_after : Contents → Edit → Setting → Contents
+contents_after s e t = record { setting = t; words = words_after s e; count = s.count + runs_needed s e t }
 
 -- only the number of counts that are left is too low for the edit
 abbrev pub IsMeterFull : Contents → Edit → EditFault → Type 0

@@ -75,12 +75,12 @@ verdict_long s t word cut f long short h = by h.0
 not_for_memory : (s t : Contents) (cut : List ℕ) → refusal_of_add s cut ≡ Some fault.WordTooLong → IsOutOfMemory s (Add cut) t → ⊥
 not_for_memory s t cut short h = by h.is
   where
+    of_text : (fault.WordTooLong ≡ fault.AmongCount) ⊎ ((g : ScriptFault) × (fault.WordTooLong ≡ fault.Script g)) → ⊥
+    of_text (inl e) = cc e
+    of_text (inr e) = let differ : fault.WordTooLong ≡ fault.Script e.0 = e.1 in cc differ
+
     by : (PassesTests s (Add cut) × (t ≡ s)) ⊎ IsBrokenOff s (Add cut) t → ⊥
     by (inl p) = of_text (p.0 fault.WordTooLong short)
-      where
-        of_text : (fault.WordTooLong ≡ fault.AmongCount) ⊎ ((g : ScriptFault) × (fault.WordTooLong ≡ fault.Script g)) → ⊥
-        of_text (inl e) = cc e
-        of_text (inr e) = let differ : fault.WordTooLong ≡ fault.Script e.0 = e.1 in cc differ
     by (inr b) = not_accepted s b.0 cut short b.1
 
 refused_long : (r : Result (Unit {0}) EditFault) (s t : Contents) (word cut : List ℕ) → refusal_of_add s word ≡ Some fault.WordTooLong

@@ -88,15 +88,15 @@ map_or_map g f (Some x) d = refl
 
 row_text_is : (s : Contents) (word : List ℕ) (row : Row) → find (λ (r : Row). bytes_eq word r.word) (rows_now s) ≡ Some row → text_for_row s row ≡ class_or_row_text s word row
 row_text_is s word row is =
-    let with : List ℕ → Class = class_with (rows_now s) in
-    let class : option_map with (stem_of row.outcome) ≡ class_of (rows_now s) word = ap (λ (o : Option Row). option_map with (option_and_then (λ (r : Row). stem_of r.outcome) o)) (sym is) in
+    let given : List ℕ → Class = class_with (rows_now s) in
+    let class : option_map given (stem_of row.outcome) ≡ class_of (rows_now s) word = ap (λ (o : Option Row). option_map given (option_and_then (λ (r : Row). stem_of r.outcome) o)) (sym is) in
     ap (λ (fields : List (List ℕ)). records_text (fields ∷ []))
-    (map_or_map class_fields with (stem_of row.outcome) (row_fields row) ∙ ap (λ (o : Option Class). option_map_or class_fields o (row_fields row)) class)
+    (map_or_map class_fields given (stem_of row.outcome) (row_fields row) ∙ ap (λ (o : Option Class). option_map_or class_fields o (row_fields row)) class)
 
 pub class_text_is : (s : Contents) (word : List ℕ) (row : Option Row) → find (λ (r : Row). bytes_eq word r.word) (rows_now s) ≡ row → class_text s word ≡ option_map (class_or_row_text s word) row
 unfolding class_text
-class_text_is s word None is = ap (option_map (text_for_row s)) is
-class_text_is s word (Some row) is = ap (option_map (text_for_row s)) is ∙ ap Some (row_text_is s word row is)
+class_text_is s word None is = ap (option_map (λ (r : Row). text_for_row s r)) is
+class_text_is s word (Some row) is = ap (option_map (λ (r : Row). text_for_row s r)) is ∙ ap Some (row_text_is s word row is)
 
 -- ---- the trace of a word
 

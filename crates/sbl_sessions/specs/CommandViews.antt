@@ -55,9 +55,9 @@ FindsTarget (Err e) line = is_some (command.target_of line) ≡ true
 
 -- what a block word replaces, by its argument
 abbrev pub view_word : BlockWord → List ℕ → Option ScriptEdit
-view_word word.Routine name = Some (body name)
-view_word word.Among text = option_map (among (command_word text)) (number_in (argument text))
-view_word word.Grouping name = Some (terms name)
+view_word word.Routine = λ name. Some (body name)
+view_word word.Among = λ text. option_map (among (command_word text)) (number_in (argument text))
+view_word word.Grouping = λ name. Some (terms name)
 
 abbrev pub view_asked : Option BlockWord → Option (List ℕ → Option ScriptEdit)
 view_asked asked = option_map view_word asked
