@@ -1,15 +1,12 @@
 -- The replies of a session to its requests.
-use Rattle.std.specs.Prelude.{◌≡◌, ℕ, List, [], ◌∷◌, ◌++◌, codes, decimal, Option, Some, None}
+use Rattle.std.specs.Prelude.{◌≡◌, ℕ, List, [], ◌∷◌, ◌++◌, codes, Option, Some, None}
 use Rattle.sbl_bench.specs.Contents.{Contents}
 use Rattle.sbl_bench.specs.Edits.{Edit, Replace, IsOutOfMemory, IsVerdict, count_runs}
 use Rattle.sbl_bench.specs.Names.{script_name}
 use Rattle.sbl_bench.specs.declared.fault.EditFault.{EditFault}
 use Rattle.sbl_bench.specs.declared.fault.EditFault.TheVariants as fault
-use Rattle.sbl_print.specs.Canonical.{canonical}
-use Rattle.sbl_sessions.specs.Commands.{Command, Nothing, Makes, Stems, Classes, Script, Class, Trace, Runs, HasNoNumber, HasNoText, Bad, command_of}
+use Rattle.sbl_sessions.specs.Commands.{Command, Makes, Reports, Says, HasNoText, command_of}
 use Rattle.sbl_sessions.specs.Requests.{Request}
-use Rattle.sbl_formats.specs.Rows.{class_text, classes_text, stems_text}
-use Rattle.sbl_formats.specs.Traces.{trace_text}
 
 -- a text and the line feed that ends it
 abbrev pub with_line_feed : List ℕ → List ℕ
@@ -60,17 +57,10 @@ IsReport s (Some report) memory text t = Tells s (edit_text (Some fault.OutOfMem
 
 -- The reply to a command, and the bench after it. A block that is not a text is refused for that, or an allocation for it fails.
 abbrev pub IsReplyTo : Contents → Command → Memory → List ℕ → Contents → Type 0
-IsReplyTo s Nothing memory text t = Tells s [] text t
 IsReplyTo s (Makes e) memory text t = (f : Option EditFault) × IsEdit s memory e f t × (text ≡ edit_text f)
-IsReplyTo s Stems memory text t = IsReport s (Some (stems_text s)) memory text t
-IsReplyTo s Classes memory text t = IsReport s (Some (classes_text s)) memory text t
-IsReplyTo s Script memory text t = IsReport s (Some (canonical s.setting.script.items)) memory text t
-IsReplyTo s (Class word) memory text t = IsReport s (class_text s word) memory text t
-IsReplyTo s (Trace word) memory text t = IsReport s (trace_text s word) memory text t
-IsReplyTo s Runs memory text t = IsReport s (Some (with_line_feed (decimal s.count))) memory text t
-IsReplyTo s HasNoNumber memory text t = Tells s (edit_text (Some fault.BadLimit)) text t
+IsReplyTo s (Reports report) memory text t = IsReport s (report s) memory text t
+IsReplyTo s (Says reply) memory text t = Tells s reply text t
 IsReplyTo s (HasNoText f) memory text t = IsReport s (Some (edit_text (Some (fault.Script f)))) memory text t
-IsReplyTo s Bad memory text t = Tells s (with_line_feed (codes "no 52 BadCommand")) text t
 
 -- The whole text of a session with these requests that starts with this bench, and the bench after it. The list gives the
 -- memory of each request in turn.

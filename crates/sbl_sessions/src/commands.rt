@@ -1,6 +1,6 @@
 //! The commands of a session.
 ghost use Rattle.std.specs.Prelude.{◌≡◌, IfOk, OnErr, Some, true};
-ghost use Rattle.std.specs.Option.{is_some, option_map_or};
+ghost use Rattle.std.specs.Option.{is_some, unwrap_or};
 ghost use Rattle.sbl_bench.specs.Edits as edits;
 ghost use Rattle.sbl_sessions.specs.Commands as spec;
 ghost use Rattle.sbl_sessions.specs.Requests as requests;
@@ -69,7 +69,7 @@ fn text_command(text: &str) -> Command<'_>
 
 /// Returns the command that sets the limit of steps to the number in the argument.
 fn limit_command(argument: &str) -> Command<'static>
-    ensures { view_command result ≡ option_map_or (λ n. spec.Makes (edits.Limit n)) (numbers.number_in argument.now) spec.HasNoNumber }
+    ensures { view_command result ≡ spec.Makes (edits.Limit (unwrap_or (numbers.number_in argument.now) 0)) }
 {
     match number_in(argument.as_bytes()) {
         Some(number) => Command::Limit(number),
