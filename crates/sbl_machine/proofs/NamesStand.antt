@@ -20,7 +20,7 @@ use Rattle.sbl_resolver.specs.Checks.{kind_of, defined_at, definition_of, may_be
 use Rattle.sbl_resolver.specs.Laws.{EachPasses, NamesResolve, Resolves, WellDeclaredPasses}
 use Rattle.sbl_resolver.proofs.Extends.{Extends, same, then_, items_more, put_more, command_more, others_more}
 use Rattle.sbl_semantics.specs.Items.{Body, body_named, is_among, known_in, names_by}
-use Rattle.sbl_machine.proofs.SameParts as parts
+use Rattle.sbl_semantics.proofs.SameParts as parts
 use Rattle.sbl_machine.specs.NamesStand.{HasBody, StandsFor, NamesStand}
 use Rattle.sbl_machine.proofs.Noticed.{look, or_none, look_put, look_kept, kinds_at, kind_is, site_is, routine_still, grouping_still, kinds_quiet, sites_quiet}
 
