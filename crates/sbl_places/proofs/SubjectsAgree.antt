@@ -7,9 +7,10 @@ use Rattle.sbl_ast.specs.declared.tree.Simple.{Simple}
 use Rattle.sbl_ast.specs.declared.tree.Simple.TheVariants as simples
 use Rattle.sbl_ast.specs.declared.tree.Prefix.{Prefix}
 use Rattle.sbl_ast.specs.declared.tree.Prefix.TheVariants as prefixes
-use Rattle.sbl_ast.specs.Terminal.{Terminal, QuotedText, terminal_of}
+use Rattle.sbl_ast.specs.Terminal.{Terminal, terminal_of}
+use Rattle.sbl_ast.specs.Tree.{QuotedText, Argument, written_out, by_name, Expression, expression, Sums, no_sums, sum, Product, product, Scales, no_scales, scale, Factor, negated, bracketed, numeral, variable, fixed, length_of, Entry, entry, Command, bracket, simple_, literal_, name_, non_, prefixed, counted, move_, named, splice_, setlimit_, assign_, compare_, compare_values_, among_, Rows, no_rows, row, Others, no_others, joined, Starter, no_starter, starter, Groups, bare, group, Term, term, Plain, declaration, escapes, macro, routine, grouping, Item, plain, backward}
 use Rattle.sbl_ast.specs.Terminal as t
-use Rattle.sbl_ast.specs.Tree.{Argument, written_out, by_name, Expression, expression, Sums, no_sums, sum, Product, product, Scales, no_scales, scale, Factor, negated, bracketed, numeral, variable, fixed, length_of, Entry, entry, Command, bracket, simple_, literal_, name_, non_, prefixed, counted, move_, named, splice_, setlimit_, assign_, compare_, compare_values_, among_, Rows, no_rows, row, Others, no_others, joined, Starter, no_starter, starter, Groups, bare, group, Term, term, Plain, declaration, escapes, macro, routine, grouping, Item, plain, backward, argument_terminal, spelled_expression, spelled_sums, spelled_product, spelled_scales, spelled_factor, spelled_entry, spelled_entries, spelled_command, spelled_rows, spelled_others, spelled_starter, spelled_groups, spelled_names, spelled_terms, spelled_plain, spelled_plains, spelled_items, script_tokens}
+use Rattle.sbl_ast.specs.Spelled.{argument_terminal, spelled_expression, spelled_sums, spelled_product, spelled_scales, spelled_factor, spelled_entry, spelled_entries, spelled_command, spelled_rows, spelled_others, spelled_starter, spelled_groups, spelled_names, spelled_terms, spelled_plain, spelled_plains, spelled_items, script_tokens}
 use Rattle.sbl_ast.specs.Order.{ItemInMode, in_mode, in_order}
 use Rattle.sbl_resolver.specs.declared.occurrences.Use.TheVariants as use_as
 use Rattle.sbl_resolver.specs.declared.occurrences.Site.{Site}
@@ -17,7 +18,8 @@ use Rattle.sbl_resolver.specs.Occurrences.{Occurrence, Notice, put, uses, substr
 use Rattle.sbl_resolver.specs.OccurrenceView.{noted_names, walked_expression, noted_sums, noted_product, noted_scales, noted_factor, noted_simple, noted_prefix, site_behind, has_starter, noted_starter, noted_terms}
 use Rattle.sbl_resolver.proofs.Walked.{expression_is, prefixed_is, among_is}
 use Rattle.sbl_resolver.specs.Subjects.{Subject, subject_of, subjects_of, and_more}
-use Rattle.sbl_places.specs.SubjectTokens.{SubjectToken, subject_in, string_if, is_among, is_in_among, open_after, subject_tokens, subject_tokens_after, subjects}
+use Rattle.sbl_places.specs.SubjectTokens.{SubjectToken, string_if, is_in_among, subject_tokens, subject_tokens_after, subjects}
+use Rattle.sbl_places.proofs.Roles.{is_among, open_after, subject_in, same}
 use Rattle.sbl_places.specs.SubjectTokens as tokens
 
 -- ---- tokens without their places
@@ -33,8 +35,15 @@ same_subjects : (f : Bool) (o : List Bool) (ts : List PlacedToken) → subjects 
 same_subjects f o [] = refl
 same_subjects f o (u ∷ ts) =
     let x = terminal_of u.lexeme in
-    one (subject_in (is_in_among o) x) u (subject_tokens_after (is_among x) (open_after f x o) ts)
-    ∙ ap (and_more (subject_in (is_in_among o) x)) (same_subjects (is_among x) (open_after f x o) ts) where
+    let found = tokens.subject_in (is_in_among o) u.lexeme in
+    let follows = tokens.is_among u.lexeme in
+    let brackets = tokens.open_after f u.lexeme o in
+    let by_role = same u.lexeme in
+    one found u (subject_tokens_after follows brackets ts)
+    ∙ ap (and_more found) (same_subjects follows brackets ts)
+    ∙ ap (λ (y : Option Subject). and_more y (subjects_from follows brackets (terminals ts))) (by_role.0 (is_in_among o))
+    ∙ ap (λ (b : Bool). and_more (subject_in (is_in_among o) x) (subjects_from b brackets (terminals ts))) by_role.1
+    ∙ ap (λ (r : List Bool). and_more (subject_in (is_in_among o) x) (subjects_from (is_among x) r (terminals ts))) (by_role.2 f o) where
       one : (s : Option Subject) (v : PlacedToken) (more : List SubjectToken) → subjects (tokens.and_more s v more) ≡ and_more s (subjects more)
       one None v more = refl
       one (Some y) v more = refl
