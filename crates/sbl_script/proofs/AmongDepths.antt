@@ -5,13 +5,18 @@ use Rattle.std.proofs.lemmas.Bool.{eqb-true, ne_eqb, true≢false}
 use Rattle.std.proofs.lemmas.Bool.Decides.{nat_tests}
 use Rattle.sbl_ast.specs.Counts.{count_amongs, count_in_rows, count_in_others, count_in_starter, count_in_groups, count_in_among}
 use Rattle.sbl_ast.specs.Places.{AtDepth, placed_command, placed_rows, placed_others, placed_starter, placed_groups, placed_entry, placed_entries, placed_expression, placed_sums, placed_product, placed_scales, placed_factor}
-use Rattle.sbl_ast.specs.Terminal as t
 use Rattle.sbl_ast.specs.Texts.{Text, body, places_in}
 use Rattle.sbl_ast.specs.Texts as texts
-use Rattle.sbl_ast.specs.Tree.{Argument, written_out, by_name, Expression, expression, Sums, no_sums, sum, Product, product, Scales, no_scales, scale, Factor, negated, bracketed, numeral, variable, fixed, length_of, Entry, entry, Command, bracket, simple_, literal_, name_, non_, prefixed, counted, move_, named, splice_, setlimit_, assign_, compare_, compare_values_, among_, Rows, no_rows, row, Others, no_others, joined, Starter, no_starter, starter, Groups, bare, group, argument_terminal}
+use Rattle.sbl_token.specs.Lexemes as lex
+use Rattle.sbl_token.specs.declared.words.Word.TheVariants as words
+use Rattle.sbl_token.specs.declared.signs.Sign.TheVariants as signs
+use Rattle.sbl_token.specs.Lexemes.{Lexeme}
+use Rattle.sbl_ast.specs.Symbols as t
+use Rattle.sbl_ast.specs.Tree.{Argument, written_out, by_name, Expression, expression, Sums, no_sums, sum, Product, product, Scales, no_scales, scale, Factor, negated, bracketed, numeral, variable, fixed, length_of, Entry, entry, Command, bracket, simple_, literal_, name_, non_, prefixed, counted, move_, named, splice_, setlimit_, assign_, compare_, compare_values_, among_, Rows, no_rows, row, Others, no_others, joined, Starter, no_starter, starter, Groups, bare, group}
 use Rattle.sbl_ast.specs.View.{RowView}
 use Rattle.sbl_amongs.specs.Amongs.{AmongContents, amongs, amongs_of_rows, amongs_of_others, amongs_of_starter, amongs_of_groups, amongs_of_body, nth_held, put_in_body}
 use Rattle.sbl_amongs.specs.Replacement.{is_among}
+use Rattle.sbl_amongs.proofs.Words.{additive_other, assigns_other, compares_other, constant_other, count_other, joiner_other, move_other, multiplicative_other, naming_other, prefix_other, simple_other, splice_other}
 use Rattle.sbl_amongs.proofs.Held.{none_is_first}
 use Rattle.sbl_amongs.proofs.Swapped.{body_one}
 use Rattle.sbl_script.specs.Edits.{among_depths}
@@ -28,9 +33,13 @@ D ps = among_depths ps
 abbrev depths : Hs → List ℕ
 depths hs = map (λ h. h.0) hs
 
+-- a token that is not the word
+passed : (x : Lexeme) (d : ℕ) (r : Ps) → is_among x ≡ false → D ((x, d) ∷ r) ≡ D r
+passed x d r h = ap (λ (b : Bool). map (λ (p : AtDepth). p.1) (cond b ((x, d) ∷ filter (λ (p : AtDepth). is_among p.0) r) (filter (λ (p : AtDepth). is_among p.0) r))) h
+
 -- ---- parts without the word
 
-argument_q : (x : Argument) (d : ℕ) (r : Ps) → D ((argument_terminal x, d) ∷ r) ≡ D r
+argument_q : (x : Argument) (d : ℕ) (r : Ps) → D ((t.argument x, d) ∷ r) ≡ D r
 argument_q (written_out q) d r = refl
 argument_q (by_name n) d r = refl
 
@@ -40,21 +49,21 @@ mutual
 
   sums_q : (ss : Sums) (d : ℕ) (r : Ps) → D (placed_sums ss d r) ≡ D r
   sums_q no_sums d r = refl
-  sums_q (sum o p ss) d r = product_q p d (placed_sums ss d r) ∙ sums_q ss d r
+  sums_q (sum o p ss) d r = passed (t.additive o) d (placed_product p d (placed_sums ss d r)) (additive_other o) ∙ product_q p d (placed_sums ss d r) ∙ sums_q ss d r
 
   product_q : (p : Product) (d : ℕ) (r : Ps) → D (placed_product p d r) ≡ D r
   product_q (product f ss) d r = factor_q f d (placed_scales ss d r) ∙ scales_q ss d r
 
   scales_q : (ss : Scales) (d : ℕ) (r : Ps) → D (placed_scales ss d r) ≡ D r
   scales_q no_scales d r = refl
-  scales_q (scale o f ss) d r = factor_q f d (placed_scales ss d r) ∙ scales_q ss d r
+  scales_q (scale o f ss) d r = passed (t.multiplicative o) d (placed_factor f d (placed_scales ss d r)) (multiplicative_other o) ∙ factor_q f d (placed_scales ss d r) ∙ scales_q ss d r
 
   factor_q : (f : Factor) (d : ℕ) (r : Ps) → D (placed_factor f d r) ≡ D r
   factor_q (negated f) d r = factor_q f (d + 1) r
-  factor_q (bracketed x) d r = expression_q x (d + 1) ((t.close_, d + 1) ∷ r)
+  factor_q (bracketed x) d r = expression_q x (d + 1) ((lex.sign signs.Close, d + 1) ∷ r)
   factor_q (numeral n) d r = refl
   factor_q (variable n) d r = refl
-  factor_q (fixed c) d r = refl
+  factor_q (fixed c) d r = passed (t.constant c) d r (constant_other c)
   factor_q (length_of x) d r = argument_q x d r
 
 entry_q : (x : Entry) (d : ℕ) (r : Ps) → D (placed_entry x d r) ≡ D r
@@ -69,23 +78,25 @@ entries_q (x ∷ xs) d r = entry_q x d (placed_entries xs d r) ∙ entries_q xs 
 
 mutual
   tree_d : (c : Command) (d : ℕ) (hs : Hs) (r : Ps) → depths hs ≡ D r → depths (amongs c d hs) ≡ D (placed_command c d r)
-  tree_d (bracket rs) d hs r e = rows_d rs (d + 1) hs ((t.close_, d) ∷ r) e
-  tree_d (simple_ x) d hs r e = e
+  tree_d (bracket rs) d hs r e = rows_d rs (d + 1) hs ((lex.sign signs.Close, d) ∷ r) e
+  tree_d (simple_ x) d hs r e = e ∙ sym (passed (t.simple x) d r (simple_other x))
   tree_d (literal_ x) d hs r e = e
   tree_d (name_ x) d hs r e = e
   tree_d (non_ true y) d hs r e = e
   tree_d (non_ false y) d hs r e = e
-  tree_d (prefixed p c) d hs r e = tree_d c (d + 1) hs r e
-  tree_d (counted n x c) d hs r e = tree_d c (d + 1) hs r e ∙ sym (expression_q x d (placed_command c (d + 1) r))
-  tree_d (move_ x y) d hs r e = e ∙ sym (expression_q y d r)
-  tree_d (named x y) d hs r e = e
-  tree_d (splice_ x y) d hs r e = e ∙ sym (argument_q y d r)
-  tree_d (setlimit_ b c) d hs r e = tree_d b (d + 1) (amongs c (d + 1) hs) ((t.for_, d) ∷ placed_command c (d + 1) r) (tree_d c (d + 1) hs r e)
-  tree_d (assign_ x y z) d hs r e = e ∙ sym (expression_q z d r)
-  tree_d (compare_ x y z) d hs r e = e ∙ sym (expression_q z d r)
-  tree_d (compare_values_ x y z) d hs r e = e ∙ sym (expression_q x d ((t.compares y, d) ∷ placed_expression z d ((t.close_, d) ∷ r)) ∙ expression_q z d ((t.close_, d) ∷ r))
+  tree_d (prefixed p c) d hs r e = tree_d c (d + 1) hs r e ∙ sym (passed (t.prefix p) d (placed_command c (d + 1) r) (prefix_other p))
+  tree_d (counted n x c) d hs r e =
+      let rest = placed_command c (d + 1) r in
+      tree_d c (d + 1) hs r e ∙ sym (passed (t.count n) d (placed_expression x d rest) (count_other n) ∙ expression_q x d rest)
+  tree_d (move_ x y) d hs r e = e ∙ sym (passed (t.move x) d (placed_expression y d r) (move_other x) ∙ expression_q y d r)
+  tree_d (named x y) d hs r e = e ∙ sym (passed (t.naming x) d ((lex.name y, d) ∷ r) (naming_other x))
+  tree_d (splice_ x y) d hs r e = e ∙ sym (passed (t.splice x) d ((t.argument y, d) ∷ r) (splice_other x) ∙ argument_q y d r)
+  tree_d (setlimit_ b c) d hs r e = tree_d b (d + 1) (amongs c (d + 1) hs) ((lex.word words.For, d) ∷ placed_command c (d + 1) r) (tree_d c (d + 1) hs r e)
+  tree_d (assign_ x y z) d hs r e = e ∙ sym (passed (t.assigns y) d (placed_expression z d r) (assigns_other y) ∙ expression_q z d r)
+  tree_d (compare_ x y z) d hs r e = e ∙ sym (passed (t.compares y) d (placed_expression z d r) (compares_other y) ∙ expression_q z d r)
+  tree_d (compare_values_ x y z) d hs r e = e ∙ sym (expression_q x d ((t.compares y, d) ∷ placed_expression z d ((lex.sign signs.Close, d) ∷ r)) ∙ passed (t.compares y) d (placed_expression z d ((lex.sign signs.Close, d) ∷ r)) (compares_other y) ∙ expression_q z d ((lex.sign signs.Close, d) ∷ r))
   tree_d (among_ s gs) d hs r e =
-      let rest = (t.close_, d) ∷ r in
+      let rest = (lex.sign signs.Close, d) ∷ r in
       ap (λ (l : List ℕ). d ∷ l) (starter_d s d (amongs_of_groups gs d hs) (placed_groups gs d rest) (groups_d gs d hs rest e))
 
   rows_d : (rs : Rows) (d : ℕ) (hs : Hs) (r : Ps) → depths hs ≡ D r → depths (amongs_of_rows rs d hs) ≡ D (placed_rows rs d r)
@@ -95,17 +106,19 @@ mutual
 
   others_d : (os : Others) (d : ℕ) (hs : Hs) (r : Ps) → depths hs ≡ D r → depths (amongs_of_others os d hs) ≡ D (placed_others os d r)
   others_d no_others d hs r e = e
-  others_d (joined j c os) d hs r e = tree_d c d (amongs_of_others os d hs) (placed_others os d r) (others_d os d hs r e)
+  others_d (joined j c os) d hs r e =
+      let rest = placed_others os d r in
+      tree_d c d (amongs_of_others os d hs) rest (others_d os d hs r e) ∙ sym (passed (t.joiner j) d (placed_command c d rest) (joiner_other j))
 
   starter_d : (s : Starter) (d : ℕ) (hs : Hs) (r : Ps) → depths hs ≡ D r → depths (amongs_of_starter s d hs) ≡ D (placed_starter s d r)
   starter_d no_starter d hs r e = e
-  starter_d (starter rs) d hs r e = rows_d rs (d + 1 + 1) hs ((t.close_, d + 1) ∷ r) e
+  starter_d (starter rs) d hs r e = rows_d rs (d + 1 + 1) hs ((lex.sign signs.Close, d + 1) ∷ r) e
 
   groups_d : (gs : Groups) (d : ℕ) (hs : Hs) (r : Ps) → depths hs ≡ D r → depths (amongs_of_groups gs d hs) ≡ D (placed_groups gs d r)
   groups_d (bare es) d hs r e = e ∙ sym (entries_q es d r)
   groups_d (group x es rs gs) d hs r e =
-      let inner = (t.close_, d + 1) ∷ placed_groups gs d r in
-      let opened = (t.open_, d + 1) ∷ placed_rows rs (d + 1 + 1) inner in
+      let inner = (lex.sign signs.Close, d + 1) ∷ placed_groups gs d r in
+      let opened = (lex.sign signs.Open, d + 1) ∷ placed_rows rs (d + 1 + 1) inner in
       rows_d rs (d + 1 + 1) (amongs_of_groups gs d hs) inner (groups_d gs d hs r e) ∙ sym (entry_q x d (placed_entries es d opened) ∙ entries_q es d opened)
 
 body_d : (b : RowView) → depths (amongs_of_body b) ≡ among_depths (places_in body b)
@@ -176,7 +189,7 @@ N ps = length (D ps)
 
 mutual
   tree_n : (c : Command) (d : ℕ) (r : Ps) → N (placed_command c d r) ≡ count_amongs c + N r
-  tree_n (bracket rs) d r = rows_n rs (d + 1) ((t.close_, d) ∷ r)
+  tree_n (bracket rs) d r = rows_n rs (d + 1) ((lex.sign signs.Close, d) ∷ r)
   tree_n (simple_ x) d r = omega arith
   tree_n (literal_ x) d r = omega arith
   tree_n (name_ x) d r = omega arith
@@ -188,16 +201,16 @@ mutual
   tree_n (named x y) d r = omega arith
   tree_n (splice_ x y) d r = let q = ap length (argument_q y d r) in omega (arith, q)
   tree_n (setlimit_ b c) d r =
-      let x = tree_n b (d + 1) ((t.for_, d) ∷ placed_command c (d + 1) r) in
+      let x = tree_n b (d + 1) ((lex.word words.For, d) ∷ placed_command c (d + 1) r) in
       let y = tree_n c (d + 1) r in
       omega (arith, x, y)
   tree_n (assign_ x y z) d r = let q = ap length (expression_q z d r) in omega (arith, q)
   tree_n (compare_ x y z) d r = let q = ap length (expression_q z d r) in omega (arith, q)
   tree_n (compare_values_ x y z) d r =
-      let q = ap length (expression_q x d ((t.compares y, d) ∷ placed_expression z d ((t.close_, d) ∷ r)) ∙ expression_q z d ((t.close_, d) ∷ r)) in
+      let q = ap length (expression_q x d ((t.compares y, d) ∷ placed_expression z d ((lex.sign signs.Close, d) ∷ r)) ∙ expression_q z d ((lex.sign signs.Close, d) ∷ r)) in
       omega (arith, q)
   tree_n (among_ s gs) d r =
-      let rest = (t.close_, d) ∷ r in
+      let rest = (lex.sign signs.Close, d) ∷ r in
       let x = starter_n s d (placed_groups gs d rest) in
       let y = groups_n gs d rest in
       omega (arith, x, y)
@@ -219,13 +232,13 @@ mutual
 
   starter_n : (s : Starter) (d : ℕ) (r : Ps) → N (placed_starter s d r) ≡ count_in_starter s + N r
   starter_n no_starter d r = omega arith
-  starter_n (starter rs) d r = rows_n rs (d + 1 + 1) ((t.close_, d + 1) ∷ r)
+  starter_n (starter rs) d r = rows_n rs (d + 1 + 1) ((lex.sign signs.Close, d + 1) ∷ r)
 
   groups_n : (gs : Groups) (d : ℕ) (r : Ps) → N (placed_groups gs d r) ≡ count_in_groups gs + N r
   groups_n (bare es) d r = let q = ap length (entries_q es d r) in omega (arith, q)
   groups_n (group x es rs gs) d r =
-      let inner = (t.close_, d + 1) ∷ placed_groups gs d r in
-      let opened = (t.open_, d + 1) ∷ placed_rows rs (d + 1 + 1) inner in
+      let inner = (lex.sign signs.Close, d + 1) ∷ placed_groups gs d r in
+      let opened = (lex.sign signs.Open, d + 1) ∷ placed_rows rs (d + 1 + 1) inner in
       let q = ap length (entry_q x d (placed_entries es d opened) ∙ entries_q es d opened) in
       let y = rows_n rs (d + 1 + 1) inner in
       let z = groups_n gs d r in

@@ -16,7 +16,7 @@ use Rattle.sbl_script.specs.declared.edit_fault.ScriptEditFault.TheVariants as e
 use Rattle.sbl_script.specs.declared.edits.DefinitionKind.TheVariants as kinds
 use Rattle.sbl_ast.specs.Source.{Source}
 use Rattle.sbl_resolver.specs.Checks.{WellDeclared, fault_of}
-use Rattle.sbl_script.specs.Reading.{HasTokens, IsTextFault, IsUnread, first_left_out, max_script, terminals}
+use Rattle.sbl_script.specs.Reading.{HasTokens, IsTextFault, IsUnread, first_left_out, max_script, lexemes}
 use Rattle.sbl_script.specs.Refusals.{Refuses}
 use Rattle.sbl_script.specs.Edits.{ScriptEdit, body, among, terms, defines, text_for, IsEditFault}
 use Rattle.sbl_script.specs.Homes.{Home, IsSubstitutedAt, first_passing, home, home_in, home_of_among, IsFaultAt, home_of_body, home_of_held, home_of_terms}
@@ -72,14 +72,14 @@ pub unread_told : (s : Source) (h : Home) (text : List ℕ) (ts : List PlacedTok
 unread_told s h text ts f tokens (inl m) = inl m
 unread_told s h text ts f tokens (inr u) = inr (inr (inl (ts, tokens, u)))
 
-pub check_told : (s : Source) (h : Home) (text : List ℕ) (ts : List PlacedToken) (x : TreeOf h.text) (f : ScriptFault) → HasTokens h.state text ts → first_left_out ts ≡ None → IsReadAs h.text (terminals ts) x
+pub check_told : (s : Source) (h : Home) (text : List ℕ) (ts : List PlacedToken) (x : TreeOf h.text) (f : ScriptFault) → HasTokens h.state text ts → first_left_out ts ≡ None → IsReadAs h.text (lexemes ts) x
     → (f ≡ fault.OutOfMemory) ⊎ (fault_of (h.around x) s.external ≡ Some f) → (f ≡ fault.OutOfMemory) ⊎ IsFaultAt s h text f
 check_told s h text ts x f tokens offered read (inl m) = inl m
 check_told s h text ts x f tokens offered read (inr g) = inr (inr (inr (ts, tokens, offered, record { tree = x; read = read; is = g })))
 
 -- ---- the script
 
-pub substituted : (s t : Source) (h : Home) (text : List ℕ) (ts : List PlacedToken) (x : TreeOf h.text) (n : Bool) → HasTokens h.state text ts → first_left_out ts ≡ None → IsReadAs h.text (terminals ts) x
+pub substituted : (s t : Source) (h : Home) (text : List ℕ) (ts : List PlacedToken) (x : TreeOf h.text) (n : Bool) → HasTokens h.state text ts → first_left_out ts ≡ None → IsReadAs h.text (lexemes ts) x
     → t.items ≡ h.around x → t.external ≡ s.external → WellDeclared t.items t.external → h.keeps_count x ≡ n → IsSubstitutedAt s h text n t
 substituted s t h text ts x n tokens offered read items external well counted = record { placed = ts; tree = x; tokens = tokens; offered = offered; read = read; items_are = items; external_is = external; well_declared = well; counted = counted }
 

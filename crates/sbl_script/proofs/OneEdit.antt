@@ -9,7 +9,7 @@ use Rattle.sbl_script.specs.declared.edit_fault.ScriptEditFault.{ScriptEditFault
 use Rattle.sbl_script.specs.declared.edit_fault.ScriptEditFault.TheVariants as edits
 use Rattle.sbl_ast.specs.Source.{Source}
 use Rattle.sbl_resolver.specs.Checks.{fault_of}
-use Rattle.sbl_script.specs.Reading.{IsUnread, terminals}
+use Rattle.sbl_script.specs.Reading.{IsUnread, lexemes}
 use Rattle.sbl_script.specs.Edits.{ScriptEdit}
 use Rattle.sbl_script.specs.Homes.{Home, IsEditedAt, IsSubstitutedAt, IsEditFaultAt, home, IsFaultAt}
 use Rattle.sbl_script.proofs.OneReading.{Known, tree_one, fault_is_one, placed_one, text_is_one, no_text_fault, unread_is_one, no_unread, some_one, some_none, same_source}
@@ -18,7 +18,7 @@ use Rattle.sbl_script.proofs.OneReading.{Known, tree_one, fault_is_one, placed_o
 substituted_tree : Known → (s : Source) (h : Home) (text : List ℕ) (m n : Bool) (t u : Source) (a : IsSubstitutedAt s h text m t) (b : IsSubstitutedAt s h text n u) → a.tree ≡ b.tree
 substituted_tree k s h text m n t u a b =
     let same = placed_one k h.state text a.placed b.placed a.tokens b.tokens in
-    tree_one k h.text b.placed a.tree b.tree (subst (λ (ts : List PlacedToken). IsReadAs h.text (terminals ts) a.tree) same a.read) b.read
+    tree_one k h.text b.placed a.tree b.tree (subst (λ (ts : List PlacedToken). IsReadAs h.text (lexemes ts) a.tree) same a.read) b.read
 
 substituted_is_one : Known → (s : Source) (h : Home) (text : List ℕ) (m n : Bool) (t u : Source) → IsSubstitutedAt s h text m t → IsSubstitutedAt s h text n u → t ≡ u
 substituted_is_one k s h text m n t u a b =
@@ -31,7 +31,7 @@ substituted_or_fault k s h text m t f a (inr (inl b)) =
     no_unread k h.text a.placed (length text) f a.tree a.offered a.read (subst (λ (ts : List PlacedToken). IsUnread h.text ts (length text) f) same b.2)
 substituted_or_fault k s h text m t f a (inr (inr b)) =
     let same = placed_one k h.state text a.placed b.0 a.tokens b.1 in
-    let one : a.tree ≡ b.3.tree = tree_one k h.text b.0 a.tree b.3.tree (subst (λ (ts : List PlacedToken). IsReadAs h.text (terminals ts) a.tree) same a.read) b.3.read in
+    let one : a.tree ≡ b.3.tree = tree_one k h.text b.0 a.tree b.3.tree (subst (λ (ts : List PlacedToken). IsReadAs h.text (lexemes ts) a.tree) same a.read) b.3.read in
     let items : t.items ≡ h.around b.3.tree = a.items_are ∙ ap (λ (z : TreeOf h.text). h.around z) one in
     let named : fault_of t.items t.external ≡ fault_of (h.around b.3.tree) s.external = ap (λ (is : List Item). fault_of is t.external) items ∙ ap (λ (n : List ℕ). fault_of (h.around b.3.tree) n) a.external_is in
     some_none f (fault_of t.items t.external) a.well_declared (named ∙ b.3.is)

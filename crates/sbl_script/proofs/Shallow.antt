@@ -3,7 +3,8 @@ use Rattle.std.proofs.Common.{◌≡◌, ◌≤◌, ℕ, Bool, true, false, List
 use Rattle.std.specs.List.{list_any}
 use Rattle.std.specs.Option.{option_or}
 use Rattle.sbl_amongs.specs.Amongs.{FitsAt, AmongContents, nth_held}
-use Rattle.sbl_ast.specs.Terminal as t
+use Rattle.sbl_token.specs.Lexemes as lex
+use Rattle.sbl_token.specs.declared.signs.Sign.TheVariants as signs
 use Rattle.sbl_ast.specs.Tree.{Argument, Term, Plain, routine, grouping, Item, plain, backward, Starter, Groups, among_}
 use Rattle.sbl_ast.specs.Places.{AtDepth, placed_command, placed_plain, placed_plains, placed_items, AreShallow}
 use Rattle.sbl_ast.specs.Texts.{among, body, terms, places_in}
@@ -41,13 +42,13 @@ items_shallow p y (plain x ∷ is) hy h = go (p x) (items_shallow p y is hy (beh
   go true more = with_behind (placed_plain y) (plain_before y) rest hy (behind_it (placed_plain x) (plain_before x) rest h)
   go false more = with_behind (placed_plain x) (plain_before x) (placed_items (items_with p y is) []) (by_itself (placed_plain x) (plain_before x) rest h) more
 items_shallow p y (backward xs ∷ is) hy h =
-    let rest = (t.close_, 0) ∷ placed_items is [] in
+    let rest = (lex.sign signs.Close, 0) ∷ placed_items is [] in
     let own = by_itself (placed_plains xs) (plains_before xs) rest h.1.1 in
     let tail = behind_it (placed_plains xs) (plains_before xs) rest h.1.1 in
     go (list_any p xs) own tail (items_shallow p y is hy tail.1) where
-      go : (here : Bool) → AreShallow (placed_plains xs []) → AreShallow ((t.close_, 0) ∷ placed_items is []) → AreShallow (placed_items (items_with p y is) []) → AreShallow (placed_items (if here then backward (plains_with p y xs) ∷ is else backward xs ∷ items_with p y is) [])
-      go true own tail more = let ys = plains_with p y xs in (h.0, (h.1.0, with_behind (placed_plains ys) (plains_before ys) ((t.close_, 0) ∷ placed_items is []) (plains_shallow p y xs hy own) tail))
-      go false own tail more = (h.0, (h.1.0, with_behind (placed_plains xs) (plains_before xs) ((t.close_, 0) ∷ placed_items (items_with p y is) []) own (tail.0, more)))
+      go : (here : Bool) → AreShallow (placed_plains xs []) → AreShallow ((lex.sign signs.Close, 0) ∷ placed_items is []) → AreShallow (placed_items (items_with p y is) []) → AreShallow (placed_items (if here then backward (plains_with p y xs) ∷ is else backward xs ∷ items_with p y is) [])
+      go true own tail more = let ys = plains_with p y xs in (h.0, (h.1.0, with_behind (placed_plains ys) (plains_before ys) ((lex.sign signs.Close, 0) ∷ placed_items is []) (plains_shallow p y xs hy own) tail))
+      go false own tail more = (h.0, (h.1.0, with_behind (placed_plains xs) (plains_before xs) ((lex.sign signs.Close, 0) ∷ placed_items (items_with p y is) []) own (tail.0, more)))
 
 -- ---- a definition in a script that is nowhere too deep
 
@@ -71,7 +72,7 @@ first_shallow p [] y h is = absurd cc
 first_shallow p (plain x ∷ items) y h is =
     either_shallow (plain_if p x) (first_passing p items) y (λ e. if_shallow p x y (by_itself (placed_plain x) (plain_before x) (placed_items items []) h) e) (λ e. first_shallow p items y (behind_it (placed_plain x) (plain_before x) (placed_items items []) h) e) is
 first_shallow p (backward xs ∷ items) y h is =
-    let rest = (t.close_, 0) ∷ placed_items items [] in
+    let rest = (lex.sign signs.Close, 0) ∷ placed_items items [] in
     let inner = behind_it (placed_plains xs) (plains_before xs) rest h.1.1 in
     either_shallow (first_in p xs) (first_passing p items) y (λ e. in_shallow p xs y (by_itself (placed_plains xs) (plains_before xs) rest h.1.1) e) (λ e. first_shallow p items y inner.1 e) is
 

@@ -23,7 +23,7 @@ use Rattle.sbl_script.specs.declared.edits.DefinitionKind.{DefinitionKind}
 use Rattle.sbl_script.specs.declared.edits.DefinitionKind.TheVariants as kinds
 use Rattle.sbl_ast.specs.Source.{Source}
 use Rattle.sbl_resolver.specs.Checks.{WellDeclared}
-use Rattle.sbl_script.specs.Reading.{HasTokens, IsFaultIn, first_left_out, terminals}
+use Rattle.sbl_script.specs.Reading.{HasTokens, IsFaultIn, first_left_out, lexemes}
 
 -- ---- what an edit may replace
 
@@ -138,7 +138,7 @@ pub record IsSubstituted (s : Source) (e : ScriptEdit) (w : Text) (text : List �
   pub tree : TreeOf w
   pub tokens : HasTokens (state_before (changes e) s.items) text placed
   pub offered : first_left_out placed ≡ None
-  pub read : IsReadAs w (terminals placed) tree
+  pub read : IsReadAs w (lexemes placed) tree
   pub items_are : IsMade s.items e w tree t.items
   pub external_is : t.external ≡ s.external
   pub well_declared : WellDeclared t.items t.external

@@ -2,7 +2,7 @@
 
 ghost use Rattle.std.specs.Prelude.{◌≡◌, ◌⊎◌, ◌≤◌, None, Some, true, [], length, map, IfOk, IfErr};
 ghost use Rattle.std.specs.Str.{IsUtf8};
-ghost use Rattle.sbl_ast.specs.Places.{AreShallow, placed_plain, places, max_depth};
+ghost use Rattle.sbl_ast.specs.Places.{AreShallow, placed_plain, places, max_depth, lexemes_of};
 ghost use Rattle.sbl_parser.specs.Reading.{IsReadAs};
 ghost use Rattle.sbl_ast.specs.Texts as texts;
 ghost use Rattle.sbl_ast.specs.View.{view_among, view_argument, view_items, view_plain, view_row, view_term};
@@ -12,7 +12,6 @@ ghost use Rattle.sbl_script.specs.SpelledScript.{AreSpelled, IsSpelled};
 ghost use Rattle.sbl_text.specs.Directives.{start, Directives};
 ghost use Rattle.sbl_text.specs.SpacedTokens.{after_all};
 ghost use Rattle.sbl_text.specs.Tokens.{MayEnd, placed_of};
-ghost use Rattle.sbl_ast.specs.Tree.{lexemes_of};
 ghost use Rattle.sbl_script.specs.ParsedScript.{source_of};
 ghost use Rattle.sbl_script.specs.Reading as spec;
 
@@ -60,7 +59,7 @@ fn text_of(bytes: &[u8]) -> Result<&str, ScriptFault>
 /// Returns the tree of these tokens. `end` is the length of their text in bytes.
 fn tree_of(alloc: Global, tokens: &[Token], end: usize) -> Result<Vec<ScriptItem>, ScriptFault>
     ensures offered { IfOk result (λ items. spec.first_left_out (map placed_of tokens.now) ≡ None) }
-    ensures tree { IfOk result (λ items. IsReadAs texts.script (spec.terminals (map placed_of tokens.now)) (view_items items.items)) }
+    ensures tree { IfOk result (λ items. IsReadAs texts.script (spec.lexemes (map placed_of tokens.now)) (view_items items.items)) }
     ensures fault { IfErr result (λ f. (f ≡ ScriptFault.OutOfMemory) ⊎ spec.IsUnread texts.script (map placed_of tokens.now) end f) }
 {
     if let Some(place) = first_left_out(tokens) {
@@ -72,7 +71,7 @@ fn tree_of(alloc: Global, tokens: &[Token], end: usize) -> Result<Vec<ScriptItem
 /// Returns the body that these tokens form, as a routine's. `end` is the length of their text in bytes.
 fn body_of_tokens(alloc: Global, tokens: &[Token], end: usize) -> Result<RowOfCommands, ScriptFault>
     ensures offered { IfOk result (λ row. spec.first_left_out (map placed_of tokens.now) ≡ None) }
-    ensures tree { IfOk result (λ row. IsReadAs texts.body (spec.terminals (map placed_of tokens.now)) (view_row row)) }
+    ensures tree { IfOk result (λ row. IsReadAs texts.body (spec.lexemes (map placed_of tokens.now)) (view_row row)) }
     ensures fault { IfErr result (λ f. (f ≡ ScriptFault.OutOfMemory) ⊎ spec.IsUnread texts.body (map placed_of tokens.now) end f) }
 {
     if let Some(place) = first_left_out(tokens) {
@@ -90,7 +89,7 @@ fn among_of_tokens(
 ) -> Result<Among, ScriptFault>
     requires { depth ≤ max_depth }
     ensures offered { IfOk result (λ a. spec.first_left_out (map placed_of tokens.now) ≡ None) }
-    ensures tree { IfOk result (λ a. IsReadAs (texts.among depth) (spec.terminals (map placed_of tokens.now)) (view_among a)) }
+    ensures tree { IfOk result (λ a. IsReadAs (texts.among depth) (spec.lexemes (map placed_of tokens.now)) (view_among a)) }
     ensures few { IfOk result (λ a. count_in_among (view_among a) ≤ length tokens.now) }
     ensures fault { IfErr result (λ f. (f ≡ ScriptFault.OutOfMemory) ⊎ spec.IsUnread (texts.among depth) (map placed_of tokens.now) end f) }
 {
@@ -107,7 +106,7 @@ fn terms_of_tokens(
     end: usize,
 ) -> Result<(Argument, Vec<Term>), ScriptFault>
     ensures offered { IfOk result (λ x. spec.first_left_out (map placed_of tokens.now) ≡ None) }
-    ensures tree { IfOk result (λ x. IsReadAs texts.terms (spec.terminals (map placed_of tokens.now)) (view_argument x.0, map view_term x.1.items)) }
+    ensures tree { IfOk result (λ x. IsReadAs texts.terms (spec.lexemes (map placed_of tokens.now)) (view_argument x.0, map view_term x.1.items)) }
     ensures fault { IfErr result (λ f. (f ≡ ScriptFault.OutOfMemory) ⊎ spec.IsUnread texts.terms (map placed_of tokens.now) end f) }
 {
     if let Some(place) = first_left_out(tokens) {

@@ -11,7 +11,7 @@ use Rattle.sbl_ast.specs.Tree.{Item, Plain, routine}
 use Rattle.sbl_ast.specs.View.{RowView, view_among, view_items, view_row}
 use Rattle.sbl_resolver.specs.Checks.{fault_of}
 use Rattle.sbl_script.specs.ParsedScript.{source_of}
-use Rattle.sbl_script.specs.Reading.{IsUnread, first_left_out, terminals}
+use Rattle.sbl_script.specs.Reading.{IsUnread, first_left_out, lexemes}
 use Rattle.sbl_script.specs.declared.edits.DefinitionKind.TheVariants as kinds
 use Rattle.sbl_script.specs.declared.edit_fault.ScriptEditFault.TheVariants as edits
 use Rattle.sbl_script.specs.Edits.{among, defines, items_with, first_of}
@@ -98,7 +98,7 @@ with_definition-requires-clause-spelled c =
     let seen : first_of (defines kinds.Routine n) s.items ≡ Some (routine n b.0 b.1) = search rules in
     let found = sym (first_same (defines kinds.Routine n) s.items) ∙ seen in
     let own : view_items c.self.inside.items.items ≡ s.items = search rules in
-    let read = subst (λ (xs : List Token). IsReadAs (texts.among d) (terminals (map placed_of xs)) x) c.deref-2.ensures.value c.in_ok-among.ensures.tree in
+    let read = subst (λ (xs : List Token). IsReadAs (texts.among d) (lexemes (map placed_of xs)) x) c.deref-2.ensures.value c.in_ok-among.ensures.tree in
     let said = read_said there c.args.text.now (map placed_of c.in_ok-found.found.items) (texts.among d) x c.in_ok-found.ensures.tokens read in
     let new = c.in_ok-new.ensures ∙ ap (λ (r : RowView). routine n r.0 r.1) c.in_ok-body.ensures.put in
     subst (IsSpelled there) (sym new) (among_said n s.items b c.args.k x d (subst AreSpelled own c.self.invariant.2) found said)
@@ -120,7 +120,7 @@ returns-in_err-script-clause-fault c =
     let ts = map placed_of c.in_ok-found.found.items in
     let x = view_among c.in_ok-among.among in
     let offered = subst (λ (xs : List Token). first_left_out (map placed_of xs) ≡ None) c.deref-2.ensures.value c.in_ok-among.ensures.offered in
-    let read = subst (λ (xs : List Token). IsReadAs (texts.among c.in-Some-nth_among.depth) (terminals (map placed_of xs)) x) c.deref-2.ensures.value c.in_ok-among.ensures.tree in
+    let read = subst (λ (xs : List Token). IsReadAs (texts.among c.in-Some-nth_among.depth) (lexemes (map placed_of xs)) x) c.deref-2.ensures.value c.in_ok-among.ensures.tree in
     let f = c.in_err-script.field-0.0 in
     let new = c.in_ok-new.ensures ∙ ap (λ (r : RowView). routine n r.0 r.1) c.in_ok-body.ensures.put in
     let failed = subst (λ (y : Plain). (f ≡ fault.OutOfMemory) ⊎ (fault_of (items_with (defines kinds.Routine n) y s.items) s.external ≡ Some f)) new c.in_err-script.ensures.fault in
@@ -142,7 +142,7 @@ returns-then-has_as_many_amongs-clause-script c =
     let ts = map placed_of c.in_ok-found.found.items in
     let x = view_among c.in_ok-among.among in
     let offered = subst (λ (xs : List Token). first_left_out (map placed_of xs) ≡ None) c.deref-2.ensures.value c.in_ok-among.ensures.offered in
-    let read = subst (λ (xs : List Token). IsReadAs (texts.among c.in-Some-nth_among.depth) (terminals (map placed_of xs)) x) c.deref-2.ensures.value c.in_ok-among.ensures.tree in
+    let read = subst (λ (xs : List Token). IsReadAs (texts.among c.in-Some-nth_among.depth) (lexemes (map placed_of xs)) x) c.deref-2.ensures.value c.in_ok-among.ensures.tree in
     let u = source_of c.in_ok-script.script in
     let new = c.in_ok-new.ensures ∙ ap (λ (r : RowView). routine n r.0 r.1) c.in_ok-body.ensures.put in
     let items = c.in_ok-script.ensures.items ∙ ap (λ (y : Plain). items_with (defines kinds.Routine n) y s.items) new in
@@ -165,7 +165,7 @@ returns-clause-fault c =
     let ts = map placed_of c.in_ok-found.found.items in
     let x = view_among c.in_ok-among.among in
     let offered = subst (λ (xs : List Token). first_left_out (map placed_of xs) ≡ None) c.deref-2.ensures.value c.in_ok-among.ensures.offered in
-    let read = subst (λ (xs : List Token). IsReadAs (texts.among c.in-Some-nth_among.depth) (terminals (map placed_of xs)) x) c.deref-2.ensures.value c.in_ok-among.ensures.tree in
+    let read = subst (λ (xs : List Token). IsReadAs (texts.among c.in-Some-nth_among.depth) (lexemes (map placed_of xs)) x) c.deref-2.ensures.value c.in_ok-among.ensures.tree in
     let u = source_of c.in_ok-script.script in
     let new = c.in_ok-new.ensures ∙ ap (λ (r : RowView). routine n r.0 r.1) c.in_ok-body.ensures.put in
     let items = c.in_ok-script.ensures.items ∙ ap (λ (y : Plain). items_with (defines kinds.Routine n) y s.items) new in

@@ -11,7 +11,7 @@ use Rattle.sbl_ast.specs.View.{view_argument, view_items, view_term}
 use Rattle.sbl_resolver.specs.Checks.{fault_of}
 use Rattle.sbl_script.specs.declared.edits.DefinitionKind.TheVariants as kinds
 use Rattle.sbl_script.specs.ParsedScript.{source_of}
-use Rattle.sbl_script.specs.Reading.{IsUnread, first_left_out, terminals}
+use Rattle.sbl_script.specs.Reading.{IsUnread, first_left_out, lexemes}
 use Rattle.sbl_script.specs.SpelledScript.{AreSpelled, IsSpelled}
 use Rattle.sbl_script.specs.Edits.{terms, defines, items_with, first_of}
 use Rattle.sbl_script.specs.Homes.{home_of_terms}
@@ -76,7 +76,7 @@ with_definition-requires-clause-spelled c =
     let there = editing.terms_home s.items n a os found in
     let own : view_items c.self.inside.items.items ≡ s.items = search rules in
     let x : texts.TreeOf texts.terms = (view_argument c.in_ok-terms.terms.0, map view_term c.in_ok-terms.terms.1.items) in
-    let read = subst (λ (xs : List Token). IsReadAs texts.terms (terminals (map placed_of xs)) x) c.deref-2.ensures.value c.in_ok-terms.ensures.tree in
+    let read = subst (λ (xs : List Token). IsReadAs texts.terms (lexemes (map placed_of xs)) x) c.deref-2.ensures.value c.in_ok-terms.ensures.tree in
     let said = read_said h.state text (map placed_of c.in_ok-found.found.items) texts.terms x c.in_ok-found.ensures.tokens read in
     subst (IsSpelled h.state) (sym c.in_ok-new.ensures) (terms_said n s.items a os x (subst AreSpelled own c.self.invariant.2) found said)
 
@@ -95,7 +95,7 @@ returns-in_err-script-clause-fault c =
     let ts = map placed_of c.in_ok-found.found.items in
     let x : texts.TreeOf texts.terms = (view_argument c.in_ok-terms.terms.0, map view_term c.in_ok-terms.terms.1.items) in
     let offered = subst (λ (xs : List Token). first_left_out (map placed_of xs) ≡ None) c.deref-2.ensures.value c.in_ok-terms.ensures.offered in
-    let read = subst (λ (xs : List Token). IsReadAs texts.terms (terminals (map placed_of xs)) x) c.deref-2.ensures.value c.in_ok-terms.ensures.tree in
+    let read = subst (λ (xs : List Token). IsReadAs texts.terms (lexemes (map placed_of xs)) x) c.deref-2.ensures.value c.in_ok-terms.ensures.tree in
     let f = c.in_err-script.field-0.0 in
     let failed = subst (λ (y : Plain). (f ≡ fault.OutOfMemory) ⊎ (fault_of (items_with (defines kinds.Grouping n) y s.items) s.external ≡ Some f)) c.in_ok-new.ensures c.in_err-script.ensures.fault in
     rw p.1 (editing.told_as s (terms n) h text f p.0 there p.2 (editing.check_told s h text ts x f c.in_ok-found.ensures.tokens offered read failed))
@@ -114,7 +114,7 @@ returns-clause-script c =
     let ts = map placed_of c.in_ok-found.found.items in
     let x : texts.TreeOf texts.terms = (view_argument c.in_ok-terms.terms.0, map view_term c.in_ok-terms.terms.1.items) in
     let offered = subst (λ (xs : List Token). first_left_out (map placed_of xs) ≡ None) c.deref-2.ensures.value c.in_ok-terms.ensures.offered in
-    let read = subst (λ (xs : List Token). IsReadAs texts.terms (terminals (map placed_of xs)) x) c.deref-2.ensures.value c.in_ok-terms.ensures.tree in
+    let read = subst (λ (xs : List Token). IsReadAs texts.terms (lexemes (map placed_of xs)) x) c.deref-2.ensures.value c.in_ok-terms.ensures.tree in
     let u = source_of c.in_ok-script.script in
     let items = c.in_ok-script.ensures.items ∙ ap (λ (y : Plain). items_with (defines kinds.Grouping n) y s.items) c.in_ok-new.ensures in
     edited_out s (terms n) text u (h, there, editing.substituted s u h text ts x true c.in_ok-found.ensures.tokens offered read items c.in_ok-script.ensures.external c.in_ok-script.ensures.well_declared refl)

@@ -1,5 +1,5 @@
 -- Parts of trees that are the same are equal.
-use Rattle.std.proofs.Common.{◌≡◌, ◌∙◌, ℕ, Bool, true, false, ◌&&◌, List, [], ◌∷◌, Option, Some, None, refl, sym, ap}
+use Rattle.std.proofs.Common.{◌≡◌, ℕ, Bool, true, false, ◌&&◌, List, [], ◌∷◌, Option, Some, None, refl, sym, ap}
 use Rattle.std.specs.Bool.{beq}
 use Rattle.std.specs.Cmp.Lexicographic.{pointwise}
 use Rattle.std.specs.Option.{option_eq}
@@ -35,8 +35,7 @@ use Rattle.sbl_ast.specs.declared.tree.Constant.{Constant}
 use Rattle.sbl_ast.specs.declared.tree.Joiner.{Joiner}
 use Rattle.sbl_ast.specs.declared.tree.DeclarationKind.{DeclarationKind}
 use Rattle.sbl_ast.specs.declared.tree.Base.{Base}
-use Rattle.sbl_ast.specs.Terminal.{QuotedText}
-use Rattle.sbl_ast.specs.Tree.{Argument, written_out, by_name, Expression, expression, Sums, no_sums, sum, Product, product, Scales, no_scales, scale, Factor, negated, bracketed, numeral, variable, fixed, length_of, Entry, entry, Term, term}
+use Rattle.sbl_ast.specs.Tree.{QuotedText, Argument, written_out, by_name, Expression, expression, Sums, no_sums, sum, Product, product, Scales, no_scales, scale, Factor, negated, bracketed, numeral, variable, fixed, length_of, Entry, entry, Term, term}
 use Rattle.sbl_semantics.specs.Same.{same_argument, same_entry, same_expression, same_factor, same_product, same_quoted, same_scales, same_sums, same_term}
 
 pub both : (a b : Bool) → (a && b) ≡ true → (a ≡ true) × (b ≡ true)
