@@ -2,16 +2,17 @@
 use Rattle.std.proofs.Common.{◌≡◌, ◌⊎◌, ℕ, ◌+◌, ◌-◌, Bool, true, false, cond, not, ◌||◌, nat_eq, suc, List, [], ◌∷◌, ◌++◌, append_assoc, length, map, take, Option, Some, None, option_map, is_some, Result, Ok, Err, if◌then◌else◌, refl, sym, ap, subst, ◌∙◌, arith}
 use Rattle.std.specs.List.{before_first, filter, find, fold, list_any, prefix_len}
 use Rattle.std.specs.Option.{ok_or, option_or}
+use Rattle.sbl_token.specs.Lexemes as lex
+use Rattle.sbl_token.specs.declared.signs.Sign.TheVariants as signs
+use Rattle.sbl_token.specs.declared.words.Word.TheVariants as words
 use Rattle.sbl_text.specs.declared.fault.ScriptFault.{ScriptFault}
 use Rattle.sbl_text.specs.Escapes.{InForce, nothing_set}
 use Rattle.sbl_text.specs.Directives.{Directives, start_under}
 use Rattle.sbl_ast.specs.declared.mode.Mode.TheVariants.{Backward}
 use Rattle.sbl_ast.specs.Counts.{count_in_among}
 use Rattle.sbl_ast.specs.Order.{ItemInMode, in_mode, in_order}
-use Rattle.sbl_ast.specs.Terminal.{Terminal}
-use Rattle.sbl_ast.specs.Terminal as t
 use Rattle.sbl_ast.specs.Tree.{Argument, Term, Command, Others, Starter, Groups, Plain, declaration, escapes, macro, routine, grouping, Item, plain, backward, among_}
-use Rattle.sbl_ast.specs.Places.{AtDepth, places, placed_command, placed_plain, placed_plains, placed_starter, placed_groups, tokens}
+use Rattle.sbl_ast.specs.Places.{AtDepth, places, placed_command, placed_plain, placed_plains, tokens}
 use Rattle.sbl_ast.specs.Source.{Source}
 use Rattle.sbl_ast.specs.Texts.{Text, TreeOf, places_in}
 use Rattle.sbl_ast.specs.Texts as texts
@@ -20,15 +21,14 @@ use Rattle.sbl_ast.proofs.Behind.{plain_before, tree_before}
 use Rattle.sbl_amongs.specs.Amongs.{AmongContents, amongs_of_body, nth_held, put_in_body}
 use Rattle.sbl_amongs.specs.Replacement.{count_words, is_among}
 use Rattle.sbl_amongs.proofs.Swapped.{body_one}
-use Rattle.sbl_parser.proofs.Faults.{tree_tokens}
 use Rattle.sbl_parser.proofs.OneTree.{trees_are_one}
-use Rattle.sbl_parser.proofs.Unique.{behind_among}
 use Rattle.sbl_script.specs.declared.edit_fault.ScriptEditFault.{ScriptEditFault}
 use Rattle.sbl_script.specs.declared.edit_fault.ScriptEditFault.TheVariants as edits
 use Rattle.sbl_script.specs.declared.edits.DefinitionKind.TheVariants as kinds
 use Rattle.sbl_script.specs.Reading.{HasTokens, IsFaultIn}
 use Rattle.sbl_script.specs.Edits.{ScriptEdit, body, among, terms, changes, defines, escapes_behind, first_of, keeps_count, items_with, plains_of, plains_with, state_before, text_for, text_in, IsAmongReplaced, IsEdited, IsEditFault, IsMade, IsSubstituted}
 use Rattle.sbl_script.specs.Homes.{Home, Reached, first_in, first_passing, home, home_in, home_of_among, home_of_body, home_of_held, home_of_terms, plain_if, state_reached, walk_in, walk_to, IsEditedAt, IsEditFaultAt, IsFaultAt, IsSubstitutedAt}
+use Rattle.sbl_script.proofs.AmongEnds.{behind_same, inside}
 use Rattle.sbl_script.proofs.AmongDepths.{N, both_n, same_test, text_same, words_with}
 use Rattle.sbl_script.proofs.Found.{grouping_found, routine_found, some_plain}
 use Rattle.sbl_script.proofs.Shallow.{plains_before}
@@ -176,28 +176,13 @@ cut (p ∷ f) (q ∷ g) a b x y u v e n =
     let more = cut f g a b x y u v rest (omega (arith, n, both_n (p ∷ []) f, both_n (q ∷ []) g, ap (λ (z : AtDepth). N (z ∷ [])) same)) in
     (ap (λ (z : AtDepth). z ∷ f) same ∙ ap (λ (l : Ps). q ∷ l) more.0, more.1)
 
-tokens_both : (a b : Ps) → tokens (a ++ b) ≡ tokens a ++ tokens b
-tokens_both [] b = refl
-tokens_both (p ∷ a) b = ap (λ (l : List Terminal). p.0 ∷ l) (tokens_both a b)
-
--- the tokens behind an among
-behind_same : (d : ℕ) (r s : Starter × Groups) (a b : Ps) → placed_command (among_ r.0 r.1) d a ≡ placed_command (among_ s.0 s.1) d b → tokens a ≡ tokens b
-behind_same d r s a b e = behind_among r.0 s.0 r.1 s.1 (tokens a) (tokens b) (sym (tree_tokens (among_ r.0 r.1) d a) ∙ ap tokens e ∙ tree_tokens (among_ s.0 s.1) d b)
-
 plain_one : (x y : Plain) → tokens (placed_plain x []) ≡ tokens (placed_plain y []) → x ≡ y
 plain_one x y e = go (trees_are_one texts.script (plain x ∷ []) (plain y ∷ []) e) where
   go : plain x ∷ [] ≡ plain y ∷ [] → x ≡ y
   go h = cc
 
--- the tokens of an among after the word, and those behind it
-abbrev inside : Starter × Groups → ℕ → Ps → Ps
-inside a d r = (t.open_, d) ∷ placed_starter a.0 d (placed_groups a.1 d ((t.close_, d) ∷ r))
-
-parts : (a : Starter × Groups) (d : ℕ) (front behind ps : Ps) → ps ≡ front ++ places_in (texts.among d) a ++ behind → ps ≡ front ++ (t.among, d) ∷ inside a d behind
+parts : (a : Starter × Groups) (d : ℕ) (front behind ps : Ps) → ps ≡ front ++ places_in (texts.among d) a ++ behind → ps ≡ front ++ (lex.word words.Among, d) ∷ inside a d behind
 parts a d front behind ps e = e ∙ append_assoc front (places_in (texts.among d) a) behind ∙ ap (λ (l : Ps). front ++ l) (sym (tree_before (among_ a.0 a.1) d [] behind))
-
-spelled : (a : Starter × Groups) (d : ℕ) (front behind ps : Ps) → ps ≡ front ++ places_in (texts.among d) a ++ behind → tokens ps ≡ tokens front ++ (tokens (places_in (texts.among d) a) ++ tokens behind)
-spelled a d front behind ps e = ap tokens (e ∙ append_assoc front (places_in (texts.among d) a) behind) ∙ tokens_both front (places_in (texts.among d) a ++ behind) ∙ ap (λ (l : List Terminal). tokens front ++ l) (tokens_both (places_in (texts.among d) a) behind)
 
 -- one definition has the among in that place
 replaced_one : (k d : ℕ) (a : Starter × Groups) (old x y : Plain) → IsAmongReplaced k d a old x → IsAmongReplaced k d a old y → x ≡ y
@@ -205,27 +190,24 @@ replaced_one k d a old x y g h =
     let one = parts g.replaced d g.front g.behind (placed_plain old []) g.was in
     let two = parts h.replaced d h.front h.behind (placed_plain old []) h.was in
     let count : N g.front ≡ N h.front = omega (arith, g.number, h.number) in
-    let c = cut g.front h.front (inside g.replaced d g.behind) (inside h.replaced d h.behind) (t.among, d) (t.among, d) refl refl (sym one ∙ two) count in
-    let behind : tokens g.behind ≡ tokens h.behind = behind_same d g.replaced h.replaced g.behind h.behind (ap (λ (l : Ps). (t.among, d) ∷ l) c.1) in
-    let new = tokens (places_in (texts.among d) a) in
-    plain_one x y
-    (spelled a d g.front g.behind (placed_plain x []) g.is
-    ∙ ap (λ (f : Ps). tokens f ++ (new ++ tokens g.behind)) c.0 ∙ ap (λ (l : List Terminal). tokens h.front ++ (new ++ l)) behind
-    ∙ sym (spelled a d h.front h.behind (placed_plain y []) h.is))
+    let c = cut g.front h.front (inside g.replaced d g.behind) (inside h.replaced d h.behind) (lex.word words.Among, d) (lex.word words.Among, d) refl refl (sym one ∙ two) count in
+    let behind = behind_same d g.replaced h.replaced g.behind h.behind c.1 in
+    let new = places_in (texts.among d) a in
+    plain_one x y (ap tokens (g.is ∙ ap (λ (f : Ps). f ++ new ++ g.behind) c.0 ∙ ap (λ (l : Ps). h.front ++ new ++ l) behind ∙ sym h.is))
 
 -- the definition with the among put in its place has it there
 replaced_there : (n : List ℕ) (b : RowView) (k : ℕ) (a : Starter × Groups) (h : AmongContents) → nth_held k (amongs_of_body b) ≡ Some h
     → IsAmongReplaced k h.0 a (routine n b.0 b.1) (routine n (put_in_body b k a).0 (put_in_body b k a).1)
 replaced_there n b k a h e =
     let two = body_one b k a h e in
-    let front : Ps = (t.define, 0) ∷ (t.name n, 0) ∷ (t.as_, 0) ∷ two.front in
+    let front : Ps = (lex.word words.Define, 0) ∷ (lex.name n, 0) ∷ (lex.word words.As, 0) ∷ two.front in
     record {
       front = front;
       replaced = (h.1, h.2);
       behind = two.behind;
       number = two.number ∙ ap (λ (z : ℕ). z + 1) (count_same two.front);
-      was = ap (λ (l : Ps). (t.define, 0) ∷ (t.name n, 0) ∷ (t.as_, 0) ∷ l) (two.was ∙ ap (λ (l : Ps). two.front ++ l) (tree_before (among_ h.1 h.2) h.0 [] two.behind)) ∙ sym (append_assoc front (places_in (texts.among h.0) (h.1, h.2)) two.behind);
-      is = ap (λ (l : Ps). (t.define, 0) ∷ (t.name n, 0) ∷ (t.as_, 0) ∷ l) (two.is ∙ ap (λ (l : Ps). two.front ++ l) (tree_before (among_ a.0 a.1) h.0 [] two.behind)) ∙ sym (append_assoc front (places_in (texts.among h.0) a) two.behind);
+      was = ap (λ (l : Ps). (lex.word words.Define, 0) ∷ (lex.name n, 0) ∷ (lex.word words.As, 0) ∷ l) (two.was ∙ ap (λ (l : Ps). two.front ++ l) (tree_before (among_ h.1 h.2) h.0 [] two.behind)) ∙ sym (append_assoc front (places_in (texts.among h.0) (h.1, h.2)) two.behind);
+      is = ap (λ (l : Ps). (lex.word words.Define, 0) ∷ (lex.name n, 0) ∷ (lex.word words.As, 0) ∷ l) (two.is ∙ ap (λ (l : Ps). two.front ++ l) (tree_before (among_ a.0 a.1) h.0 [] two.behind)) ∙ sym (append_assoc front (places_in (texts.among h.0) a) two.behind);
     }
 
 -- ---- how many words `among` items have with another definition
@@ -282,11 +264,11 @@ module _ (p : Plain → Bool) (y old : Plain) where
         go : (o : Option Plain) → first_in p xs ≡ o → option_or o (first_passing p is) ≡ Some old
             → (first_passing p is ≡ Some old → N (places (items_with p y is)) + N (placed_plain old []) ≡ N (places is) + N (placed_plain y []))
             → N (places (if is_some o then backward (plains_with p y xs) ∷ is else backward xs ∷ items_with p y is)) + N (placed_plain old []) ≡ N (places (backward xs ∷ is)) + N (placed_plain y [])
-        go (Some z) at h more = plains_words xs ((t.close_, 0) ∷ places is) (at ∙ h)
+        go (Some z) at h more = plains_words xs ((lex.sign signs.Close, 0) ∷ places is) (at ∙ h)
         go None at h more =
             let rest = more h in
-            let one = plains_n xs ((t.close_, 0) ∷ places (items_with p y is)) in
-            let two = plains_n xs ((t.close_, 0) ∷ places is) in
+            let one = plains_n xs ((lex.sign signs.Close, 0) ∷ places (items_with p y is)) in
+            let two = plains_n xs ((lex.sign signs.Close, 0) ∷ places is) in
             omega (arith, rest, one, two)
 
 -- ---- the place of an edit
