@@ -119,14 +119,9 @@ waits_after _ waits = waits
 abbrev pub is_awaited : List Occurrence → Bool → Bool
 is_awaited ms waits = fold (λ w m. waits_after m.notice w) waits ms
 
--- these characters are a string of the among of this number
-abbrev pub is_text : ℕ → List ℕ → Notice → Bool
-is_text k text (string o t) = nat_eq k o && bytes_eq text t
-is_text k text _ = false
-
--- the occurrence is such a string in this item
+-- the occurrence is a string with these characters, in the among of this number of this item
 abbrev pub is_text_of : ℕ → ℕ → List ℕ → Occurrence → Bool
-is_text_of item k text m = is_text k text m.notice && nat_eq item m.site.item
+is_text_of item k text m = elim m.notice [ string o t ↦ (nat_eq k o && bytes_eq text t) && nat_eq item m.site.item | _ ↦ false ]
 
 -- the fault of an occurrence; if it has several, the one that is tried first here
 abbrev pub fault_at : List Occurrence → List Occurrence → Occurrence → List Occurrence → Option ScriptFault
@@ -180,6 +175,10 @@ needs_definition k = is_routine k || is_grouping k
 -- there is a definition in the other mode
 abbrev pub is_in_other : Mode → Option Site → Bool
 is_in_other m site = option_map_or (λ p. not (is_mode m p.mode)) site false
+
+abbrev pub is_text : ℕ → List ℕ → Notice → Bool
+is_text k text (string o t) = nat_eq k o && bytes_eq text t
+is_text k text _ = false
 
 -- some occurrence is a string of this among of this item
 abbrev pub has_text : ℕ → ℕ → List ℕ → List Occurrence → Bool

@@ -206,10 +206,22 @@ each_at : (Q : Occurrence → Type 0) (xs : List Occurrence) (m : Occurrence) (y
 each_at Q [] m ys h = h.0
 each_at Q (x ∷ xs) m ys h = each_at Q xs m ys h.1
 
+text_is : (j k : ℕ) (t : List ℕ) (p : Site) (n : Notice) → is_text_of j k t (record { site = p; notice = n }) ≡ (is_text k t n && nat_eq j p.item)
+text_is j k t p (declares d x) = refl
+text_is j k t p (defines_routine x) = refl
+text_is j k t p (defines_grouping x) = refl
+text_is j k t p (uses u x) = refl
+text_is j k t p substring = refl
+text_is j k t p (among a b) = refl
+text_is j k t p (string o x) = refl
+text_is j k t p backwards = refl
+text_is j k t p region_end = refl
+
 no_text : (i j k : ℕ) (t : List ℕ) (xs : List Occurrence) → Each (InItem i) xs → i + 1 ≤ j → has_text j k t xs ≡ false
 no_text i j k t [] h later = refl
 no_text i j k t (x ∷ xs) h later =
-    or_is (is_text k t x.notice) (nat_eq j x.site.item) (has_text j k t xs) (another j x.site.item (ap (λ z. z + 1) h.0)) (no_text i j k t xs h.1 later) where
+    ap (λ (b : Bool). b || has_text j k t xs) (text_is j k t x.site x.notice)
+    ∙ or_is (is_text k t x.notice) (nat_eq j x.site.item) (has_text j k t xs) (another j x.site.item (ap (λ z. z + 1) h.0)) (no_text i j k t xs h.1 later) where
       another : (a c : ℕ) → c + 1 ≡ i + 1 → nat_eq j x.site.item ≡ false
       another a c e = let is : x.site.item ≡ i = h.0 in grind (arith, nat_tests)
 
