@@ -1,11 +1,11 @@
 -- Two scripts differ by their tokens as they do part by part.
-use Rattle.std.proofs.Common.{◌≡◌, ◌∙◌, ◌&&◌, ◌++◌, ℕ, suc, Bool, true, false, nat_eq, if◌then◌else◌, List, [], ◌∷◌, map, Option, Some, None, refl, sym, ap, subst, arith}
+use Rattle.std.proofs.Common.{◌≡◌, ◌∙◌, ◌&&◌, ◌++◌, ℕ, suc, Bool, true, false, nat_eq, if◌then◌else◌, List, [], ◌∷◌, length, map, zip, Option, Some, None, refl, sym, ap, subst, arith}
 use Rattle.std.specs.Bool.{then_some}
 use Rattle.std.specs.List.{list_any}
 use Rattle.std.specs.Cmp.Lexicographic.{pointwise}
 use Rattle.std.specs.Option.{option_map_or, option_or}
 use Rattle.std.specs.Str.{bytes_eq}
-use Rattle.std.proofs.lemmas.Bool.{eqb-true, eq-eqb, true≢false}
+use Rattle.std.proofs.lemmas.Bool.{eqb-true, eq-eqb, ne_eqb, true≢false}
 use denote.Enum.Bare.{same_true, sameb, true_same}
 use Rattle.sbl_token.specs.Lexemes.{Lexeme, same_lexeme}
 use Rattle.sbl_token.specs.Lexemes as lexemes
@@ -26,6 +26,7 @@ use Rattle.sbl_ast.specs.contracts.tree.DeclarationKind as kind
 use Rattle.sbl_ast.specs.contracts.tree.Base as base
 use Rattle.sbl_ast.specs.declared.tree.Move.TheVariants as moves
 use Rattle.sbl_ast.specs.Counts.{count_in_among}
+use Rattle.sbl_ast.specs.Folds.{foldr}
 use Rattle.sbl_ast.specs.Places.{AtDepth, placed_command, placed_entries, placed_expression, placed_groups, placed_plain}
 use Rattle.sbl_ast.specs.Source.{Source}
 use Rattle.sbl_ast.specs.Terminal.{lexeme_as}
@@ -124,6 +125,20 @@ joins w x None z p q = (λ i. new.join (p i) (q i))
 nothing_first : {X : Type 0} (x : Option (List X)) → new.join (Some []) x ≡ x
 nothing_first (Some ks) = refl
 nothing_first None = refl
+
+join_if : {X : Type 0} (b : Bool) (x y : Option (List X)) → (if b then new.join x y else None) ≡ new.join x (if b then y else None)
+join_if true x y = refl
+join_if false (Some ks) y = refl
+join_if false None y = refl
+
+one_longer : (m n : ℕ) → nat_eq (suc m) (suc n) ≡ nat_eq m n
+one_longer m n =
+    agree (nat_eq (suc m) (suc n)) (nat_eq m n)
+    (λ h. let e = eqb-true (suc m) (suc n) h in eq-eqb m n (omega (arith, e)))
+    (λ h. let e = eqb-true m n h in eq-eqb (suc m) (suc n) (omega (arith, e)))
+
+zero_longer : (n : ℕ) → 0 ≡ suc n → ⊥
+zero_longer n e = omega (arith, e)
 
 -- a flag before a part
 flagged : {X : Type 0} (b : Bool) (x y : Option (List X)) → x ≡ y → new.join (then_some b []) x ≡ (if b then y else None)
@@ -355,9 +370,17 @@ module _ (one_tree : (w : Text) (t u : TreeOf w) → map seen (places_in w t) �
 
   each : {X : Type 0} (one other : X → X → Option (List Item')) → ((x y : X) → one x y ≡ other x y) → (xs ys : List X) → new.differ_each one xs ys ≡ old.differ_each other xs ys
   each one other same [] [] = refl
-  each one other same (x ∷ xs) (y ∷ ys) = joins _ _ _ _ (same x y) (each one other same xs ys)
-  each one other same [] (y ∷ ys) = refl
-  each one other same (x ∷ xs) [] = refl
+  each one other same (x ∷ xs) (y ∷ ys) =
+      let pairs = foldr new.join (Some []) (map (λ p. one p.0 p.1) (zip xs ys)) in
+      ap (λ (b : Bool). if b then new.join (one x y) pairs else None) (one_longer (length xs) (length ys))
+      ∙ join_if (nat_eq (length xs) (length ys)) (one x y) pairs
+      ∙ joins _ _ _ _ (same x y) (each one other same xs ys)
+  each one other same [] (y ∷ ys) =
+      let pairs = foldr new.join (Some []) (map (λ p. one p.0 p.1) (zip [] (y ∷ ys))) in
+      ap (λ (b : Bool). if b then pairs else None) (ne_eqb 0 (suc (length ys)) (λ e. zero_longer (length ys) e))
+  each one other same (x ∷ xs) [] =
+      let pairs = foldr new.join (Some []) (map (λ p. one p.0 p.1) (zip (x ∷ xs) [])) in
+      ap (λ (b : Bool). if b then pairs else None) (ne_eqb (suc (length xs)) 0 (λ e. zero_longer (length xs) (sym e)))
 
   items : (x y : Item) → new.differ_item x y ≡ old.differ_item x y
   items (plain x) (plain y) = plains x y
