@@ -1,5 +1,5 @@
 -- The input that is left of a `Lines`: the bytes in its buffer, and then the bytes left in its reader.
-use Rattle.std.specs.Prelude.{◌≡◌, ◌≢◌, ◌⊎◌, ◌<◌, ◌≤◌, ◌++◌, ℕ, Bool, true, false, List, [], ◌∷◌, Option, Some, None, Result, Err, IfErr, IfSome, OnOk, ⊤, if◌then◌else◌, slice_range, length, min, ◌+◌, ◌*◌, ◌-◌}
+use Rattle.std.specs.Prelude.{◌≡◌, ◌≢◌, ◌⊎◌, ◌<◌, ◌≤◌, ◌++◌, ℕ, true, false, List, [], ◌∷◌, Option, Some, None, Result, Err, IfErr, IfSome, OnOk, ⊤, if◌then◌else◌, slice_range, length, min, ◌+◌, ◌*◌, ◌-◌}
 use Rattle.std.specs.List.{AllByRecursion}
 use Rattle.std.specs.Option.{option_map}
 use Rattle.std.specs.Io.KnownBytes.{Consumes, IsAtEnd, prepend_known}

@@ -1,5 +1,5 @@
 -- A session goes on request by request.
-use Rattle.std.proofs.Common.{◌⊎◌, inl, inr, Bool, true, false, ◌≡◌, ◌∙◌, ◌++◌, ◌≤◌, ℕ, List, [], ◌∷◌, Option, Some, None, Ok, Err, refl, take, sym, ap, subst, append_assoc, arith, length}
+use Rattle.std.proofs.Common.{◌⊎◌, inl, inr, true, false, ◌≡◌, ◌∙◌, ◌++◌, ◌≤◌, ℕ, List, [], ◌∷◌, Option, Some, None, Ok, Err, refl, take, sym, ap, subst, append_assoc, arith, length}
 use Rattle.std.proofs.lemmas.List.{append-nil}
 use Rattle.std.proofs.lemmas.List.Elements.{All-append, All-cons, All-nil}
 use Rattle.std.proofs.lemmas.Grind.{flat_map-append}
