@@ -3,6 +3,7 @@
 ghost use Rattle.std.specs.Prelude.{◌≡◌, ◌∷◌, ◌++◌, List, [], if◌then◌else◌, IfOk, Option, map, string_bytes};
 ghost use Rattle.sbl_ast.specs.View.{view_item, view_plain};
 ghost use Rattle.sbl_semantics.specs.Differs as spec;
+ghost use Rattle.sbl_semantics.specs.DiffersByParts as parts;
 ghost use Rattle.sbl_semantics.specs.TouchedItems.{Among, Grouping, Item', item_of};
 ghost use Rattle.sbl_diff.specs.ItemsIn.{items_in};
 ghost use Rattle.sbl_diff.specs.Numbers.{numbers_of};
@@ -15,7 +16,7 @@ use std::alloc::{AllocError, Global};
 
 /// Returns no item if two items without a body and without terms are the same, and `None` if they differ.
 fn no_item_when(alloc: Global, same: bool) -> Option<Vec<Item>>
-    ensures { items_in result ≡ spec.when same }
+    ensures { items_in result ≡ parts.when same }
 {
     if same { Some(Vec::new(alloc)) } else { None }
 }
@@ -47,7 +48,7 @@ fn items_by(
     name: &String,
     numbers: Option<Vec<u64>>,
 ) -> Result<Vec<Item>, AllocError>
-    ensures { IfOk result (λ v. map item_of v.items ≡ spec.items_by (string_bytes name.now) (numbers_of numbers)) }
+    ensures { IfOk result (λ v. map item_of v.items ≡ parts.items_by (string_bytes name.now) (numbers_of numbers)) }
 {
     match numbers {
         None => {
@@ -76,7 +77,7 @@ fn grouping_unless(alloc: Global, name: &String, same: bool) -> Result<Vec<Item>
 /// Returns the items in which two plain items differ, and `None` if more differs than the body of a routine or the
 /// terms of a grouping.
 fn differ_plain(alloc: Global, one: &Plain, other: &Plain) -> Result<Option<Vec<Item>>, AllocError>
-    ensures { IfOk result (λ r. items_in r ≡ spec.differ_plain (view_plain one.now) (view_plain other.now)) }
+    ensures { IfOk result (λ r. items_in r ≡ parts.differ_plain (view_plain one.now) (view_plain other.now)) }
 {
     match one {
         Plain::Declaration(kind, names) => {
@@ -154,7 +155,7 @@ trait Differ: Sized {
 }
 
 impl Differ for Plain {
-    ghost differs = { λ x y. spec.differ_plain (view_plain x) (view_plain y) };
+    ghost differs = { λ x y. parts.differ_plain (view_plain x) (view_plain y) };
 
     fn differ(&self, alloc: Global, other: &Plain) -> Result<Option<Vec<Item>>, AllocError> {
         differ_plain(alloc, self, other)
@@ -162,7 +163,7 @@ impl Differ for Plain {
 }
 
 impl Differ for ScriptItem {
-    ghost differs = { λ x y. spec.differ_item (view_item x) (view_item y) };
+    ghost differs = { λ x y. parts.differ_item (view_item x) (view_item y) };
 
     #[tactic(auto, using(crate::proofs::Joins::each_viewed))]
     fn differ(&self, alloc: Global, other: &ScriptItem) -> Result<Option<Vec<Item>>, AllocError> {
@@ -190,7 +191,7 @@ fn differ_each<T: Differ>(
     one: &[T],
     other: &[T],
 ) -> Result<Option<Vec<Item>>, AllocError>
-    ensures { IfOk result (λ r. items_in r ≡ spec.differ_each T.differs one.now other.now) }
+    ensures { IfOk result (λ r. items_in r ≡ parts.differ_each T.differs one.now other.now) }
 {
     let mut items = Vec::new(alloc);
     let mut others = other;

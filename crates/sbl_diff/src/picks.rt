@@ -2,7 +2,7 @@
 
 ghost use Rattle.std.specs.Prelude.{◌≡◌, ◌++◌, [], ◌∷◌, suc, nat_eq, if◌then◌else◌, IfOk, IfSome, Some, None};
 ghost use Rattle.sbl_diff.specs.Numbers.{after_among, numbers_in};
-ghost use Rattle.sbl_semantics.specs.Differs as spec;
+ghost use Rattle.sbl_semantics.specs.DiffersByParts as parts;
 ghost use Rattle.sbl_ast.specs.Counts.{count_in_among};
 ghost use Rattle.sbl_ast.specs.View.{view_among};
 
@@ -50,7 +50,7 @@ impl Picks {
 
 /// Returns no among if two parts without an among are the same.
 pub(crate) fn when(alloc: Global, same: bool, after: u64) -> Option<Picks>
-    ensures numbers { numbers_in result ≡ spec.when same }
+    ensures numbers { numbers_in result ≡ parts.when same }
     ensures after { IfSome result (λ p. p.after ≡ after) }
 {
     if same {

@@ -1,5 +1,5 @@
 -- A script defines the routines and groupings of the items in which it differs from another.
-use Rattle.std.proofs.Common.{◌≡◌, ◌∙◌, ◌&&◌, ℕ, Bool, true, false, nat_eq, if◌then◌else◌, List, [], ◌∷◌, ◌++◌, map, Option, Some, None, refl, ap, subst}
+use Rattle.std.proofs.Common.{◌≡◌, ◌∙◌, ◌&&◌, ℕ, Bool, true, false, nat_eq, if◌then◌else◌, List, [], ◌∷◌, ◌++◌, map, Option, Some, None, refl, sym, ap, subst}
 use Rattle.std.specs.Prelude.{⊤}
 use Rattle.std.specs.List.{AllByRecursion, list_all}
 use Rattle.std.specs.Cmp.Lexicographic.{pointwise}
@@ -16,14 +16,16 @@ use Rattle.sbl_ast.specs.declared.tree.DeclarationKind.TheVariants as kinds
 use Rattle.sbl_ast.specs.Tree.{Plain, declaration, escapes, macro, routine, grouping, Item, plain, backward}
 use Rattle.sbl_semantics.specs.Items.{is_among, known_in, names_by}
 use Rattle.sbl_semantics.specs.Regions.{number_after}
+use Rattle.sbl_parser.proofs.ByLexemes.{one_by_lexemes}
 use Rattle.sbl_machine.specs.DifferLaws.{DifferingAreThere}
-use Rattle.sbl_semantics.specs.Differs.{when, join, differ, differ_others, items_by, differ_plain, differ_plains, differ_item, differ_items}
+use Rattle.sbl_semantics.specs.DiffersByParts.{when, join, differ, differ_others, items_by, differ_plain, differ_plains, differ_item, differ_items}
 use Rattle.sbl_machine.specs.Marks.{has_item}
 use Rattle.sbl_semantics.specs.Same.{same_argument, same_quoted, same_term}
 use Rattle.sbl_semantics.specs.TouchedItems.{Item', Among, Grouping, Names', names_of}
 use Rattle.sbl_machine.proofs.DiffersAgree.{halves, if_so, none_listed}
 use Rattle.sbl_machine.proofs.EditsAgree.{first_name, grouping_more, routine_more}
-use Rattle.sbl_machine.proofs.SameSelf.{also, name_self}
+use Rattle.sbl_semantics.proofs.ByParts.{by_parts}
+use Rattle.sbl_semantics.proofs.SameSelf.{also, name_self}
 
 module _ (names : Names') where
   abbrev There : List Item' → Type 0
@@ -134,4 +136,4 @@ own_names names (x ∷ is) p q = (
 )
 
 pub differing_are_there : DifferingAreThere
-differing_are_there s t xs is = items_there (names_of s) s.items t.items xs (if_so _ _ xs is).1 (own_names (names_of s) (in_order s.items) (λ n h. h) (λ n h. h))
+differing_are_there s t xs is = items_there (names_of s) s.items t.items xs (if_so _ _ xs (sym (by_parts one_by_lexemes s t) ∙ is)).1 (own_names (names_of s) (in_order s.items) (λ n h. h) (λ n h. h))

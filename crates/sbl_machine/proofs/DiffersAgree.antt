@@ -11,17 +11,20 @@ use Rattle.sbl_ast.specs.Tree.{Argument, Term, Command, Rows, Others, Starter, G
 use Rattle.sbl_semantics.specs.Regions.{number_after, number_after_rows, number_after_others, number_after_starter, number_after_groups}
 use Rattle.sbl_resolver.specs.Laws.{WellDeclaredPasses}
 use Rattle.sbl_ast.specs.Source.{Source}
-use Rattle.sbl_semantics.specs.Differs.{when, join, differ, differ_rows, differ_others, differ_starter, differ_groups, items_by, differ_plain, differ_plains, differ_item, differ_items, differs}
+use Rattle.sbl_semantics.specs.Differs.{differs}
+use Rattle.sbl_semantics.specs.DiffersByParts.{when, join, differ, differ_rows, differ_others, differ_starter, differ_groups, items_by, differ_plain, differ_plains, differ_item, differ_items}
 use Rattle.sbl_machine.specs.BuiltFrom.{affected_by}
 use Rattle.sbl_machine.specs.DifferLaws.{DifferingAgree, DifferingStay}
 use Rattle.sbl_machine.specs.Frame.{AgreeOutside}
 use Rattle.sbl_machine.specs.Holes.{hole, with_holes, rows_with_holes, others_with_holes, starter_with_holes, groups_with_holes, holed_plain, holed_item}
 use Rattle.sbl_semantics.specs.Same.{same_argument, same_term}
 use Rattle.sbl_semantics.specs.TouchedItems.{Item', Routine, Among, Grouping}
+use Rattle.sbl_parser.proofs.ByLexemes.{one_by_lexemes}
+use Rattle.sbl_semantics.proofs.ByParts.{by_parts}
 use Rattle.sbl_machine.proofs.EditsAgree.{unmet_by_one_stay}
-use Rattle.sbl_machine.proofs.HoledPuts.{behind_is, hole_same}
+use Rattle.sbl_machine.proofs.HoledPuts.{hole_same}
 use Rattle.sbl_machine.proofs.Several.{all_affected, several_closed}
-use Rattle.sbl_machine.proofs.SameParts.{both, name_is, simple_is, prefix_is, times_is, move_is, naming_is, splicing_is, assignment_is, comparison_is, joiner_is, kind_is, flag_is, quoted_is, argument_is, expression_is, entry_is, entries_are, names_are, base_is, terms_are}
+use Rattle.sbl_semantics.proofs.SameParts.{both, name_is, simple_is, prefix_is, times_is, move_is, naming_is, splicing_is, assignment_is, comparison_is, joiner_is, kind_is, flag_is, quoted_is, argument_is, expression_is, entry_is, entries_are, names_are, base_is, terms_are}
 
 -- ---- parts one after another
 
@@ -540,7 +543,7 @@ module _ (picked : Item' → Bool) where
 
 pub agree_outside : (picked : Item' → Bool) (s t : Source) (zs : List Item') → differs s t ≡ Some zs → list_all picked zs ≡ true → AgreeOutside picked s t
 agree_outside picked s t zs is all =
-    let h = if_so _ _ zs is in
+    let h = if_so _ _ zs (sym (by_parts one_by_lexemes s t) ∙ is) in
     let external = name_is s.external t.external h.0 in
     let items = items_agree picked s.items t.items zs h.1 all in
     (λ i. record { items = items i; external = external i })

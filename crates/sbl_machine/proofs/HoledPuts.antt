@@ -6,6 +6,7 @@ use Rattle.sbl_ast.specs.Counts.{count_amongs, count_in_rows, count_in_others, c
 use Rattle.sbl_amongs.specs.Amongs.{AmongContents, amongs, amongs_of_body, amongs_of_rows, amongs_of_others, amongs_of_starter, amongs_of_groups, nth_held, put_among, put_in_rows, put_in_others, put_in_starter, put_in_groups}
 use Rattle.sbl_amongs.proofs.Held.{Counts, none_is_first, tree_counts, rows_count, others_count, starter_counts}
 use Rattle.sbl_semantics.specs.Regions.{number_after, number_after_rows, number_after_others, number_after_starter, number_after_groups}
+use Rattle.sbl_semantics.proofs.NumberAfter.{behind_is, behind_rows_is, behind_others_is, behind_starter_is, behind_groups_is}
 use Rattle.sbl_machine.specs.Holes.{blank, blanks, blanks_rows, blanks_others, blanks_starter, blanks_groups, nothing, hole, with_holes, rows_with_holes, others_with_holes, starter_with_holes, groups_with_holes}
 
 -- ---- blanks are as many as there are amongs
@@ -77,49 +78,6 @@ hole_same s s' gs gs' e =
     let same : blanks_starter s' (blanks_groups gs' no_rows) ≡ blanks_starter s (blanks_groups gs no_rows) =
     inside_many s' gs' ∙ ap (λ (x : ℕ). so_many x no_rows) n ∙ sym (inside_many s gs) in
     ap (λ (rs : Rows). among_ no_starter (group (entry nothing None) [] rs (bare []))) same
-
--- ---- the number behind a part is its number and its amongs
-
-none_behind : (k : ℕ) → k ≡ k + 0
-none_behind k = omega arith
-
-mutual
-  pub behind_is : (t : Command) (k : ℕ) → number_after t k ≡ k + count_amongs t
-  behind_is (bracket rs) k = behind_rows_is rs k
-  behind_is (simple_ x) k = none_behind k
-  behind_is (literal_ x) k = none_behind k
-  behind_is (name_ x) k = none_behind k
-  behind_is (non_ x y) k = none_behind k
-  behind_is (prefixed x c) k = behind_is c k
-  behind_is (counted x e c) k = behind_is c k
-  behind_is (move_ x y) k = none_behind k
-  behind_is (named x y) k = none_behind k
-  behind_is (splice_ x y) k = none_behind k
-  behind_is (setlimit_ b c) k = let x = behind_is b k in let y = behind_is c (number_after b k) in omega (arith, x, y)
-  behind_is (assign_ x y z) k = none_behind k
-  behind_is (compare_ x y z) k = none_behind k
-  behind_is (compare_values_ x y z) k = none_behind k
-  behind_is (among_ s gs) k = let x = behind_starter_is s (suc k) in let y = behind_groups_is gs (number_after_starter s (suc k)) in omega (arith, x, y)
-
-  behind_rows_is : (rs : Rows) (k : ℕ) → number_after_rows rs k ≡ k + count_in_rows rs
-  behind_rows_is no_rows k = none_behind k
-  behind_rows_is (row c os rs) k =
-      let x = behind_is c k in
-      let y = behind_others_is os (number_after c k) in
-      let z = behind_rows_is rs (number_after_others os (number_after c k)) in
-      omega (arith, x, y, z)
-
-  behind_others_is : (os : Others) (k : ℕ) → number_after_others os k ≡ k + count_in_others os
-  behind_others_is no_others k = none_behind k
-  behind_others_is (joined j c os) k = let x = behind_is c k in let y = behind_others_is os (number_after c k) in omega (arith, x, y)
-
-  behind_starter_is : (s : Starter) (k : ℕ) → number_after_starter s k ≡ k + count_in_starter s
-  behind_starter_is no_starter k = none_behind k
-  behind_starter_is (starter rs) k = behind_rows_is rs k
-
-  behind_groups_is : (gs : Groups) (k : ℕ) → number_after_groups gs k ≡ k + count_in_groups gs
-  behind_groups_is (bare es) k = none_behind k
-  behind_groups_is (group e es rs gs) k = let x = behind_rows_is rs k in let y = behind_groups_is gs (number_after_rows rs k) in omega (arith, x, y)
 
 -- ---- the among that is put, with as many amongs as the one with its number
 

@@ -15,7 +15,7 @@ use Rattle.sbl_machine.specs.DifferLaws.{OneAffects, OneMeets}
 use Rattle.sbl_semantics.specs.Outcome.{touches_of}
 use Rattle.sbl_semantics.specs.TouchedItems.{Item', Routine, Among, Grouping, item_of_touch, names_of}
 use Rattle.sbl_machine.proofs.BuiltFrom.{affected_closed, built_more}
-use Rattle.sbl_machine.proofs.SameSelf.{also, name_self}
+use Rattle.sbl_semantics.proofs.SameSelf.{also, name_self}
 use Rattle.sbl_ast.specs.Source.{Source}
 
 -- ---- one of a list

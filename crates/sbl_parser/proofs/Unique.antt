@@ -547,3 +547,9 @@ pub one_among : (x y : Starter) (gs hs : Groups) → spelled_command (among_ x g
 one_among x y gs hs e = go (same_tree (among_ x gs) (among_ y hs) [] [] none_ends.ends none_ends.ends e).0 where
   go : among_ x gs ≡ among_ y hs → (x ≡ y) × (gs ≡ hs)
   go f = let a : x ≡ y = cc in let b : gs ≡ hs = cc in (a, b)
+
+-- two texts that begin with an among: the same tokens stand behind it
+pub behind_among : (x y : Starter) (gs hs : Groups) (a b : Ts) → spelled_command (among_ x gs) a ≡ spelled_command (among_ y hs) b → a ≡ b
+behind_among x y gs hs a b e =
+    let m = same_starter x y (spelled_groups gs (t.close_ ∷ a)) (spelled_groups hs (t.close_ ∷ b)) (groups_no_open gs (t.close_ ∷ a) refl) (groups_no_open hs (t.close_ ∷ b) refl) (tail _ _ _ _ (tail _ _ _ _ e)) in
+    (same_groups gs hs a b m.1).1

@@ -9,7 +9,7 @@ use Rattle.sbl_text.specs.declared.pieces.Shape.TheVariants as shape
 use Rattle.sbl_text.specs.declared.pieces.Expectation.{Expectation}
 use Rattle.sbl_text.specs.declared.pieces.Expectation.TheVariants as wanted
 use Rattle.sbl_text.specs.Classes.{is_white, quote, slash}
-use Rattle.sbl_text.specs.Codes.{code_of, max_hex_digits}
+use Rattle.sbl_text.specs.Codes.{code_of}
 use Rattle.sbl_text.specs.Directives.{Directives}
 use Rattle.sbl_text.specs.Escapes.{InForce, opens, find}
 use Rattle.sbl_text.specs.Literals.{Refusal, byte_length, code_or_fault, character_named, value_or_character, insertion_value, IsWrong}
@@ -82,7 +82,7 @@ mild_code (Some c) = tt
 mild_named : (e : Option Inserts) (name : List ℕ) → Mild (character_named e name)
 mild_named e [] = λ n. refl
 mild_named e (c ∷ []) = mild_if (c == quote || opens e c) (Ok c) (Err fault.UnknownEscape) tt (λ n. refl)
-mild_named e (c ∷ d ∷ cs) = mild_if (c == 85 && d == 43) (code_or_fault (code_of 16 max_hex_digits cs)) (Err fault.UnknownEscape) (mild_code (code_of 16 max_hex_digits cs)) (λ n. refl)
+mild_named e (c ∷ d ∷ cs) = mild_if (c == 85 && d == 43) (code_or_fault (code_of 16 6 cs)) (Err fault.UnknownEscape) (mild_code (code_of 16 6 cs)) (λ n. refl)
 
 mild_value : (o : Option (List ℕ)) (r : Result ℕ Refusal) → Mild r → Mild (value_or_character o r)
 mild_value (Some v) r h = tt

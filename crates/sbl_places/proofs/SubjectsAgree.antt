@@ -14,8 +14,9 @@ use Rattle.sbl_ast.specs.Spelled.{argument_terminal, spelled_expression, spelled
 use Rattle.sbl_ast.specs.Order.{ItemInMode, in_mode, in_order}
 use Rattle.sbl_resolver.specs.declared.occurrences.Use.TheVariants as use_as
 use Rattle.sbl_resolver.specs.declared.occurrences.Site.{Site}
-use Rattle.sbl_resolver.specs.Occurrences.{Occurrence, Notice, put, uses, substring, among, string, backwards, region_end, declares, defines_routine, defines_grouping, amongs_in, noted_expression, noted_sums, noted_product, noted_scales, noted_factor, noted_simple, noted_prefix, site_behind, use_of, noted_entry, noted_entries, has_starter, is_empty, noted_command, noted_rows, noted_others, noted_starter, noted_groups, noted_terms, noted_plain, noted_items, occurrences_of, noted_name}
-use Rattle.sbl_resolver.specs.OccurrenceView.{noted_names}
+use Rattle.sbl_resolver.specs.Occurrences.{Occurrence, Notice, put, uses, substring, among, string, backwards, region_end, declares, defines_routine, defines_grouping, amongs_in, noted_expression, use_of, noted_entry, noted_entries, is_empty, noted_command, noted_rows, noted_others, noted_groups, noted_plain, noted_items, occurrences_of, noted_name}
+use Rattle.sbl_resolver.specs.OccurrenceView.{noted_names, walked_expression, noted_sums, noted_product, noted_scales, noted_factor, noted_simple, noted_prefix, site_behind, has_starter, noted_starter, noted_terms}
+use Rattle.sbl_resolver.proofs.Walked.{expression_is, prefixed_is, among_is}
 use Rattle.sbl_resolver.specs.Subjects.{Subject, subject_of, subjects_of, and_more}
 use Rattle.sbl_places.specs.SubjectTokens.{SubjectToken, string_if, is_in_among, subject_tokens, subject_tokens_after, subjects}
 use Rattle.sbl_places.proofs.Roles.{is_among, open_after, subject_in, same}
@@ -77,8 +78,8 @@ string_agree (written_out q) p s o rest h = quiet q s o rest h
 string_agree (by_name n) p s o rest h = one (uses use_as.String n) p s (at o rest)
 
 mutual
-  expression_agree : (e : Expression) (p : Site) (s : List Occurrence) (o : List Bool) (rest : List Terminal) → is_in_among o ≡ false → subjects_of (noted_expression e p s) ++ at o rest ≡ subjects_of s ++ at o (spelled_expression e rest)
-  expression_agree (expression x ss) p s o rest h = sums_agree ss p (noted_product x p s) o rest h ∙ product_agree x p s o (spelled_sums ss rest) h
+  walked_agree : (e : Expression) (p : Site) (s : List Occurrence) (o : List Bool) (rest : List Terminal) → is_in_among o ≡ false → subjects_of (walked_expression e p s) ++ at o rest ≡ subjects_of s ++ at o (spelled_expression e rest)
+  walked_agree (expression x ss) p s o rest h = sums_agree ss p (noted_product x p s) o rest h ∙ product_agree x p s o (spelled_sums ss rest) h
 
   sums_agree : (ss : Sums) (p : Site) (s : List Occurrence) (o : List Bool) (rest : List Terminal) → is_in_among o ≡ false → subjects_of (noted_sums ss p s) ++ at o rest ≡ subjects_of s ++ at o (spelled_sums ss rest)
   sums_agree no_sums p s o rest h = refl
@@ -93,11 +94,14 @@ mutual
 
   factor_agree : (f : Factor) (p : Site) (s : List Occurrence) (o : List Bool) (rest : List Terminal) → is_in_among o ≡ false → subjects_of (noted_factor f p s) ++ at o rest ≡ subjects_of s ++ at o (spelled_factor f rest)
   factor_agree (negated f) p s o rest h = factor_agree f p s o rest h
-  factor_agree (bracketed e) p s o rest h = expression_agree e p s (false ∷ o) (t.close_ ∷ rest) refl
+  factor_agree (bracketed e) p s o rest h = walked_agree e p s (false ∷ o) (t.close_ ∷ rest) refl
   factor_agree (numeral n) p s o rest h = refl
   factor_agree (variable n) p s o rest h = one (uses use_as.Integer n) p s (at o rest)
   factor_agree (fixed c) p s o rest h = refl
   factor_agree (length_of a) p s o rest h = string_agree a p s o rest h
+
+expression_agree : (e : Expression) (p : Site) (s : List Occurrence) (o : List Bool) (rest : List Terminal) → is_in_among o ≡ false → subjects_of (noted_expression e p s) ++ at o rest ≡ subjects_of s ++ at o (spelled_expression e rest)
+expression_agree e p s o rest h = ap (λ (l : List Occurrence). subjects_of l ++ at o rest) (expression_is e p s) ∙ walked_agree e p s o rest h
 
 -- ---- commands
 
@@ -141,7 +145,9 @@ mutual
   agree (name_ n) p s o rest h = one (uses use_as.Command n) p s (at o rest)
   agree (non_ true n) p s o rest h = one (uses use_as.Excluded n) p s (at o rest)
   agree (non_ false n) p s o rest h = one (uses use_as.Excluded n) p s (at o rest)
-  agree (prefixed x c) p s o rest h = agree c (site_behind x p) (noted_prefix x p s) o rest h ∙ prefix_agree x p s o (spelled_command c rest)
+  agree (prefixed x c) p s o rest h =
+      ap (λ (l : List Occurrence). subjects_of l ++ at o rest) (prefixed_is x c p s)
+      ∙ agree c (site_behind x p) (noted_prefix x p s) o rest h ∙ prefix_agree x p s o (spelled_command c rest)
   agree (counted n e c) p s o rest h = agree c p (noted_expression e p s) o rest h ∙ expression_agree e p s o (spelled_command c rest) h
   agree (move_ m e) p s o rest h = expression_agree e p s o rest h
   agree (named x n) p s o rest h = one (uses (use_of x) n) p s (at o rest)
@@ -156,7 +162,8 @@ mutual
       ∙ expression_agree e p s (false ∷ o) (t.compares d ∷ spelled_expression f (t.close_ ∷ rest)) refl
   agree (among_ x gs) p s o rest h =
       let n = among (has_starter x) (is_empty gs) in
-      groups_agree gs (amongs_in s 0 + 1) p (noted_starter x p (put n p s)) o (t.close_ ∷ rest)
+      ap (λ (l : List Occurrence). subjects_of l ++ at o rest) (among_is x gs p s)
+      ∙ groups_agree gs (amongs_in s 0 + 1) p (noted_starter x p (put n p s)) o (t.close_ ∷ rest)
       ∙ starter_agree x p (put n p s) o (spelled_groups gs (t.close_ ∷ rest))
       ∙ one n p s (at (true ∷ o) (spelled_starter x (spelled_groups gs (t.close_ ∷ rest))))
 

@@ -1,27 +1,25 @@
 -- The amongs of a routine's body, and the words `among` of its tokens.
-use Rattle.std.proofs.Common.{◌≡◌, ℕ, ◌+◌, ◌-◌, Bool, true, false, nat_eq, cond, List, [], ◌∷◌, ◌++◌, length, map, suc, Option, Some, None, option_map, Ok, if◌then◌else◌, refl, sym, ap, ◌∙◌, arith}
-use Rattle.std.specs.List.{filter}
-use Rattle.std.specs.Option.{ok_or}
+use Rattle.std.proofs.Common.{◌≡◌, ℕ, ◌+◌, ◌-◌, Bool, true, false, nat_eq, cond, List, [], ◌∷◌, ◌++◌, length, map, Option, Some, None, option_map, if◌then◌else◌, ◌≤◌, refl, sym, ap, ◌∙◌, arith}
+use Rattle.std.specs.List.{enumerate_from, filter, find}
 use Rattle.std.proofs.lemmas.Bool.{eqb-true, ne_eqb, true≢false}
 use Rattle.std.proofs.lemmas.Bool.Decides.{nat_tests}
 use Rattle.sbl_ast.specs.Counts.{count_amongs, count_in_rows, count_in_others, count_in_starter, count_in_groups, count_in_among}
 use Rattle.sbl_ast.specs.Places.{AtDepth, placed_command, placed_rows, placed_others, placed_starter, placed_groups, placed_entry, placed_entries, placed_expression, placed_sums, placed_product, placed_scales, placed_factor}
-use Rattle.sbl_ast.specs.Texts.{body, places_in}
+use Rattle.sbl_ast.specs.Texts.{Text, body, places_in}
 use Rattle.sbl_ast.specs.Texts as texts
 use Rattle.sbl_token.specs.Lexemes as lex
 use Rattle.sbl_token.specs.declared.words.Word.TheVariants as words
 use Rattle.sbl_token.specs.declared.signs.Sign.TheVariants as signs
 use Rattle.sbl_token.specs.Lexemes.{Lexeme}
 use Rattle.sbl_ast.specs.Symbols as t
-use Rattle.sbl_ast.specs.Tree.{Argument, written_out, by_name, Expression, expression, Sums, no_sums, sum, Product, product, Scales, no_scales, scale, Factor, negated, bracketed, numeral, variable, fixed, length_of, Entry, entry, Command, bracket, simple_, literal_, name_, non_, prefixed, counted, move_, named, splice_, setlimit_, assign_, compare_, compare_values_, among_, Rows, no_rows, row, Others, no_others, joined, Starter, no_starter, starter, Groups, bare, group, Item}
+use Rattle.sbl_ast.specs.Tree.{Argument, written_out, by_name, Expression, expression, Sums, no_sums, sum, Product, product, Scales, no_scales, scale, Factor, negated, bracketed, numeral, variable, fixed, length_of, Entry, entry, Command, bracket, simple_, literal_, name_, non_, prefixed, counted, move_, named, splice_, setlimit_, assign_, compare_, compare_values_, among_, Rows, no_rows, row, Others, no_others, joined, Starter, no_starter, starter, Groups, bare, group}
 use Rattle.sbl_ast.specs.View.{RowView}
 use Rattle.sbl_amongs.specs.Amongs.{AmongContents, amongs, amongs_of_rows, amongs_of_others, amongs_of_starter, amongs_of_groups, amongs_of_body, nth_held, put_in_body}
-use Rattle.sbl_amongs.specs.Replacement.{IsBetween, is_among}
+use Rattle.sbl_amongs.specs.Replacement.{is_among}
 use Rattle.sbl_amongs.proofs.Words.{additive_other, assigns_other, compares_other, constant_other, count_other, joiner_other, move_other, multiplicative_other, naming_other, prefix_other, simple_other, splice_other}
+use Rattle.sbl_amongs.proofs.Held.{none_is_first}
 use Rattle.sbl_amongs.proofs.Swapped.{body_one}
-use Rattle.sbl_script.specs.declared.edit_fault.ScriptEditFault.TheVariants as edits
-use Rattle.sbl_script.specs.Edits.{Home, home_at_among, among_depths, nth}
-use Rattle.sbl_script.specs.Homes.{home_of_among, home_of_held}
+use Rattle.sbl_script.specs.Edits.{among_depths}
 
 abbrev Ps : Type 0
 Ps = List AtDepth
@@ -29,9 +27,8 @@ Ps = List AtDepth
 abbrev Hs : Type 0
 Hs = List AmongContents
 
--- the depths of the words
 abbrev D : Ps → List ℕ
-D ps = map (λ p. p.1) (filter (λ p. is_among p.0) ps)
+D ps = among_depths ps
 
 abbrev depths : Hs → List ℕ
 depths hs = map (λ h. h.0) hs
@@ -124,20 +121,70 @@ mutual
       let opened = (lex.sign signs.Open, d + 1) ∷ placed_rows rs (d + 1 + 1) inner in
       rows_d rs (d + 1 + 1) (amongs_of_groups gs d hs) inner (groups_d gs d hs r e) ∙ sym (entry_q x d (placed_entries es d opened) ∙ entries_q es d opened)
 
-body_d : (b : RowView) → depths (amongs_of_body b) ≡ among_depths b
+body_d : (b : RowView) → depths (amongs_of_body b) ≡ among_depths (places_in body b)
 body_d b = tree_d b.0 1 (amongs_of_others b.1 1 []) (placed_others b.1 1 []) (others_d b.1 1 [] [] refl)
 
-nth_d : (hs : Hs) (k : ℕ) → nth k (depths hs) ≡ option_map (λ (h : AmongContents). h.0) (nth_held k hs)
-nth_d [] k = refl
-nth_d (h ∷ hs) k = go (nat_eq k 1) (nth_d hs (k - 1)) where
-  go : (b : Bool) → nth (k - 1) (depths hs) ≡ option_map (λ (x : AmongContents). x.0) (nth_held (k - 1) hs)
-      → (if b then Some h.0 else nth (k - 1) (depths hs)) ≡ option_map (λ (x : AmongContents). x.0) (if b then Some h else nth_held (k - 1) hs)
-  go true e = refl
-  go false e = e
+-- ---- the among with a number
+
+self : (n : ℕ) → nat_eq n n ≡ true
+self n = grind (arith, nat_tests)
+
+pub same_test : (u v x y : ℕ) → (u ≡ v → x ≡ y) → (x ≡ y → u ≡ v) → nat_eq u v ≡ nat_eq x y
+same_test u v x y f g = go (nat_eq x y) refl where
+  go : (b : Bool) → nat_eq x y ≡ b → nat_eq u v ≡ b
+  go true e = ap (λ z. nat_eq u z) (sym (g (eqb-true x y e))) ∙ self u
+  go false e = ne_eqb u v (λ h. let same : x ≡ y = f h in true≢false (sym (ap (nat_eq x) (sym same) ∙ self x) ∙ e))
+
+abbrev text_at : Option (ℕ × ℕ) → Option Text
+text_at o = option_map (λ p. texts.among p.1) o
+
+abbrev text_of : Option AmongContents → Option Text
+text_of o = option_map (λ (h : AmongContents). texts.among h.0) o
+
+abbrev IsNumbered : Hs → ℕ → ℕ → Type 0
+IsNumbered hs m j = text_at (find (λ p. nat_eq p.0 (m + j)) (enumerate_from m (depths hs))) ≡ text_of (nth_held (j + 1) hs)
+
+numbered : (hs : Hs) (m j : ℕ) → IsNumbered hs m j
+numbered [] m j = refl
+numbered (h ∷ hs) m j = go (nat_eq m (m + j)) (nat_eq (j + 1) 1) (same_test m (m + j) (j + 1) 1 (λ e. omega (arith, e)) (λ e. omega (arith, e))) refl (numbered hs (m + 1) (j - 1)) where
+  later : 1 ≤ j → IsNumbered hs (m + 1) (j - 1) → text_at (find (λ p. nat_eq p.0 (m + j)) (enumerate_from (m + 1) (depths hs))) ≡ text_of (nth_held (j + 1 - 1) hs)
+  later e rest =
+      let one : m + j ≡ m + 1 + (j - 1) = omega (arith, e) in
+      let two : j - 1 + 1 ≡ j + 1 - 1 = omega (arith, e) in
+      ap (λ z. text_at (find (λ p. nat_eq p.0 z) (enumerate_from (m + 1) (depths hs)))) one ∙ rest ∙ ap (λ z. text_of (nth_held z hs)) two
+
+  some : nat_eq m (m + j) ≡ false → 1 ≤ j
+  some e = grind (arith, nat_tests, e)
+
+  go : (x y : Bool) → x ≡ y → nat_eq m (m + j) ≡ x → IsNumbered hs (m + 1) (j - 1) → text_at (cond x (Some (m, h.0)) (find (λ p. nat_eq p.0 (m + j)) (enumerate_from (m + 1) (depths hs)))) ≡ text_of (if y then Some h else nth_held (j + 1 - 1) hs)
+  go true true e f rest = refl
+  go false false e f rest = later (some f) rest
+  go true false e f rest = absurd cc
+  go false true e f rest = absurd cc
+
+never : (ds : List ℕ) (m : ℕ) → find (λ p. nat_eq p.0 0) (enumerate_from (m + 1) ds) ≡ None
+never [] m = refl
+never (d ∷ ds) m = ap (λ b. cond b (Some (m + 1, d)) (find (λ p. nat_eq p.0 0) (enumerate_from (m + 1 + 1) ds))) (not_none m) ∙ never ds (m + 1) where
+  not_none : (n : ℕ) → nat_eq (n + 1) 0 ≡ false
+  not_none n = grind (arith, nat_tests)
+
+-- the text that is read in place of the among with a number is one at its depth
+pub text_same : (b : RowView) (k : ℕ) → text_at (find (λ p. nat_eq p.0 k) (enumerate_from 1 (among_depths (places_in body b)))) ≡ text_of (nth_held k (amongs_of_body b))
+text_same b k = ap (λ ds. text_at (find (λ p. nat_eq p.0 k) (enumerate_from 1 ds))) (sym (body_d b)) ∙ go (nat_eq k 0) refl where
+  go : (x : Bool) → nat_eq k 0 ≡ x → text_at (find (λ p. nat_eq p.0 k) (enumerate_from 1 (depths (amongs_of_body b)))) ≡ text_of (nth_held k (amongs_of_body b))
+  go true e =
+      let is : k ≡ 0 = eqb-true k 0 e in
+      ap (λ z. text_at (find (λ p. nat_eq p.0 z) (enumerate_from 1 (depths (amongs_of_body b))))) is ∙ ap text_at (never (depths (amongs_of_body b)) 0)
+      ∙ sym (ap text_of (ap (λ z. nth_held z (amongs_of_body b)) is ∙ none_is_first (amongs_of_body b)))
+  go false e =
+      let some : 1 ≤ k = grind (arith, nat_tests, e) in
+      let one : k ≡ 1 + (k - 1) = omega (arith, some) in
+      let two : k - 1 + 1 ≡ k = omega (arith, some) in
+      ap (λ z. text_at (find (λ p. nat_eq p.0 z) (enumerate_from 1 (depths (amongs_of_body b))))) one ∙ numbered (amongs_of_body b) 1 (k - 1) ∙ ap (λ z. text_of (nth_held z (amongs_of_body b))) two
 
 -- ---- how many
 
-abbrev N : Ps → ℕ
+abbrev pub N : Ps → ℕ
 N ps = length (D ps)
 
 mutual
@@ -197,37 +244,20 @@ mutual
       let z = groups_n gs d r in
       omega (arith, q, y, z)
 
-both_n : (a b : Ps) → N (a ++ b) ≡ N a + N b
+pub both_n : (a b : Ps) → N (a ++ b) ≡ N a + N b
 both_n [] b = omega arith
 both_n (p ∷ a) b = go (is_among p.0) (both_n a b) where
   go : (here : Bool) → N (a ++ b) ≡ N a + N b → length (map (λ (x : AtDepth). x.1) (cond here (p ∷ filter (λ (x : AtDepth). is_among x.0) (a ++ b)) (filter (λ (x : AtDepth). is_among x.0) (a ++ b)))) ≡ length (map (λ (x : AtDepth). x.1) (cond here (p ∷ filter (λ (x : AtDepth). is_among x.0) a) (filter (λ (x : AtDepth). is_among x.0) a))) + N b
   go true e = omega (arith, e)
-  go false e = e
+  go false e = omega (arith, e)
 
-self : (n : ℕ) → nat_eq n n ≡ true
-self n = grind (arith, nat_tests)
-
-same_eq : (f l x y : ℕ) → nat_eq (f + (x + l)) (f + (y + l)) ≡ nat_eq x y
-same_eq f l x y = go (nat_eq x y) refl where
-  go : (v : Bool) → nat_eq x y ≡ v → nat_eq (f + (x + l)) (f + (y + l)) ≡ v
-  go true e = ap (λ (z : ℕ). nat_eq (f + (x + l)) (f + (z + l))) (sym (eqb-true x y e)) ∙ self (f + (x + l))
-  go false e = ne_eqb (f + (x + l)) (f + (y + l)) (λ g. let same : x ≡ y = omega (arith, g) in true≢false (sym (ap (nat_eq x) (sym same) ∙ self x) ∙ e))
-
--- the body holds as many amongs as before if the new among holds as many as the old one
-keeps : (b : RowView) (k : ℕ) (h : AmongContents) (a : Starter × Groups) → nth_held k (amongs_of_body b) ≡ Some h
-    → nat_eq (length (among_depths (put_in_body b k a))) (length (among_depths b)) ≡ nat_eq (count_in_among a) (count_in_among (h.1, h.2))
-keeps b k h a e =
+-- with another among as many words more as it holds
+pub words_with : (b : RowView) (k : ℕ) (h : AmongContents) (a : Starter × Groups) → nth_held k (amongs_of_body b) ≡ Some h
+    → N (places_in body (put_in_body b k a)) + count_in_among (h.1, h.2) ≡ N (places_in body b) + count_in_among a
+words_with b k h a e =
     let two = body_one b k a h e in
-    let was = ap N two.was ∙ both_n two.front (placed_command (among_ h.1 h.2) h.0 two.behind) ∙ ap (λ (n : ℕ). N two.front + n) (tree_n (among_ h.1 h.2) h.0 two.behind) in
-    let is = ap N two.is ∙ both_n two.front (placed_command (among_ a.0 a.1) h.0 two.behind) ∙ ap (λ (n : ℕ). N two.front + n) (tree_n (among_ a.0 a.1) h.0 two.behind) in
-    (λ i. nat_eq (is i) (was i)) ∙ same_eq (N two.front) (N two.behind) (count_in_among a) (count_in_among (h.1, h.2))
-
--- ---- the place of an among
-
-pub home_same : (items : List Item) (n : List ℕ) (b : RowView) (k : ℕ) → ok_or (option_map (home_at_among items n b k) (nth k (among_depths b))) edits.NoAmong ≡ home_of_held items n b k (nth_held k (amongs_of_body b))
-home_same items n b k = ap (λ (o : Option ℕ). ok_or (option_map (home_at_among items n b k) o) edits.NoAmong) (ap (nth k) (sym (body_d b)) ∙ nth_d (amongs_of_body b) k) ∙ go (nth_held k (amongs_of_body b)) refl where
-  go : (o : Option AmongContents) → nth_held k (amongs_of_body b) ≡ o → ok_or (option_map (home_at_among items n b k) (option_map (λ (h : AmongContents). h.0) o)) edits.NoAmong ≡ home_of_held items n b k o
-  go None e = refl
-  go (Some h) e =
-      let old = home_of_among items n b k h in
-      (λ i. Ok (record { text = texts.among h.0; state = old.state; around = old.around; keeps_count = λ a. keeps b k h a e i }))
+    let was = ap N two.was ∙ both_n two.front (placed_command (among_ h.1 h.2) h.0 two.behind) in
+    let is = ap N two.is ∙ both_n two.front (placed_command (among_ a.0 a.1) h.0 two.behind) in
+    let old = tree_n (among_ h.1 h.2) h.0 two.behind in
+    let new = tree_n (among_ a.0 a.1) h.0 two.behind in
+    omega (arith, was, is, old, new)

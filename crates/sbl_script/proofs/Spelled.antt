@@ -27,7 +27,8 @@ use Rattle.sbl_ast.proofs.Behind.{IsBefore, plain_before}
 use Rattle.sbl_parser.proofs.Faults.{tree_tokens}
 use Rattle.sbl_script.specs.declared.edits.DefinitionKind.{DefinitionKind}
 use Rattle.sbl_script.specs.declared.edits.DefinitionKind.TheVariants as kinds
-use Rattle.sbl_script.specs.Edits.{Reached, defines, escapes_before, escapes_behind, first_in, first_of, items_with, plain_if, plains_with, walk_to, walk_in, state_before}
+use Rattle.sbl_script.specs.Edits.{defines, escapes_behind, items_with, plains_with}
+use Rattle.sbl_script.specs.Homes.{Reached, escapes_before, first_in, first_passing, plain_if, walk_to, walk_in, state_reached}
 use Rattle.sbl_script.specs.Reading.{HasTokens, lexemes}
 use Rattle.sbl_script.specs.SpelledScript.{AreSpelled, IsSpelled}
 use Rattle.sbl_script.proofs.Putting.{Each, body_put}
@@ -241,12 +242,12 @@ in_said p (x ∷ xs) e y o r later is h more =
     first_said p x e y (option_or (first_in p xs) o) (walk_in p xs (escapes_behind e x)) (λ (z : Reached). if z.1 then z else later z.0) (λ l. l) (sym (or_either (plain_if p x) (first_in p xs) o) ∙ is) (part_front (placed_plain x) (plain_before x) (no_directive e) (placed_plains xs r) h)
     (λ i. in_said p xs (escapes_behind e x) y o r later i (behind_plain e x (placed_plains xs r) h) more)
 
-found_said : (p : Plain → Bool) (is : List Item) (e : InForce) (y : Plain) → first_of p is ≡ Some y → Say (no_directive e) (placed_items is []) → Say (no_directive (walk_to p is e).0) (placed_plain y [])
+found_said : (p : Plain → Bool) (is : List Item) (e : InForce) (y : Plain) → first_passing p is ≡ Some y → Say (no_directive e) (placed_items is []) → Say (no_directive (walk_to p is e).0) (placed_plain y [])
 found_said p [] e y i h = absurd cc
 found_said p (plain x ∷ is) e y i h =
-    first_said p x e y (first_of p is) (walk_to p is (escapes_behind e x)) (λ (z : Reached). z) (λ l. l) i (part_front (placed_plain x) (plain_before x) (no_directive e) (placed_items is []) h)
+    first_said p x e y (first_passing p is) (walk_to p is (escapes_behind e x)) (λ (z : Reached). z) (λ l. l) i (part_front (placed_plain x) (plain_before x) (no_directive e) (placed_items is []) h)
     (λ j. found_said p is (escapes_behind e x) y j (behind_plain e x (placed_items is []) h))
-found_said p (backward xs ∷ is) e y i h = in_said p xs e y (first_of p is) ((lex.sign signs.Close, 0) ∷ placed_items is []) (λ (f : InForce). walk_to p is f) i h.1.1 (λ j z. found_said p is (all_behind e xs) y j z.1)
+found_said p (backward xs ∷ is) e y i h = in_said p xs e y (first_passing p is) ((lex.sign signs.Close, 0) ∷ placed_items is []) (λ (f : InForce). walk_to p is f) i h.1.1 (λ j z. found_said p is (all_behind e xs) y j z.1)
 
 -- ---- what is read
 
@@ -268,24 +269,24 @@ read_said s bytes ts w x has read =
 pub script_said : (bytes : List ℕ) (ts : List PlacedToken) (items : List Item) → HasTokens start bytes ts → IsReadAs script (lexemes ts) items → AreSpelled items
 script_said bytes ts items has read = read_said start bytes ts script items has read
 
-pub definition_replaced : (k : DefinitionKind) (n : List ℕ) (y : Plain) (items : List Item) → defines k n y ≡ true → AreSpelled items → IsSpelled (state_before (defines k n) items) y → AreSpelled (items_with (defines k n) y items)
+pub definition_replaced : (k : DefinitionKind) (n : List ℕ) (y : Plain) (items : List Item) → defines k n y ≡ true → AreSpelled items → IsSpelled (state_reached (defines k n) items) y → AreSpelled (items_with (defines k n) y items)
 definition_replaced k n y items new h hy = items_said k n y new items nothing_set hy h
 
 -- a routine with another body, or with another among in it, and a grouping with other terms
-pub body_said : (n : List ℕ) (items : List Item) (b new : RowView) → AreSpelled items → first_of (defines kinds.Routine n) items ≡ Some (routine n b.0 b.1) → AreSaid (state_before (defines kinds.Routine n) items) (tokens_of body new)
-    → IsSpelled (state_before (defines kinds.Routine n) items) (routine n new.0 new.1)
+pub body_said : (n : List ℕ) (items : List Item) (b new : RowView) → AreSpelled items → first_passing (defines kinds.Routine n) items ≡ Some (routine n b.0 b.1) → AreSaid (state_reached (defines kinds.Routine n) items) (tokens_of body new)
+    → IsSpelled (state_reached (defines kinds.Routine n) items) (routine n new.0 new.1)
 body_said n items b new h is piece_lexemes =
     let old = found_said (defines kinds.Routine n) items nothing_set (routine n b.0 b.1) is h in
     (old.0, (old.1.0, (old.1.1.0, piece_lexemes)))
 
-pub among_said : (n : List ℕ) (items : List Item) (b : RowView) (k : ℕ) (a : Starter × Groups) (d : ℕ) → AreSpelled items → first_of (defines kinds.Routine n) items ≡ Some (routine n b.0 b.1)
-    → AreSaid (state_before (defines kinds.Routine n) items) (tokens_of (texts.among d) a) → IsSpelled (state_before (defines kinds.Routine n) items) (routine n (put_in_body b k a).0 (put_in_body b k a).1)
+pub among_said : (n : List ℕ) (items : List Item) (b : RowView) (k : ℕ) (a : Starter × Groups) (d : ℕ) → AreSpelled items → first_passing (defines kinds.Routine n) items ≡ Some (routine n b.0 b.1)
+    → AreSaid (state_reached (defines kinds.Routine n) items) (tokens_of (texts.among d) a) → IsSpelled (state_reached (defines kinds.Routine n) items) (routine n (put_in_body b k a).0 (put_in_body b k a).1)
 among_said n items b k a d h is ha =
     let old = found_said (defines kinds.Routine n) items nothing_set (routine n b.0 b.1) is h in
     body_said n items b (put_in_body b k a) h is (put_said (escapes_before (defines kinds.Routine n) items) b k a d old.1.1.1 ha)
 
-pub terms_said : (n : List ℕ) (items : List Item) (a : Argument) (ts : List Term) (x : Argument × List Term) → AreSpelled items → first_of (defines kinds.Grouping n) items ≡ Some (grouping n a ts)
-    → AreSaid (state_before (defines kinds.Grouping n) items) (tokens_of texts.terms x) → IsSpelled (state_before (defines kinds.Grouping n) items) (grouping n x.0 x.1)
+pub terms_said : (n : List ℕ) (items : List Item) (a : Argument) (ts : List Term) (x : Argument × List Term) → AreSpelled items → first_passing (defines kinds.Grouping n) items ≡ Some (grouping n a ts)
+    → AreSaid (state_reached (defines kinds.Grouping n) items) (tokens_of texts.terms x) → IsSpelled (state_reached (defines kinds.Grouping n) items) (grouping n x.0 x.1)
 terms_said n items a ts x h is piece_lexemes =
     let old = found_said (defines kinds.Grouping n) items nothing_set (grouping n a ts) is h in
     (old.0, (old.1.0, piece_lexemes))

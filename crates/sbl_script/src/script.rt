@@ -148,7 +148,8 @@ impl Script {
     ghost use Rattle.sbl_script.specs.ParsedScript.{body_of};
     ghost use Rattle.sbl_print.specs.Canonical.{canonical};
     ghost use Rattle.sbl_script.specs.Reading.{HasTokens};
-    ghost use Rattle.sbl_script.specs.Edits.{IsEditFault, IsEdited, among, body, defines, home, items_with, state_before, terms};
+    ghost use Rattle.sbl_script.specs.Edits.{IsEditFault, IsEdited, among, body, defines, items_with, terms, text_for};
+    ghost use Rattle.sbl_script.specs.Homes.{state_reached};
 
     /// Checks a tree and returns its script, or the fault of the first check that fails.
     fn check_tree(
@@ -197,7 +198,7 @@ impl Script {
     ) -> Result<Script, ScriptEditFault>
         ensures script { IfOk result (λ s. IsEdited (source_of self.now) (body name.now) text.now (source_of s)) }
         ensures fault { IfErr result (λ f. (f ≡ ScriptEditFault.OutOfMemory) ⊎ IsEditFault (source_of self.now) (body name.now) text.now f) }
-        ensures missing { (f : ScriptEditFault) → home (source_of self.now).items (body name.now) ≡ Err f → result ≡ Err f }
+        ensures missing { (f : ScriptEditFault) → text_for (source_of self.now).items (body name.now) ≡ Err f → result ≡ Err f }
     {
         let Some(_replaced) = edits::routine_of(&self.items, name) else {
             return Err(ScriptEditFault::NoRoutine);
@@ -227,7 +228,7 @@ impl Script {
     ) -> Result<Script, ScriptEditFault>
         ensures script { IfOk result (λ s. IsEdited (source_of self.now) (among routine.now k) text.now (source_of s)) }
         ensures fault { IfErr result (λ f. (f ≡ ScriptEditFault.OutOfMemory) ⊎ IsEditFault (source_of self.now) (among routine.now k) text.now f) }
-        ensures missing { (f : ScriptEditFault) → home (source_of self.now).items (among routine.now k) ≡ Err f → result ≡ Err f }
+        ensures missing { (f : ScriptEditFault) → text_for (source_of self.now).items (among routine.now k) ≡ Err f → result ≡ Err f }
     {
         let Some(body) = edits::routine_of(&self.items, routine) else {
             return Err(ScriptEditFault::NoRoutine);
@@ -262,7 +263,7 @@ impl Script {
     ) -> Result<Script, ScriptEditFault>
         ensures script { IfOk result (λ s. IsEdited (source_of self.now) (terms name.now) text.now (source_of s)) }
         ensures fault { IfErr result (λ f. (f ≡ ScriptEditFault.OutOfMemory) ⊎ IsEditFault (source_of self.now) (terms name.now) text.now f) }
-        ensures missing { (f : ScriptEditFault) → home (source_of self.now).items (terms name.now) ≡ Err f → result ≡ Err f }
+        ensures missing { (f : ScriptEditFault) → text_for (source_of self.now).items (terms name.now) ≡ Err f → result ≡ Err f }
     {
         let Some(_replaced) = edits::grouping_of(&self.items, name) else {
             return Err(ScriptEditFault::NoGrouping);
@@ -282,8 +283,8 @@ impl Script {
         name: &str,
         text: &'a str,
     ) -> Result<Vec<Token<'a>>, ScriptFault>
-        ensures tokens { IfOk result (λ ts. HasTokens (state_before (defines kind name.now) (source_of self.now).items) text.now (map placed_of ts.items)) }
-        ensures fault { IfErr result (λ f. (f ≡ ScriptFault.OutOfMemory) ⊎ spec.IsTextFault (state_before (defines kind name.now) (source_of self.now).items) text.now f) }
+        ensures tokens { IfOk result (λ ts. HasTokens (state_reached (defines kind name.now) (source_of self.now).items) text.now (map placed_of ts.items)) }
+        ensures fault { IfErr result (λ f. (f ≡ ScriptFault.OutOfMemory) ⊎ spec.IsTextFault (state_reached (defines kind name.now) (source_of self.now).items) text.now f) }
     {
         let text = text_of(text.as_bytes())?;
         let escapes = escapes_before(alloc, &self.items, kind, name)?;
@@ -300,7 +301,7 @@ impl Script {
     ) -> Result<Script, ScriptFault>
         requires same { defines kind name.now (view_plain new.now) ≡ true }
         requires shallow { AreShallow (placed_plain (view_plain new.now) []) }
-        requires spelled { IsSpelled (state_before (defines kind name.now) (source_of self.now).items) (view_plain new.now) }
+        requires spelled { IsSpelled (state_reached (defines kind name.now) (source_of self.now).items) (view_plain new.now) }
         ensures items { IfOk result (λ s. (source_of s).items ≡ items_with (defines kind name.now) (view_plain new.now) (source_of self.now).items) }
         ensures external { IfOk result (λ s. (source_of s).external ≡ (source_of self.now).external) }
         ensures well_declared { IfOk result (λ s. WellDeclared (source_of s).items (source_of s).external) }

@@ -15,5 +15,7 @@ pub mod Regions
 pub mod Meaning
 pub mod Outcome
 pub mod TouchedItems
-pub mod Same
 pub mod Differs
+-- what proofs use: no public contract depends on these
+pub mod Same
+pub mod DiffersByParts

@@ -1,5 +1,9 @@
 -- A token without its position.
-use Rattle.std.specs.Prelude.{◌≡◌, ℕ, Bool, true, false, List, []}
+use Rattle.std.specs.Prelude.{◌≡◌, ℕ, Bool, true, false, ◌&&◌, nat_eq, List, []}
+use Rattle.std.specs.Str.{bytes_eq}
+use denote.Enum.Bare.{sameb}
+use Rattle.sbl_token.specs.contracts.signs.Sign as written
+use Rattle.sbl_token.specs.contracts.words.Word as reserved
 use Rattle.sbl_token.specs.declared.signs.Sign.{Sign}
 use Rattle.sbl_token.specs.declared.words.Word.{Word}
 use Rattle.sbl_token.specs.declared.token.Kind.{Kind}
@@ -18,6 +22,17 @@ pub data Lexeme : Type 0 where
   literal : List ℕ → List ℕ → Lexeme
   inserts : ℕ → ℕ → Lexeme
   macro_name : List ℕ → Lexeme
+
+-- whether two tokens are the same but for their positions
+abbrev pub same_lexeme : Lexeme → Lexeme → Bool
+same_lexeme (word v) (word w) = sameb reserved.the_type v w
+same_lexeme (sign r) (sign s) = sameb written.the_type r s
+same_lexeme (name m) (name n) = bytes_eq m n
+same_lexeme (number m) (number n) = nat_eq m n
+same_lexeme (literal p v) (literal q w) = bytes_eq p q && bytes_eq v w
+same_lexeme (inserts a b) (inserts c d) = nat_eq a c && nat_eq b d
+same_lexeme (macro_name m) (macro_name n) = bytes_eq m n
+same_lexeme x y = false
 
 abbrev pub number_in : Value → ℕ
 number_in (value.Number n) = n

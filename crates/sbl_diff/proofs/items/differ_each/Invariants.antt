@@ -1,5 +1,5 @@
 use Rattle.std.proofs.Common.{◌≡◌, Some, drop, map}
-use Rattle.sbl_semantics.specs.Differs.{join, differ_each}
+use Rattle.sbl_semantics.specs.DiffersByParts.{join, differ_each}
 use Rattle.sbl_semantics.specs.TouchedItems.{item_of}
 use Rattle.sbl_diff.proofs.items.differ_each.Given as goal
 

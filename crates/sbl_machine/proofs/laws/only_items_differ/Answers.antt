@@ -1,4 +1,3 @@
-use Rattle.sbl_machine.proofs.DiffersSelf.{alike_differ_nowhere}
 use Rattle.sbl_machine.proofs.OnlyItems as only
 use Rattle.sbl_machine.proofs.laws.only_items_differ.Goals as goal
 
@@ -9,4 +8,4 @@ pub returns-clause-more : goal.returns-clause-more
 returns-clause-more c = only.more_differs
 
 pub returns-clause-alike : goal.returns-clause-alike
-returns-clause-alike c = alike_differ_nowhere
+returns-clause-alike c = only.alike_differ_nowhere

@@ -16,10 +16,9 @@ use Rattle.sbl_ast.specs.contracts.tree.Joiner as joiner
 use Rattle.sbl_ast.specs.contracts.tree.DeclarationKind as kind
 use Rattle.sbl_ast.specs.Tree.{Command, Rows, Others, Starter, Groups, bracket, simple_, literal_, name_, non_, prefixed, counted, move_, named, splice_, setlimit_, assign_, compare_, compare_values_, among_, no_rows, row, no_others, joined, no_starter, starter, bare, group, Plain, declaration, escapes, macro, routine, grouping, Item, plain, backward}
 use Rattle.sbl_semantics.specs.Regions.{number_after, number_after_rows, number_after_others, number_after_starter}
-use Rattle.sbl_machine.specs.DifferLaws.{AlikeDifferNowhere}
-use Rattle.sbl_semantics.specs.Differs.{when, join, differ, differ_rows, differ_others, differ_starter, differ_groups, items_by, differ_plain, differ_plains, differ_item, differ_items}
+use Rattle.sbl_semantics.specs.DiffersByParts.{when, join, differ, differ_rows, differ_others, differ_starter, differ_groups, items_by, differ_plain, differ_plains, differ_item, differ_items}
 use Rattle.sbl_semantics.specs.TouchedItems.{Grouping}
-use Rattle.sbl_machine.proofs.SameSelf.{also, name_self, flag_self, quoted_self, argument_self, expression_self, entry_self, entries_self, names_self, base_self, terms_self}
+use Rattle.sbl_semantics.proofs.SameSelf.{also, name_self, flag_self, quoted_self, argument_self, expression_self, entry_self, entries_self, names_self, base_self, terms_self}
 
 abbrev pub Nowhere : {X : Type 0} → Option (List X) → Type 0
 Nowhere x = x ≡ Some []
@@ -38,7 +37,7 @@ joins x y p q = (λ i. join (p i) (q i))
 -- ---- commands
 
 mutual
-  self : (c : Command) (k : ℕ) → Nowhere (differ k c c)
+  pub self : (c : Command) (k : ℕ) → Nowhere (differ k c c)
   self (bracket rs) k = self_rows rs k
   self (simple_ x) k = so _ (true_same simple.the_type x x refl)
   self (literal_ q) k = so _ (quoted_self q)
@@ -75,7 +74,7 @@ mutual
 
 -- ---- items
 
-plain_self : (x : Plain) → Nowhere (differ_plain x x)
+pub plain_self : (x : Plain) → Nowhere (differ_plain x x)
 plain_self (declaration k ns) = so _ (also _ _ (true_same kind.the_type k k refl) (names_self ns))
 plain_self (escapes a b) = so _ (also _ _ (eq-eqb a a refl) (eq-eqb b b refl))
 plain_self (macro n b q) = so _ (also _ _ (name_self n) (also _ _ (base_self b) (quoted_self q)))
@@ -93,6 +92,3 @@ item_self (backward xs) = plains_self xs
 pub items_self : (xs : List Item) → Nowhere (differ_items xs xs)
 items_self [] = refl
 items_self (x ∷ xs) = joins _ _ (item_self x) (items_self xs)
-
-pub alike_differ_nowhere : AlikeDifferNowhere
-alike_differ_nowhere s = then_so _ _ (name_self s.external) (items_self s.items)

@@ -1,0 +1,5 @@
+pub mod SameSelf
+pub mod SameParts
+pub mod NumberAfter
+pub mod DiffersSelf
+pub mod ByParts
