@@ -13,9 +13,9 @@ is() {
     echo "FAILED ${0##*/}: $title (status $status, $(head -c 200 "$room/err" | tr '\n' '|'))"
   fi
 }
-# Runs ./snowbench: its status, and what it writes in out and err.
+# Runs ./snowbench: its status, and what it writes in out and err. (This shell says nothing of a signal that ends it.)
 snowbench() {
-  timeout 60 "$top/snowbench" "$@" >"$room/out" 2>"$room/err"
+  { timeout 300 "$top/snowbench" "$@" >"$room/out" 2>"$room/err"; } 2>/dev/null
   status=$?
 }
 # Whether it ended with this status, and wrote these texts (a text that is not given is not looked at).
@@ -25,14 +25,16 @@ ended() {
 ended_telling() {
   [ "$status" -eq "$1" ] && grep -q "$2" "$room/err"
 }
-# Waits some seconds for a condition.
+# Waits for a condition, minutes at most: other work on the machine can make a step long. It says so if it waited in vain.
 soon() {
-  local turn
-  for ((turn = 0; turn < 200; turn++)); do
-    "$@" && return
-    sleep 0.05
+  local end=$((SECONDS + 240))
+  until "$@"; do
+    if [ "$SECONDS" -ge "$end" ]; then
+      echo "${0##*/}: waited in vain for $*"
+      return 1
+    fi
+    sleep 0.02
   done
-  return 1
 }
 # Whether no program of these tests runs any more, and no file of it is there. (The environment of a program has TMPDIR.)
 nothing_is_left() {
@@ -41,6 +43,10 @@ nothing_is_left() {
   for there in /proc/[0-9]*; do
     if [ "$(readlink "$there/exe")" = "$SNOWBENCH_PROGRAM" ] && grep -qas "$TMPDIR" "$there/environ"; then return 1; fi
   done 2>/dev/null
+}
+# Whether a program of these tests runs.
+runs() {
+  ! nothing_is_left
 }
 
 script=$room/script.sbl words=$room/words

@@ -6,7 +6,7 @@ ghost use Rattle.sbl_resolver.specs.Subjects.{subjects_of};
 ghost use Rattle.sbl_parser.specs.Reading.{IsReadAs};
 ghost use Rattle.sbl_places.specs.FaultPlaces.{IsFaultAt, is_of_token};
 ghost use Rattle.sbl_places.specs.SubjectTokens.{SubjectToken, subject_tokens, subjects};
-ghost use Rattle.sbl_script.specs.Reading.{IsFaultOf, terminals};
+ghost use Rattle.sbl_script.specs.Reading.{IsFaultOf, lexemes};
 ghost use Rattle.sbl_text.specs.Tokens.{PlacedToken};
 ghost use Rattle.sbl_text.specs.declared.fault.ScriptFault.{ScriptFault as AnyFault};
 ghost use Rattle.sbl_ast.specs.Texts.{script};
@@ -16,7 +16,7 @@ use sbl_places::laws::{faults_are_at_tokens, subjects_are_tokens, token_is_one};
 
 /// Needs the whole of the law `subjects_are_tokens`.
 pub fn needs_subjects_are_tokens()
-    ensures { (ts : List PlacedToken) (items : List Item) → IsReadAs script (terminals ts) items → subjects (subject_tokens ts) ≡ subjects_of (occurrences_of items) }
+    ensures { (ts : List PlacedToken) (items : List Item) → IsReadAs script (lexemes ts) items → subjects (subject_tokens ts) ≡ subjects_of (occurrences_of items) }
 {
     subjects_are_tokens();
 }

@@ -1,8 +1,10 @@
 -- The among with a number, part by part: those of a part come before those behind it.
 use Rattle.std.proofs.Common.{◌≡◌, ℕ, zero, suc, ◌+◌, ◌-◌, Bool, true, false, nat_eq, List, [], ◌∷◌, Some, None, if◌then◌else◌, refl, sym, ap, ◌∙◌, arith}
 use Rattle.std.proofs.lemmas.Bool.{ne_eqb}
+use Rattle.sbl_token.specs.Lexemes as lex
+use Rattle.sbl_token.specs.declared.words.Word.TheVariants as words
+use Rattle.sbl_token.specs.declared.signs.Sign.TheVariants as signs
 use Rattle.sbl_ast.specs.Tree.{Command, bracket, simple_, literal_, name_, non_, prefixed, counted, move_, named, splice_, setlimit_, assign_, compare_, compare_values_, among_, Rows, no_rows, row, Others, no_others, joined, Starter, no_starter, starter, Groups, bare, group}
-use Rattle.sbl_ast.specs.Terminal as t
 use Rattle.sbl_ast.specs.Counts.{count_amongs, count_in_rows, count_in_others, count_in_starter, count_in_groups}
 use Rattle.sbl_amongs.specs.Amongs.{FitsAt, AmongContents, amongs, amongs_of_rows, amongs_of_others, amongs_of_starter, amongs_of_groups, amongs_of_body, nth_held, put_among, put_in_rows, put_in_others, put_in_starter, put_in_groups, put_in_body}
 use Rattle.sbl_ast.specs.Places.{placed_command, placed_rows, placed_others, placed_starter, placed_groups, placed_entry, placed_entries, placed_expression, AreShallow}
@@ -101,7 +103,7 @@ chosen_put s gs d k rest a h fits starts groups = go (nat_eq k 1) refl where
   go : (b : Bool) → nat_eq k 1 ≡ b → AreShallow (placed_command (if b then among_ a.0 a.1 else among_ (put_in_starter s (k - 1) a) (put_in_groups gs (k - 1 - count_in_starter s) a)) d [])
   go true e = fits (d, s, gs) (ap (λ (b : Bool). if b then Some (d, s, gs) else nth_held (k - 1) (amongs_of_starter s d (amongs_of_groups gs d rest))) e)
   go false e =
-      let close = (t.close_, d) ∷ [] in
+      let close = (lex.sign signs.Close, d) ∷ [] in
       let inside = fits_inside k (d, s, gs) (amongs_of_starter s d (amongs_of_groups gs d rest)) a e fits in
       let g1 = placed_groups (put_in_groups gs (k - 1 - count_in_starter s) a) d in
       let s1 = placed_starter (put_in_starter s (k - 1) a) d in
@@ -117,7 +119,7 @@ chosen_put s gs d k rest a h fits starts groups = go (nat_eq k 1) refl where
 mutual
   pub tree_put : (c : Command) (d k : ℕ) (rest : Hs) (a : Starter × Groups) → AreShallow (placed_command c d []) → FitsAt k (amongs c d rest) a → AreShallow (placed_command (put_among c k a) d [])
   tree_put (bracket rs) d k rest a h fits =
-      let close = (t.close_, d) ∷ [] in
+      let close = (lex.sign signs.Close, d) ∷ [] in
       (h.0, with_behind (placed_rows (put_in_rows rs k a) (d + 1)) (rows_before (put_in_rows rs k a) (d + 1)) close (rows_put rs (d + 1) k rest a (by_itself (placed_rows rs (d + 1)) (rows_before rs (d + 1)) close h.1) fits) (behind_it (placed_rows rs (d + 1)) (rows_before rs (d + 1)) close h.1))
   tree_put (simple_ x) d k rest a h fits = h
   tree_put (literal_ x) d k rest a h fits = h
@@ -132,16 +134,16 @@ mutual
   tree_put (splice_ x y) d k rest a h fits = h
   tree_put (setlimit_ b c) d k rest a h fits =
       let m = k - count_amongs b in
-      let left = (t.for_, d) ∷ placed_command c (d + 1) [] in
+      let left = (lex.word words.For, d) ∷ placed_command c (d + 1) [] in
       let tail = behind_it (placed_command b (d + 1)) (tree_before b (d + 1)) left h.1 in
       let second = tree_put c (d + 1) m rest a tail.1 (fits_behind (count_amongs b) (λ r. amongs b (d + 1) r) (tree_counts b (d + 1)) k (amongs c (d + 1) rest) a fits) in
       let first = tree_put b (d + 1) k (amongs c (d + 1) rest) a (by_itself (placed_command b (d + 1)) (tree_before b (d + 1)) left h.1) fits in
-      (h.0, with_behind (placed_command (put_among b k a) (d + 1)) (tree_before (put_among b k a) (d + 1)) ((t.for_, d) ∷ placed_command (put_among c m a) (d + 1) []) first (tail.0, second))
+      (h.0, with_behind (placed_command (put_among b k a) (d + 1)) (tree_before (put_among b k a) (d + 1)) ((lex.word words.For, d) ∷ placed_command (put_among c m a) (d + 1) []) first (tail.0, second))
   tree_put (assign_ x y z) d k rest a h fits = h
   tree_put (compare_ x y z) d k rest a h fits = h
   tree_put (compare_values_ x y z) d k rest a h fits = h
   tree_put (among_ s gs) d k rest a h fits =
-      let close = (t.close_, d) ∷ [] in
+      let close = (lex.sign signs.Close, d) ∷ [] in
       let g0 = placed_groups gs d in
       let s0 = placed_starter s d in
       let tail = behind_it s0 (starter_before s d) (g0 close) h.1.1 in
@@ -176,7 +178,7 @@ mutual
   pub starter_put : (s : Starter) (d k : ℕ) (rest : Hs) (a : Starter × Groups) → AreShallow (placed_starter s d []) → FitsAt k (amongs_of_starter s d rest) a → AreShallow (placed_starter (put_in_starter s k a) d [])
   starter_put no_starter d k rest a h fits = h
   starter_put (starter rs) d k rest a h fits =
-      let close = (t.close_, d + 1) ∷ [] in
+      let close = (lex.sign signs.Close, d + 1) ∷ [] in
       let old = placed_rows rs (d + 1 + 1) in
       let new = placed_rows (put_in_rows rs k a) (d + 1 + 1) in
       (h.0, with_behind new (rows_before (put_in_rows rs k a) (d + 1 + 1)) close (rows_put rs (d + 1 + 1) k rest a (by_itself old (rows_before rs (d + 1 + 1)) close h.1) fits) (behind_it old (rows_before rs (d + 1 + 1)) close h.1))
@@ -188,15 +190,15 @@ mutual
       let old = placed_rows rs (d + 1 + 1) in
       let new = placed_rows (put_in_rows rs k a) (d + 1 + 1) in
       let next = put_in_groups gs m a in
-      let more = (t.close_, d + 1) ∷ placed_groups gs d [] in
-      let bracketed_ = (t.open_, d + 1) ∷ old more in
+      let more = (lex.sign signs.Close, d + 1) ∷ placed_groups gs d [] in
+      let bracketed_ = (lex.sign signs.Open, d + 1) ∷ old more in
       let strings = behind_it (placed_entry e d) (entry_before e d) (placed_entries es d bracketed_) h in
       let inner = behind_it (placed_entries es d) (entries_before es d) bracketed_ strings in
       let tail = behind_it old (rows_before rs (d + 1 + 1)) more inner.1 in
       let first = rows_put rs (d + 1 + 1) k (amongs_of_groups gs d rest) a (by_itself old (rows_before rs (d + 1 + 1)) more inner.1) fits in
       let second = groups_put gs d m rest a tail.1 (fits_behind (count_in_rows rs) (λ r. amongs_of_rows rs (d + 1 + 1) r) (rows_count rs (d + 1 + 1)) k (amongs_of_groups gs d rest) a fits) in
-      let now = (t.open_, d + 1) ∷ new ((t.close_, d + 1) ∷ placed_groups next d []) in
-      let whole : AreShallow now = (inner.0, with_behind new (rows_before (put_in_rows rs k a) (d + 1 + 1)) ((t.close_, d + 1) ∷ placed_groups next d []) first (tail.0, second)) in
+      let now = (lex.sign signs.Open, d + 1) ∷ new ((lex.sign signs.Close, d + 1) ∷ placed_groups next d []) in
+      let whole : AreShallow now = (inner.0, with_behind new (rows_before (put_in_rows rs k a) (d + 1 + 1)) ((lex.sign signs.Close, d + 1) ∷ placed_groups next d []) first (tail.0, second)) in
       with_behind (placed_entry e d) (entry_before e d) (placed_entries es d now) (by_itself (placed_entry e d) (entry_before e d) (placed_entries es d bracketed_) h)
       (with_behind (placed_entries es d) (entries_before es d) now (by_itself (placed_entries es d) (entries_before es d) bracketed_ strings) whole)
 

@@ -8,7 +8,9 @@ use Rattle.sbl_ast.specs.declared.tree.Command.TheFolds.{fold_out-Among, fold_ou
 use Rattle.sbl_ast.specs.declared.tree.RowOfCommands.{RowOfCommands as Row}
 use Rattle.sbl_amongs.specs.declared.finding.WalkEnd.{WalkEnd}
 use Rattle.sbl_amongs.specs.declared.finding.WalkEnd.TheVariants as ends
-use Rattle.sbl_ast.specs.Terminal as t
+use Rattle.sbl_token.specs.Lexemes as lex
+use Rattle.sbl_token.specs.declared.words.Word.TheVariants as words
+use Rattle.sbl_token.specs.declared.signs.Sign.TheVariants as signs
 use Rattle.sbl_ast.specs.Tree.{Command, bracket, counted, setlimit_, among_, Rows, Others, Starter, starter, Groups, Entry, Expression}
 use Rattle.sbl_amongs.specs.Amongs.{AmongContents, amongs, amongs_of_rows, amongs_of_others, amongs_of_starter, amongs_of_groups, nth_held}
 use Rattle.sbl_amongs.specs.WalkEnds.{Finds}
@@ -25,31 +27,31 @@ Ps = List AtDepth
 -- ---- what is shallow inside
 
 pub bracket_in : (c : Command) (rs : Rows) (d : ℕ) → c ≡ bracket rs → AreShallow (placed_command c d []) → AreShallow (placed_rows rs (d + 1) [])
-bracket_in c rs d is h = by_itself (placed_rows rs (d + 1)) (rows_before rs (d + 1)) ((t.close_, d) ∷ []) (subst (λ (x : Command). AreShallow (placed_command x d [])) is h).1
+bracket_in c rs d is h = by_itself (placed_rows rs (d + 1)) (rows_before rs (d + 1)) ((lex.sign signs.Close, d) ∷ []) (subst (λ (x : Command). AreShallow (placed_command x d [])) is h).1
 
 pub counted_in : (c b : Command) (n : Count) (e : Expression) (d : ℕ) → c ≡ counted n e b → AreShallow (placed_command c d []) → AreShallow (placed_command b (d + 1) [])
 counted_in c b n e d is h = behind_it (placed_expression e d) (expression_before e d) (placed_command b (d + 1) []) (subst (λ (x : Command). AreShallow (placed_command x d [])) is h).1
 
 pub limit_in : (c a b : Command) (d : ℕ) → c ≡ setlimit_ a b → AreShallow (placed_command c d []) → AreShallow (placed_command a (d + 1) [])
-limit_in c a b d is h = by_itself (placed_command a (d + 1)) (tree_before a (d + 1)) ((t.for_, d) ∷ placed_command b (d + 1) []) (subst (λ (x : Command). AreShallow (placed_command x d [])) is h).1
+limit_in c a b d is h = by_itself (placed_command a (d + 1)) (tree_before a (d + 1)) ((lex.word words.For, d) ∷ placed_command b (d + 1) []) (subst (λ (x : Command). AreShallow (placed_command x d [])) is h).1
 
 pub limited_in : (c a b : Command) (d : ℕ) → c ≡ setlimit_ a b → AreShallow (placed_command c d []) → AreShallow (placed_command b (d + 1) [])
-limited_in c a b d is h = (behind_it (placed_command a (d + 1)) (tree_before a (d + 1)) ((t.for_, d) ∷ placed_command b (d + 1) []) (subst (λ (x : Command). AreShallow (placed_command x d [])) is h).1).1
+limited_in c a b d is h = (behind_it (placed_command a (d + 1)) (tree_before a (d + 1)) ((lex.word words.For, d) ∷ placed_command b (d + 1) []) (subst (λ (x : Command). AreShallow (placed_command x d [])) is h).1).1
 
 pub starter_in : (s : Starter) (gs : Groups) (d : ℕ) → AreShallow (placed_command (among_ s gs) d []) → AreShallow (placed_starter s d [])
-starter_in s gs d h = by_itself (placed_starter s d) (starter_before s d) (placed_groups gs d ((t.close_, d) ∷ [])) h.1.1
+starter_in s gs d h = by_itself (placed_starter s d) (starter_before s d) (placed_groups gs d ((lex.sign signs.Close, d) ∷ [])) h.1.1
 
 pub rows_in : (s : Starter) (rs : Rows) (d : ℕ) → s ≡ starter rs → AreShallow (placed_starter s d []) → AreShallow (placed_rows rs (d + 1 + 1) [])
-rows_in s rs d is h = by_itself (placed_rows rs (d + 1 + 1)) (rows_before rs (d + 1 + 1)) ((t.close_, d + 1) ∷ []) (subst (λ (x : Starter). AreShallow (placed_starter x d [])) is h).1
+rows_in s rs d is h = by_itself (placed_rows rs (d + 1 + 1)) (rows_before rs (d + 1 + 1)) ((lex.sign signs.Close, d + 1) ∷ []) (subst (λ (x : Starter). AreShallow (placed_starter x d [])) is h).1
 
 -- a group, and then others
 abbrev one_group : Entry → List Entry → Rows → ℕ → Ps → Ps
-one_group e es rs d r = placed_entry e d (placed_entries es d ((t.open_, d + 1) ∷ placed_rows rs (d + 1 + 1) ((t.close_, d + 1) ∷ r)))
+one_group e es rs d r = placed_entry e d (placed_entries es d ((lex.sign signs.Open, d + 1) ∷ placed_rows rs (d + 1 + 1) ((lex.sign signs.Close, d + 1) ∷ r)))
 
 group_before : (e : Entry) (es : List Entry) (rs : Rows) (d : ℕ) → IsBefore (one_group e es rs d)
 group_before e es rs d r q =
-    let left = (t.open_, d + 1) ∷ placed_rows rs (d + 1 + 1) ((t.close_, d + 1) ∷ r) in
-    ap (λ (z : Ps). placed_entry e d (placed_entries es d ((t.open_, d + 1) ∷ z))) (rows_before rs (d + 1 + 1) ((t.close_, d + 1) ∷ r) q)
+    let left = (lex.sign signs.Open, d + 1) ∷ placed_rows rs (d + 1 + 1) ((lex.sign signs.Close, d + 1) ∷ r) in
+    ap (λ (z : Ps). placed_entry e d (placed_entries es d ((lex.sign signs.Open, d + 1) ∷ z))) (rows_before rs (d + 1 + 1) ((lex.sign signs.Close, d + 1) ∷ r) q)
     ∙ ap (placed_entry e d) (entries_before es d left q) ∙ entry_before e d (placed_entries es d left) q
 
 -- the strings behind the last group do not matter
@@ -68,14 +70,14 @@ seen_row r = fold_out-RowOfCommands Command AmongView GroupView NextCommandView 
 
 pub groups_in : (s : Starter) (all : Groups) (gs : List GroupView) (es : List Entry) (d : ℕ) → all ≡ groups_of gs es → AreShallow (placed_command (among_ s all) d []) → AreShallow (placed_groups (groups_of gs []) d [])
 groups_in s all gs es d is h =
-    let close = (t.close_, d) ∷ [] in
+    let close = (lex.sign signs.Close, d) ∷ [] in
     let there = behind_it (placed_starter s d) (starter_before s d) (placed_groups all d close) h.1.1 in
     bare_in gs es d (subst (λ (x : Groups). AreShallow (placed_groups x d [])) is (by_itself (placed_groups all d) (groups_before all d) close there))
 
 pub group_in : (g : GroupView) (whole left : List GroupView) (d : ℕ) → whole ≡ g ∷ left → AreShallow (placed_groups (groups_of whole []) d []) → AreShallow (placed_rows g.rows (d + 1 + 1) [])
 group_in g whole left d is h =
-    let after = (t.close_, d + 1) ∷ placed_groups (groups_of left []) d [] in
-    let inner = (t.open_, d + 1) ∷ placed_rows g.rows (d + 1 + 1) after in
+    let after = (lex.sign signs.Close, d + 1) ∷ placed_groups (groups_of left []) d [] in
+    let inner = (lex.sign signs.Open, d + 1) ∷ placed_rows g.rows (d + 1 + 1) after in
     let start = subst (λ (x : List GroupView). AreShallow (placed_groups (groups_of x []) d [])) is h in
     let strings = behind_it (placed_entry g.first d) (entry_before g.first d) (placed_entries g.others d inner) start in
     by_itself (placed_rows g.rows (d + 1 + 1)) (rows_before g.rows (d + 1 + 1)) after (behind_it (placed_entries g.others d) (entries_before g.others d) inner strings).1
@@ -208,7 +210,7 @@ OthersSofar b n whole all d = AreShallow (placed_others (others_of all) d []) �
 -- the rows of a group are two deeper
 group_deep : (g : GroupView) (whole left : List GroupView) (d e : ℕ) → whole ≡ g ∷ left → e ≡ min (d + 2) (2 ^ 8 - 1) → AreShallow (placed_groups (groups_of whole []) d []) → e ≡ d + 1 + 1
 group_deep g whole left d e is deep h =
-    let inner = (t.open_, d + 1) ∷ placed_rows g.rows (d + 1 + 1) ((t.close_, d + 1) ∷ placed_groups (groups_of left []) d []) in
+    let inner = (lex.sign signs.Open, d + 1) ∷ placed_rows g.rows (d + 1 + 1) ((lex.sign signs.Close, d + 1) ∷ placed_groups (groups_of left []) d []) in
     let start = subst (λ (x : List GroupView). AreShallow (placed_groups (groups_of x []) d [])) is h in
     let strings = behind_it (placed_entry g.first d) (entry_before g.first d) (placed_entries g.others d inner) start in
     two_deeper d e deep (behind_it (placed_entries g.others d) (entries_before g.others d) inner strings).0

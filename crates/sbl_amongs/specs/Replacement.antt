@@ -1,13 +1,14 @@
 -- What replacing an among does to the tokens of a routine's body.
 use Rattle.std.specs.Prelude.{◌≡◌, ℕ, ◌+◌, Bool, true, false, List, [], ◌∷◌, ◌++◌, Some, None, if◌then◌else◌}
-use Rattle.sbl_ast.specs.Terminal.{Terminal, among}
+use Rattle.sbl_token.specs.Lexemes.{Lexeme, word}
+use Rattle.sbl_token.specs.declared.words.Word.TheVariants as words
 use Rattle.sbl_ast.specs.Tree.{Command, Others, Starter, Groups, among_}
 use Rattle.sbl_ast.specs.Places.{AtDepth, placed_command}
 use Rattle.sbl_ast.specs.Texts.{body, places_in}
 use Rattle.sbl_amongs.specs.Amongs.{AmongContents, amongs_of_body, nth_held, put_in_body}
 
-abbrev pub is_among : Terminal → Bool
-is_among among = true
+abbrev pub is_among : Lexeme → Bool
+is_among (word words.Among) = true
 is_among _ = false
 
 -- how many tokens of a list are the word `among`

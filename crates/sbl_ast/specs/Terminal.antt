@@ -7,6 +7,8 @@ use Rattle.sbl_token.specs.declared.words.Word.TheVariants as w
 use Rattle.sbl_token.specs.declared.signs.Sign.{Sign}
 use Rattle.sbl_token.specs.declared.signs.Sign.TheVariants as s
 use Rattle.sbl_token.specs.declared.token.Token.{Token}
+use Rattle.sbl_ast.specs.Tree.{QuotedText}
+use Rattle.sbl_ast.specs.Symbols as symbols
 use Rattle.sbl_ast.specs.declared.tree.DeclarationKind.{DeclarationKind}
 use Rattle.sbl_ast.specs.declared.tree.DeclarationKind.TheVariants as declarations
 use Rattle.sbl_ast.specs.declared.tree.Base.{Base}
@@ -35,11 +37,6 @@ use Rattle.sbl_ast.specs.declared.tree.Comparison.{Comparison}
 use Rattle.sbl_ast.specs.declared.tree.Comparison.TheVariants as comparisons
 use Rattle.sbl_ast.specs.declared.tree.Constant.{Constant}
 use Rattle.sbl_ast.specs.declared.tree.Constant.TheVariants as constants
-
--- a literal: its spelling, as UTF-8 bytes, and the characters that it means
-pub record QuotedText : Type 0 where
-  pub spelling : List ℕ
-  pub value : List ℕ
 
 -- words and signs that occur in no tree
 pub data Other : Type 0 where
@@ -173,95 +170,6 @@ tokens_left ts at = terminals_of (drop at ts)
 
 -- ---- the lexeme of each role
 
-abbrev pub declares_lexeme : DeclarationKind → Lexeme
-declares_lexeme declarations.Booleans = word w.Booleans
-declares_lexeme declarations.Externals = word w.Externals
-declares_lexeme declarations.Groupings = word w.Groupings
-declares_lexeme declarations.Integers = word w.Integers
-declares_lexeme declarations.Routines = word w.Routines
-declares_lexeme declarations.Strings = word w.Strings
-
-abbrev pub base_lexeme : Base → Lexeme
-base_lexeme bases.Decimal = word w.Decimal
-base_lexeme bases.Hex = word w.Hex
-
-abbrev pub joiner_lexeme : Joiner → Lexeme
-joiner_lexeme joiners.And = word w.And
-joiner_lexeme joiners.Or = word w.Or
-
-abbrev pub simple_lexeme : Simple → Lexeme
-simple_lexeme simples.AtLimit = word w.AtLimit
-simple_lexeme simples.Delete = word w.Delete
-simple_lexeme simples.False = word w.False
-simple_lexeme simples.Next = word w.Next
-simple_lexeme simples.Substring = word w.Substring
-simple_lexeme simples.ToLimit = word w.ToLimit
-simple_lexeme simples.True = word w.True
-simple_lexeme simples.LeftBracket = sign s.LeftBracket
-simple_lexeme simples.RightBracket = sign s.RightBracket
-
-abbrev pub prefix_lexeme : Prefix → Lexeme
-prefix_lexeme prefixes.Backwards = word w.Backwards
-prefix_lexeme prefixes.Do = word w.Do
-prefix_lexeme prefixes.Fail = word w.Fail
-prefix_lexeme prefixes.GoPast = word w.GoPast
-prefix_lexeme prefixes.GoTo = word w.GoTo
-prefix_lexeme prefixes.Not = word w.Not
-prefix_lexeme prefixes.Repeat = word w.Repeat
-prefix_lexeme prefixes.Test = word w.Test
-prefix_lexeme prefixes.Try = word w.Try
-
-abbrev pub count_lexeme : Count → Lexeme
-count_lexeme counts.AtLeast = word w.AtLeast
-count_lexeme counts.Loop = word w.Loop
-
-abbrev pub move_lexeme : Move → Lexeme
-move_lexeme moves.AtMark = word w.AtMark
-move_lexeme moves.Hop = word w.Hop
-move_lexeme moves.ToMark = word w.ToMark
-
-abbrev pub naming_lexeme : Naming → Lexeme
-naming_lexeme namings.Set = word w.Set
-naming_lexeme namings.SetMark = word w.SetMark
-naming_lexeme namings.Unset = word w.Unset
-naming_lexeme namings.Arrow = sign s.Arrow
-
-abbrev pub edit_lexeme : Splice → Lexeme
-edit_lexeme edits.Attach = word w.Attach
-edit_lexeme edits.Insert = word w.Insert
-edit_lexeme edits.Replace = sign s.LessMinus
-edit_lexeme edits.InsertSign = sign s.LessPlus
-
-abbrev pub additive_lexeme : Additive → Lexeme
-additive_lexeme additives.Plus = sign s.Plus
-additive_lexeme additives.Minus = sign s.Minus
-
-abbrev pub multiplicative_lexeme : Multiplicative → Lexeme
-multiplicative_lexeme multiplicatives.Times = sign s.Star
-multiplicative_lexeme multiplicatives.Over = sign s.Slash
-
-abbrev pub assigns_lexeme : Assignment → Lexeme
-assigns_lexeme assignments.Equals = sign s.Equals
-assigns_lexeme assignments.Plus = sign s.PlusEquals
-assigns_lexeme assignments.Minus = sign s.MinusEquals
-assigns_lexeme assignments.Times = sign s.StarEquals
-assigns_lexeme assignments.Over = sign s.SlashEquals
-
-abbrev pub compares_lexeme : Comparison → Lexeme
-compares_lexeme comparisons.Less = sign s.Less
-compares_lexeme comparisons.Greater = sign s.Greater
-compares_lexeme comparisons.Same = sign s.Same
-compares_lexeme comparisons.Differs = sign s.Differs
-compares_lexeme comparisons.AtMost = sign s.AtMost
-compares_lexeme comparisons.AtLeast = sign s.AtLeast
-
-abbrev pub constant_lexeme : Constant → Lexeme
-constant_lexeme constants.Cursor = word w.Cursor
-constant_lexeme constants.Len = word w.Len
-constant_lexeme constants.Limit = word w.Limit
-constant_lexeme constants.MaxInt = word w.MaxInt
-constant_lexeme constants.MinInt = word w.MinInt
-
 abbrev pub other_lexeme : Other → Lexeme
 other_lexeme get = word w.Get
 other_lexeme reverse = word w.Reverse
@@ -284,23 +192,23 @@ lexeme_as set_limit = word w.SetLimit
 lexeme_as string_def = word w.StringDef
 lexeme_as string_escapes = word w.StringEscapes
 lexeme_as len_of = word w.LenOf
-lexeme_as (declares x) = declares_lexeme x
-lexeme_as (base x) = base_lexeme x
-lexeme_as (joiner x) = joiner_lexeme x
-lexeme_as (simple x) = simple_lexeme x
-lexeme_as (prefix x) = prefix_lexeme x
-lexeme_as (count x) = count_lexeme x
-lexeme_as (move x) = move_lexeme x
-lexeme_as (naming x) = naming_lexeme x
-lexeme_as (edit x) = edit_lexeme x
-lexeme_as (additive x) = additive_lexeme x
-lexeme_as (multiplicative x) = multiplicative_lexeme x
-lexeme_as (assigns x) = assigns_lexeme x
-lexeme_as (compares x) = compares_lexeme x
-lexeme_as (constant x) = constant_lexeme x
+lexeme_as (declares x) = symbols.declares x
+lexeme_as (base x) = symbols.base x
+lexeme_as (joiner x) = symbols.joiner x
+lexeme_as (simple x) = symbols.simple x
+lexeme_as (prefix x) = symbols.prefix x
+lexeme_as (count x) = symbols.count x
+lexeme_as (move x) = symbols.move x
+lexeme_as (naming x) = symbols.naming x
+lexeme_as (edit x) = symbols.splice x
+lexeme_as (additive x) = symbols.additive x
+lexeme_as (multiplicative x) = symbols.multiplicative x
+lexeme_as (assigns x) = symbols.assigns x
+lexeme_as (compares x) = symbols.compares x
+lexeme_as (constant x) = symbols.constant x
 lexeme_as (other x) = other_lexeme x
 lexeme_as (name n) = lexemes.name n
 lexeme_as (number n) = lexemes.number n
-lexeme_as (literal q) = lexemes.literal q.spelling q.value
+lexeme_as (literal q) = symbols.quoted q
 lexeme_as (inserts a b) = lexemes.inserts a b
 lexeme_as (macro_name n) = lexemes.macro_name n

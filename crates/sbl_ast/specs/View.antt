@@ -29,7 +29,7 @@ use Rattle.sbl_ast.specs.declared.tree.ScriptItem.TheVariants as items
 use Rattle.sbl_ast.specs.declared.tree.Joiner.{Joiner}
 use Rattle.sbl_ast.specs.declared.tree.Additive.{Additive}
 use Rattle.sbl_ast.specs.declared.tree.Multiplicative.{Multiplicative}
-use Rattle.sbl_ast.specs.Terminal.{QuotedText}
+use Rattle.sbl_ast.specs.Tree.{QuotedText}
 use Rattle.sbl_ast.specs.Tree as trees
 
 abbrev pub view_literal : Literal → QuotedText

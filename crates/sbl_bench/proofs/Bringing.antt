@@ -1,5 +1,5 @@
 -- What each edit of the setting brings: which words it has to run, and that each other word runs as before.
-use Rattle.std.proofs.Common.{◌≡◌, ◌∙◌, ◌||◌, ◌&&◌, ◌≤◌, ℕ, Bool, true, false, nat_le, nat_lt, List, [], ◌∷◌, map, Option, Some, None, refl, sym, ap, subst, arith}
+use Rattle.std.proofs.Common.{◌≡◌, ◌∙◌, ◌||◌, ◌&&◌, ◌≤◌, inr, min, ℕ, Bool, true, false, nat_le, nat_lt, List, [], ◌∷◌, map, Option, Some, None, refl, sym, ap, subst, arith}
 use Rattle.std.specs.Prelude.{if◌then◌else◌}
 use Rattle.std.specs.List.{list_all, list_any}
 use Rattle.std.proofs.Math.Path.{fun_ext}
@@ -10,7 +10,7 @@ use Rattle.sbl_script.specs.Edits.{ScriptEdit}
 use Rattle.sbl_ast.specs.Source.{Source}
 use Rattle.sbl_script.specs.Reading.{IsScriptOf}
 use Rattle.sbl_semantics.specs.declared.touch.Touch.{Touch}
-use Rattle.sbl_machine.specs.BuiltFrom.{affected_by, meets, meets_one}
+use Rattle.sbl_machine.specs.BuiltFrom.{affected_by, meets_one}
 use Rattle.sbl_semantics.specs.Differs.{differs}
 use Rattle.sbl_machine.specs.EnoughSteps.{UsedStepsSuffice, UsedStepsTouch}
 use Rattle.sbl_machine.specs.DifferLaws.{DifferingStay, OneMeets}
@@ -19,10 +19,10 @@ use Rattle.sbl_machine.specs.Marks.{AreMarksOf, EditedAreThere, has_item}
 use Rattle.sbl_semantics.specs.Outcome.{touches_of, used_of}
 use Rattle.sbl_semantics.specs.TouchedItems.{Item', item_of_touch, names_of}
 use Rattle.sbl_machine.specs.EditedItem.{edited_item}
-use Rattle.sbl_bench.specs.AffectedWords.{AffectedWords, AreMet, Touching, Above, is_affected}
+use Rattle.sbl_bench.specs.AffectedWords.{AffectedWords, AreMet, Touching, Above, smaller}
 use Rattle.sbl_bench.specs.Changes.{Brings, IsExchange, IsTaken}
 use Rattle.sbl_bench.specs.Contents.{Contents}
-use Rattle.sbl_bench.specs.Edits.{Edit, Install, Replace, Limit, Whole, is_limit, is_of_text, meets_listed, smaller}
+use Rattle.sbl_bench.specs.Edits.{Edit, Install, Replace, Limit, Whole, is_limit, meets_listed}
 use Rattle.sbl_bench.specs.Setting.{RunsSame, under}
 
 -- ---- items
@@ -46,14 +46,13 @@ pub taken_brings : UntouchedStay → OneMeets → (s : Contents) (e : ScriptEdit
 taken_brings law alone s e text t x is well a met =
     let p = s.setting.script in
     let l = s.setting.limit in
-    let same : (w : List ℕ) → meets (edited_item e) p w l ≡ is_affected (under p l) a w = λ w. sym (alone (edited_item e) p w l) ∙ met l w in
     record {
       after = (is.edited, refl);
       passes = is.passes;
-      wants = refl;
+      wants = λ word same. cc same;
       words = refl;
-      met_is = same;
-      stays = λ w h. stays_same p t w l (law p t e text well is.edited w l (same w ∙ h));
+      met_is = λ w. met l w;
+      stays = λ w h. stays_same p t w l (law p t e text well is.edited w l (sym (alone (edited_item e) p w l) ∙ met l w ∙ h));
     }
 
 -- the same by the words that are affected by a list of this item alone
@@ -89,12 +88,19 @@ exchange_brings law s e t is well a met =
     }
 
 pub whole_exchange : (s : Contents) (bytes : List ℕ) (t : Source) → IsScriptOf bytes s.setting.script.external t → IsExchange s (Whole bytes) t
-whole_exchange s bytes t read = record { after = (read, refl); passes = λ f refused. ap is_of_text refused.2; wants = refl; words = refl; met_is = λ w. refl }
+whole_exchange s bytes t read = record { after = (read, refl); passes = λ f refused. inr (refused.0, refused.2); wants = λ word same. cc same; words = refl; met_is = λ w. refl }
 
 pub install_exchange : (s : Contents) (t : Source) → IsExchange s (Install t) t
-install_exchange s t = record { after = (refl, refl); passes = λ f refused. absurd refused; wants = refl; words = refl; met_is = λ w. refl }
+install_exchange s t = record { after = (refl, refl); passes = λ f refused. absurd refused; wants = λ word same. cc same; words = refl; met_is = λ w. refl }
 
 -- ---- limits
+
+min_is : (m n : ℕ) → min m n ≡ smaller m n
+min_is m n = by (nat_le m n) refl
+  where
+    by : (b : Bool) → nat_le m n ≡ b → min m n ≡ (if b then m else n)
+    by true k = let below : m ≤ n = grind (arith, nat_tests, k) in omega (arith, below)
+    by false k = let above : n ≤ m = grind (arith, nat_tests, k) in omega (arith, above)
 
 least : (m n u : ℕ) → nat_lt (smaller m n) u ≡ false → (u ≤ m) × (u ≤ n)
 least m n u h = by (nat_le m n) refl h
@@ -108,9 +114,9 @@ pub limit_brings : UsedStepsSuffice → UsedStepsTouch → (s : Contents) (n : �
 limit_brings suffice touch s n ok = record {
   after = (ok, refl, refl);
   passes = λ f refused. absurd (true≢false (sym ok ∙ refused.0));
-  wants = refl;
+  wants = λ word same. cc same;
   words = refl;
-  met_is = λ w. refl;
+  met_is = λ w. ap (λ (k : ℕ). nat_lt k (used_of s.setting.script w s.setting.limit)) (min_is s.setting.limit n);
   stays = λ w h.
       let enough = least s.setting.limit n (used_of s.setting.script w s.setting.limit) h in
       let same = suffice s.setting.script w s.setting.limit n enough.0 enough.1 in

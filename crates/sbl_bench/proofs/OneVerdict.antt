@@ -50,15 +50,15 @@ script_or_refusal k s (Limit n) p f h j = cc (sym h.0 ∙ j.0)
 accepted_or_refused : Known → (s : Contents) (e : Edit) (t : Contents) (f : EditFault) → IsAccepted s e t → IsRefused s e f ⊎ IsMeterFull s e f → ⊥
 accepted_or_refused k s e t f h (inl j) = script_or_refusal k s e h.setting f h.after j
 accepted_or_refused k s e t f h (inr j) =
-    let same = setting_is_one k s e h.setting j.setting h.after j.after in
-    let no : lacks_counts s e j.setting ≡ false = sym (ap (lacks_counts s e) same) ∙ h.counts in
-    absurd (true≢false (sym j.counts ∙ no))
+    let same = setting_is_one k s e h.setting j.0 h.after j.1 in
+    let no : lacks_counts s e j.0 ≡ false = sym (ap (lacks_counts s e) same) ∙ h.counts in
+    absurd (true≢false (sym j.2 ∙ no))
 
 fault_is_one : Known → (s : Contents) (e : Edit) (f g : EditFault) → IsRefused s e f ⊎ IsMeterFull s e f → IsRefused s e g ⊎ IsMeterFull s e g → f ≡ g
 fault_is_one k s e f g (inl h) (inl j) = refusal_is_one k s e f g h j
-fault_is_one k s e f g (inl h) (inr j) = absurd (script_or_refusal k s e j.setting f j.after h)
-fault_is_one k s e f g (inr h) (inl j) = absurd (script_or_refusal k s e h.setting g h.after j)
-fault_is_one k s e f g (inr h) (inr j) = h.is ∙ sym j.is
+fault_is_one k s e f g (inl h) (inr j) = absurd (script_or_refusal k s e j.0 f j.1 h)
+fault_is_one k s e f g (inr h) (inl j) = absurd (script_or_refusal k s e h.0 g h.1 j)
+fault_is_one k s e f g (inr h) (inr j) = h.3 ∙ sym j.3
 
 pub verdict_is_one : Known → (s : Contents) (e : Edit) (v w : Option EditFault) (t u : Contents) → IsVerdict s e v t → IsVerdict s e w u → (v ≡ w) × (t ≡ u)
 verdict_is_one k s e None None t u h j = (refl, h.is ∙ ap (contents_after s e) (setting_is_one k s e h.setting j.setting h.after j.after) ∙ sym j.is)

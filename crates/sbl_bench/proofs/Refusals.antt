@@ -1,5 +1,5 @@
 -- What the tests of an addition, in their order, say of its refusal, and what its last step says of its answer.
-use Rattle.std.proofs.Common.{nat_lt, ◌≡◌, ◌∙◌, ◌<◌, ◌≤◌, ◌+◌, ◌-◌, ◌++◌, ℕ, Bool, true, false, List, [], ◌∷◌, length, None, Result, Ok, Err, OnOk, OnErr, IfErr, inl, inr, refl, sym, ap, subst, arith}
+use Rattle.std.proofs.Common.{nat_lt, ◌≡◌, ◌≢◌, ◌∙◌, ◌<◌, ◌≤◌, ◌+◌, ◌-◌, ◌++◌, ℕ, Bool, true, false, List, [], ◌∷◌, length, None, Result, Ok, Err, OnOk, OnErr, IfErr, inl, inr, refl, sym, ap, subst, arith}
 use Rattle.std.proofs.lemmas.Bool.{le-ltb, lt-leb, or_parts}
 use Rattle.std.proofs.lemmas.List.Elements.{filter-append}
 use Rattle.std.proofs.lemmas.Slice.Eq.{bytes_eq-Decides}
@@ -13,7 +13,7 @@ use Rattle.sbl_bench.specs.KeptRuns.{KeptWord, words_in}
 use Rattle.sbl_bench.specs.declared.fault.EditFault.{EditFault}
 use Rattle.sbl_bench.specs.declared.fault.EditFault.TheVariants as fault
 use Rattle.sbl_bench.specs.Contents.{Contents, max_runs}
-use Rattle.sbl_bench.specs.Edits.{Edit, Edits, Add, Remove, IsSettingAfter, contents_after, lacks_counts, refusal_of_add, runs_needed, wants_memory, words_after}
+use Rattle.sbl_bench.specs.Edits.{Edit, Edits, Add, Remove, IsSettingAfter, contents_after, lacks_counts, refusal_of_add, runs_needed, words_after}
 use Rattle.sbl_bench.specs.Stops.{IsStop}
 use Rattle.sbl_bench.specs.Vocabulary.{is_word, without}
 
@@ -57,12 +57,12 @@ no_run s word = ap length (filter_off (without word s.words))
 
 -- where memory was refused before anything was run
 pub edits_nothing : (s : Contents) (word : List ℕ) → refusal_of_add s word ≡ None → Edits (Err fault.OutOfMemory) s (Add word) s
-edits_nothing s word free = record { wanted = refl; is = inl (λ f refused. absurd (none-some f (sym free ∙ refused)), refl) }
+edits_nothing s word free = record { wanted = λ w same. cc same; is = inl (λ f refused. absurd (none-some f (sym free ∙ refused)), refl) }
 
 -- where no run can be counted any more
 pub counts_no_more : (s : Contents) (word : List ℕ) → refusal_of_add s word ≡ None → is_word word s.words ≡ false → s.count ≡ max_runs
     → Edits (Err fault.MeterFull) s (Add word) s
-counts_no_more s word free new full = (inr (record { setting = s.setting; after = (free, refl); counts = rw (one_run s word new, full) refl; is = refl }), refl)
+counts_no_more s word free new full = (inr (s.setting, (free, refl), rw (one_run s word new, full) refl, refl), refl)
 
 -- where one more run can be counted
 one_left : (s : Contents) (word : List ℕ) → is_word word s.words ≡ false → s.count < max_runs → lacks_counts s (Add word) s.setting ≡ false
@@ -81,17 +81,17 @@ adds (Ok u) s word words count free new small last counts _ _ = record {
   is = λ i. record { setting = s.setting; words = last i; count = (counts ∙ ap (λ (n : ℕ). s.count + n) (sym (one_run s word new))) i };
 }
 adds (Err fault.OutOfMemory) s word words count free new small _ _ same stop = record {
-  wanted = refl;
-  is = inr (record {
-    made = contents_after s (Add word) s.setting;
-    accepted = record { setting = s.setting; after = (free, refl); counts = one_left s word new small; is = refl };
-    runs = stop.0;
-    bound = rw (one_run s word new) stop.1;
-    is = λ i. record s { words = same i; count = stop.2 i };
-  });
+  wanted = λ w same. cc same;
+  is = inr (
+    contents_after s (Add word) s.setting,
+    record { setting = s.setting; after = (free, refl); counts = one_left s word new small; is = refl },
+    stop.0,
+    rw (one_run s word new) stop.1,
+    λ i. record s { words = same i; count = stop.2 i },
+  );
 }
 adds (Err fault.MeterFull) s word words count free new small _ _ same stop = (
-  inr (record { setting = s.setting; after = (free, refl); counts = rw (one_run s word new, stop.0) refl; is = refl }),
+  inr (s.setting, (free, refl), rw (one_run s word new, stop.0) refl, refl),
   λ i. record s { words = same i; count = stop.1 i },
 )
 adds (Err fault.Present) s word words count free new small _ _ same stop = absurd stop
@@ -134,22 +134,22 @@ pub replaces_never : (s : Contents) (e : Edit) (p : Setting) (count needed : ℕ
     → count ≡ s.count → needed ≡ runs_needed s e p → max_runs - count < needed → Edits (Err fault.MeterFull) s e s
 replaces_never s e p count needed after so many full =
     let test : nat_lt (max_runs - count) needed ≡ true = grind (arith, nat_tests) in
-    (inr (record { setting = p; after = after; counts = rw (sym so, sym many) test; is = refl }), refl)
+    (inr (p, after, rw (sym so, sym many) test, refl), refl)
 
 -- where memory was refused after some runs
-pub replaces_nothing : (s : Contents) (e : Edit) (p : Setting) (words : List (List ℕ)) (before needed count : ℕ) → wants_memory e ≡ true → IsSettingAfter s e p
+pub replaces_nothing : (s : Contents) (e : Edit) (p : Setting) (words : List (List ℕ)) (before needed count : ℕ) → ((word : List ℕ) → e ≢ Remove word) → IsSettingAfter s e p
     → before ≡ s.count → needed ≡ runs_needed s e p → needed ≤ max_runs - before → words ≡ s.words
     → ((n : ℕ) × (n ≤ runs_needed s e p) × (count ≡ s.count + n))
     → Edits (Err fault.OutOfMemory) s e (record s { words = words; count = count })
 replaces_nothing s e p words before needed count wanted after so many room same ran = record {
   wanted = wanted;
-  is = inr (record {
-    made = contents_after s e p;
-    accepted = record { setting = p; after = after; counts = enough s e p before needed so many room; is = refl };
-    runs = ran.0;
-    bound = ran.1;
-    is = λ i. record { setting = s.setting; words = same i; count = ran.2 i };
-  });
+  is = inr (
+    contents_after s e p,
+    record { setting = p; after = after; counts = enough s e p before needed so many room; is = refl },
+    ran.0,
+    ran.1,
+    λ i. record { setting = s.setting; words = same i; count = ran.2 i },
+  );
 }
 
 pub replaces : (s : Contents) (e : Edit) (p : Setting) (words : List (List ℕ)) (before needed count : ℕ) → IsSettingAfter s e p

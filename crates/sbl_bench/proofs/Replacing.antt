@@ -1,6 +1,6 @@
 -- What an edit of the script that is refused for its name, its number or its text answers.
-use Rattle.std.proofs.Common.{◌≡◌, ◌⊎◌, ℕ, true, List, Result, Ok, Err, inl, inr, refl, sym, ap}
-use Rattle.sbl_script.specs.Edits.{ScriptEdit, IsEditFault, home}
+use Rattle.std.proofs.Common.{◌≡◌, ◌⊎◌, ℕ, List, Result, Ok, Err, inl, inr, refl, sym}
+use Rattle.sbl_script.specs.Edits.{ScriptEdit, IsEditFault, text_for}
 use Rattle.sbl_script.specs.declared.edit_fault.ScriptEditFault as declared
 use Rattle.sbl_script.specs.declared.edit_fault.ScriptEditFault.TheVariants as script
 use Rattle.sbl_bench.specs.declared.fault.EditFault.{EditFault}
@@ -10,7 +10,11 @@ use Rattle.sbl_script.specs.Reading.{IsFaultOf}
 use Rattle.sbl_text.specs.declared.fault.ScriptFault.{ScriptFault}
 use Rattle.sbl_text.specs.declared.fault.ScriptFault.TheVariants as texts
 use Rattle.sbl_bench.specs.Stops.{IsFaultOfText}
-use Rattle.sbl_bench.specs.Edits.{Edits, PassesTests, Replace, Whole, fault_of_script, is_of_text}
+use Rattle.sbl_bench.specs.Edits.{Edits, PassesTests, Replace, Whole, fault_of_script}
+
+-- the edit is refused for its text
+abbrev IsOfText : EditFault → Type 0
+IsOfText f = (f ≡ fault.AmongCount) ⊎ ((g : ScriptFault) × (f ≡ fault.Script g))
 
 not_routine : {A : Type 0} (r : Result A declared.ScriptEditFault) → r ≡ Err script.OutOfMemory → r ≡ Err script.NoRoutine → ⊥
 not_routine r out missing = cc
@@ -25,14 +29,14 @@ not_made : {A : Type 0} (r : Result A declared.ScriptEditFault) (a : A) (f : dec
 not_made r a f made missing = cc
 
 module _ {A : Type 0} (s : Contents) (what : ScriptEdit) (text : List ℕ) (r : Result A declared.ScriptEditFault)
-    (missing : (f : declared.ScriptEditFault) → home s.setting.script.items what ≡ Err f → r ≡ Err f) where
+    (missing : (f : declared.ScriptEditFault) → text_for s.setting.script.items what ≡ Err f → r ≡ Err f) where
   -- where memory was refused, it is for its text that the edit is refused, if it is
-  for_its_text : (g : declared.ScriptEditFault) (f : EditFault) → r ≡ Err script.OutOfMemory → IsEditFault s.setting.script what text g → f ≡ fault_of_script g → is_of_text f ≡ true
+  for_its_text : (g : declared.ScriptEditFault) (f : EditFault) → r ≡ Err script.OutOfMemory → IsEditFault s.setting.script what text g → f ≡ fault_of_script g → IsOfText f
   for_its_text script.NoRoutine f out is same = absurd (not_routine r out (missing script.NoRoutine is))
   for_its_text script.NoGrouping f out is same = absurd (not_grouping r out (missing script.NoGrouping is))
   for_its_text script.NoAmong f out is same = absurd (not_among r out (missing script.NoAmong is))
-  for_its_text script.AmongCount f out is same = ap is_of_text same
-  for_its_text (script.Script g) f out is same = ap is_of_text same
+  for_its_text script.AmongCount f out is same = inl same
+  for_its_text (script.Script g) f out is same = inr (g, same)
   for_its_text script.OutOfMemory f out is same = absurd is
 
   -- a fault that is no want of memory is the edit's
@@ -45,12 +49,12 @@ module _ {A : Type 0} (s : Contents) (what : ScriptEdit) (text : List ℕ) (r : 
   known script.OutOfMemory is = absurd is
 
   -- where a script was made, it is for its text that the edit is refused, if it is
-  of_its_text : (a : A) (g : declared.ScriptEditFault) (f : EditFault) → r ≡ Ok a → IsEditFault s.setting.script what text g → f ≡ fault_of_script g → is_of_text f ≡ true
+  of_its_text : (a : A) (g : declared.ScriptEditFault) (f : EditFault) → r ≡ Ok a → IsEditFault s.setting.script what text g → f ≡ fault_of_script g → IsOfText f
   of_its_text a script.NoRoutine f made is same = absurd (not_made r a script.NoRoutine made (missing script.NoRoutine is))
   of_its_text a script.NoGrouping f made is same = absurd (not_made r a script.NoGrouping made (missing script.NoGrouping is))
   of_its_text a script.NoAmong f made is same = absurd (not_made r a script.NoAmong made (missing script.NoAmong is))
-  of_its_text a script.AmongCount f made is same = ap is_of_text same
-  of_its_text a (script.Script g) f made is same = ap is_of_text same
+  of_its_text a script.AmongCount f made is same = inl same
+  of_its_text a (script.Script g) f made is same = inr (g, same)
   of_its_text a script.OutOfMemory f made is same = absurd is
 
   -- so nothing but the text refuses it
@@ -59,10 +63,10 @@ module _ {A : Type 0} (s : Contents) (what : ScriptEdit) (text : List ℕ) (r : 
 
   -- where memory was refused behind that
   pub nothing_made : (a : A) → r ≡ Ok a → Edits (Err fault.OutOfMemory) s (Replace what text) s
-  nothing_made a made = record { wanted = refl; is = inl (passes a made, refl) }
+  nothing_made a made = record { wanted = λ w same. cc same; is = inl (passes a made, refl) }
 
   out_of_memory : r ≡ Err script.OutOfMemory → Edits (Err fault.OutOfMemory) s (Replace what text) s
-  out_of_memory out = record { wanted = refl; is = inl (λ f refused. for_its_text refused.0 f out refused.1 refused.2, refl) }
+  out_of_memory out = record { wanted = λ w same. cc same; is = inl (λ f refused. for_its_text refused.0 f out refused.1 refused.2, refl) }
 
   pub refused : (g : declared.ScriptEditFault) → r ≡ Err g → (g ≡ script.OutOfMemory) ⊎ IsEditFault s.setting.script what text g → Edits (Err (fault_of_script g)) s (Replace what text) s
   refused g is (inl out) = rw out (out_of_memory (rw (sym out) is))
@@ -71,6 +75,6 @@ module _ {A : Type 0} (s : Contents) (what : ScriptEdit) (text : List ℕ) (r : 
 -- ---- a whole script
 
 pub unread : (s : Contents) (bytes : List ℕ) (g : ScriptFault) (f : EditFault) → IsFaultOfText g f → (g ≡ texts.OutOfMemory) ⊎ IsFaultOf bytes s.setting.script.external g → Edits (Err f) s (Whole bytes) s
-unread s bytes g f (inl out) is = rw out.1 (record { wanted = refl; is = inl (λ h refused. ap is_of_text refused.2, refl) })
+unread s bytes g f (inl out) is = rw out.1 (record { wanted = λ w same. cc same; is = inl (λ h refused. inr (refused.0, refused.2), refl) })
 unread s bytes g f (inr known) (inl out) = absurd (known.0 out)
 unread s bytes g f (inr known) (inr is) = rw known.1 (inl (g, is, refl), refl)

@@ -1,5 +1,5 @@
 -- The words that a change of the setting can affect, by their runs.
-use Rattle.std.specs.Prelude.{◌≡◌, ℕ, Bool, true, List, Option, Some, map, nat_lt}
+use Rattle.std.specs.Prelude.{◌≡◌, ℕ, Bool, true, List, Option, Some, map, nat_le, nat_lt, if◌then◌else◌}
 use Rattle.std.specs.List.{list_all, list_any}
 use Rattle.sbl_semantics.specs.Outcome.{touches_of, used_of}
 use Rattle.sbl_semantics.specs.Touches.{same_touch}
@@ -13,6 +13,9 @@ pub use Rattle.sbl_script.specs.ParsedScript.{source_of}
 use Rattle.sbl_ast.specs.Source.{Source}
 use Rattle.sbl_bench.specs.Edits.{meets_listed}
 use Rattle.sbl_bench.specs.Setting.{Setting, under}
+
+abbrev pub smaller : ℕ → ℕ → ℕ
+smaller m n = if nat_le m n then m else n
 
 -- the words whose run touches one of these, those whose run uses more than this number of steps, or all
 pub data AffectedWords : Type 0 where

@@ -1,5 +1,5 @@
 -- The changes that an edit of the setting is about to make.
-use Rattle.std.specs.Prelude.{◌≡◌, ◌⊎◌, ℕ, Bool, true, false, List, [], ◌∷◌, map, ⊤, IfSome, IsSome}
+use Rattle.std.specs.Prelude.{◌≡◌, ◌≢◌, ◌⊎◌, ℕ, Bool, true, false, List, [], ◌∷◌, map, ⊤, IfSome, IsSome}
 use Rattle.std.specs.List.{All, filter, list_any}
 use Rattle.std.specs.Str.{bytes_eq}
 use Rattle.sbl_script.specs.Edits.{ScriptEdit, IsEdited}
@@ -15,7 +15,7 @@ use Rattle.sbl_bench.specs.Pairs.{Text, find}
 use Rattle.sbl_bench.specs.Setting.{Setting, RunsSame, under}
 use Rattle.sbl_bench.specs.AffectedWords.{AffectedWords, Touching, Above, Every, is_affected, is_affected_run}
 use Rattle.sbl_bench.specs.Contents.{Contents}
-use Rattle.sbl_bench.specs.Edits.{Edit, Replace, IsSettingAfter, PassesTests, meets_listed, needs_run, wants_memory, words_after}
+use Rattle.sbl_bench.specs.Edits.{Edit, Remove, Replace, IsSettingAfter, PassesTests, meets_listed, needs_run, words_after}
 use Rattle.sbl_bench.specs.declared.affected_words.AffectedWords as declared
 use Rattle.sbl_bench.specs.declared.affected_words.AffectedWords.TheVariants as code
 use Rattle.sbl_bench.specs.declared.change.Change.{Change}
@@ -82,7 +82,7 @@ AreAllFresh script entries = (w : Text) → IfSome (find w.items entries) (λ t.
 pub record Brings (s : Contents) (e : Edit) (t : Setting) (a : AffectedWords) : Type 0 where
   pub after : IsSettingAfter s e t
   pub passes : PassesTests s e
-  pub wants : wants_memory e ≡ true
+  pub wants : (word : List ℕ) → e ≢ Remove word
   pub words : words_after s e ≡ s.words
   pub met_is : (w : List ℕ) → needs_run s e t w ≡ is_affected s.setting a w
   pub stays : (w : List ℕ) → is_affected s.setting a w ≡ false → RunsSame s.setting t w
@@ -98,6 +98,6 @@ pub record IsTaken (s : Contents) (e : ScriptEdit) (text : List ℕ) (t : Source
 pub record IsExchange (s : Contents) (e : Edit) (t : Source) : Type 0 where
   pub after : IsSettingAfter s e (under t s.setting.limit)
   pub passes : PassesTests s e
-  pub wants : wants_memory e ≡ true
+  pub wants : (word : List ℕ) → e ≢ Remove word
   pub words : words_after s e ≡ s.words
   pub met_is : (w : List ℕ) → needs_run s e (under t s.setting.limit) w ≡ meets_listed (differs s.setting.script t) s.setting.script w s.setting.limit

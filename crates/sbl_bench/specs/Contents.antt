@@ -3,7 +3,7 @@ use Rattle.std.specs.Prelude.{◌≡◌, ℕ, ◌-◌, ◌^◌, Bool, List, [], 
 use Rattle.std.specs.Option.{option_or}
 use Rattle.sbl_ast.specs.Source.{Source}
 use Rattle.sbl_semantics.specs.Limit.{max_word_length, default_limit}
-use Rattle.sbl_bench.specs.Setting.{Setting, under}
+use Rattle.sbl_bench.specs.Setting.{Setting}
 use Rattle.sbl_bench.specs.declared.fault.EditFault.{EditFault}
 use Rattle.sbl_bench.specs.declared.fault.EditFault.TheVariants as fault
 use Rattle.sbl_bench.specs.Vocabulary.{is_skipped, with_word, vocabulary}
@@ -40,7 +40,7 @@ opening_fault words (w ∷ ws) = option_or (word_fault words w) (opening_fault (
 
 -- the bench of a script and a list of words: each word of the vocabulary is run once
 abbrev pub opening_contents : Source → List (List ℕ) → Contents
-opening_contents script words = record { setting = under script default_limit; words = vocabulary words; count = length (vocabulary words) }
+opening_contents script words = record { setting = record { script = script; limit = default_limit }; words = vocabulary words; count = length (vocabulary words) }
 
 -- the fault is this one, or an allocation failed
 abbrev pub IsFaultOrMemory : Option EditFault → EditFault → Type 0

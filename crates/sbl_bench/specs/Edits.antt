@@ -1,6 +1,7 @@
 -- The edits of a bench: when each is refused, which words it runs, and the bench after it.
-use Rattle.std.specs.Prelude.{◌≡◌, ◌≤◌, ◌⊎◌, ◌&&◌, ℕ, ◌+◌, ◌-◌, Bool, true, false, List, [], ◌∷◌, ◌++◌, length, Option, Some, None, Result, Ok, Err, nat_le, nat_lt, if◌then◌else◌}
+use Rattle.std.specs.Prelude.{◌≡◌, ◌≢◌, ◌≤◌, ◌⊎◌, ◌&&◌, ℕ, ◌+◌, ◌-◌, min, Bool, true, false, List, [], ◌∷◌, ◌++◌, length, Option, Some, None, Result, Ok, Err, nat_le, nat_lt, if◌then◌else◌}
 use Rattle.std.specs.List.{filter}
+use Rattle.std.specs.Option.{option_map_or}
 use Rattle.std.specs.Str.{bytes_eq}
 use Rattle.sbl_script.specs.declared.edit_fault.ScriptEditFault as declared
 use Rattle.sbl_script.specs.declared.edit_fault.ScriptEditFault.TheVariants as script
@@ -12,7 +13,7 @@ use Rattle.sbl_semantics.specs.Limit.{max_word_length}
 use Rattle.sbl_bench.specs.Contents.{Contents, is_full, max_runs}
 use Rattle.sbl_bench.specs.Setting.{Setting}
 use Rattle.sbl_bench.specs.Vocabulary.{is_word, without}
-use Rattle.sbl_machine.specs.BuiltFrom.{meets, meets_one}
+use Rattle.sbl_machine.specs.BuiltFrom.{meets_one}
 use Rattle.sbl_semantics.specs.Differs.{differs}
 use Rattle.sbl_semantics.specs.Outcome.{used_of}
 use Rattle.sbl_semantics.specs.TouchedItems.{Item'}
@@ -101,14 +102,6 @@ words_after s (Add word) = s.words ++ word ∷ []
 words_after s (Remove word) = without word s.words
 words_after s _ = s.words
 
-abbrev pub smaller : ℕ → ℕ → ℕ
-smaller m n = if nat_le m n then m else n
-
--- whether the run of a word meets one of the listed items, by what each of them affects; true if there is no list
-abbrev pub meets_listed : Option (List Item') → Source → List ℕ → ℕ → Bool
-meets_listed (Some items) script word limit = meets_one items script word limit
-meets_listed None script word limit = true
-
 -- Whether an edit has to run this word; t is the setting after the edit. An added word: only that word. A replacement: each
 -- word whose run before the edit touches the replaced item or, if that is a grouping, one that is built from it in the script
 -- before the edit. A whole script, read or installed: each word whose run before the edit touches an item in which the two
@@ -117,10 +110,9 @@ meets_listed None script word limit = true
 abbrev pub needs_run : Contents → Edit → Setting → List ℕ → Bool
 needs_run s (Add word) t w = bytes_eq word w
 needs_run s (Remove word) t w = false
-needs_run s (Replace what text) t w = meets (edited_item what) s.setting.script w s.setting.limit
-needs_run s (Whole bytes) t w = meets_listed (differs s.setting.script t.script) s.setting.script w s.setting.limit
-needs_run s (Install script) t w = meets_listed (differs s.setting.script t.script) s.setting.script w s.setting.limit
-needs_run s (Limit n) t w = nat_lt (smaller s.setting.limit n) (used_of s.setting.script w s.setting.limit)
+needs_run s (Replace what text) t w = meets_one (edited_item what ∷ []) s.setting.script w s.setting.limit
+needs_run s (Limit n) t w = nat_lt (min s.setting.limit n) (used_of s.setting.script w s.setting.limit)
+needs_run s e t w = option_map_or (λ items. meets_one items s.setting.script w s.setting.limit) (differs s.setting.script t.script) true
 
 -- how many words of the vocabulary after the edit have to be run
 abbrev pub runs_needed : Contents → Edit → Setting → ℕ
@@ -134,61 +126,34 @@ lacks_counts s e t = nat_lt (max_runs - s.count) (runs_needed s e t)
 abbrev pub count_runs : ℕ → Contents → Contents
 count_runs n s = record s { count = s.count + n }
 
--- the bench after an accepted edit with this setting after it: each word that the edit has to run was run once
-abbrev pub contents_after : Contents → Edit → Setting → Contents
-contents_after s e t = record { setting = t; words = words_after s e; count = s.count + runs_needed s e t }
-
 -- ---- the verdict
 
--- the edit is accepted, and this is the bench after it
+-- the edit is accepted, and this is the bench after it: each word that the edit has to run was run once
 pub record IsAccepted (s : Contents) (e : Edit) (t : Contents) : Type 0 where
   pub setting : Setting
   pub after : IsSettingAfter s e setting
   pub counts : lacks_counts s e setting ≡ false
-  pub is : t ≡ contents_after s e setting
+  pub is : t ≡ record { setting = setting; words = words_after s e; count = s.count + runs_needed s e setting }
 
--- only the number of counts that are left is too low for the edit
-pub record IsMeterFull (s : Contents) (e : Edit) (f : EditFault) : Type 0 where
-  pub setting : Setting
-  pub after : IsSettingAfter s e setting
-  pub counts : lacks_counts s e setting ≡ true
-  pub is : f ≡ fault.MeterFull
-
--- the verdict on the edit, none if it is accepted, and the bench after it; a refused edit changes nothing
+-- The verdict on the edit, none if it is accepted, and the bench after it. An edit that is not refused otherwise is refused if too
+-- few counts are left for the runs that it needs. A refused edit changes nothing.
 abbrev pub IsVerdict : Contents → Edit → Option EditFault → Contents → Type 0
 IsVerdict s e None t = IsAccepted s e t
-IsVerdict s e (Some f) t = (IsRefused s e f ⊎ IsMeterFull s e f) × (t ≡ s)
+IsVerdict s e (Some f) t =
+    (IsRefused s e f ⊎ ((setting : Setting) × IsSettingAfter s e setting × (lacks_counts s e setting ≡ true) × (f ≡ fault.MeterFull))) × (t ≡ s)
 
 -- ---- memory
 
--- whether the edit may need memory
-abbrev pub wants_memory : Edit → Bool
-wants_memory (Remove word) = false
-wants_memory _ = true
-
--- whether the edit is refused for its text; every other refusal is found without an allocation
-abbrev pub is_of_text : EditFault → Bool
-is_of_text fault.AmongCount = true
-is_of_text (fault.Script f) = true
-is_of_text f = false
-
--- if the edit is refused, it is refused for its text
+-- if the edit is refused, it is refused for its text; every other refusal is found without an allocation
 abbrev pub PassesTests : Contents → Edit → Type 0
-PassesTests s e = (f : EditFault) → IsRefused s e f → is_of_text f ≡ true
-
--- the edit is accepted, but only some of the runs that it needs were made
-pub record IsBrokenOff (s : Contents) (e : Edit) (t : Contents) : Type 0 where
-  pub made : Contents
-  pub accepted : IsAccepted s e made
-  pub runs : ℕ
-  pub bound : runs ≤ runs_needed s e accepted.setting
-  pub is : t ≡ count_runs runs s
+PassesTests s e = (f : EditFault) → IsRefused s e f → (f ≡ fault.AmongCount) ⊎ ((g : ScriptFault) × (f ≡ fault.Script g))
 
 -- An allocation failed, instead of an acceptance, of a refusal for the text or of too few counts. Nothing is changed, except
--- that some runs may have been counted if the edit would have been accepted.
+-- that some of the runs that it needs may have been counted if the edit would have been accepted. A removal needs no memory.
 pub record IsOutOfMemory (s : Contents) (e : Edit) (t : Contents) : Type 0 where
-  pub wanted : wants_memory e ≡ true
-  pub is : (PassesTests s e × (t ≡ s)) ⊎ IsBrokenOff s e t
+  pub wanted : (word : List ℕ) → e ≢ Remove word
+  pub is : (PassesTests s e × (t ≡ s))
+    ⊎ ((made : Contents) × (accepted : IsAccepted s e made) × (n : ℕ) × (n ≤ runs_needed s e accepted.setting) × (t ≡ count_runs n s))
 
 -- ---- the result of an edit, and the bench after it
 
@@ -196,3 +161,21 @@ abbrev pub Edits : Result (Unit {0}) EditFault → Contents → Edit → Content
 Edits (Ok u) s e t = IsVerdict s e None t
 Edits (Err fault.OutOfMemory) s e t = IsOutOfMemory s e t
 Edits (Err f) s e t = IsVerdict s e (Some f) t
+
+-- ---- names for proofs
+
+-- whether the run of a word meets one of the listed items, by what each of them affects; true if there is no list
+abbrev pub meets_listed : Option (List Item') → Source → List ℕ → ℕ → Bool
+meets_listed listed script word limit = option_map_or (λ items. meets_one items script word limit) listed true
+
+-- the bench after an accepted edit with this setting after it
+abbrev pub contents_after : Contents → Edit → Setting → Contents
+contents_after s e t = record { setting = t; words = words_after s e; count = s.count + runs_needed s e t }
+
+-- only the number of counts that are left is too low for the edit
+abbrev pub IsMeterFull : Contents → Edit → EditFault → Type 0
+IsMeterFull s e f = (setting : Setting) × IsSettingAfter s e setting × (lacks_counts s e setting ≡ true) × (f ≡ fault.MeterFull)
+
+-- the edit is accepted, but only some of the runs that it needs were made
+abbrev pub IsBrokenOff : Contents → Edit → Contents → Type 0
+IsBrokenOff s e t = (made : Contents) × (accepted : IsAccepted s e made) × (n : ℕ) × (n ≤ runs_needed s e accepted.setting) × (t ≡ count_runs n s)

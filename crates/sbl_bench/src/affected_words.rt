@@ -4,7 +4,6 @@ ghost use Rattle.std.specs.Prelude.{◌≡◌, IfOk};
 ghost use Rattle.sbl_bench.specs.AffectedWords as spec;
 ghost use Rattle.sbl_bench.specs.AffectedWords.{AreMet, IsLinkedMachineOf, differs, source_of};
 ghost use Rattle.sbl_bench.specs.Changes.{affected_of};
-ghost use Rattle.sbl_bench.specs.Edits.{smaller};
 
 use crate::last_run::LastRun;
 use sbl_diff::differences;
@@ -58,7 +57,7 @@ pub(crate) fn affected_by_exchange(
 
 /// Returns the words whose run used more steps than the smaller of two limits.
 pub(crate) fn above_smaller(one: u32, other: u32) -> AffectedWords
-    ensures { affected_of result ≡ spec.Above (smaller one other) }
+    ensures { affected_of result ≡ spec.Above (spec.smaller one other) }
 {
     AffectedWords::Above(u64::from(if one <= other { one } else { other }))
 }

@@ -2,7 +2,7 @@
 ghost use Rattle.std.specs.Prelude.{◌≡◌, IfOk, IfSome, string_bytes};
 ghost use Rattle.sbl_desk.specs.Splicing.{Reads};
 
-use sbl_places::{Cut, Part, cut_at_part};
+use sbl_places::{Excerpt, Part, cut_at_part};
 use sbl_script::{Script, ScriptFault};
 use std::alloc::{AllocError, Global};
 
@@ -15,7 +15,7 @@ pub(crate) struct SplicedText {
 
 /// Returns a text that is cut at a part, with another part in its place. A line feed follows a part that has a comment up to
 /// the end of its line.
-fn put_in(alloc: Global, cut: &Cut<'_>, part: &str) -> Result<Vec<u8>, AllocError> {
+fn put_in(alloc: Global, cut: &Excerpt<'_>, part: &str) -> Result<Vec<u8>, AllocError> {
     let part = part.trim();
     let mut new = Vec::from_slice(alloc, cut.before)?;
     new.extend_from_slice(part.as_bytes())?;

@@ -3,7 +3,8 @@ use Rattle.std.proofs.Common.{◌≡◌, ◌≢◌, ◌⊎◌, inl, inr, ◌∙�
 use Rattle.std.proofs.lemmas.List.{append-nil, length-map}
 use Rattle.std.proofs.lemmas.Slice.Eq.{bytes_eq-Decides}
 use Rattle.std.specs.Str.{bytes_eq, is_utf8}
-use Rattle.sbl_formats.specs.Block.{AllText, BlockLines, point}
+use Rattle.sbl_formats.specs.Block.{BlockLines, point}
+use Rattle.sbl_formats.specs.Loading.{AllText}
 use Rattle.sbl_io.specs.HeldInput.{StandFirst}
 use Rattle.sbl_io.specs.LinesOf.{AreWhole, without_carriage_return, max_line, onto_first, raw_lines}
 use Rattle.sbl_io.proofs.Bytes.{raw-feed, raw-other, raw-some}
@@ -71,16 +72,16 @@ drop-all (b ∷ c ∷ bytes) = by (drop-all (c ∷ bytes)) (b == 10) refl
         ap (λ (n : ℕ). drop_lines n (b ∷ c ∷ bytes)) count ∙ drop-other some.0 b (c ∷ bytes) e ∙ ap (λ (n : ℕ). drop_lines n (c ∷ bytes)) (sym some.1) ∙ more
 
 stand-rest : (bytes rest : List ℕ) (lines : List (List ℕ)) → StandFirst bytes lines rest → drop_lines (length lines) bytes ≡ rest
-stand-rest bytes rest lines p = by p.whole
+stand-rest bytes rest lines p = by p.2
   where
-    count : length lines ≡ length (raw_lines p.front)
-    count = ap length (sym p.lines_are) ∙ length-map (raw_lines p.front) without_carriage_return
+    count : length lines ≡ length (raw_lines p.0)
+    count = ap length (sym p.3) ∙ length-map (raw_lines p.0) without_carriage_return
 
-    by : AreWhole p.front ⊎ (rest ≡ []) → drop_lines (length lines) bytes ≡ rest
-    by (inl whole) = ap (λ (n : ℕ). drop_lines n bytes) count ∙ ap (λ (x : List ℕ). drop_lines (length (raw_lines p.front)) x) p.bytes_are ∙ drop-whole p.front rest whole
+    by : AreWhole p.0 ⊎ (rest ≡ []) → drop_lines (length lines) bytes ≡ rest
+    by (inl whole) = ap (λ (n : ℕ). drop_lines n bytes) count ∙ ap (λ (x : List ℕ). drop_lines (length (raw_lines p.0)) x) p.1 ∙ drop-whole p.0 rest whole
     by (inr none) =
-        let all : bytes ≡ p.front = p.bytes_are ∙ ap (λ (x : List ℕ). p.front ++ x) none ∙ append-nil p.front in
-        ap (λ (n : ℕ). drop_lines n bytes) count ∙ ap (λ (x : List ℕ). drop_lines (length (raw_lines p.front)) x) all ∙ drop-all p.front ∙ sym none
+        let all : bytes ≡ p.0 = p.1 ∙ ap (λ (x : List ℕ). p.0 ++ x) none ∙ append-nil p.0 in
+        ap (λ (n : ℕ). drop_lines n bytes) count ∙ ap (λ (x : List ℕ). drop_lines (length (raw_lines p.0)) x) all ∙ drop-all p.0 ∙ sym none
 
 -- the same lines leave the same bytes
 pub stand-one : (bytes a b : List ℕ) (lines : List (List ℕ)) → StandFirst bytes lines a → StandFirst bytes lines b → a ≡ b

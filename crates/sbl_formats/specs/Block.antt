@@ -1,7 +1,6 @@
 -- A block of lines, up to a line `.`.
-use Rattle.std.specs.Prelude.{◌≡◌, ◌≢◌, ◌<◌, ◌≤◌, ℕ, true, List, [], ◌∷◌, ◌++◌, Option, Some, None, Result, Ok, Err, ⊤, length}
-use Rattle.std.specs.List.{flat_map}
-use Rattle.std.specs.Str.{is_utf8}
+use Rattle.std.specs.Prelude.{◌≡◌, ◌≢◌, ◌<◌, ◌≤◌, ℕ, List, [], ◌∷◌, ◌++◌, Option, Some, None, Result, Ok, Err, ⊤, length}
+use Rattle.std.specs.List.{AllByRecursion, flat_map}
 use Rattle.std.specs.Io.KnownBytes.{IsAtEnd}
 pub use Rattle.sbl_script.specs.Reading.{max_script}
 use Rattle.sbl_io.specs.HeldInput.{AllFit, BeginsLong, BreaksOff, Took}
@@ -16,13 +15,7 @@ point = 46 ∷ []
 
 -- no line is `.`
 abbrev pub NoPoint : List (List ℕ) → Type 0
-NoPoint [] = ⊤
-NoPoint (line ∷ lines) = (line ≢ point) × NoPoint lines
-
--- each line is UTF-8
-abbrev pub AllText : List (List ℕ) → Type 0
-AllText [] = ⊤
-AllText (line ∷ lines) = (is_utf8 line ≡ true) × AllText lines
+NoPoint lines = AllByRecursion (λ line. line ≢ point) lines
 
 -- the lines of a block: none is `.` or too long
 abbrev pub BlockLines : List (List ℕ) → Type 0

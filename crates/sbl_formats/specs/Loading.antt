@@ -1,5 +1,6 @@
 -- The result of loading an input: a script block, up to a line `.`, and then words, one per line, up to a line `.` or the end.
-use Rattle.std.specs.Prelude.{◌≡◌, ◌≢◌, ◌⊎◌, ◌<◌, ◌≤◌, ℕ, false, List, [], ◌∷◌, ◌++◌, Option, Some, None, Result, Ok, Err, length, map}
+use Rattle.std.specs.Prelude.{◌≡◌, ◌≢◌, ◌⊎◌, ◌<◌, ◌≤◌, ℕ, true, false, List, [], ◌∷◌, ◌++◌, Option, Some, None, Result, Ok, Err, length, map}
+use Rattle.std.specs.List.{AllByRecursion}
 use Rattle.std.specs.Str.{chars, is_utf8}
 use Rattle.std.specs.Io.KnownBytes.{IsAtEnd}
 use Rattle.std.specs.declared.vec.Vec.{Vec}
@@ -10,7 +11,7 @@ use Rattle.sbl_ast.specs.Source.{Source}
 use Rattle.sbl_script.specs.Reading.{IsFaultOf, IsScriptOf}
 use Rattle.sbl_text.specs.declared.fault.ScriptFault.{ScriptFault}
 use Rattle.sbl_text.specs.declared.fault.ScriptFault.TheVariants as script
-use Rattle.sbl_formats.specs.Block.{AllText, BlockLines, Breaks, TookBlock, made_text, max_script, point}
+use Rattle.sbl_formats.specs.Block.{BlockLines, Breaks, TookBlock, made_text, max_script, point}
 use Rattle.sbl_io.specs.Devices.{Tally}
 use Rattle.sbl_io.specs.HeldInput.{HasCause, Took, fault_of}
 use Rattle.sbl_io.specs.LinesOf.{max_line}
@@ -24,21 +25,11 @@ use Rattle.sbl_io.specs.declared.faults.ServeFault.TheVariants as fault
 
 -- the lines of words are lines of a block, and UTF-8 too
 abbrev pub WordLines : List (List ℕ) → Type 0
-WordLines lines = BlockLines lines × AllText lines
+WordLines lines = BlockLines lines × AllByRecursion (λ line. is_utf8 line ≡ true) lines
 
 -- Words were taken from the input: lines of words, and then a line `.` or the end of input.
 abbrev pub TookWords : Option (List ℕ) → Option (List ℕ) → List (List ℕ) → Type 0
 TookWords old new words = WordLines words × (Took old new (words ++ point ∷ []) ⊎ (Took old new words × IsAtEnd new))
-
--- Lines of words were taken, and one more that is not UTF-8.
-abbrev pub TookNoText : Option (List ℕ) → Option (List ℕ) → Type 0
-TookNoText old new =
-    (done : List (List ℕ)) × (first : List ℕ) × WordLines done × (first ≢ point) × (length first ≤ max_line) × (is_utf8 first ≡ false)
-    × Took old new (done ++ first ∷ [])
-
--- Some lines of words were taken.
-abbrev pub TookSome : Option (List ℕ) → Option (List ℕ) → Type 0
-TookSome old new = (lines : List (List ℕ)) × BlockLines lines × Took old new lines
 
 -- ---- reading
 
@@ -75,7 +66,8 @@ AfterSource old external P = (s : Source) × (between : Option (List ℕ)) × To
 
 -- The result of loading: the bench of the script and the words, or why there is none, and what was taken from the input. The
 -- script block is read to its end before it is checked, the script is checked before the words are read, and all words are read
--- before they are checked. A fault of the words comes after a script block that is read as a script.
+-- before they are checked. A fault of the words comes after a script block that is read as a script: lines of words were taken,
+-- and one more that is not UTF-8; or an allocation failed after some lines.
 abbrev pub IsLoaded : {B : Type 0} → Option (List ℕ) → Option (List ℕ) → List ℕ → (B → Contents) → Result B LoadFault → Type 0
 IsLoaded old new external state (Ok bench) =
     (s : Source) × (words : List (List ℕ)) × IsInput old new external s words
@@ -85,11 +77,30 @@ IsLoaded old new external state (Err (Open edit.OutOfMemory)) = (s : Source) × 
 IsLoaded old new external state (Err (Open f)) =
     (s : Source) × (words : List (List ℕ)) × IsInput old new external s words × (opening_fault [] (map chars words) ≡ Some f)
 IsLoaded old new external state (Err (Input fault.Cut)) = Breaks BlockLines old new fault.Cut
-IsLoaded old new external state (Err (Input fault.NotText)) = AfterSource old external (λ between. TookNoText between new)
+IsLoaded old new external state (Err (Input fault.NotText)) =
+    AfterSource old external (λ between. (done : List (List ℕ)) × (first : List ℕ) × WordLines done × (first ≢ point) × (length first ≤ max_line)
+    × (is_utf8 first ≡ false) × Took between new (done ++ first ∷ []))
 IsLoaded old new external state (Err (Input fault.OutOfMemory)) =
-    ((lines : List (List ℕ)) × TookBlock old new lines) ⊎ AfterSource old external (λ between. TookSome between new)
+    ((lines : List (List ℕ)) × TookBlock old new lines)
+    ⊎ AfterSource old external (λ between. (lines : List (List ℕ)) × BlockLines lines × Took between new lines)
 IsLoaded old new external state (Err (Input f)) = Breaks BlockLines old new f ⊎ AfterSource old external (λ between. Breaks WordLines between new f)
 
 -- a fault of reading is caused by the reader or a bound, or the lines returned it before
 abbrev pub HasReason : {R : Type 0} → (R → Tally) → Lines R → Lines R → LoadFault → Type 0
 HasReason tally lines new_lines f = f ≡ Input fault.Read → HasCause tally lines new_lines ⊎ (fault_of lines ≡ Some line.Read)
+
+-- ---- names for proofs
+
+-- each line is UTF-8
+abbrev pub AllText : List (List ℕ) → Type 0
+AllText lines = AllByRecursion (λ line. is_utf8 line ≡ true) lines
+
+-- lines of words were taken, and one more that is not UTF-8
+abbrev pub TookNoText : Option (List ℕ) → Option (List ℕ) → Type 0
+TookNoText old new =
+    (done : List (List ℕ)) × (first : List ℕ) × WordLines done × (first ≢ point) × (length first ≤ max_line) × (is_utf8 first ≡ false)
+    × Took old new (done ++ first ∷ [])
+
+-- some lines of words were taken
+abbrev pub TookSome : Option (List ℕ) → Option (List ℕ) → Type 0
+TookSome old new = (lines : List (List ℕ)) × BlockLines lines × Took old new lines

@@ -5,7 +5,7 @@ use Rattle.std.specs.Option.{option_map, option_map_or}
 use Rattle.std.specs.Str.{bytes_eq, encode_utf8_all}
 use Rattle.sbl_semantics.specs.Names.{name_of}
 use Rattle.sbl_semantics.specs.Outcome.{Outcome', Stem, Refused}
-use Rattle.sbl_bench.specs.Classes.{Class, class_of, classes_of}
+use Rattle.sbl_bench.specs.Classes.{Class, class_of, class_with, classes_of, stem_of}
 use Rattle.sbl_bench.specs.Rows.{Row, rows_of}
 use Rattle.sbl_bench.specs.Contents.{Contents}
 use Rattle.sbl_io.specs.Records.{records_text}
@@ -33,10 +33,15 @@ class_fields c = map encode_utf8_all (c.stem ∷ c.words)
 unfoldable pub classes_text : Contents → List ℕ
 classes_text s = records_text (map class_fields (classes_of (rows_now s)))
 
+-- the report of a word: the record of the class of its stem, or of its row if its run is refused; none if the word is not in the
+-- vocabulary
+unfoldable pub class_text : Contents → List ℕ → Option (List ℕ)
+class_text s word =
+    option_map (λ row. records_text (option_map_or (λ stem. class_fields (class_with (rows_now s) stem)) (stem_of row.outcome) (row_fields row) ∷ []))
+    (find (λ row. bytes_eq word row.word) (rows_now s))
+
+-- ---- names for proofs
+
 -- the record of a word's class, or of its row if its run is refused and it has no class
 abbrev pub class_or_row_text : Contents → List ℕ → Row → List ℕ
 class_or_row_text s word row = records_text (option_map_or class_fields (class_of (rows_now s) word) (row_fields row) ∷ [])
-
--- the report of a word's class; none if the word is not in the vocabulary
-unfoldable pub class_text : Contents → List ℕ → Option (List ℕ)
-class_text s word = option_map (class_or_row_text s word) (find (λ row. bytes_eq word row.word) (rows_now s))

@@ -12,9 +12,11 @@ item_fields (Routine name) = codes "routine" ∷ name ∷ []
 item_fields (Among name k) = codes "among" ∷ name ∷ decimal k ∷ []
 item_fields (Grouping name) = codes "grouping" ∷ name ∷ []
 
-abbrev pub items_text : List Item' → List ℕ
-items_text items = records_text (map item_fields items)
-
 -- a row for each item that a fresh run of the word touches; none if the word is not in the vocabulary
 unfoldable pub trace_text : Contents → List ℕ → Option (List ℕ)
-trace_text s word = option_map items_text (trace_of s.setting s.words word)
+trace_text s word = option_map (λ items. records_text (map item_fields items)) (trace_of s.setting s.words word)
+
+-- ---- names for proofs
+
+abbrev pub items_text : List Item' → List ℕ
+items_text items = records_text (map item_fields items)

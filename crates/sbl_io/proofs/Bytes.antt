@@ -145,39 +145,38 @@ both_none (x ∷ xs) ys e = cc e
 -- ---- lines that were taken
 
 stand-trans : (a b c : List ℕ) (ls ms : List (List ℕ)) → StandFirst a ls b → StandFirst b ms c → StandFirst a (ls ++ ms) c
-stand-trans a b c ls ms p q = by p.whole q.whole
+stand-trans a b c ls ms p q = by p.2 q.2
   where
-    more : AreWhole p.front → AreWhole (p.front ++ q.front) ⊎ (c ≡ []) → StandFirst a (ls ++ ms) c
-    more w v = record {
-      front = p.front ++ q.front;
-      bytes_are = p.bytes_are ∙ ap (λ (x : List ℕ). p.front ++ x) q.bytes_are ∙ sym (append_assoc p.front q.front c);
-      whole = v;
-      lines_are = lines-append p.front q.front w ∙ ap (λ (x : List (List ℕ)). x ++ lines_of q.front) p.lines_are ∙ ap (λ (x : List (List ℕ)). ls ++ x) q.lines_are;
-    }
+    more : AreWhole p.0 → AreWhole (p.0 ++ q.0) ⊎ (c ≡ []) → StandFirst a (ls ++ ms) c
+    more w v = (
+      p.0 ++ q.0,
+      p.1 ∙ ap (λ (x : List ℕ). p.0 ++ x) q.1 ∙ sym (append_assoc p.0 q.0 c),
+      v,
+      lines-append p.0 q.0 w ∙ ap (λ (x : List (List ℕ)). x ++ lines_of q.0) p.3 ∙ ap (λ (x : List (List ℕ)). ls ++ x) q.3,
+    )
 
     end : b ≡ [] → StandFirst a (ls ++ ms) c
     end e =
-        let n = both_none q.front c (sym q.bytes_are ∙ e) in
-        let none : ms ≡ [] = sym q.lines_are ∙ ap lines_of n.0 ∙ none_of in
-        record {
-          front = p.front;
-          bytes_are = p.bytes_are ∙ ap (λ (x : List ℕ). p.front ++ x) (e ∙ sym n.1);
-          whole = inr n.1;
-          lines_are = p.lines_are ∙ sym (append-nil ls) ∙ ap (λ (x : List (List ℕ)). ls ++ x) (sym none);
-        }
+        let n = both_none q.0 c (sym q.1 ∙ e) in
+        let none : ms ≡ [] = sym q.3 ∙ ap lines_of n.0 ∙ none_of in (
+          p.0,
+          p.1 ∙ ap (λ (x : List ℕ). p.0 ++ x) (e ∙ sym n.1),
+          inr n.1,
+          p.3 ∙ sym (append-nil ls) ∙ ap (λ (x : List (List ℕ)). ls ++ x) (sym none),
+        )
 
-    by : AreWhole p.front ⊎ (b ≡ []) → AreWhole q.front ⊎ (c ≡ []) → StandFirst a (ls ++ ms) c
-    by (inl w) (inl v) = more w (inl (whole-append p.front q.front w v))
+    by : AreWhole p.0 ⊎ (b ≡ []) → AreWhole q.0 ⊎ (c ≡ []) → StandFirst a (ls ++ ms) c
+    by (inl w) (inl v) = more w (inl (whole-append p.0 q.0 w v))
     by (inl w) (inr e) = more w (inr e)
     by (inr e) v = end e
 
 pub stand_lines : (a b : List ℕ) (ls : List (List ℕ)) → StandFirst a ls b → lines_of a ≡ ls ++ lines_of b
-stand_lines a b ls p = by p.whole
+stand_lines a b ls p = by p.2
   where
-    by : AreWhole p.front ⊎ (b ≡ []) → lines_of a ≡ ls ++ lines_of b
-    by (inl w) = ap lines_of p.bytes_are ∙ lines-append p.front b w ∙ ap (λ (x : List (List ℕ)). x ++ lines_of b) p.lines_are
+    by : AreWhole p.0 ⊎ (b ≡ []) → lines_of a ≡ ls ++ lines_of b
+    by (inl w) = ap lines_of p.1 ∙ lines-append p.0 b w ∙ ap (λ (x : List (List ℕ)). x ++ lines_of b) p.3
     by (inr e) =
-        ap lines_of (p.bytes_are ∙ ap (λ (x : List ℕ). p.front ++ x) e ∙ append-nil p.front) ∙ p.lines_are ∙ sym (append-nil ls)
+        ap lines_of (p.1 ∙ ap (λ (x : List ℕ). p.0 ++ x) e ∙ append-nil p.0) ∙ p.3 ∙ sym (append-nil ls)
         ∙ ap (λ (x : List (List ℕ)). ls ++ x) (sym (ap lines_of e ∙ none_of))
 
 pub took-trans : (a b c : Option (List ℕ)) (ls ms : List (List ℕ)) → Took a b ls → Took b c ms → Took a c (ls ++ ms)
@@ -188,7 +187,7 @@ took-trans (Some xs) (Some ys) (Some zs) ls ms p q = stand-trans xs ys zs ls ms 
 
 pub took-none : (a : Option (List ℕ)) → Took a a []
 took-none None = tt
-took-none (Some xs) = record { front = []; bytes_are = refl; whole = inl tt; lines_are = none_of }
+took-none (Some xs) = ([], refl, inl tt, none_of)
 
 -- taking nothing leaves what was taken
 pub took-kept : (a b c : Option (List ℕ)) (ls : List (List ℕ)) → Took a b ls → Keeps b c → Took a c ls
@@ -204,19 +203,19 @@ gives_line None b line end takes free within some = tt
 gives_line (Some xs) None line Feed takes free within some = absurd takes
 gives_line (Some xs) None line Input takes free within some = absurd takes.0
 gives_line (Some xs) b line Beyond takes free within some = absurd (within refl)
-gives_line (Some xs) (Some ys) line Feed takes free within some = record {
-  front = line ++ 10 ∷ [];
-  bytes_are = takes;
-  whole = inl (whole-feed line);
-  lines_are = ap (map without_carriage_return) (lines-feed line [] free ∙ ap (λ (ls : List (List ℕ)). line ∷ ls) no_lines);
-}
+gives_line (Some xs) (Some ys) line Feed takes free within some = (
+  line ++ 10 ∷ [],
+  takes,
+  inl (whole-feed line),
+  ap (map without_carriage_return) (lines-feed line [] free ∙ ap (λ (ls : List (List ℕ)). line ∷ ls) no_lines),
+)
 gives_line (Some xs) (Some ys) [] Input takes free within some = absurd (some refl refl)
-gives_line (Some xs) (Some ys) (c ∷ line) Input takes free within some = record {
-  front = c ∷ line;
-  bytes_are = takes.0;
-  whole = inr takes.1;
-  lines_are = ap (map without_carriage_return) (lines-last c line free);
-}
+gives_line (Some xs) (Some ys) (c ∷ line) Input takes free within some = (
+  c ∷ line,
+  takes.0,
+  inr takes.1,
+  ap (map without_carriage_return) (lines-last c line free),
+)
 
 -- a line that a line feed ended is whole
 pub takes_whole : (a b : Option (List ℕ)) (line : List ℕ) (end : LineEnd) → TakesLine a b line end → (end ≢ Beyond) → (end ≢ Input) → TookWhole a b

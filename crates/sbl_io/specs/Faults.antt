@@ -1,5 +1,7 @@
 -- The fault of a session for the fault of a line, and the fault that the lines keep.
-use Rattle.std.specs.Prelude.{Option, Some, None, Result, Ok, Err}
+use Rattle.std.specs.Prelude.{Option, Some, None, Result}
+use Rattle.std.specs.Option.{option_and_then}
+use Rattle.std.specs.Result.{result_err}
 use Rattle.sbl_io.specs.declared.faults.LineFault.{LineFault}
 use Rattle.sbl_io.specs.declared.faults.LineFault.TheVariants.{Read, TooLong}
 use Rattle.sbl_io.specs.declared.faults.ServeFault.{ServeFault}
@@ -17,5 +19,4 @@ line_fault_of f = None
 
 -- the fault that the lines keep after this result
 abbrev pub left_by : {A : Type 0} → Result A ServeFault → Option LineFault
-left_by (Ok a) = None
-left_by (Err f) = line_fault_of f
+left_by result = option_and_then line_fault_of (result_err result)

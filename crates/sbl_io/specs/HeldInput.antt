@@ -1,5 +1,6 @@
 -- The input that is left of a `Lines`: the bytes in its buffer, and then the bytes left in its reader.
-use Rattle.std.specs.Prelude.{◌≡◌, ◌≢◌, ◌⊎◌, ◌<◌, ◌≤◌, ◌++◌, ℕ, Bool, true, false, List, [], ◌∷◌, Option, Some, None, Result, Err, IfErr, OnOk, ⊤, slice_range, length, min, ◌+◌, ◌*◌, ◌-◌}
+use Rattle.std.specs.Prelude.{◌≡◌, ◌≢◌, ◌⊎◌, ◌<◌, ◌≤◌, ◌++◌, ℕ, true, false, List, [], ◌∷◌, Option, Some, None, Result, Err, IfErr, IfSome, OnOk, ⊤, if◌then◌else◌, slice_range, length, min, ◌+◌, ◌*◌, ◌-◌}
+use Rattle.std.specs.List.{AllByRecursion}
 use Rattle.std.specs.Option.{option_map}
 use Rattle.std.specs.Io.KnownBytes.{Consumes, IsAtEnd, prepend_known}
 use Rattle.sbl_io.specs.Devices.{Tally, max_reads, max_tries}
@@ -12,12 +13,6 @@ use Rattle.sbl_io.specs.declared.faults.LineFault.{LineFault}
 use Rattle.sbl_io.specs.declared.faults.LineFault.TheVariants as read
 use Rattle.sbl_io.specs.declared.faults.ServeFault.{ServeFault}
 use Rattle.sbl_io.specs.declared.faults.ServeFault.TheVariants as serve
-
--- the bytes that will still be read: those left in the reader, or none if it has returned its end, since it is not read
--- again
-abbrev pub to_be_read : Bool → Option (List ℕ) → Option (List ℕ)
-to_be_read false left = left
-to_be_read true left = option_map (λ bytes. []) left
 
 -- the bytes that were taken are whole lines, if they are known
 abbrev pub TookWhole : Option (List ℕ) → Option (List ℕ) → Type 0
@@ -34,9 +29,10 @@ module _ {R : Type 0} where
   abbrev pub fault_of : Lines R → Option LineFault
   fault_of l = l.fault
 
-  -- all bytes that are left, if they are known
+  -- all bytes that are left, if they are known: after those that were read, those left in the reader, or none if it has returned
+  -- its end, since it is not read again
   abbrev pub input_of : (R → Option (List ℕ)) → Lines R → Option (List ℕ)
-  input_of left l = prepend_known (held_of l) (to_be_read l.ended (left l.reader))
+  input_of left l = prepend_known (held_of l) (if l.ended then option_map (λ bytes. []) (left l.reader) else left l.reader)
 
   -- all bytes that were read have been taken, and the reader has not returned its end
   abbrev pub IsDrained : Lines R → Type 0
@@ -100,11 +96,6 @@ module _ {R : Type 0} where
     pub why : IfErr result (λ fault. HasReason tally old new fault)
     pub in_time : KeepsTime tally old new
 
--- no byte is a line feed
-abbrev pub NoFeed : List ℕ → Type 0
-NoFeed [] = ⊤
-NoFeed (b ∷ bytes) = (b ≢ 10) × NoFeed bytes
-
 -- the line was taken; the last argument says how it ended
 abbrev pub TakesLine : Option (List ℕ) → Option (List ℕ) → List ℕ → LineEnd → Type 0
 TakesLine old new line Feed = Consumes old new (line ++ 10 ∷ [])
@@ -113,21 +104,15 @@ TakesLine old new line Beyond = (length line ≡ max_line + 1) × (b : ℕ) × (
 
 -- reading failed inside a line: a part of it was taken, without a line feed
 abbrev pub BreaksOff : Option (List ℕ) → Option (List ℕ) → List ℕ → Type 0
-BreaksOff old new part = Consumes old new part × NoFeed part
+BreaksOff old new part = Consumes old new part × AllByRecursion (λ b. b ≢ 10) part
 
--- These are the lines of a prefix of the bytes, and the rest follows. Each line ends with a line feed, except that the
--- last one may end at the end of input.
-pub record StandFirst (bytes : List ℕ) (lines : List (List ℕ)) (rest : List ℕ) : Type 0 where
-  pub front : List ℕ
-  pub bytes_are : bytes ≡ front ++ rest
-  pub whole : AreWhole front ⊎ (rest ≡ [])
-  pub lines_are : lines_of front ≡ lines
-
--- these lines were taken from the start of the input, if it is known
+-- These lines were taken from the start of the input, if it is known: they are the lines of a prefix of the bytes, and the rest
+-- follows. Each ends with a line feed, except that the last one may end at the end of input.
 abbrev pub Took : Option (List ℕ) → Option (List ℕ) → List (List ℕ) → Type 0
 Took None new lines = ⊤
 Took (Some bytes) None lines = ⊥
-Took (Some bytes) (Some rest) lines = StandFirst bytes lines rest
+Took (Some bytes) (Some rest) lines =
+    (front : List ℕ) × (bytes ≡ front ++ rest) × (AreWhole front ⊎ (rest ≡ [])) × (lines_of front ≡ lines)
 
 -- the first line was taken
 abbrev pub GivesLine : Option (List ℕ) → Option (List ℕ) → List ℕ → Type 0
@@ -135,10 +120,18 @@ GivesLine old new line = Took old new (line ∷ [])
 
 -- no line has too many bytes
 abbrev pub AllFit : List (List ℕ) → Type 0
-AllFit [] = ⊤
-AllFit (line ∷ lines) = (length line ≤ max_line) × AllFit lines
+AllFit lines = AllByRecursion (λ line. length line ≤ max_line) lines
 
 -- the first line has too many bytes, without its line end
 abbrev pub BeginsLong : Option (List ℕ) → Type 0
-BeginsLong None = ⊤
-BeginsLong (Some bytes) = (line : List ℕ) × (rest : List (List ℕ)) × (lines_of bytes ≡ line ∷ rest) × (max_line < length line)
+BeginsLong left = IfSome left (λ bytes. (line : List ℕ) × (rest : List (List ℕ)) × (lines_of bytes ≡ line ∷ rest) × (max_line < length line))
+
+-- ---- names for proofs
+
+-- no byte is a line feed
+abbrev pub NoFeed : List ℕ → Type 0
+NoFeed bytes = AllByRecursion (λ b. b ≢ 10) bytes
+
+-- these are the lines of a prefix of the bytes, and the rest follows
+abbrev pub StandFirst : List ℕ → List (List ℕ) → List ℕ → Type 0
+StandFirst bytes lines rest = Took (Some bytes) (Some rest) lines

@@ -17,9 +17,9 @@ use Rattle.sbl_ast.specs.declared.mode.Mode.TheVariants.{Backward}
 use Rattle.sbl_ast.specs.declared.tree.DeclarationKind.{DeclarationKind}
 use Rattle.sbl_ast.specs.declared.tree.DeclarationKind.TheVariants as kinds
 use Rattle.sbl_script.specs.declared.edits.DefinitionKind.TheVariants as defined
-use Rattle.sbl_script.specs.Edits.{ScriptEdit, body, among, terms, changes, defines, first_in, first_of, plain_if, plains_with, items_with, Home, home_in, IsSubstituted}
-use Rattle.sbl_script.proofs.AmongDepths.{home_same}
-use Rattle.sbl_script.specs.Homes.{home_of_among, home_of_body, home_of_held, home_of_terms}
+use Rattle.sbl_script.specs.Edits.{ScriptEdit, body, among, terms, changes, defines, plains_with, items_with}
+use Rattle.sbl_script.specs.Homes.{Home, first_in, first_passing, home_in, home_of_among, home_of_body, home_of_held, home_of_terms, plain_if, IsSubstitutedAt}
+use Rattle.sbl_script.proofs.Agreement.{edited_in}
 use Rattle.sbl_script.proofs.Found.{grouping_found, routine_found, some_plain}
 use Rattle.sbl_ast.specs.Source.{Source}
 use Rattle.sbl_machine.specs.BuiltFrom.{is_affected_by, affected_by, built_from, meets, meets_one}
@@ -69,19 +69,19 @@ module _ (picked : Item' → Bool) (p : Plain → Bool) (new old : Plain) (same 
   abbrev Holed : List Item → List Item
   Holed is = map (holed_item picked) is
 
-  item_by : (x : Plain) (is : List Item) (v : Bool) → option_or (if v then Some x else None) (first_of p is) ≡ Some old
-      → (first_of p is ≡ Some old → Holed (items_with p new is) ≡ Holed is)
+  item_by : (x : Plain) (is : List Item) (v : Bool) → option_or (if v then Some x else None) (first_passing p is) ≡ Some old
+      → (first_passing p is ≡ Some old → Holed (items_with p new is) ≡ Holed is)
       → Holed (if v then plain new ∷ is else plain x ∷ items_with p new is) ≡ holed_item picked (plain x) ∷ Holed is
   item_by x is true at h = ap (λ (y : Plain). plain y ∷ Holed is) (here x at)
   item_by x is false at h = ap (λ (l : List Item). holed_item picked (plain x) ∷ l) (h at)
 
-  group_by : (xs : List Plain) (is : List Item) (o : Option Plain) → first_in p xs ≡ o → option_or o (first_of p is) ≡ Some old
-      → (first_of p is ≡ Some old → Holed (items_with p new is) ≡ Holed is)
+  group_by : (xs : List Plain) (is : List Item) (o : Option Plain) → first_in p xs ≡ o → option_or o (first_passing p is) ≡ Some old
+      → (first_passing p is ≡ Some old → Holed (items_with p new is) ≡ Holed is)
       → Holed (if is_some o then backward (plains_with p new xs) ∷ is else backward xs ∷ items_with p new is) ≡ holed_item picked (backward xs) ∷ Holed is
   group_by xs is (Some x) e at h = ap (λ (l : List Plain). backward l ∷ Holed is) (plains_agree xs (e ∙ at))
   group_by xs is None e at h = ap (λ (l : List Item). holed_item picked (backward xs) ∷ l) (h at)
 
-  pub items_agree : (is : List Item) → first_of p is ≡ Some old → Holed (items_with p new is) ≡ Holed is
+  pub items_agree : (is : List Item) → first_passing p is ≡ Some old → Holed (items_with p new is) ≡ Holed is
   items_agree [] at = refl
   items_agree (plain x ∷ is) at = item_by x is (p x) at (items_agree is)
   items_agree (backward xs ∷ is) at =
@@ -112,38 +112,38 @@ terms_same s n a b xs ys =
     gone a xs ∙ sym (gone b ys)
 
 -- the script with another item in the place of one
-script_agree : (picked : Item' → Bool) (s t : Source) (p : Plain → Bool) (new old : Plain) → holed_plain picked new ≡ holed_plain picked old → first_of p s.items ≡ Some old
+script_agree : (picked : Item' → Bool) (s t : Source) (p : Plain → Bool) (new old : Plain) → holed_plain picked new ≡ holed_plain picked old → first_passing p s.items ≡ Some old
     → t.items ≡ items_with p new s.items → t.external ≡ s.external → AgreeOutside picked s t
 script_agree picked s t p new old same at items external =
     let is : map (holed_item picked) s.items ≡ map (holed_item picked) t.items = sym (items_agree picked p new old same s.items at) ∙ ap (map (holed_item picked)) (sym items) in
     (λ i. record { items = is i; external = sym external i })
 
 -- a home that there is, by what is found in the script
-body_agree : (s t : Source) (n text : List ℕ) (b : RowView) (h : Home) → first_of (defines defined.Routine n) s.items ≡ Some (routine n b.0 b.1) → home_of_body s.items n ≡ h → IsSubstituted s h text true t
+body_agree : (s t : Source) (n text : List ℕ) (b : RowView) (h : Home) → first_passing (defines defined.Routine n) s.items ≡ Some (routine n b.0 b.1) → home_of_body s.items n ≡ h → IsSubstitutedAt s h text true t
     → AgreeOutside (same_item (Routine n)) s t
 body_agree s t n text b h at is =
-    subst (λ h. IsSubstituted s h text true t → AgreeOutside (same_item (Routine n)) s t) is
-    (λ (z : IsSubstituted s (home_of_body s.items n) text true t).
+    subst (λ h. IsSubstitutedAt s h text true t → AgreeOutside (same_item (Routine n)) s t) is
+    (λ (z : IsSubstitutedAt s (home_of_body s.items n) text true t).
     script_agree (same_item (Routine n)) s t (defines defined.Routine n) (routine n z.tree.0 z.tree.1) (routine n b.0 b.1) (whole_same n b z.tree) at z.items_are z.external_is)
 
-among_agree : (s t : Source) (n : List ℕ) (k : ℕ) (text : List ℕ) (b : RowView) (g : AmongContents) (h : Home) → first_of (defines defined.Routine n) s.items ≡ Some (routine n b.0 b.1) → nth_held k (amongs_of_body b) ≡ Some g
-    → home_of_among s.items n b k g ≡ h → IsSubstituted s h text true t → AgreeOutside (same_item (Among n k)) s t
+among_agree : (s t : Source) (n : List ℕ) (k : ℕ) (text : List ℕ) (b : RowView) (g : AmongContents) (h : Home) → first_passing (defines defined.Routine n) s.items ≡ Some (routine n b.0 b.1) → nth_held k (amongs_of_body b) ≡ Some g
+    → home_of_among s.items n b k g ≡ h → IsSubstitutedAt s h text true t → AgreeOutside (same_item (Among n k)) s t
 among_agree s t n k text b g h at there is =
-    subst (λ h. IsSubstituted s h text true t → AgreeOutside (same_item (Among n k)) s t) is
-    (λ (z : IsSubstituted s (home_of_among s.items n b k g) text true t).
+    subst (λ h. IsSubstitutedAt s h text true t → AgreeOutside (same_item (Among n k)) s t) is
+    (λ (z : IsSubstitutedAt s (home_of_among s.items n b k g) text true t).
     script_agree (same_item (Among n k)) s t (defines defined.Routine n) (routine n (put_in_body b k z.tree).0 (put_in_body b k z.tree).1) (routine n b.0 b.1)
     (among_same n k b z.tree g there (eqb-true _ _ z.counted)) at z.items_are z.external_is)
 
-among_by : (s t : Source) (n : List ℕ) (k : ℕ) (text : List ℕ) (b : RowView) (h : Home) → first_of (defines defined.Routine n) s.items ≡ Some (routine n b.0 b.1) → (o : Option AmongContents) → nth_held k (amongs_of_body b) ≡ o
-    → home_of_held s.items n b k o ≡ Ok h → IsSubstituted s h text true t → AgreeOutside (same_item (Among n k)) s t
+among_by : (s t : Source) (n : List ℕ) (k : ℕ) (text : List ℕ) (b : RowView) (h : Home) → first_passing (defines defined.Routine n) s.items ≡ Some (routine n b.0 b.1) → (o : Option AmongContents) → nth_held k (amongs_of_body b) ≡ o
+    → home_of_held s.items n b k o ≡ Ok h → IsSubstitutedAt s h text true t → AgreeOutside (same_item (Among n k)) s t
 among_by s t n k text b h at None there is = let never : home_of_held s.items n b k None ≡ Ok h = is in absurd cc
 among_by s t n k text b h at (Some g) there is = let same : home_of_among s.items n b k g ≡ h = cc in among_agree s t n k text b g h at there same
 
-terms_agree : (s t : Source) (n text : List ℕ) (a : Argument) (xs : List Term) (h : Home) → first_of (defines defined.Grouping n) s.items ≡ Some (grouping n a xs) → home_of_terms s.items n ≡ h → IsSubstituted s h text true t
+terms_agree : (s t : Source) (n text : List ℕ) (a : Argument) (xs : List Term) (h : Home) → first_passing (defines defined.Grouping n) s.items ≡ Some (grouping n a xs) → home_of_terms s.items n ≡ h → IsSubstitutedAt s h text true t
     → AgreeOutside (is_affected_by s (Grouping n)) s t
 terms_agree s t n text a xs h at is =
-    subst (λ h. IsSubstituted s h text true t → AgreeOutside (is_affected_by s (Grouping n)) s t) is
-    (λ (z : IsSubstituted s (home_of_terms s.items n) text true t).
+    subst (λ h. IsSubstitutedAt s h text true t → AgreeOutside (is_affected_by s (Grouping n)) s t) is
+    (λ (z : IsSubstitutedAt s (home_of_terms s.items n) text true t).
     script_agree (is_affected_by s (Grouping n)) s t (defines defined.Grouping n) (grouping n z.tree.0 z.tree.1) (grouping n a xs) (terms_same s n z.tree.0 a z.tree.1 xs) at z.items_are z.external_is)
 
 -- ---- what is found is in the script
@@ -165,10 +165,10 @@ module _ (n : List ℕ) (k : DeclarationKind) (p : Plain → Bool) (own : (x : P
   plains_known (x ∷ xs) o old is ys later =
       plain_known x (p x) refl (option_or (first_in p xs) o) old (or_more (plain_if p x) (first_in p xs) o ∙ is) (known_in (in_mode Backward xs ++ ys) k) (λ g. plains_known xs o old g ys later)
 
-  items_known : (is : List Item) (old : Plain) → first_of p is ≡ Some old → is_among (known_in (in_order is) k) n ≡ true
+  items_known : (is : List Item) (old : Plain) → first_passing p is ≡ Some old → is_among (known_in (in_order is) k) n ≡ true
   items_known [] old h = let never : None ≡ Some old = h in absurd cc
-  items_known (plain x ∷ is) old h = plain_known x (p x) refl (first_of p is) old h (known_in (in_order is) k) (λ g. items_known is old g)
-  items_known (backward xs ∷ is) old h = plains_known xs (first_of p is) old h (in_order is) (λ g. items_known is old g)
+  items_known (plain x ∷ is) old h = plain_known x (p x) refl (first_passing p is) old h (known_in (in_order is) k) (λ g. items_known is old g)
+  items_known (backward xs ∷ is) old h = plains_known xs (first_passing p is) old h (in_order is) (λ g. items_known is old g)
 
 pub first_name : (n m : List ℕ) (rest : List (List ℕ)) → bytes_eq n m ≡ true → is_among (m ∷ rest) n ≡ true
 first_name n m rest e = ap (λ (v : Bool). if v then true else is_among rest n) (flip n m e)
@@ -208,10 +208,10 @@ grouping_more n (escapes a b) rest h = h
 grouping_more n (macro m b q) rest h = h
 grouping_more n (routine m c os) rest h = h
 
-routine_known : (n : List ℕ) (is : List Item) (x : Plain) → first_of (defines defined.Routine n) is ≡ Some x → is_among (known_in (in_order is) kinds.Routines) n ≡ true
+routine_known : (n : List ℕ) (is : List Item) (x : Plain) → first_passing (defines defined.Routine n) is ≡ Some x → is_among (known_in (in_order is) kinds.Routines) n ≡ true
 routine_known n is x at = items_known n kinds.Routines (defines defined.Routine n) (routine_own n) (routine_more n) is x at
 
-grouping_known : (n : List ℕ) (is : List Item) (x : Plain) → first_of (defines defined.Grouping n) is ≡ Some x → is_among (known_in (in_order is) kinds.Groupings) n ≡ true
+grouping_known : (n : List ℕ) (is : List Item) (x : Plain) → first_passing (defines defined.Grouping n) is ≡ Some x → is_among (known_in (in_order is) kinds.Groupings) n ≡ true
 grouping_known n is x at = items_known n kinds.Groupings (defines defined.Grouping n) (grouping_own n) (grouping_more n) is x at
 
 -- ---- an edit, by what is found in the script
@@ -219,12 +219,12 @@ grouping_known n is x at = items_known n kinds.Groupings (defines defined.Groupi
 abbrev Edited : Source → Source → ScriptEdit → Type 0
 Edited s t e = AgreeOutside (is_affected_by s (edited_item e)) s t × (has_item (names_of s) (edited_item e) ≡ true)
 
-edit_by : (s t : Source) (e : ScriptEdit) (text : List ℕ) (h : Home) (o : Option Plain) → first_of (changes e) s.items ≡ o → home_in s.items o e ≡ Ok h → IsSubstituted s h text true t → Edited s t e
+edit_by : (s t : Source) (e : ScriptEdit) (text : List ℕ) (h : Home) (o : Option Plain) → first_passing (changes e) s.items ≡ o → home_in s.items o e ≡ Ok h → IsSubstitutedAt s h text true t → Edited s t e
 edit_by s t (body n) text h (Some (routine m c os)) at is z =
     let same : home_of_body s.items n ≡ h = cc in
     (body_agree s t n text (c, os) h (routine_found n s.items m c os at) same z, routine_known n s.items (routine m c os) at)
 edit_by s t (among n k) text h (Some (routine m c os)) at is z =
-    (among_by s t n k text (c, os) h (routine_found n s.items m c os at) (nth_held k (amongs_of_body (c, os))) refl (sym (home_same s.items n (c, os) k) ∙ is) z, routine_known n s.items (routine m c os) at)
+    (among_by s t n k text (c, os) h (routine_found n s.items m c os at) (nth_held k (amongs_of_body (c, os))) refl is z, routine_known n s.items (routine m c os) at)
 edit_by s t (terms n) text h (Some (grouping m a ts)) at is z =
     let same : home_of_terms s.items n ≡ h = cc in
     (terms_agree s t n text a ts h (grouping_found n s.items m a ts at) same z, grouping_known n s.items (grouping m a ts) at)
@@ -245,10 +245,14 @@ edit_by s t (terms n) text h (Some (macro m x y)) at is z = let never : home_in 
 edit_by s t (terms n) text h (Some (routine m c os)) at is z = let never : home_in s.items (Some (routine m c os)) (terms n) ≡ Ok h = is in absurd cc
 
 pub edits_agree : EditsAgree
-edits_agree s t e text edited = (edit_by s t e text edited.0 (first_of (changes e) s.items) refl edited.1 edited.2).0
+edits_agree s t e text edited =
+    let z = edited_in s e text t edited in
+    (edit_by s t e text z.0 (first_passing (changes e) s.items) refl z.1 z.2).0
 
 pub edited_are_there : EditedAreThere
-edited_are_there s t e text edited = (edit_by s t e text edited.0 (first_of (changes e) s.items) refl edited.1 edited.2).1
+edited_are_there s t e text edited =
+    let z = edited_in s e text t edited in
+    (edit_by s t e text z.0 (first_passing (changes e) s.items) refl z.1 z.2).1
 
 pub names_stay : NamesStay
 names_stay s t e text edited = agree_names (is_affected_by s (edited_item e)) s t (edits_agree s t e text edited)

@@ -12,12 +12,11 @@ use Rattle.sbl_text.specs.declared.pieces.Shape.TheVariants as shape
 use Rattle.sbl_text.specs.Directives.{Directives, after, start}
 use Rattle.sbl_text.specs.SpacedTokens.{IsSaid, IsSaidBy, AreSaid}
 use Rattle.sbl_text.specs.Tokens.{word_or_name}
-use Rattle.sbl_parser.proofs.Faults.{places_tokens}
 use Rattle.sbl_ast.proofs.Behind.{IsBefore, plain_before}
 use Rattle.sbl_ast.specs.Order.{ItemInMode, in_mode, in_order}
 use Rattle.sbl_ast.specs.Places.{AtDepth, placed_items, placed_plain, placed_plains, places, tokens}
-use Rattle.sbl_ast.specs.Terminal.{Terminal, lexeme_as}
-use Rattle.sbl_ast.specs.Terminal as t
+use Rattle.sbl_token.specs.Lexemes as lex
+use Rattle.sbl_token.specs.declared.signs.Sign.TheVariants as signs
 use Rattle.sbl_ast.specs.Tree.{Plain, declaration, escapes, macro, routine, grouping, Item, plain, backward}
 use Rattle.sbl_ast.specs.declared.mode.Mode.TheVariants.{Backward}
 use Rattle.sbl_ast.specs.declared.tree.DeclarationKind.{DeclarationKind}
@@ -51,7 +50,7 @@ no_text s shape.BlockComment text h = absurd h.3.0
 
 -- a token that is no empty name
 abbrev IsNamed : AtDepth → Type 0
-IsNamed p = lexeme_as p.0 ≡ name [] → ⊥
+IsNamed p = p.0 ≡ name [] → ⊥
 
 abbrev Ps : Type 0
 Ps = List AtDepth
@@ -59,9 +58,9 @@ Ps = List AtDepth
 abbrev Each : Ps → Type 0
 Each ps = AllByRecursion IsNamed ps
 
-each_named : (s : Directives) (ps : Ps) → AreSaid s (map lexeme_as (tokens ps)) → Each ps
+each_named : (s : Directives) (ps : Ps) → AreSaid s (tokens ps) → Each ps
 each_named s [] h = tt
-each_named s (p ∷ ps) h = (λ e. let said = subst (IsSaid s) e h.0 in no_text s said.0 said.1 said.2, each_named (after s (lexeme_as p.0)) ps h.1)
+each_named s (p ∷ ps) h = (λ e. let said = subst (IsSaid s) e h.0 in no_text s said.0 said.1 said.2, each_named (after s p.0) ps h.1)
 
 -- ---- items
 
@@ -105,10 +104,10 @@ module _ (k : DeclarationKind) (one : (x : Plain) (r : Ps) → Each (placed_plai
   items_named (plain x ∷ is) h =
       one x (placed_items is []) h (known_in (in_order is) k) (items_named is (plain_rest x (placed_items is []) h))
   items_named (backward xs ∷ is) h =
-      plains_named xs ((t.close_, 0) ∷ placed_items is []) h.1.1 (in_order is) (items_named is (plains_rest xs ((t.close_, 0) ∷ placed_items is []) h.1.1).1)
+      plains_named xs ((lex.sign signs.Close, 0) ∷ placed_items is []) h.1.1 (in_order is) (items_named is (plains_rest xs ((lex.sign signs.Close, 0) ∷ placed_items is []) h.1.1).1)
 
 each_in : (items : List Item) → AreSpelled items → Each (places items)
-each_in items h = each_named start (places items) (subst (λ (ts : List Terminal). AreSaid start (map lexeme_as ts)) (sym (places_tokens items)) h)
+each_in items h = each_named start (places items) h
 
 pub routines_named : (items : List Item) → AreSpelled items → is_among (known_in (in_order items) kinds.Routines) [] ≡ false
 routines_named items h = items_named kinds.Routines routine_named items (each_in items h)

@@ -9,7 +9,9 @@ use Rattle.sbl_ast.specs.declared.tree.Simple.TheVariants as simples
 use Rattle.sbl_ast.specs.Tree.{Argument, written_out, by_name, Expression, expression, Sums, no_sums, sum, Product, product, Scales, no_scales, scale, Factor, negated, bracketed, numeral, variable, fixed, length_of, Entry, entry, Command, bracket, simple_, literal_, name_, non_, prefixed, counted, move_, named, splice_, setlimit_, assign_, compare_, compare_values_, among_, Rows, no_rows, row, Others, no_others, joined, Starter, no_starter, starter, Groups, bare, group, Term, term, routine, grouping}
 use Rattle.sbl_resolver.specs.declared.occurrences.Site.{Site}
 use Rattle.sbl_resolver.specs.declared.occurrences.Use.TheVariants as use_as
-use Rattle.sbl_resolver.specs.Occurrences.{Occurrence, Notice, put, uses, substring, among, string, backwards, region_end, declares, defines_routine, defines_grouping, amongs_in, noted_expression, noted_sums, noted_product, noted_scales, noted_factor, noted_simple, noted_prefix, site_behind, use_of, noted_condition, noted_entry, noted_entries, has_starter, is_empty, noted_command, noted_rows, noted_others, noted_starter, noted_groups, noted_terms, noted_plain, noted_name}
+use Rattle.sbl_resolver.specs.Occurrences.{Occurrence, Notice, put, uses, substring, among, string, backwards, region_end, declares, defines_routine, defines_grouping, amongs_in, noted_expression, use_of, noted_entry, noted_entries, is_empty, noted_command, noted_rows, noted_others, noted_groups, noted_plain, noted_name}
+use Rattle.sbl_resolver.specs.OccurrenceView.{walked_expression, noted_sums, noted_product, noted_scales, noted_factor, noted_simple, noted_prefix, site_behind, noted_condition, has_starter, noted_starter, noted_terms}
+use Rattle.sbl_resolver.proofs.Walked.{expression_is, prefixed_is, among_is}
 use Rattle.sbl_resolver.specs.Checks.{declared_as, kind_of, defined_at, definition_of}
 use Rattle.sbl_resolver.proofs.Extends.{Extends}
 
@@ -69,8 +71,8 @@ module _ {X : Type 0} (f : Occurrence → Option X) (quiet : (n : Notice) (p : S
   string_still (by_name n) p s = put_still (uses use_as.String n) p s refl
 
   mutual
-    expression_still : (e : Expression) (p : Site) (s : List Occurrence) → Still s (noted_expression e p s)
-    expression_still (expression x ss) p s = sums_still ss p (noted_product x p s) ∙ product_still x p s
+    walked_still : (e : Expression) (p : Site) (s : List Occurrence) → Still s (walked_expression e p s)
+    walked_still (expression x ss) p s = sums_still ss p (noted_product x p s) ∙ product_still x p s
 
     sums_still : (ss : Sums) (p : Site) (s : List Occurrence) → Still s (noted_sums ss p s)
     sums_still no_sums p s = refl
@@ -85,11 +87,14 @@ module _ {X : Type 0} (f : Occurrence → Option X) (quiet : (n : Notice) (p : S
 
     factor_still : (g : Factor) (p : Site) (s : List Occurrence) → Still s (noted_factor g p s)
     factor_still (negated g) p s = factor_still g p s
-    factor_still (bracketed e) p s = expression_still e p s
+    factor_still (bracketed e) p s = walked_still e p s
     factor_still (numeral n) p s = refl
     factor_still (variable n) p s = put_still (uses use_as.Integer n) p s refl
     factor_still (fixed c) p s = refl
     factor_still (length_of a) p s = string_still a p s
+
+  expression_still : (e : Expression) (p : Site) (s : List Occurrence) → Still s (noted_expression e p s)
+  expression_still e p s = ap (look f) (expression_is e p s) ∙ walked_still e p s
 
   simple_still : (x : Simple) (p : Site) (s : List Occurrence) → Still s (noted_simple x p s)
   simple_still simples.Substring p s = put_still substring p s refl
@@ -131,7 +136,7 @@ module _ {X : Type 0} (f : Occurrence → Option X) (quiet : (n : Notice) (p : S
     command_still (literal_ q) p s = refl
     command_still (name_ n) p s = put_still (uses use_as.Command n) p s refl
     command_still (non_ m n) p s = put_still (uses use_as.Excluded n) p s refl
-    command_still (prefixed x c) p s = command_still c (site_behind x p) (noted_prefix x p s) ∙ prefix_still x p s
+    command_still (prefixed x c) p s = ap (look f) (prefixed_is x c p s) ∙ command_still c (site_behind x p) (noted_prefix x p s) ∙ prefix_still x p s
     command_still (counted n e c) p s = command_still c p (noted_expression e p s) ∙ expression_still e p s
     command_still (move_ m e) p s = expression_still e p s
     command_still (named x n) p s = put_still (uses (use_of x) n) p s refl
@@ -142,7 +147,7 @@ module _ {X : Type 0} (f : Occurrence → Option X) (quiet : (n : Notice) (p : S
     command_still (compare_values_ e o g) p s = expression_still g p (noted_expression e p s) ∙ expression_still e p s
     command_still (among_ x gs) p s =
         let t = put (among (has_starter x) (is_empty gs)) p s in
-        groups_still gs (amongs_in s 0 + 1) p (noted_starter x p t) ∙ starter_still x p t ∙ put_still (among (has_starter x) (is_empty gs)) p s refl
+        ap (look f) (among_is x gs p s) ∙ groups_still gs (amongs_in s 0 + 1) p (noted_starter x p t) ∙ starter_still x p t ∙ put_still (among (has_starter x) (is_empty gs)) p s refl
 
     rows_still : (rs : Rows) (p : Site) (s : List Occurrence) → Still s (noted_rows rs p s)
     rows_still no_rows p s = refl

@@ -1,37 +1,37 @@
 -- The fault of some tokens is one, and the tokens of a tree have none.
 use Rattle.std.proofs.Common.{◌≡◌, ◌⊎◌, inl, inr, ℕ, List, [], ◌∷◌, ◌++◌, length, refl, sym, ap, subst, ◌∙◌, append_assoc, arith, length-append}
 use Rattle.std.proofs.lemmas.List.{append-nil, map-append}
-use Rattle.sbl_ast.specs.Terminal.{Terminal}
-use Rattle.sbl_ast.specs.Terminal as t
+use Rattle.sbl_token.specs.Lexemes as l
+use Rattle.sbl_token.specs.Lexemes.{Lexeme}
+use Rattle.sbl_token.specs.declared.signs.Sign.TheVariants as signs
 use Rattle.sbl_ast.specs.Texts.{Text, TreeOf, places_in, tokens_of}
 use Rattle.sbl_ast.specs.Places.{AtDepth, tokens}
 use Rattle.sbl_parser.specs.Reading.{IsFront, IsTooDeep, HasNoneTooDeep, IsReadAs, CannotFollow, StopsAt, IsSyntaxAt, IsTooDeepAt, IsOutOfProfileAt}
 use Rattle.sbl_parser.specs.Laws.{Wrong, syntax, too_deep, out_of_profile, IsWrongAt}
-use Rattle.sbl_parser.proofs.Runs.{IsDone, text_runs}
-use Rattle.sbl_parser.proofs.Faults.{none_too_deep}
+use Rattle.sbl_parser.proofs.Lexed.{none_deep}
 
 abbrev Ts : Type 0
-Ts = List Terminal
+Ts = List Lexeme
 
-cons : {a b : Ts} (x : Terminal) → a ≡ b → x ∷ a ≡ x ∷ b
+cons : {a b : Ts} (x : Lexeme) → a ≡ b → x ∷ a ≡ x ∷ b
 cons x e = ap (λ (r : Ts). x ∷ r) e
 
 -- ---- two ways to cut the same tokens
 
 -- p ends before q does
 abbrev IsBefore : Ts → Ts → Ts → Ts → Type 0
-IsBefore p r q s = (x : Terminal) × (c : Ts) × (q ≡ p ++ x ∷ c) × (r ≡ x ∷ (c ++ s))
+IsBefore p r q s = (x : Lexeme) × (c : Ts) × (q ≡ p ++ x ∷ c) × (r ≡ x ∷ (c ++ s))
 
 abbrev Cuts : Ts → Ts → Ts → Ts → Type 0
 Cuts p r q s = ((p ≡ q) × (r ≡ s)) ⊎ (IsBefore p r q s ⊎ IsBefore q s p r)
 
-same_head : (x y : Terminal) (a b : Ts) → x ∷ a ≡ y ∷ b → x ≡ y
+same_head : (x y : Lexeme) (a b : Ts) → x ∷ a ≡ y ∷ b → x ≡ y
 same_head x y a b e = cc
 
-same_tail : (x y : Terminal) (a b : Ts) → x ∷ a ≡ y ∷ b → a ≡ b
+same_tail : (x y : Lexeme) (a b : Ts) → x ∷ a ≡ y ∷ b → a ≡ b
 same_tail x y a b e = cc
 
-joined : (x y : Terminal) (a b : Ts) → x ≡ y → a ≡ b → x ∷ a ≡ y ∷ b
+joined : (x y : Lexeme) (a b : Ts) → x ≡ y → a ≡ b → x ∷ a ≡ y ∷ b
 joined x y a b e f = cc
 
 cuts : (p r q s : Ts) → p ++ r ≡ q ++ s → Cuts p r q s
@@ -50,20 +50,20 @@ cuts (x ∷ p) r (y ∷ q) s e = go (cuts p r q s (same_tail x y (p ++ r) (q ++ 
 -- ---- fronts
 
 -- the front of a front is a front
-front_of_front : (k : Text) (p : Ts) (x : Terminal) (c : Ts) → IsFront k (p ++ x ∷ c) → IsFront k (p ++ x ∷ [])
+front_of_front : (k : Text) (p : Ts) (x : Lexeme) (c : Ts) → IsFront k (p ++ x ∷ c) → IsFront k (p ++ x ∷ [])
 front_of_front k p x c h = (h.0, c ++ h.1, h.2 ∙ append_assoc p (x ∷ c) h.1 ∙ sym (append_assoc p (x ∷ []) (c ++ h.1)))
 
 -- a token that stands too deep may stand there
-deep_front : (k : Text) (p : Ts) (x : Terminal) → IsTooDeep k p x → IsFront k (p ++ x ∷ [])
+deep_front : (k : Text) (p : Ts) (x : Lexeme) → IsTooDeep k p x → IsFront k (p ++ x ∷ [])
 deep_front k p x h =
     let rest : Ts = tokens h.3 in
     let whole : tokens_of k h.0 ≡ tokens h.1 ++ x ∷ rest = ap (λ (r : List AtDepth). tokens r) h.4 ∙ map-append (λ q. q.0) h.1 ((x, h.2) ∷ h.3) in
     (h.0, rest, whole ∙ ap (λ (r : Ts). r ++ x ∷ rest) h.5 ∙ sym (append_assoc p (x ∷ []) rest))
 
 -- what cannot follow is no front
-no_front : (k : Text) (p r : Ts) (x : Terminal) (c : Ts) → CannotFollow k p r → r ≡ x ∷ c → IsFront k (p ++ x ∷ []) → ⊥
+no_front : (k : Text) (p r : Ts) (x : Lexeme) (c : Ts) → CannotFollow k p r → r ≡ x ∷ c → IsFront k (p ++ x ∷ []) → ⊥
 no_front k p [] x c h e front = absurd cc
-no_front k p (y ∷ r) x c h e front = h (subst (λ (z : Terminal). IsFront k (p ++ z ∷ [])) (sym (same_head y x r c e)) front)
+no_front k p (y ∷ r) x c h e front = h (subst (λ (z : Lexeme). IsFront k (p ++ z ∷ [])) (sym (same_head y x r c e)) front)
 
 -- ---- two faults of the same tokens
 
@@ -79,11 +79,11 @@ both_stop k p r q s e h g = go (cuts p r q s e) where
   go (inr (inr b)) = absurd (stops_before k q s p r g h.front b)
 
 -- none is too deep before
-not_before : (k : Text) (p r q : Ts) (x : Terminal) (more : Ts) → HasNoneTooDeep k p → IsTooDeep k q x → IsBefore q (x ∷ more) p r → ⊥
-not_before k p r q x more h deep b = h q b.1 x (b.2 ∙ ap (λ (z : Terminal). q ++ z ∷ b.1) (sym (same_head x b.0 more (b.1 ++ r) b.3))) deep
+not_before : (k : Text) (p r q : Ts) (x : Lexeme) (more : Ts) → HasNoneTooDeep k p → IsTooDeep k q x → IsBefore q (x ∷ more) p r → ⊥
+not_before k p r q x more h deep b = h q b.1 x (b.2 ∙ ap (λ (z : Lexeme). q ++ z ∷ b.1) (sym (same_head x b.0 more (b.1 ++ r) b.3))) deep
 
 -- a front that one more token makes longer
-stops_at_deep : (k : Text) (p r q : Ts) (x : Terminal) (more : Ts) → p ++ r ≡ q ++ x ∷ more → StopsAt k p r → IsTooDeep k q x → ⊥
+stops_at_deep : (k : Text) (p r q : Ts) (x : Lexeme) (more : Ts) → p ++ r ≡ q ++ x ∷ more → StopsAt k p r → IsTooDeep k q x → ⊥
 stops_at_deep k p r q x more e h deep = go (cuts p r q (x ∷ more) e) where
   front : IsFront k (q ++ x ∷ [])
   front = deep_front k q x deep
@@ -95,7 +95,7 @@ stops_at_deep k p r q x more e h deep = go (cuts p r q (x ∷ more) e) where
       no_front k p r b.0 (b.1 ++ x ∷ more) h.stops b.3 (front_of_front k p b.0 (b.1 ++ x ∷ []) (subst (λ (z : Ts). IsFront k z) longer front))
   go (inr (inr b)) = not_before k p r q x more h.shallow deep b
 
-both_deep : (k : Text) (p : Ts) (x : Terminal) (m q : Ts) (y : Terminal) (n : Ts) → p ++ x ∷ m ≡ q ++ y ∷ n → HasNoneTooDeep k p → IsTooDeep k p x → HasNoneTooDeep k q → IsTooDeep k q y → x ∷ m ≡ y ∷ n
+both_deep : (k : Text) (p : Ts) (x : Lexeme) (m q : Ts) (y : Lexeme) (n : Ts) → p ++ x ∷ m ≡ q ++ y ∷ n → HasNoneTooDeep k p → IsTooDeep k p x → HasNoneTooDeep k q → IsTooDeep k q y → x ∷ m ≡ y ∷ n
 both_deep k p x m q y n e hp dp hq dq = go (cuts p (x ∷ m) q (y ∷ n) e) where
   go : Cuts p (x ∷ m) q (y ∷ n) → x ∷ m ≡ y ∷ n
   go (inl same) = same.1
@@ -106,7 +106,7 @@ both_deep k p x m q y n e hp dp hq dq = go (cuts p (x ∷ m) q (y ∷ n) e) wher
 
 -- the tokens before the bad one of a `$` and its name
 abbrev subject : List ℕ → Ts
-subject n = t.dollar ∷ t.name n ∷ []
+subject n = l.sign signs.Dollar ∷ l.name n ∷ []
 
 profile_parts : (k : Text) (all r : Ts) (h : IsOutOfProfileAt k all r) → all ≡ (h.before ++ subject h.subject) ++ h.bad ∷ h.more
 profile_parts k all r h = h.parts ∙ ap (λ (z : Ts). h.before ++ z) h.is ∙ sym (append_assoc h.before (subject h.subject) (h.bad ∷ h.more))
@@ -136,15 +136,15 @@ profile_deep k all r s h g =
 two_profile : (k : Text) (all r s : Ts) → IsOutOfProfileAt k all r → IsOutOfProfileAt k all s → r ≡ s
 two_profile k all r s h g =
     let same = both_stop k (h.before ++ subject h.subject) (h.bad ∷ h.more) (g.before ++ subject g.subject) (g.bad ∷ g.more) (sym (profile_parts k all r h) ∙ profile_parts k all s g) h.stops g.stops in
-    h.is ∙ same_ends h.before g.before (t.name h.subject) (t.name g.subject) (h.bad ∷ h.more) (g.bad ∷ g.more) same.0 same.1 ∙ sym g.is where
-      ends : (p q : Ts) (a b c d : Terminal) → p ++ a ∷ b ∷ [] ≡ q ++ c ∷ d ∷ [] → b ≡ d
+    h.is ∙ same_ends h.before g.before (l.name h.subject) (l.name g.subject) (h.bad ∷ h.more) (g.bad ∷ g.more) same.0 same.1 ∙ sym g.is where
+      ends : (p q : Ts) (a b c d : Lexeme) → p ++ a ∷ b ∷ [] ≡ q ++ c ∷ d ∷ [] → b ≡ d
       ends [] [] a b c d e = cc
       ends [] (y ∷ q) a b c d e = absurd (omega (arith, ap length e, length-append q (c ∷ d ∷ [])))
       ends (x ∷ p) [] a b c d e = absurd (omega (arith, ap length e, length-append p (a ∷ b ∷ [])))
       ends (x ∷ p) (y ∷ q) a b c d e = ends p q a b c d (same_tail x y (p ++ a ∷ b ∷ []) (q ++ c ∷ d ∷ []) e)
 
-      same_ends : (p q : Ts) (a b : Terminal) (m n : Ts) → p ++ t.dollar ∷ a ∷ [] ≡ q ++ t.dollar ∷ b ∷ [] → m ≡ n → t.dollar ∷ a ∷ m ≡ t.dollar ∷ b ∷ n
-      same_ends p q a b m n e f = cons t.dollar (joined a b m n (ends p q t.dollar a t.dollar b e) f)
+      same_ends : (p q : Ts) (a b : Lexeme) (m n : Ts) → p ++ l.sign signs.Dollar ∷ a ∷ [] ≡ q ++ l.sign signs.Dollar ∷ b ∷ [] → m ≡ n → l.sign signs.Dollar ∷ a ∷ m ≡ l.sign signs.Dollar ∷ b ∷ n
+      same_ends p q a b m n e f = cons (l.sign signs.Dollar) (joined a b m n (ends p q (l.sign signs.Dollar) a (l.sign signs.Dollar) b e) f)
 
 pub fault_is_one : (k : Text) (all r s : Ts) (v w : Wrong) → IsWrongAt k v all r → IsWrongAt k w all s → (v ≡ w) × (r ≡ s)
 fault_is_one k all r s syntax syntax h g = (refl, two_syntax k all r s h g)
@@ -165,8 +165,8 @@ no_stop k p r tree e h = go r e h.stops where
   go [] e stops = stops tree (e ∙ append-nil p)
   go (x ∷ more) e stops = stops (tree, more, e ∙ sym (append_assoc p (x ∷ []) more))
 
-no_deep : (k : Text) (p : Ts) (x : Terminal) (more : Ts) (tree : TreeOf k) → IsReadAs k (p ++ x ∷ more) tree → IsTooDeep k p x → ⊥
-no_deep k p x more tree h deep = none_too_deep k (places_in k tree) IsDone h.1 (text_runs k tree) p more x h.0 deep
+no_deep : (k : Text) (p : Ts) (x : Lexeme) (more : Ts) (tree : TreeOf k) → IsReadAs k (p ++ x ∷ more) tree → IsTooDeep k p x → ⊥
+no_deep k p x more tree h deep = none_deep k p x more tree h deep
 
 pub tree_or_fault : (k : Text) (all rest : Ts) (tree : TreeOf k) (w : Wrong) → IsReadAs k all tree → IsWrongAt k w all rest → ⊥
 tree_or_fault k all rest tree syntax h g = no_stop k g.before rest tree (h.0 ∙ g.parts) g.stops

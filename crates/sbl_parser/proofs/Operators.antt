@@ -4,7 +4,7 @@ use Rattle.std.specs.Prelude.{if◌then◌else◌, ◌&&◌}
 use Rattle.sbl_ast.specs.declared.tree.Additive.TheVariants as additives
 use Rattle.sbl_ast.specs.Terminal.{Terminal}
 use Rattle.sbl_ast.specs.Terminal as t
-use Rattle.sbl_ast.specs.Places.{AtDepth, tokens}
+use Rattle.sbl_ast.specs.TerminalPlaces.{AtDepth, tokens}
 use Rattle.sbl_parser.specs.Steps.{Symbol, Stack, Step, goes, stuck, unassigned, is_optional, behind, behind_opening, behind_closing, behind_name, behind_argument, behind_for, behind_excluded, behind_comparison, behind_factor, behind_scales, behind_sums, behind_command, behind_among, behind_others, behind_starter, behind_groups, behind_entries, behind_inserts, behind_macro, behind_base, behind_literal, behind_definition, behind_terms, behind_names, behind_plain, behind_item, or_else, step}
 use Rattle.sbl_parser.specs.Steps as s
 use Rattle.sbl_ast.specs.Texts.{Text}

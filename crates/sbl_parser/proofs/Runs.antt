@@ -4,11 +4,12 @@ use Rattle.std.specs.Prelude.{if◌then◌else◌, ◌&&◌}
 use Rattle.sbl_ast.specs.declared.tree.Base.{Base}
 use Rattle.sbl_ast.specs.Terminal.{Terminal}
 use Rattle.sbl_ast.specs.Terminal as t
-use Rattle.sbl_ast.specs.Tree.{Argument, written_out, by_name, Expression, expression, Sums, no_sums, sum, Product, product, Scales, no_scales, scale, Factor, negated, bracketed, numeral, variable, fixed, length_of, Entry, entry, Command, bracket, simple_, literal_, name_, non_, prefixed, counted, move_, named, splice_, setlimit_, assign_, compare_, compare_values_, among_, Rows, no_rows, row, Others, no_others, joined, Starter, no_starter, starter, Groups, bare, group, Term, term, Plain, declaration, escapes, macro, routine, grouping, Item, plain, backward, argument_terminal}
-use Rattle.sbl_ast.specs.Places.{AtDepth, placed_expression, placed_sums, placed_product, placed_scales, placed_factor, placed_entry, placed_entries, placed_command, placed_rows, placed_others, placed_starter, placed_groups, placed_names, placed_base, placed_terms, placed_plain, placed_plains, placed_item, placed_items, places}
+use Rattle.sbl_ast.specs.Tree.{QuotedText, Argument, written_out, by_name, Expression, expression, Sums, no_sums, sum, Product, product, Scales, no_scales, scale, Factor, negated, bracketed, numeral, variable, fixed, length_of, Entry, entry, Command, bracket, simple_, literal_, name_, non_, prefixed, counted, move_, named, splice_, setlimit_, assign_, compare_, compare_values_, among_, Rows, no_rows, row, Others, no_others, joined, Starter, no_starter, starter, Groups, bare, group, Term, term, Plain, declaration, escapes, macro, routine, grouping, Item, plain, backward}
+use Rattle.sbl_ast.specs.Spelled.{argument_terminal}
+use Rattle.sbl_ast.specs.TerminalPlaces.{AtDepth, placed_expression, placed_sums, placed_product, placed_scales, placed_factor, placed_entry, placed_entries, placed_command, placed_rows, placed_others, placed_starter, placed_groups, placed_names, placed_base, placed_terms, placed_plain, placed_plains, placed_item, placed_items, places, places_in}
 use Rattle.sbl_parser.specs.Steps.{Symbol, Stack, Step, goes, stuck, unassigned, is_optional, is_done, behind, behind_sums, behind_scales, behind_others, behind_terms, behind_plain, behind_item, or_else, step}
 use Rattle.sbl_parser.specs.Steps as s
-use Rattle.sbl_ast.specs.Texts.{Text, TreeOf, places_in}
+use Rattle.sbl_ast.specs.Texts.{Text, TreeOf}
 use Rattle.sbl_parser.specs.Fronts.{first_stack}
 use Rattle.sbl_ast.specs.Texts as texts
 
@@ -478,7 +479,7 @@ terms_runs : (xs : List Term) (ps : List AtDepth) (k : Stack) → Calm ps → Pa
 terms_runs [] ps k c h = skip_terms ps k c.plus h
 terms_runs (term o a ∷ xs) ps k c h = (s.argument 0 ∷ s.terms ∷ k, refl, argument_runs a 0 (placed_terms xs ps) (s.terms ∷ k) (terms_runs xs ps k c h))
 
-base_runs : (b : Option Base) (q : t.QuotedText) (ps : List AtDepth) (k : Stack) → Passes ps k → Passes (placed_base b ((t.literal q, 0) ∷ ps)) (s.base ∷ s.literal ∷ k)
+base_runs : (b : Option Base) (q : QuotedText) (ps : List AtDepth) (k : Stack) → Passes ps k → Passes (placed_base b ((t.literal q, 0) ∷ ps)) (s.base ∷ s.literal ∷ k)
 base_runs None q ps k h = (k, refl, h)
 base_runs (Some b) q ps k h = (s.literal ∷ k, refl, (k, refl, h))
 

@@ -3,7 +3,8 @@ use Rattle.std.proofs.Common.{◌≡◌, ℕ, suc, ◌<◌, ◌≤◌, List, [],
 use Rattle.sbl_ast.specs.declared.tree.Additive.{Additive}
 use Rattle.sbl_ast.specs.Terminal.{Terminal}
 use Rattle.sbl_ast.specs.Terminal as t
-use Rattle.sbl_ast.specs.Tree.{Argument, Entry, entry, Term, term, Plain, Item, argument_terminal, spelled_sums, spelled_product, spelled_scales, spelled_factor, spelled_condition, spelled_entry, spelled_entries, spelled_command, spelled_rows, spelled_others, spelled_groups, spelled_names, spelled_terms, spelled_plain, spelled_plains, spelled_item, spelled_items}
+use Rattle.sbl_ast.specs.Tree.{QuotedText, Argument, Entry, entry, Term, term, Plain, Item}
+use Rattle.sbl_ast.specs.Spelled.{argument_terminal, spelled_sums, spelled_product, spelled_scales, spelled_factor, spelled_condition, spelled_entry, spelled_entries, spelled_command, spelled_rows, spelled_others, spelled_groups, spelled_names, spelled_terms, spelled_plain, spelled_plains, spelled_item, spelled_items}
 use Rattle.sbl_ast.specs.View.{NextProductView, NextFactorView, RowView, NextCommandView, GroupView, sums_of, scales_of, rows_of, others_of, groups_of}
 
 abbrev Ts : Type 0
@@ -41,7 +42,7 @@ pub entries_push : (xs : List Entry) (x : Entry) (rest : Ts) → spelled_entries
 entries_push [] x rest = refl
 entries_push (y ∷ xs) x rest = ap (λ (r : Ts). spelled_entry y r) (entries_push xs x rest)
 
-pub entry_spelled : (q : t.QuotedText) (c : Option (List ℕ)) (rest : Ts) → spelled_entry (entry q c) rest ≡ t.literal q ∷ spelled_condition c rest
+pub entry_spelled : (q : QuotedText) (c : Option (List ℕ)) (rest : Ts) → spelled_entry (entry q c) rest ≡ t.literal q ∷ spelled_condition c rest
 entry_spelled q None rest = refl
 entry_spelled q (Some n) rest = refl
 

@@ -1,9 +1,10 @@
 -- Two trees with the same tokens are one.
 use Rattle.std.proofs.Common.{◌≡◌, ℕ, Bool, true, false, List, [], ◌∷◌, Option, Some, None, refl, sym, ap}
 use Rattle.sbl_ast.specs.declared.tree.Base.{Base}
-use Rattle.sbl_ast.specs.Terminal.{Terminal, QuotedText}
+use Rattle.sbl_ast.specs.Terminal.{Terminal}
+use Rattle.sbl_ast.specs.Tree.{QuotedText, Argument, written_out, by_name, Expression, expression, Sums, no_sums, sum, Product, product, Scales, no_scales, scale, Factor, negated, bracketed, numeral, variable, fixed, length_of, Entry, entry, Command, bracket, simple_, literal_, name_, non_, prefixed, counted, move_, named, splice_, setlimit_, assign_, compare_, compare_values_, among_, Rows, no_rows, row, Others, no_others, joined, Starter, no_starter, starter, Groups, bare, group, Term, term, Plain, declaration, escapes, macro, routine, grouping, Item, plain, backward}
 use Rattle.sbl_ast.specs.Terminal as t
-use Rattle.sbl_ast.specs.Tree.{Argument, written_out, by_name, Expression, expression, Sums, no_sums, sum, Product, product, Scales, no_scales, scale, Factor, negated, bracketed, numeral, variable, fixed, length_of, Entry, entry, Command, bracket, simple_, literal_, name_, non_, prefixed, counted, move_, named, splice_, setlimit_, assign_, compare_, compare_values_, among_, Rows, no_rows, row, Others, no_others, joined, Starter, no_starter, starter, Groups, bare, group, Term, term, Plain, declaration, escapes, macro, routine, grouping, Item, plain, backward, argument_terminal, spelled_expression, spelled_sums, spelled_product, spelled_scales, spelled_factor, spelled_entry, spelled_entries, spelled_command, spelled_rows, spelled_others, spelled_starter, spelled_groups, spelled_names, spelled_base, spelled_terms, spelled_plain, spelled_plains, spelled_item, spelled_items, script_tokens}
+use Rattle.sbl_ast.specs.Spelled.{argument_terminal, spelled_expression, spelled_sums, spelled_product, spelled_scales, spelled_factor, spelled_entry, spelled_entries, spelled_command, spelled_rows, spelled_others, spelled_starter, spelled_groups, spelled_names, spelled_base, spelled_terms, spelled_plain, spelled_plains, spelled_item, spelled_items, script_tokens}
 
 abbrev Ts : Type 0
 Ts = List Terminal
@@ -546,3 +547,9 @@ pub one_among : (x y : Starter) (gs hs : Groups) → spelled_command (among_ x g
 one_among x y gs hs e = go (same_tree (among_ x gs) (among_ y hs) [] [] none_ends.ends none_ends.ends e).0 where
   go : among_ x gs ≡ among_ y hs → (x ≡ y) × (gs ≡ hs)
   go f = let a : x ≡ y = cc in let b : gs ≡ hs = cc in (a, b)
+
+-- two texts that begin with an among: the same tokens stand behind it
+pub behind_among : (x y : Starter) (gs hs : Groups) (a b : Ts) → spelled_command (among_ x gs) a ≡ spelled_command (among_ y hs) b → a ≡ b
+behind_among x y gs hs a b e =
+    let m = same_starter x y (spelled_groups gs (t.close_ ∷ a)) (spelled_groups hs (t.close_ ∷ b)) (groups_no_open gs (t.close_ ∷ a) refl) (groups_no_open hs (t.close_ ∷ b) refl) (tail _ _ _ _ (tail _ _ _ _ e)) in
+    (same_groups gs hs a b m.1).1

@@ -8,15 +8,19 @@ use Rattle.sbl_parser.specs.declared.error.ReadError.TheVariants as errors
 use Rattle.sbl_ast.specs.Terminal.{Terminal, terminal_of, terminals_of, tokens_left}
 use Rattle.sbl_ast.specs.Terminal as t
 use Rattle.sbl_token.specs.Lexemes.{lexeme_of}
-use Rattle.sbl_ast.specs.Tree.{Item, Command, Others, Starter, Groups, among_, Argument, Term, argument_terminal, spelled_command, spelled_terms, spelled_others, spelled_items}
-use Rattle.sbl_ast.specs.Texts.{Text, TreeOf, tokens_of}
+use Rattle.sbl_ast.specs.Tree.{Item, Command, Others, Starter, Groups, among_, Argument, Term}
+use Rattle.sbl_ast.specs.Spelled.{argument_terminal, spelled_command, spelled_terms, spelled_others, spelled_items}
+use Rattle.sbl_ast.specs.Texts.{Text, TreeOf}
+use Rattle.sbl_ast.specs.TerminalPlaces.{tokens_of}
 use Rattle.sbl_parser.specs.Fronts.{first_stack}
 use Rattle.sbl_ast.specs.Texts as texts
 use Rattle.sbl_parser.specs.Steps.{Stack, Fault, items, fault, syntax, too_deep, no_operator}
 use Rattle.sbl_parser.specs.Steps as s
-use Rattle.sbl_parser.specs.Reading.{IsReadAs, IsSyntaxAt, IsTooDeepAt, IsOutOfProfileAt}
+use Rattle.sbl_parser.specs.TerminalReading.{IsReadAs, IsSyntaxAt, IsTooDeepAt, IsOutOfProfileAt}
 use Rattle.sbl_parser.specs.Gives.{Fails, error_for}
 use Rattle.sbl_parser.specs.FaultOffsets.{IsFaultOf, fault_at_offset}
+use Rattle.sbl_parser.specs.Reading as reading
+use Rattle.sbl_parser.proofs.Lexed.{left_lexed, syntax_to, too_deep_to, out_of_profile_to}
 use Rattle.sbl_parser.proofs.Faults.{is_read, is_syntax, is_too_deep, is_out_of_profile, places_tokens, body_tokens, tree_tokens, terms_tokens}
 
 abbrev Ts : Type 0
@@ -75,11 +79,11 @@ fault_of w ts end errors.Memory h = inl refl
 fault_of w ts end (errors.Syntax n) h =
     let f = syntax_for (fault (terminals_of ts) (first_stack w)) n h in
     let stands = is_syntax w (terminals_of ts) f.0 f.1 in
-    inr (length ts - n, refl, subst (λ (r : Ts). IsSyntaxAt w (terminals_of ts) r) (sym (left_of ts stands.before f.0 n stands.parts f.2)) stands)
+    inr (length ts - n, refl, left_lexed (IsSyntaxAt w) (reading.IsSyntaxAt w) (syntax_to w) ts (length ts - n) (subst (λ (r : Ts). IsSyntaxAt w (terminals_of ts) r) (sym (left_of ts stands.before f.0 n stands.parts f.2)) stands))
 fault_of w ts end (errors.TooDeep n) h =
     let f = too_deep_for (fault (terminals_of ts) (first_stack w)) n h in
     let stands = is_too_deep w (terminals_of ts) f.0 f.1 in
-    inr (length ts - n, refl, subst (λ (r : Ts). IsTooDeepAt w (terminals_of ts) r) (sym (left_of ts stands.before f.0 n stands.parts f.2)) stands)
+    inr (length ts - n, refl, left_lexed (IsTooDeepAt w) (reading.IsTooDeepAt w) (too_deep_to w) ts (length ts - n) (subst (λ (r : Ts). IsTooDeepAt w (terminals_of ts) r) (sym (left_of ts stands.before f.0 n stands.parts f.2)) stands))
 fault_of w ts end (errors.OutOfProfile n) h =
     let f = no_operator_for (fault (terminals_of ts) (first_stack w)) n h in
     let found = is_out_of_profile w (terminals_of ts) f.0 f.1 in
@@ -87,7 +91,7 @@ fault_of w ts end (errors.OutOfProfile n) h =
     let all : Ts = t.dollar ∷ t.name found.0 ∷ f.0 in
     let more : length all ≡ n + 2 = omega (arith, f.2) in
     let at : length ts - (n + 2) ≡ length ts - n - 2 = omega arith in
-    inr (length ts - n - 2, refl, subst (λ (r : Ts). IsOutOfProfileAt w (terminals_of ts) r) (sym (left_of ts stands.before all (n + 2) stands.parts more) ∙ ap (λ (m : ℕ). tokens_left ts m) at) stands)
+    inr (length ts - n - 2, refl, left_lexed (IsOutOfProfileAt w) (reading.IsOutOfProfileAt w) (out_of_profile_to w) ts (length ts - n - 2) (subst (λ (r : Ts). IsOutOfProfileAt w (terminals_of ts) r) (sym (left_of ts stands.before all (n + 2) stands.parts more) ∙ ap (λ (m : ℕ). tokens_left ts m) at) stands))
 
 pub read_body : (ts : List Token) (rest : Ts) (b : Command × Others) → rest ≡ [] → terminals_of ts ≡ spelled_command b.0 (spelled_others b.1 rest) → ((k : Stack) → fault (terminals_of ts) (s.command 1 ∷ s.others 1 ∷ k) ≡ fault rest k) → IsReadAs texts.body (terminals_of ts) b
 read_body ts rest b none h g =

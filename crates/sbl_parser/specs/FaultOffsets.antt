@@ -1,11 +1,11 @@
 -- The fault of tokens, with its byte offset.
-use Rattle.std.specs.Prelude.{◌≡◌, ℕ, ◌-◌, List, [], ◌∷◌, drop, length}
+use Rattle.std.specs.Prelude.{◌≡◌, ℕ, ◌-◌, List, [], ◌∷◌, drop, length, map}
 use Rattle.sbl_token.specs.declared.token.Token.{Token}
+use Rattle.sbl_token.specs.Lexemes.{lexeme_of}
 use Rattle.sbl_text.specs.declared.fault.ScriptFault.{ScriptFault}
 use Rattle.sbl_text.specs.declared.fault.ScriptFault.TheVariants as script
 use Rattle.sbl_parser.specs.declared.error.ReadError.{ReadError}
 use Rattle.sbl_parser.specs.declared.error.ReadError.TheVariants as errors
-use Rattle.sbl_ast.specs.Terminal.{terminals_of, tokens_left}
 use Rattle.sbl_ast.specs.Texts.{Text}
 use Rattle.sbl_parser.specs.Reading.{IsSyntaxAt, IsTooDeepAt, IsOutOfProfileAt}
 
@@ -19,9 +19,9 @@ place_at ts at end = place_of (drop at ts) end
 
 -- the tokens have this fault, at this byte offset
 abbrev pub IsFaultOf : Text → List Token → ℕ → ScriptFault → Type 0
-IsFaultOf t ts end (script.Syntax place) = (at : ℕ) × (place ≡ place_at ts at end) × IsSyntaxAt t (terminals_of ts) (tokens_left ts at)
-IsFaultOf t ts end (script.TooDeep place) = (at : ℕ) × (place ≡ place_at ts at end) × IsTooDeepAt t (terminals_of ts) (tokens_left ts at)
-IsFaultOf t ts end (script.OutOfProfile place) = (at : ℕ) × (place ≡ place_at ts at end) × IsOutOfProfileAt t (terminals_of ts) (tokens_left ts at)
+IsFaultOf t ts end (script.Syntax place) = (at : ℕ) × (place ≡ place_at ts at end) × IsSyntaxAt t (map lexeme_of ts) (map lexeme_of (drop at ts))
+IsFaultOf t ts end (script.TooDeep place) = (at : ℕ) × (place ≡ place_at ts at end) × IsTooDeepAt t (map lexeme_of ts) (map lexeme_of (drop at ts))
+IsFaultOf t ts end (script.OutOfProfile place) = (at : ℕ) × (place ≡ place_at ts at end) × IsOutOfProfileAt t (map lexeme_of ts) (map lexeme_of (drop at ts))
 IsFaultOf t ts end _ = ⊥
 
 -- the fault of a script for an error of the parser, with its byte offset: the `$` is two tokens before what is no operator

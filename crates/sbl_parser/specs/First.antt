@@ -7,7 +7,8 @@ use Rattle.sbl_token.specs.declared.token.Token.{Token}
 use Rattle.sbl_token.specs.Lexemes.{number_in, spelling_in, characters_in, inserts_in}
 use Rattle.sbl_parser.specs.declared.role.Role.{Role}
 use Rattle.sbl_parser.specs.declared.role.Role.TheVariants as roles
-use Rattle.sbl_ast.specs.Terminal.{QuotedText, word_terminal, sign_terminal}
+use Rattle.sbl_ast.specs.Tree.{QuotedText}
+use Rattle.sbl_ast.specs.Terminal.{word_terminal, sign_terminal}
 use Rattle.sbl_parser.specs.Roles.{role_as}
 
 abbrev pub kind_role : Kind → Role

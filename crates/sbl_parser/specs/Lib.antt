@@ -4,6 +4,7 @@ pub mod Reading
 pub mod FaultOffsets
 pub mod Laws
 -- what the functions inside the crate promise each other; no public contract depends on these
+pub mod TerminalReading
 pub mod Roles
 pub mod Steps
 pub mod Fronts

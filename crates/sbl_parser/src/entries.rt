@@ -4,7 +4,7 @@ ghost use Rattle.std.specs.Prelude.{◌≡◌, ◌≤◌, ◌∷◌, [], drop, m
 ghost use Rattle.sbl_parser.specs.Roles.{role_of};
 ghost use Rattle.sbl_parser.specs.Steps as wanted;
 ghost use Rattle.sbl_ast.specs.Places.{max_depth};
-ghost use Rattle.sbl_ast.specs.Tree.{spelled_condition, spelled_entry, spelled_entries};
+ghost use Rattle.sbl_ast.specs.Spelled.{spelled_condition, spelled_entry, spelled_entries};
 ghost use Rattle.sbl_ast.specs.View.{view_name, view_entry};
 ghost use Rattle.sbl_parser.specs.Gives.{ahead, Reads};
 

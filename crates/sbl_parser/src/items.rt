@@ -4,7 +4,7 @@ ghost use Rattle.std.specs.Prelude.{◌≡◌, ◌≤◌, ◌∷◌, [], map, st
 ghost use Rattle.sbl_parser.specs.Roles.{role_of};
 ghost use Rattle.sbl_ast.specs.Terminal as t;
 ghost use Rattle.sbl_parser.specs.Steps as wanted;
-ghost use Rattle.sbl_ast.specs.Tree.{argument_terminal, spelled_names, spelled_base, spelled_terms, spelled_plain, spelled_item, spelled_items};
+ghost use Rattle.sbl_ast.specs.Spelled.{argument_terminal, spelled_names, spelled_base, spelled_terms, spelled_plain, spelled_item, spelled_items};
 ghost use Rattle.sbl_ast.specs.View.{view_argument, view_literal, view_term, view_plain, view_item, view_items};
 ghost use Rattle.sbl_parser.specs.Gives.{ahead, Reads};
 

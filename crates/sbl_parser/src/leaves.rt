@@ -4,7 +4,7 @@
 ghost use Rattle.std.specs.Prelude.{◌≡◌, ◌≤◌, ◌∷◌, []};
 ghost use Rattle.sbl_ast.specs.Places.{max_depth};
 ghost use Rattle.sbl_ast.specs.Terminal as t;
-ghost use Rattle.sbl_ast.specs.Tree.{spelled_command};
+ghost use Rattle.sbl_ast.specs.Spelled.{spelled_command};
 ghost use Rattle.sbl_ast.specs.View.{view_command};
 ghost use Rattle.sbl_parser.specs.Gives.{ahead, Reads};
 ghost use Rattle.sbl_parser.specs.Roles.{role_of};

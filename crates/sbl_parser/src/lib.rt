@@ -15,5 +15,5 @@ mod starts;
 mod tokens;
 
 pub use front::is_left_out;
-pub use reading::{one_fault, one_part, one_tree, parse, parse_among, parse_body, parse_terms};
+pub use reading::{one_fault, one_tree, parse, parse_among, parse_body, parse_terms};
 pub use role::Role;

@@ -1,20 +1,20 @@
 //! Parses all tokens of a text.
 
 ghost use Rattle.std.specs.Prelude.{◌≡◌, ◌⊎◌, ◌≤◌, ◌∷◌, [], List, IfOk, IfErr, length, map};
-ghost use Rattle.sbl_token.specs.Lexemes.{Lexeme};
-ghost use Rattle.sbl_ast.specs.Terminal.{Terminal, terminals_of, terminal_of, lexeme_as};
+ghost use Rattle.sbl_token.specs.Lexemes.{lexeme_of};
+ghost use Rattle.sbl_ast.specs.Terminal.{terminals_of};
 ghost use Rattle.sbl_ast.specs.Tree as trees;
-ghost use Rattle.sbl_ast.specs.Tree.{script_tokens};
 ghost use Rattle.sbl_ast.specs.Texts.{script, body};
 ghost use Rattle.sbl_parser.specs.Fronts.{first_stack};
 ghost use Rattle.sbl_ast.specs.Texts as texts;
 ghost use Rattle.sbl_parser.specs.Reading.{IsReadAs};
+ghost use Rattle.sbl_parser.specs.TerminalReading as roles;
 ghost use Rattle.sbl_ast.specs.View.{view_among, view_argument, view_items, view_row, view_term};
 ghost use Rattle.sbl_ast.specs.Counts.{count_in_among};
 ghost use Rattle.sbl_parser.specs.FaultOffsets.{IsFaultOf, place_at, fault_at_offset};
 ghost use Rattle.sbl_parser.specs.Gives.{Fails};
-ghost use Rattle.sbl_parser.specs.Laws.{FaultIsOne, PlacesAreWritten, TreeOrFault, TreesAreOne};
-ghost use Rattle.sbl_ast.specs.Places.{max_depth};
+ghost use Rattle.sbl_parser.specs.Laws.{FaultIsOne, TreeOrFault, TreesAreOne};
+ghost use Rattle.sbl_ast.specs.Places.{lexemes_of, max_depth};
 ghost use Rattle.sbl_parser.specs.Steps.{fault};
 ghost use Rattle.sbl_parser.specs.Steps as wanted;
 
@@ -72,7 +72,7 @@ pub fn parse(
     tokens: &[Token<'_>],
     end: usize,
 ) -> Result<Vec<ScriptItem>, ScriptFault>
-    ensures read { IfOk result (λ items. IsReadAs script (terminals_of tokens.now) (view_items items.items)) }
+    ensures read { IfOk result (λ items. IsReadAs script (map lexeme_of tokens.now) (view_items items.items)) }
     ensures fault { IfErr result (λ f. (f ≡ ScriptFault.OutOfMemory) ⊎ IsFaultOf script tokens.now end f) }
 {
     match all_items(alloc, tokens) {
@@ -83,7 +83,7 @@ pub fn parse(
 
 /// Parses all tokens as items.
 fn all_items(alloc: Global, tokens: &[Token<'_>]) -> Result<Vec<ScriptItem>, ReadError>
-    ensures read { IfOk result (λ items. IsReadAs script (terminals_of tokens.now) (view_items items.items)) }
+    ensures read { IfOk result (λ items. roles.IsReadAs script (terminals_of tokens.now) (view_items items.items)) }
     ensures fault { IfErr result (λ e. Fails e (fault (terminals_of tokens.now) (wanted.items ∷ []))) }
 {
     let mut cursor = Cursor::new(alloc, tokens);
@@ -100,7 +100,7 @@ pub fn parse_body(
     tokens: &[Token<'_>],
     end: usize,
 ) -> Result<RowOfCommands, ScriptFault>
-    ensures read { IfOk result (λ r. IsReadAs body (terminals_of tokens.now) (view_row r)) }
+    ensures read { IfOk result (λ r. IsReadAs body (map lexeme_of tokens.now) (view_row r)) }
     ensures fault { IfErr result (λ f. (f ≡ ScriptFault.OutOfMemory) ⊎ IsFaultOf body tokens.now end f) }
 {
     match whole_body(alloc, tokens) {
@@ -111,7 +111,7 @@ pub fn parse_body(
 
 /// Parses all tokens as the body of a routine.
 fn whole_body(alloc: Global, tokens: &[Token<'_>]) -> Result<RowOfCommands, ReadError>
-    ensures read { IfOk result (λ r. IsReadAs body (terminals_of tokens.now) (view_row r)) }
+    ensures read { IfOk result (λ r. roles.IsReadAs body (terminals_of tokens.now) (view_row r)) }
     ensures fault { IfErr result (λ e. Fails e (fault (terminals_of tokens.now) (first_stack body))) }
 {
     let mut cursor = Cursor::new(alloc, tokens);
@@ -130,7 +130,7 @@ pub fn parse_among(
     depth: u8,
 ) -> Result<Among, ScriptFault>
     requires { depth ≤ max_depth }
-    ensures read { IfOk result (λ a. IsReadAs (texts.among depth) (terminals_of tokens.now) (view_among a)) }
+    ensures read { IfOk result (λ a. IsReadAs (texts.among depth) (map lexeme_of tokens.now) (view_among a)) }
     ensures few { IfOk result (λ a. count_in_among (view_among a) ≤ length tokens.now) }
     ensures fault { IfErr result (λ f. (f ≡ ScriptFault.OutOfMemory) ⊎ IsFaultOf (texts.among depth) tokens.now end f) }
 {
@@ -143,7 +143,7 @@ pub fn parse_among(
 /// Parses all tokens as an among at nesting depth `depth`.
 fn whole_among(alloc: Global, tokens: &[Token<'_>], depth: u8) -> Result<Among, ReadError>
     requires { depth ≤ max_depth }
-    ensures read { IfOk result (λ a. IsReadAs (texts.among depth) (terminals_of tokens.now) (view_among a)) }
+    ensures read { IfOk result (λ a. roles.IsReadAs (texts.among depth) (terminals_of tokens.now) (view_among a)) }
     ensures fault { IfErr result (λ e. Fails e (fault (terminals_of tokens.now) (first_stack (texts.among depth)))) }
 {
     let mut cursor = Cursor::new(alloc, tokens);
@@ -164,7 +164,7 @@ pub fn parse_terms(
     tokens: &[Token<'_>],
     end: usize,
 ) -> Result<(Argument, Vec<Term>), ScriptFault>
-    ensures read { IfOk result (λ x. IsReadAs texts.terms (terminals_of tokens.now) (view_argument x.0, map view_term x.1.items)) }
+    ensures read { IfOk result (λ x. IsReadAs texts.terms (map lexeme_of tokens.now) (view_argument x.0, map view_term x.1.items)) }
     ensures fault { IfErr result (λ f. (f ≡ ScriptFault.OutOfMemory) ⊎ IsFaultOf texts.terms tokens.now end f) }
 {
     match whole_terms(alloc, tokens) {
@@ -175,7 +175,7 @@ pub fn parse_terms(
 
 /// Parses all tokens as the terms of a grouping.
 fn whole_terms(alloc: Global, tokens: &[Token<'_>]) -> Result<(Argument, Vec<Term>), ReadError>
-    ensures read { IfOk result (λ x. IsReadAs texts.terms (terminals_of tokens.now) (view_argument x.0, map view_term x.1.items)) }
+    ensures read { IfOk result (λ x. roles.IsReadAs texts.terms (terminals_of tokens.now) (view_argument x.0, map view_term x.1.items)) }
     ensures fault { IfErr result (λ e. Fails e (fault (terminals_of tokens.now) (first_stack texts.terms))) }
 {
     let mut cursor = Cursor::new(alloc, tokens);
@@ -187,15 +187,8 @@ fn whole_terms(alloc: Global, tokens: &[Token<'_>]) -> Result<(Argument, Vec<Ter
 /// Two trees with the same tokens are equal. The same holds for the trees of each text that replaces a part of a
 /// script.
 pub fn one_tree()
-    ensures script { (t u : List trees.Item) → script_tokens t ≡ script_tokens u → t ≡ u }
+    ensures script { (t u : List trees.Item) → lexemes_of t ≡ lexemes_of u → t ≡ u }
     ensures text { TreesAreOne }
-    ensures places { PlacesAreWritten }
-{}
-
-/// Each lexeme has one role in the grammar, and each role has one lexeme.
-pub fn one_part()
-    ensures there { (x : Lexeme) → lexeme_as (terminal_of x) ≡ x }
-    ensures back { (x : Terminal) → terminal_of (lexeme_as x) ≡ x }
 {}
 
 /// Tokens have at most one fault, at one position; the tokens of a tree that is nowhere too deep have none.

@@ -4,7 +4,7 @@ ghost use Rattle.std.specs.Prelude.{◌≡◌, ◌≤◌, ◌∷◌, [], string_
 ghost use Rattle.sbl_ast.specs.Terminal as t;
 ghost use Rattle.sbl_parser.specs.Steps as wanted;
 ghost use Rattle.sbl_ast.specs.Places.{max_depth};
-ghost use Rattle.sbl_ast.specs.Tree.{argument_terminal};
+ghost use Rattle.sbl_ast.specs.Spelled.{argument_terminal};
 ghost use Rattle.sbl_ast.specs.View.{view_argument};
 ghost use Rattle.sbl_parser.specs.Gives.{ahead, Reads};
 

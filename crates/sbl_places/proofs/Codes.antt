@@ -9,7 +9,7 @@ use Rattle.sbl_text.specs.declared.pieces.Shape.TheVariants as shape
 use Rattle.sbl_text.specs.declared.pieces.Expectation.{Expectation}
 use Rattle.sbl_text.specs.declared.pieces.Expectation.TheVariants as wanted
 use Rattle.sbl_text.specs.Classes.{is_white, quote, slash}
-use Rattle.sbl_text.specs.Codes.{code_of, max_hex_digits}
+use Rattle.sbl_text.specs.Codes.{code_of}
 use Rattle.sbl_text.specs.Directives.{Directives}
 use Rattle.sbl_text.specs.Escapes.{InForce, opens, find}
 use Rattle.sbl_text.specs.Literals.{Refusal, byte_length, code_or_fault, character_named, value_or_character, insertion_value, IsWrong}
@@ -22,7 +22,7 @@ use Rattle.sbl_resolver.specs.declared.occurrences.Site.{Site}
 use Rattle.sbl_resolver.specs.declared.occurrences.Use.{Use}
 use Rattle.sbl_resolver.specs.Occurrences.{Occurrence, Notice, declares, defines_routine, defines_grouping, uses, substring, among, string, backwards, region_end}
 use Rattle.sbl_resolver.specs.Checks as checks
-use Rattle.sbl_script.specs.Reading.{IsTextFault, IsUnread, place_of, terminals}
+use Rattle.sbl_script.specs.Reading.{IsTextFault, IsUnread, place_of, lexemes}
 use Rattle.sbl_places.specs.FaultPlaces.{is_of_token}
 
 -- ---- the faults of an occurrence
@@ -82,7 +82,7 @@ mild_code (Some c) = tt
 mild_named : (e : Option Inserts) (name : List ℕ) → Mild (character_named e name)
 mild_named e [] = λ n. refl
 mild_named e (c ∷ []) = mild_if (c == quote || opens e c) (Ok c) (Err fault.UnknownEscape) tt (λ n. refl)
-mild_named e (c ∷ d ∷ cs) = mild_if (c == 85 && d == 43) (code_or_fault (code_of 16 max_hex_digits cs)) (Err fault.UnknownEscape) (mild_code (code_of 16 max_hex_digits cs)) (λ n. refl)
+mild_named e (c ∷ d ∷ cs) = mild_if (c == 85 && d == 43) (code_or_fault (code_of 16 6 cs)) (Err fault.UnknownEscape) (mild_code (code_of 16 6 cs)) (λ n. refl)
 
 mild_value : (o : Option (List ℕ)) (r : Result ℕ Refusal) → Mild r → Mild (value_or_character o r)
 mild_value (Some v) r h = tt
@@ -140,7 +140,7 @@ not_of_text s bytes f (inr (inr (short, text, h))) = not_of_tokens s _ f h
 pub not_of_grammar : (w : Text) (ts : List PlacedToken) (end : ℕ) (f : ScriptFault) → IsUnread w ts end f → is_of_token f ≡ false
 not_of_grammar w ts end f (inl (place, first, same)) = ap is_of_token same
 not_of_grammar w ts end f (inr (offered, h)) = go h.is where
-  go : (IsSyntaxAt w (terminals ts) (terminals h.rest) × (f ≡ fault.Syntax (place_of end h.rest))) ⊎ (IsTooDeepAt w (terminals ts) (terminals h.rest) × (f ≡ fault.TooDeep (place_of end h.rest))) ⊎ (IsOutOfProfileAt w (terminals ts) (terminals h.rest) × (f ≡ fault.OutOfProfile (place_of end h.rest))) → is_of_token f ≡ false
+  go : (IsSyntaxAt w (lexemes ts) (lexemes h.rest) × (f ≡ fault.Syntax (place_of end h.rest))) ⊎ (IsTooDeepAt w (lexemes ts) (lexemes h.rest) × (f ≡ fault.TooDeep (place_of end h.rest))) ⊎ (IsOutOfProfileAt w (lexemes ts) (lexemes h.rest) × (f ≡ fault.OutOfProfile (place_of end h.rest))) → is_of_token f ≡ false
   go (inl a) = ap is_of_token a.1
   go (inr (inl a)) = ap is_of_token a.1
   go (inr (inr a)) = ap is_of_token a.1

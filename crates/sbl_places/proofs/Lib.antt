@@ -1,3 +1,4 @@
+pub mod Roles
 pub mod SubjectsAgree
 pub mod LastLines
 pub mod Firsts

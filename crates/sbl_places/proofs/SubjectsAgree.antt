@@ -7,16 +7,19 @@ use Rattle.sbl_ast.specs.declared.tree.Simple.{Simple}
 use Rattle.sbl_ast.specs.declared.tree.Simple.TheVariants as simples
 use Rattle.sbl_ast.specs.declared.tree.Prefix.{Prefix}
 use Rattle.sbl_ast.specs.declared.tree.Prefix.TheVariants as prefixes
-use Rattle.sbl_ast.specs.Terminal.{Terminal, QuotedText, terminal_of}
+use Rattle.sbl_ast.specs.Terminal.{Terminal, terminal_of}
+use Rattle.sbl_ast.specs.Tree.{QuotedText, Argument, written_out, by_name, Expression, expression, Sums, no_sums, sum, Product, product, Scales, no_scales, scale, Factor, negated, bracketed, numeral, variable, fixed, length_of, Entry, entry, Command, bracket, simple_, literal_, name_, non_, prefixed, counted, move_, named, splice_, setlimit_, assign_, compare_, compare_values_, among_, Rows, no_rows, row, Others, no_others, joined, Starter, no_starter, starter, Groups, bare, group, Term, term, Plain, declaration, escapes, macro, routine, grouping, Item, plain, backward}
 use Rattle.sbl_ast.specs.Terminal as t
-use Rattle.sbl_ast.specs.Tree.{Argument, written_out, by_name, Expression, expression, Sums, no_sums, sum, Product, product, Scales, no_scales, scale, Factor, negated, bracketed, numeral, variable, fixed, length_of, Entry, entry, Command, bracket, simple_, literal_, name_, non_, prefixed, counted, move_, named, splice_, setlimit_, assign_, compare_, compare_values_, among_, Rows, no_rows, row, Others, no_others, joined, Starter, no_starter, starter, Groups, bare, group, Term, term, Plain, declaration, escapes, macro, routine, grouping, Item, plain, backward, argument_terminal, spelled_expression, spelled_sums, spelled_product, spelled_scales, spelled_factor, spelled_entry, spelled_entries, spelled_command, spelled_rows, spelled_others, spelled_starter, spelled_groups, spelled_names, spelled_terms, spelled_plain, spelled_plains, spelled_items, script_tokens}
+use Rattle.sbl_ast.specs.Spelled.{argument_terminal, spelled_expression, spelled_sums, spelled_product, spelled_scales, spelled_factor, spelled_entry, spelled_entries, spelled_command, spelled_rows, spelled_others, spelled_starter, spelled_groups, spelled_names, spelled_terms, spelled_plain, spelled_plains, spelled_items, script_tokens}
 use Rattle.sbl_ast.specs.Order.{ItemInMode, in_mode, in_order}
 use Rattle.sbl_resolver.specs.declared.occurrences.Use.TheVariants as use_as
 use Rattle.sbl_resolver.specs.declared.occurrences.Site.{Site}
-use Rattle.sbl_resolver.specs.Occurrences.{Occurrence, Notice, put, uses, substring, among, string, backwards, region_end, declares, defines_routine, defines_grouping, amongs_in, noted_expression, noted_sums, noted_product, noted_scales, noted_factor, noted_simple, noted_prefix, site_behind, use_of, noted_entry, noted_entries, has_starter, is_empty, noted_command, noted_rows, noted_others, noted_starter, noted_groups, noted_terms, noted_plain, noted_items, occurrences_of, noted_name}
-use Rattle.sbl_resolver.specs.OccurrenceView.{noted_names}
+use Rattle.sbl_resolver.specs.Occurrences.{Occurrence, Notice, put, uses, substring, among, string, backwards, region_end, declares, defines_routine, defines_grouping, amongs_in, noted_expression, use_of, noted_entry, noted_entries, is_empty, noted_command, noted_rows, noted_others, noted_groups, noted_plain, noted_items, occurrences_of, noted_name}
+use Rattle.sbl_resolver.specs.OccurrenceView.{noted_names, walked_expression, noted_sums, noted_product, noted_scales, noted_factor, noted_simple, noted_prefix, site_behind, has_starter, noted_starter, noted_terms}
+use Rattle.sbl_resolver.proofs.Walked.{expression_is, prefixed_is, among_is}
 use Rattle.sbl_resolver.specs.Subjects.{Subject, subject_of, subjects_of, and_more}
-use Rattle.sbl_places.specs.SubjectTokens.{SubjectToken, subject_in, string_if, is_among, is_in_among, open_after, subject_tokens, subject_tokens_after, subjects}
+use Rattle.sbl_places.specs.SubjectTokens.{SubjectToken, string_if, is_in_among, subject_tokens, subject_tokens_after, subjects}
+use Rattle.sbl_places.proofs.Roles.{is_among, open_after, subject_in, same}
 use Rattle.sbl_places.specs.SubjectTokens as tokens
 
 -- ---- tokens without their places
@@ -32,8 +35,15 @@ same_subjects : (f : Bool) (o : List Bool) (ts : List PlacedToken) → subjects 
 same_subjects f o [] = refl
 same_subjects f o (u ∷ ts) =
     let x = terminal_of u.lexeme in
-    one (subject_in (is_in_among o) x) u (subject_tokens_after (is_among x) (open_after f x o) ts)
-    ∙ ap (and_more (subject_in (is_in_among o) x)) (same_subjects (is_among x) (open_after f x o) ts) where
+    let found = tokens.subject_in (is_in_among o) u.lexeme in
+    let follows = tokens.is_among u.lexeme in
+    let brackets = tokens.open_after f u.lexeme o in
+    let by_role = same u.lexeme in
+    one found u (subject_tokens_after follows brackets ts)
+    ∙ ap (and_more found) (same_subjects follows brackets ts)
+    ∙ ap (λ (y : Option Subject). and_more y (subjects_from follows brackets (terminals ts))) (by_role.0 (is_in_among o))
+    ∙ ap (λ (b : Bool). and_more (subject_in (is_in_among o) x) (subjects_from b brackets (terminals ts))) by_role.1
+    ∙ ap (λ (r : List Bool). and_more (subject_in (is_in_among o) x) (subjects_from (is_among x) r (terminals ts))) (by_role.2 f o) where
       one : (s : Option Subject) (v : PlacedToken) (more : List SubjectToken) → subjects (tokens.and_more s v more) ≡ and_more s (subjects more)
       one None v more = refl
       one (Some y) v more = refl
@@ -68,8 +78,8 @@ string_agree (written_out q) p s o rest h = quiet q s o rest h
 string_agree (by_name n) p s o rest h = one (uses use_as.String n) p s (at o rest)
 
 mutual
-  expression_agree : (e : Expression) (p : Site) (s : List Occurrence) (o : List Bool) (rest : List Terminal) → is_in_among o ≡ false → subjects_of (noted_expression e p s) ++ at o rest ≡ subjects_of s ++ at o (spelled_expression e rest)
-  expression_agree (expression x ss) p s o rest h = sums_agree ss p (noted_product x p s) o rest h ∙ product_agree x p s o (spelled_sums ss rest) h
+  walked_agree : (e : Expression) (p : Site) (s : List Occurrence) (o : List Bool) (rest : List Terminal) → is_in_among o ≡ false → subjects_of (walked_expression e p s) ++ at o rest ≡ subjects_of s ++ at o (spelled_expression e rest)
+  walked_agree (expression x ss) p s o rest h = sums_agree ss p (noted_product x p s) o rest h ∙ product_agree x p s o (spelled_sums ss rest) h
 
   sums_agree : (ss : Sums) (p : Site) (s : List Occurrence) (o : List Bool) (rest : List Terminal) → is_in_among o ≡ false → subjects_of (noted_sums ss p s) ++ at o rest ≡ subjects_of s ++ at o (spelled_sums ss rest)
   sums_agree no_sums p s o rest h = refl
@@ -84,11 +94,14 @@ mutual
 
   factor_agree : (f : Factor) (p : Site) (s : List Occurrence) (o : List Bool) (rest : List Terminal) → is_in_among o ≡ false → subjects_of (noted_factor f p s) ++ at o rest ≡ subjects_of s ++ at o (spelled_factor f rest)
   factor_agree (negated f) p s o rest h = factor_agree f p s o rest h
-  factor_agree (bracketed e) p s o rest h = expression_agree e p s (false ∷ o) (t.close_ ∷ rest) refl
+  factor_agree (bracketed e) p s o rest h = walked_agree e p s (false ∷ o) (t.close_ ∷ rest) refl
   factor_agree (numeral n) p s o rest h = refl
   factor_agree (variable n) p s o rest h = one (uses use_as.Integer n) p s (at o rest)
   factor_agree (fixed c) p s o rest h = refl
   factor_agree (length_of a) p s o rest h = string_agree a p s o rest h
+
+expression_agree : (e : Expression) (p : Site) (s : List Occurrence) (o : List Bool) (rest : List Terminal) → is_in_among o ≡ false → subjects_of (noted_expression e p s) ++ at o rest ≡ subjects_of s ++ at o (spelled_expression e rest)
+expression_agree e p s o rest h = ap (λ (l : List Occurrence). subjects_of l ++ at o rest) (expression_is e p s) ∙ walked_agree e p s o rest h
 
 -- ---- commands
 
@@ -132,7 +145,9 @@ mutual
   agree (name_ n) p s o rest h = one (uses use_as.Command n) p s (at o rest)
   agree (non_ true n) p s o rest h = one (uses use_as.Excluded n) p s (at o rest)
   agree (non_ false n) p s o rest h = one (uses use_as.Excluded n) p s (at o rest)
-  agree (prefixed x c) p s o rest h = agree c (site_behind x p) (noted_prefix x p s) o rest h ∙ prefix_agree x p s o (spelled_command c rest)
+  agree (prefixed x c) p s o rest h =
+      ap (λ (l : List Occurrence). subjects_of l ++ at o rest) (prefixed_is x c p s)
+      ∙ agree c (site_behind x p) (noted_prefix x p s) o rest h ∙ prefix_agree x p s o (spelled_command c rest)
   agree (counted n e c) p s o rest h = agree c p (noted_expression e p s) o rest h ∙ expression_agree e p s o (spelled_command c rest) h
   agree (move_ m e) p s o rest h = expression_agree e p s o rest h
   agree (named x n) p s o rest h = one (uses (use_of x) n) p s (at o rest)
@@ -147,7 +162,8 @@ mutual
       ∙ expression_agree e p s (false ∷ o) (t.compares d ∷ spelled_expression f (t.close_ ∷ rest)) refl
   agree (among_ x gs) p s o rest h =
       let n = among (has_starter x) (is_empty gs) in
-      groups_agree gs (amongs_in s 0 + 1) p (noted_starter x p (put n p s)) o (t.close_ ∷ rest)
+      ap (λ (l : List Occurrence). subjects_of l ++ at o rest) (among_is x gs p s)
+      ∙ groups_agree gs (amongs_in s 0 + 1) p (noted_starter x p (put n p s)) o (t.close_ ∷ rest)
       ∙ starter_agree x p (put n p s) o (spelled_groups gs (t.close_ ∷ rest))
       ∙ one n p s (at (true ∷ o) (spelled_starter x (spelled_groups gs (t.close_ ∷ rest))))
 

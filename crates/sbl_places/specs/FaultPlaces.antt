@@ -10,7 +10,7 @@ use Rattle.sbl_ast.specs.Texts.{script}
 use Rattle.sbl_parser.specs.Reading.{IsReadAs}
 use Rattle.sbl_resolver.specs.Occurrences.{occurrences_of}
 use Rattle.sbl_resolver.specs.Subjects.{subjects_of, IsFirstAfter}
-use Rattle.sbl_script.specs.Reading.{HasTokens, IsFaultOf, first_left_out, terminals}
+use Rattle.sbl_script.specs.Reading.{HasTokens, IsFaultOf, first_left_out, lexemes}
 use Rattle.sbl_places.specs.SubjectTokens.{SubjectToken, subject_tokens, subjects}
 use Rattle.sbl_places.specs.declared.fault_places.FaultPlace.{FaultPlace}
 
@@ -18,7 +18,7 @@ use Rattle.sbl_places.specs.declared.fault_places.FaultPlace.{FaultPlace}
 
 -- what the checks look at in a tree are, one for one and in order, the subject tokens of the text that is read as it
 abbrev pub SubjectsAreTokens : Type 0
-SubjectsAreTokens = (ts : List PlacedToken) (items : List Item) → IsReadAs script (terminals ts) items → subjects (subject_tokens ts) ≡ subjects_of (occurrences_of items)
+SubjectsAreTokens = (ts : List PlacedToken) (items : List Item) → IsReadAs script (lexemes ts) items → subjects (subject_tokens ts) ≡ subjects_of (occurrences_of items)
 
 -- ---- the token of a fault
 
@@ -29,7 +29,7 @@ pub record IsFaultAt (bytes : List ℕ) (f : ScriptFault) (t : SubjectToken) : T
   pub tokens : HasTokens start bytes placed
   pub offered : first_left_out placed ≡ None
   pub items : List Item
-  pub tree : IsReadAs script (terminals placed) items
+  pub tree : IsReadAs script (lexemes placed) items
   pub number : ℕ
   pub first : IsFirstAfter (occurrences_of items) number f
   pub token : slice_get (subject_tokens placed) number ≡ Some t

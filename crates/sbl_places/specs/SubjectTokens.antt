@@ -1,16 +1,16 @@
 -- The tokens of a text that the checks look at.
 use Rattle.std.specs.Prelude.{Bool, true, false, List, [], ◌∷◌, map, Option, Some, None, ℕ}
 use Rattle.sbl_text.specs.Tokens.{PlacedToken}
-use Rattle.sbl_ast.specs.declared.tree.Simple.TheVariants as simples
-use Rattle.sbl_ast.specs.declared.tree.Prefix.TheVariants as prefixes
-use Rattle.sbl_ast.specs.Terminal.{Terminal, terminal_of}
-use Rattle.sbl_ast.specs.Terminal as t
+use Rattle.sbl_token.specs.Lexemes.{Lexeme, word, sign, literal}
+use Rattle.sbl_token.specs.Lexemes as lexemes
+use Rattle.sbl_token.specs.declared.words.Word.TheVariants as words
+use Rattle.sbl_token.specs.declared.signs.Sign.TheVariants as signs
 use Rattle.sbl_resolver.specs.Subjects.{Subject, name, string, substring, among, backwards}
 
 -- ---- which parentheses are those of an among
 
-abbrev pub is_among : Terminal → Bool
-is_among t.among = true
+abbrev pub is_among : Lexeme → Bool
+is_among (word words.Among) = true
 is_among _ = false
 
 abbrev pub without_first : List Bool → List Bool
@@ -19,9 +19,9 @@ without_first (b ∷ bs) = bs
 
 -- The parentheses that are open after a token, the innermost first: true for those of an among. Parentheses are an
 -- among's if the word `among` is right before them.
-abbrev pub open_after : Bool → Terminal → List Bool → List Bool
-open_after follows_among t.open_ brackets = follows_among ∷ brackets
-open_after follows_among t.close_ brackets = without_first brackets
+abbrev pub open_after : Bool → Lexeme → List Bool → List Bool
+open_after follows_among (sign signs.Open) brackets = follows_among ∷ brackets
+open_after follows_among (sign signs.Close) brackets = without_first brackets
 open_after follows_among _ brackets = brackets
 
 -- the innermost open parentheses are those of an among
@@ -37,12 +37,12 @@ string_if true characters = Some (string characters)
 
 -- What a token is to the checks: each name, each `substring`, `among` and `backwards`, and each literal that is right in
 -- the parentheses of an among. They do not look at any other token.
-abbrev pub subject_in : Bool → Terminal → Option Subject
-subject_in in_among (t.name n) = Some (name n)
-subject_in in_among (t.simple simples.Substring) = Some substring
-subject_in in_among t.among = Some among
-subject_in in_among (t.prefix prefixes.Backwards) = Some backwards
-subject_in in_among (t.literal q) = string_if in_among q.value
+abbrev pub subject_in : Bool → Lexeme → Option Subject
+subject_in in_among (lexemes.name n) = Some (name n)
+subject_in in_among (word words.Substring) = Some substring
+subject_in in_among (word words.Among) = Some among
+subject_in in_among (word words.Backwards) = Some backwards
+subject_in in_among (literal spelling characters) = string_if in_among characters
 subject_in in_among _ = None
 
 -- a token that the checks look at, and what it is to them
@@ -58,8 +58,7 @@ and_more (Some x) t more = record { subject = x; token = t } ∷ more
 abbrev pub subject_tokens_after : Bool → List Bool → List PlacedToken → List SubjectToken
 subject_tokens_after follows_among brackets [] = []
 subject_tokens_after follows_among brackets (t ∷ ts) =
-    let x = terminal_of t.lexeme in
-    and_more (subject_in (is_in_among brackets) x) t (subject_tokens_after (is_among x) (open_after follows_among x brackets) ts)
+    and_more (subject_in (is_in_among brackets) t.lexeme) t (subject_tokens_after (is_among t.lexeme) (open_after follows_among t.lexeme brackets) ts)
 
 -- the tokens that the checks look at in a text with these tokens, in order
 abbrev pub subject_tokens : List PlacedToken → List SubjectToken

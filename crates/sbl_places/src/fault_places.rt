@@ -7,7 +7,7 @@ ghost use Rattle.sbl_ast.specs.Tree as trees;
 ghost use Rattle.sbl_ast.specs.{Texts.script, View.view_items};
 ghost use Rattle.sbl_parser.specs.Reading.{IsReadAs};
 ghost use Rattle.sbl_script.specs.Reading as spec;
-ghost use Rattle.sbl_script.specs.Reading.{HasTokens, max_script, terminals};
+ghost use Rattle.sbl_script.specs.Reading.{HasTokens, max_script, lexemes};
 ghost use Rattle.sbl_places.specs.FaultPlaces as places;
 ghost use Rattle.sbl_places.specs.FaultPlaces.{HasNoFaultAt, IsOffset, IsPlaceIn, IsTokenOffset};
 
@@ -76,7 +76,7 @@ fn tree_of(
     tokens: &[Token<'_>],
     end: usize,
 ) -> Result<Option<Vec<ScriptItem>>, AllocError>
-    ensures { IfOk result (λ o. MatchOption o ((items : List trees.Item) → spec.first_left_out (map placed_of tokens.now) ≡ None → IsReadAs script (terminals (map placed_of tokens.now)) items → ⊥) (λ items. (spec.first_left_out (map placed_of tokens.now) ≡ None) × IsReadAs script (terminals (map placed_of tokens.now)) (view_items items.items))) }
+    ensures { IfOk result (λ o. MatchOption o ((items : List trees.Item) → spec.first_left_out (map placed_of tokens.now) ≡ None → IsReadAs script (lexemes (map placed_of tokens.now)) items → ⊥) (λ items. (spec.first_left_out (map placed_of tokens.now) ≡ None) × IsReadAs script (lexemes (map placed_of tokens.now)) (view_items items.items))) }
 {
     one_fault();
     if let Some(_place) = first_left_out(tokens) {

@@ -3,7 +3,7 @@
 ghost use Rattle.std.specs.Prelude.{◌≡◌, [], Bool, map, is_some, IfOk, OnOk, false};
 ghost use Rattle.sbl_token.specs.Lexemes.{lexeme_of};
 ghost use Rattle.sbl_text.specs.Tokens.{placed_of};
-ghost use Rattle.sbl_ast.specs.Terminal.{terminal_of, word_terminal};
+ghost use Rattle.sbl_token.specs.Lexemes as lexemes;
 ghost use Rattle.sbl_places.specs.SubjectTokens as spec;
 ghost use Rattle.sbl_places.specs.Walks as walk;
 
@@ -20,7 +20,7 @@ pub struct Brackets {
 
 /// Returns whether the token is the word `among`.
 fn is_among(token: &Token<'_>) -> bool
-    ensures { result ≡ spec.is_among (terminal_of (lexeme_of token.now)) }
+    ensures { result ≡ spec.is_among (lexeme_of token.now) }
 {
     match token.kind {
         Kind::Word(word) => is_among_word(word),
@@ -29,14 +29,14 @@ fn is_among(token: &Token<'_>) -> bool
 }
 
 fn is_among_word(word: Word) -> bool
-    ensures { result ≡ spec.is_among (word_terminal word) }
+    ensures { result ≡ spec.is_among (lexemes.word word) }
 {
     matches!(word, Word::Among)
 }
 
 /// Returns whether the checks look at the token, given whether it is right in the parentheses of an among.
 fn is_subject(in_among: bool, token: &Token<'_>) -> bool
-    ensures { result ≡ is_some (spec.subject_in in_among (terminal_of (lexeme_of token.now))) }
+    ensures { result ≡ is_some (spec.subject_in in_among (lexeme_of token.now)) }
 {
     match token.kind {
         Kind::Name => true,
@@ -47,7 +47,7 @@ fn is_subject(in_among: bool, token: &Token<'_>) -> bool
 }
 
 fn is_subject_word(word: Word) -> bool
-    ensures { (in_among : Bool) → result ≡ is_some (spec.subject_in in_among (word_terminal word)) }
+    ensures { (in_among : Bool) → result ≡ is_some (spec.subject_in in_among (lexemes.word word)) }
 {
     matches!(word, Word::Substring | Word::Among | Word::Backwards)
 }
@@ -76,8 +76,8 @@ impl Brackets {
 
     /// Goes past a token. Returns `AllocError` if an allocation fails.
     fn pass(&mut self, token: &Token<'_>) -> Result<(), AllocError>
-        ensures open { OnOk result (walk.open_in self.new ≡ spec.open_after self.old.follows_among (terminal_of (lexeme_of token.now)) (walk.open_in self.old)) }
-        ensures follows { OnOk result (self.new.follows_among ≡ spec.is_among (terminal_of (lexeme_of token.now))) }
+        ensures open { OnOk result (walk.open_in self.new ≡ spec.open_after self.old.follows_among (lexeme_of token.now) (walk.open_in self.old)) }
+        ensures follows { OnOk result (self.new.follows_among ≡ spec.is_among (lexeme_of token.now)) }
     {
         match token.kind {
             Kind::Sign(Sign::Open) => self.open.push(self.follows_among)?,

@@ -1,5 +1,3 @@
 pub mod Adding
-pub mod Spelled
 pub mod Spaced
-pub mod Roles
 pub mod Placed

@@ -1,15 +1,18 @@
 -- The tokens of a tree at their depths are its tokens as they are written one after another.
-use Rattle.std.proofs.Common.{◌≡◌, ℕ, ◌+◌, true, false, List, [], ◌∷◌, ◌++◌, Option, Some, None, refl, sym, ap, ◌∙◌}
+use Rattle.std.proofs.Common.{◌≡◌, ℕ, ◌+◌, true, false, List, [], ◌∷◌, ◌++◌, map, Option, Some, None, refl, sym, ap, ◌∙◌}
 use Rattle.std.specs.List.{join_by}
 use Rattle.sbl_ast.specs.declared.tree.Base.{Base}
 use Rattle.sbl_ast.specs.declared.tree.Additive.TheVariants as additives
-use Rattle.sbl_ast.specs.Terminal.{Terminal}
+use Rattle.sbl_text.specs.SpacedTokens.{lexeme_text}
+use Rattle.sbl_ast.specs.Terminal.{Terminal, lexeme_as}
 use Rattle.sbl_ast.specs.Terminal as t
-use Rattle.sbl_ast.specs.Tree.{Expression, expression, Sums, no_sums, sum, Product, product, Scales, no_scales, scale, Factor, negated, bracketed, numeral, variable, fixed, length_of, Entry, entry, Command, bracket, simple_, literal_, name_, non_, prefixed, counted, move_, named, splice_, setlimit_, assign_, compare_, compare_values_, among_, Rows, no_rows, row, Others, no_others, joined, Starter, no_starter, starter, Groups, bare, group, Term, term, Plain, declaration, escapes, macro, routine, grouping, argument_terminal, spelled_expression, spelled_sums, spelled_product, spelled_scales, spelled_factor, spelled_entry, spelled_entries, spelled_command, spelled_rows, spelled_others, spelled_starter, spelled_groups, spelled_names, spelled_base, spelled_terms, spelled_plain}
-use Rattle.sbl_ast.specs.Places.{AtDepth, placed_expression, placed_sums, placed_product, placed_scales, placed_factor, placed_entry, placed_entries, placed_command, placed_rows, placed_others, placed_starter, placed_groups, placed_names, placed_base, placed_terms, placed_plain, tokens}
+use Rattle.sbl_ast.specs.Tree.{Expression, expression, Sums, no_sums, sum, Product, product, Scales, no_scales, scale, Factor, negated, bracketed, numeral, variable, fixed, length_of, Entry, entry, Command, bracket, simple_, literal_, name_, non_, prefixed, counted, move_, named, splice_, setlimit_, assign_, compare_, compare_values_, among_, Rows, no_rows, row, Others, no_others, joined, Starter, no_starter, starter, Groups, bare, group, Term, term, Plain, declaration, escapes, macro, routine, grouping}
+use Rattle.sbl_ast.specs.Spelled.{argument_terminal, spelled_expression, spelled_sums, spelled_product, spelled_scales, spelled_factor, spelled_entry, spelled_entries, spelled_command, spelled_rows, spelled_others, spelled_starter, spelled_groups, spelled_names, spelled_base, spelled_terms, spelled_plain}
+use Rattle.sbl_ast.specs.TerminalPlaces.{AtDepth, placed_expression, placed_sums, placed_product, placed_scales, placed_factor, placed_entry, placed_entries, placed_command, placed_rows, placed_others, placed_starter, placed_groups, placed_names, placed_base, placed_terms, placed_plain, tokens}
+use Rattle.sbl_ast.specs.Places as places
+use Rattle.sbl_ast.proofs.Lexed.{lexed, plain_lexed, tokens_lexed}
 use Rattle.sbl_print.specs.Adding.{token_text, Begins, BeginsLine}
 use Rattle.sbl_print.specs.Canonical.{space}
-use Rattle.sbl_print.proofs.Roles.{joined_is}
 
 abbrev Ts : Type 0
 Ts = List Terminal
@@ -96,16 +99,25 @@ terms_tokens : (xs : List Term) (ps : List AtDepth) → tokens (placed_terms xs 
 terms_tokens [] ps = refl
 terms_tokens (term o a ∷ xs) ps = cons (t.additive o) (cons (argument_terminal a) (terms_tokens xs ps))
 
-pub plain_tokens : (p : Plain) (ps : List AtDepth) → tokens (placed_plain p ps) ≡ spelled_plain p (tokens ps)
+plain_tokens : (p : Plain) (ps : List AtDepth) → tokens (placed_plain p ps) ≡ spelled_plain p (tokens ps)
 plain_tokens (declaration k ns) ps = cons (t.declares k) (cons t.open_ (names_tokens ns _))
 plain_tokens (escapes a b) ps = refl
 plain_tokens (macro n b q) ps = cons t.string_def (cons (t.macro_name n) (base_tokens b _))
 plain_tokens (routine n c os) ps = cons t.define (cons (t.name n) (cons t.as_ (tree_tokens c 1 _ ∙ ap (λ (r : Ts). spelled_command c r) (others_tokens os 1 ps))))
 plain_tokens (grouping n a xs) ps = cons t.define (cons (t.name n) (cons (argument_terminal a) (terms_tokens xs ps)))
 
+-- ---- the lexemes
+
+joined_lexed : (ts : Ts) → join_by token_text space ts ≡ join_by lexeme_text space (map lexeme_as ts)
+joined_lexed [] = refl
+joined_lexed (x ∷ []) = refl
+joined_lexed (x ∷ y ∷ ts) = ap (λ (b : List ℕ). token_text x ++ (space ++ b)) (joined_lexed (y ∷ ts))
+
+plain_lexemes : (p : Plain) → places.tokens (places.placed_plain p []) ≡ map lexeme_as (spelled_plain p [])
+plain_lexemes p =
+    let same : places.placed_plain p [] ≡ lexed (placed_plain p []) = plain_lexed p [] refl in
+    ap places.tokens same ∙ tokens_lexed (placed_plain p []) ∙ ap (map lexeme_as) (plain_tokens p [])
+
 -- a line that begins with the tokens of an item as written begins with its tokens
-pub begins_placed : (old new : List ℕ) (p : Plain) → Begins old new (spelled_plain p []) → BeginsLine old new (tokens (placed_plain p []))
-begins_placed old new p h =
-    h
-    ∙ ap (λ (ts : Ts). old ++ join_by token_text space ts) (sym (plain_tokens p []))
-    ∙ ap (λ (b : List ℕ). old ++ b) (joined_is (tokens (placed_plain p [])))
+pub begins_placed : (old new : List ℕ) (p : Plain) → Begins old new (spelled_plain p []) → BeginsLine old new (places.tokens (places.placed_plain p []))
+begins_placed old new p h = h ∙ ap (λ (b : List ℕ). old ++ b) (joined_lexed (spelled_plain p []) ∙ ap (join_by lexeme_text space) (sym (plain_lexemes p)))

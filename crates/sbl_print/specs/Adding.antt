@@ -1,12 +1,12 @@
 -- What is appended to a line that has a token.
 use Rattle.std.specs.Prelude.{◌≡◌, ℕ, List, ◌++◌}
 use Rattle.std.specs.List.{flat_map, join_by}
+use Rattle.sbl_token.specs.Lexemes.{Lexeme}
 use Rattle.sbl_text.specs.SpacedTokens.{lexeme_text}
 use Rattle.sbl_ast.specs.Terminal.{Terminal, lexeme_as}
 use Rattle.sbl_print.specs.Canonical.{space}
-use Rattle.sbl_print.specs.Roles.{role_text}
 
--- the text of the lexeme that the table of roles names
+-- the text of a token with this role
 abbrev pub token_text : Terminal → List ℕ
 token_text x = lexeme_text (lexeme_as x)
 
@@ -22,6 +22,6 @@ Adds old new f = (rest : List Terminal) → new ++ more rest ≡ old ++ more (f 
 abbrev pub Begins : List ℕ → List ℕ → List Terminal → Type 0
 Begins old new ts = new ≡ old ++ join_by token_text space ts
 
--- the same, by roles
-abbrev pub BeginsLine : List ℕ → List ℕ → List Terminal → Type 0
-BeginsLine old new ts = new ≡ old ++ join_by role_text space ts
+-- the same, without roles
+abbrev pub BeginsLine : List ℕ → List ℕ → List Lexeme → Type 0
+BeginsLine old new ls = new ≡ old ++ join_by lexeme_text space ls

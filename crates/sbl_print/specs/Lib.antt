@@ -1,5 +1,4 @@
 -- definitions that public contracts depend on
-pub mod Roles
 pub mod Canonical
 pub mod SpacedItems
 -- what the functions inside the crate promise each other; no public contract depends on these

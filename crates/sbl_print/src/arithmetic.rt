@@ -1,7 +1,7 @@
 //! Prints arithmetic expressions.
 
 ghost use Rattle.std.specs.Prelude.{OnOk, string_bytes};
-ghost use Rattle.sbl_ast.specs.Tree.{spelled_expression, spelled_factor, spelled_product, spelled_scales, spelled_sums};
+ghost use Rattle.sbl_ast.specs.Spelled.{spelled_expression, spelled_factor, spelled_product, spelled_scales, spelled_sums};
 ghost use Rattle.sbl_ast.specs.View.{view_expression, view_factor, view_product, view_scales, view_sums};
 ghost use Rattle.sbl_print.specs.Adding.{Adds};
 

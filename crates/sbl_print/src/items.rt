@@ -4,7 +4,7 @@ ghost use Rattle.std.specs.Prelude.{◌≡◌, ◌++◌, ◌∷◌, [], IfOk, On
 ghost use Rattle.std.specs.List.{flat_map};
 ghost use Rattle.sbl_ast.specs.Terminal as t;
 ghost use Rattle.sbl_ast.specs.Places.{placed_plain, tokens};
-ghost use Rattle.sbl_ast.specs.Tree.{spelled_base, spelled_names, spelled_terms};
+ghost use Rattle.sbl_ast.specs.Spelled.{spelled_base, spelled_names, spelled_terms};
 ghost use Rattle.sbl_ast.specs.Tree as trees;
 ghost use Rattle.sbl_ast.specs.View.{view_argument, view_item, view_items, view_literal, view_plain, view_row, view_term};
 ghost use Rattle.sbl_print.specs.Canonical.{canonical, item_text, plain_text};
@@ -147,7 +147,6 @@ fn put_plains(alloc: Global, out: &mut String, plains: &Vec<Plain>) -> Result<()
 }
 
 /// Appends the lines of an item. Returns `AllocError` if an allocation fails.
-#[tactic(auto, unfolding(crate::specs::Roles::role_text))]
 fn put_item(alloc: Global, out: &mut String, item: &ScriptItem) -> Result<(), AllocError>
     ensures { OnOk result (string_bytes out.new ≡ string_bytes out.old ++ item_text (view_item item.now)) }
 {

@@ -4,7 +4,7 @@ ghost use Rattle.std.specs.Prelude.{◌≡◌, ◌∷◌, OnOk, string_bytes};
 ghost use Rattle.sbl_ast.specs.Terminal as t;
 ghost use Rattle.sbl_ast.specs.Terminal.{Terminal, lexeme_as};
 ghost use Rattle.sbl_token.specs.Lexemes as lexemes;
-ghost use Rattle.sbl_ast.specs.Tree.{argument_terminal};
+ghost use Rattle.sbl_ast.specs.Spelled.{argument_terminal};
 ghost use Rattle.sbl_ast.specs.View.{view_argument, view_literal};
 ghost use Rattle.sbl_print.specs.Adding.{Adds, token_text};
 

@@ -1,5 +1,5 @@
 -- Marks are only added.
-use Rattle.std.proofs.Common.{◌≡◌, ℕ, List, [], ◌∷◌, ◌++◌, Option, Some, None, refl, sym, ap, ◌∙◌, append_assoc, append-nil, ◌+◌}
+use Rattle.std.proofs.Common.{◌≡◌, ℕ, List, [], ◌∷◌, ◌++◌, Option, Some, None, refl, sym, ap, subst, ◌∙◌, append_assoc, append-nil, ◌+◌}
 use Rattle.sbl_ast.specs.declared.tree.DeclarationKind.{DeclarationKind}
 use Rattle.sbl_ast.specs.declared.tree.Simple.{Simple}
 use Rattle.sbl_ast.specs.declared.tree.Simple.TheVariants as simples
@@ -8,8 +8,9 @@ use Rattle.sbl_ast.specs.declared.tree.Prefix.TheVariants as prefixes
 use Rattle.sbl_ast.specs.Tree.{Argument, written_out, by_name, Expression, expression, Sums, no_sums, sum, Product, product, Scales, no_scales, scale, Factor, negated, bracketed, numeral, variable, fixed, length_of, Entry, entry, Command, bracket, simple_, literal_, name_, non_, prefixed, counted, move_, named, splice_, setlimit_, assign_, compare_, compare_values_, among_, Rows, no_rows, row, Others, no_others, joined, Starter, no_starter, starter, Groups, bare, group, Term, term, Plain, declaration, escapes, macro, routine, grouping}
 use Rattle.sbl_resolver.specs.declared.occurrences.Use.TheVariants as use_as
 use Rattle.sbl_resolver.specs.declared.occurrences.Site.{Site}
-use Rattle.sbl_resolver.specs.Occurrences.{Occurrence, Notice, put, uses, substring, among, string, backwards, region_end, declares, defines_routine, defines_grouping, amongs_in, noted_expression, noted_sums, noted_product, noted_scales, noted_factor, noted_simple, noted_prefix, site_behind, use_of, noted_condition, noted_entry, noted_entries, has_starter, is_empty, noted_command, noted_rows, noted_others, noted_starter, noted_groups, noted_terms, noted_plain, noted_items, noted_name}
-use Rattle.sbl_resolver.specs.OccurrenceView.{noted_names}
+use Rattle.sbl_resolver.specs.Occurrences.{Occurrence, Notice, put, uses, substring, among, string, backwards, region_end, declares, defines_routine, defines_grouping, amongs_in, noted_expression, use_of, noted_entry, noted_entries, is_empty, noted_command, noted_rows, noted_others, noted_groups, noted_plain, noted_items, noted_name}
+use Rattle.sbl_resolver.specs.OccurrenceView.{noted_names, walked_expression, noted_sums, noted_product, noted_scales, noted_factor, noted_simple, noted_prefix, site_behind, noted_condition, has_starter, noted_starter, noted_terms}
+use Rattle.sbl_resolver.proofs.Walked.{expression_is, prefixed_is, among_is}
 use Rattle.sbl_ast.specs.Order.{ItemInMode}
 
 -- the second list is the first, and then more
@@ -31,8 +32,8 @@ string_more (written_out q) p s = same s
 string_more (by_name n) p s = put_more (uses use_as.String n) p s
 
 mutual
-  pub expression_more : (e : Expression) (p : Site) (s : List Occurrence) → Extends s (noted_expression e p s)
-  expression_more (expression x ss) p s = then_ (product_more x p s) (sums_more ss p (noted_product x p s))
+  walked_more : (e : Expression) (p : Site) (s : List Occurrence) → Extends s (walked_expression e p s)
+  walked_more (expression x ss) p s = then_ (product_more x p s) (sums_more ss p (noted_product x p s))
 
   sums_more : (ss : Sums) (p : Site) (s : List Occurrence) → Extends s (noted_sums ss p s)
   sums_more no_sums p s = same s
@@ -47,11 +48,14 @@ mutual
 
   factor_more : (f : Factor) (p : Site) (s : List Occurrence) → Extends s (noted_factor f p s)
   factor_more (negated f) p s = factor_more f p s
-  factor_more (bracketed e) p s = expression_more e p s
+  factor_more (bracketed e) p s = walked_more e p s
   factor_more (numeral n) p s = same s
   factor_more (variable n) p s = put_more (uses use_as.Integer n) p s
   factor_more (fixed c) p s = same s
   factor_more (length_of a) p s = string_more a p s
+
+pub expression_more : (e : Expression) (p : Site) (s : List Occurrence) → Extends s (noted_expression e p s)
+expression_more e p s = subst (Extends s) (sym (expression_is e p s)) (walked_more e p s)
 
 simple_more : (x : Simple) (p : Site) (s : List Occurrence) → Extends s (noted_simple x p s)
 simple_more simples.Substring p s = put_more substring p s
@@ -93,7 +97,7 @@ mutual
   command_more (literal_ q) p s = same s
   command_more (name_ n) p s = put_more (uses use_as.Command n) p s
   command_more (non_ m n) p s = put_more (uses use_as.Excluded n) p s
-  command_more (prefixed x c) p s = then_ (prefix_more x p s) (command_more c (site_behind x p) (noted_prefix x p s))
+  command_more (prefixed x c) p s = subst (Extends s) (sym (prefixed_is x c p s)) (then_ (prefix_more x p s) (command_more c (site_behind x p) (noted_prefix x p s)))
   command_more (counted n e c) p s = then_ (expression_more e p s) (command_more c p (noted_expression e p s))
   command_more (move_ m e) p s = expression_more e p s
   command_more (named x n) p s = put_more (uses (use_of x) n) p s
@@ -104,7 +108,7 @@ mutual
   command_more (compare_values_ e o f) p s = then_ (expression_more e p s) (expression_more f p (noted_expression e p s))
   command_more (among_ x gs) p s =
       let occurrence = among (has_starter x) (is_empty gs) in
-      then_ (put_more occurrence p s) (then_ (starter_more x p (put occurrence p s)) (groups_more gs (amongs_in s 0 + 1) p (noted_starter x p (put occurrence p s))))
+      subst (Extends s) (sym (among_is x gs p s)) (then_ (put_more occurrence p s) (then_ (starter_more x p (put occurrence p s)) (groups_more gs (amongs_in s 0 + 1) p (noted_starter x p (put occurrence p s)))))
 
   pub rows_more : (rs : Rows) (p : Site) (s : List Occurrence) → Extends s (noted_rows rs p s)
   rows_more no_rows p s = same s

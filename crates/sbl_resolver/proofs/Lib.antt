@@ -3,6 +3,7 @@ pub mod Counted
 pub mod Keeping
 pub mod Turns
 pub mod FirstFault
+pub mod Walked
 pub mod Extends
 pub mod Sound
 pub mod Resolving

@@ -13,7 +13,9 @@ use Rattle.sbl_ast.specs.Order.{ItemInMode, in_mode, in_order}
 use Rattle.sbl_ast.specs.declared.mode.Mode.{Mode}
 use Rattle.sbl_ast.specs.declared.mode.Mode.TheVariants.{Backward}
 use Rattle.sbl_resolver.specs.declared.occurrences.Site.{Site}
-use Rattle.sbl_resolver.specs.Occurrences.{Occurrence, put, among, string, region_end, defines_routine, amongs_in, noted_expression, noted_prefix, site_behind, noted_condition, noted_entry, noted_entries, has_starter, is_empty, noted_command, noted_rows, noted_others, noted_starter, noted_groups, noted_plain, noted_items, occurrences_of}
+use Rattle.sbl_resolver.specs.Occurrences.{Occurrence, put, among, string, region_end, defines_routine, amongs_in, noted_expression, noted_entry, noted_entries, is_empty, noted_command, noted_rows, noted_others, noted_groups, noted_plain, noted_items, occurrences_of}
+use Rattle.sbl_resolver.specs.OccurrenceView.{noted_prefix, site_behind, noted_condition, has_starter, noted_starter, noted_among}
+use Rattle.sbl_resolver.proofs.Walked.{prefixed_is, among_is}
 use Rattle.sbl_resolver.specs.Checks.{fault_at, has_text, is_text_of, is_awaited}
 use Rattle.sbl_resolver.specs.Laws.{EachPasses}
 use Rattle.sbl_resolver.specs.Amongs.{text_of, texts_of, IsSound, EachAmong, EachAmongOfRows, EachAmongOfOthers, EachAmongOfStarter, EachAmongOfGroups, EachAmongOfPlain, EachAmongOfPlains, EachAmongOfItems, AmongsAreSound}
@@ -133,7 +135,7 @@ none_differ : IsDistinct bytes_eq []
 unfolding IsDistinct
 none_differ = tt
 
-sound : (all : List Occurrence) (x : Starter) (gs : Groups) (p : Site) (s : List Occurrence) → Passing all → Extends (noted_command (among_ x gs) p s) all → IsSound gs
+sound : (all : List Occurrence) (x : Starter) (gs : Groups) (p : Site) (s : List Occurrence) → Passing all → Extends (noted_among x gs p s) all → IsSound gs
 sound all x gs p s passing e =
     let occurrence = among (has_starter x) (is_empty gs) in
     let a = put occurrence p s in
@@ -156,7 +158,7 @@ mutual
   each_command all (literal_ q) p s passing e = tt
   each_command all (name_ n) p s passing e = tt
   each_command all (non_ m n) p s passing e = tt
-  each_command all (prefixed x c) p s passing e = each_command all c (site_behind x p) (noted_prefix x p s) passing e
+  each_command all (prefixed x c) p s passing e = each_command all c (site_behind x p) (noted_prefix x p s) passing (subst (λ (r : List Occurrence). Extends r all) (prefixed_is x c p s) e)
   each_command all (counted n k c) p s passing e = each_command all c p (noted_expression k p s) passing e
   each_command all (move_ m k) p s passing e = tt
   each_command all (named x n) p s passing e = tt
@@ -168,7 +170,8 @@ mutual
   each_command all (among_ x gs) p s passing e =
       let a = put (among (has_starter x) (is_empty gs)) p s in
       let b = noted_starter x p a in
-      (sound all x gs p s passing e, each_starter all x p a passing (then_ (groups_more gs (amongs_in s 0 + 1) p b) e), each_group all gs (amongs_in s 0 + 1) p b passing e)
+      let h = subst (λ (r : List Occurrence). Extends r all) (among_is x gs p s) e in
+      (sound all x gs p s passing h, each_starter all x p a passing (then_ (groups_more gs (amongs_in s 0 + 1) p b) h), each_group all gs (amongs_in s 0 + 1) p b passing h)
 
   each_rows : (all : List Occurrence) (rs : Rows) (p : Site) (s : List Occurrence) → Passing all → Extends (noted_rows rs p s) all → EachAmongOfRows IsSound rs
   each_rows all no_rows p s passing e = tt

@@ -1,8 +1,8 @@
 -- The checks of a script beyond its grammar. Each check looks at one occurrence, at those before and after it, and at
 -- all of them.
 use Rattle.std.specs.Prelude.{◌≡◌, ℕ, Bool, true, false, not, ◌&&◌, ◌||◌, List, [], ◌∷◌, ◌++◌, Option, Some, None, is_some, nat_eq, nat_lt, if◌then◌else◌}
-use Rattle.std.specs.Option.{option_or}
-use Rattle.std.specs.List.{list_any}
+use Rattle.std.specs.Option.{option_or, option_map_or}
+use Rattle.std.specs.List.{fold, list_any}
 use Rattle.std.specs.Str.{bytes_eq}
 use denote.Enum.Bare.{sameb}
 use Rattle.sbl_text.specs.declared.fault.ScriptFault.{ScriptFault}
@@ -46,11 +46,6 @@ definition_of n (m ∷ ms) = option_or (defined_at n m) (definition_of n ms)
 
 -- ---- kinds, sites and modes
 
--- there is a value, and it passes the test
-abbrev pub is_some_and : {X : Type 0} → (X → Bool) → Option X → Bool
-is_some_and test None = false
-is_some_and test (Some x) = test x
-
 abbrev pub is_kind : DeclarationKind → DeclarationKind → Bool
 is_kind = sameb declaration_kind.the_type
 
@@ -73,17 +68,9 @@ may_be use_as.Boolean k = is_kind k kinds.Booleans
 may_be use_as.Integer k = is_kind k kinds.Integers
 may_be use_as.String k = is_kind k kinds.Strings
 
--- a name of this kind needs a definition
-abbrev pub needs_definition : DeclarationKind → Bool
-needs_definition k = is_routine k || is_grouping k
-
 -- there is a definition in an earlier item
 abbrev pub is_earlier : ℕ → Option Site → Bool
-is_earlier item = is_some_and (λ p. nat_lt p.item item)
-
--- there is a definition in the other mode
-abbrev pub is_in_other : Mode → Option Site → Bool
-is_in_other m = is_some_and (λ p. not (is_mode m p.mode))
+is_earlier item site = option_map_or (λ p. nat_lt p.item item) site false
 
 -- ---- the checks
 
@@ -92,23 +79,23 @@ is_in_other m = is_some_and (λ p. not (is_mode m p.mode))
 abbrev pub fault_of_definition : ℕ → (DeclarationKind → Bool) → Option DeclarationKind → Option Site → Option ScriptFault
 fault_of_definition item is_allowed kind site =
     if not (is_some kind) then Some (fault.Undeclared item) else
-    if not (is_some_and is_allowed kind) then Some (fault.WrongKind item) else
+    if not (option_map_or is_allowed kind false) then Some (fault.WrongKind item) else
     if is_earlier item site then Some (fault.DefinedTwice item) else
     None
 
 -- a routine or grouping without a definition; for a term of a grouping: without a definition in an earlier item
 abbrev pub lacks_definition : Use → ℕ → Option DeclarationKind → Option Site → Bool
 lacks_definition use_as.Term item kind site = not (is_earlier item site)
-lacks_definition _ item kind site = is_some_and needs_definition kind && not (is_some site)
+lacks_definition _ item kind site = option_map_or (λ k. is_routine k || is_grouping k) kind false && not (is_some site)
 
 -- the fault of the use of a name, given its kind and its first definition: the name was not declared before, or as a
 -- kind that is not allowed there, or it lacks a definition, or it is a routine that is defined in the other mode
 abbrev pub fault_of_use : Site → Use → Option DeclarationKind → Option Site → Option ScriptFault
 fault_of_use p u kind site =
     if not (is_some kind) then Some (fault.Undeclared p.item) else
-    if not (is_some_and (may_be u) kind) then Some (fault.WrongKind p.item) else
+    if not (option_map_or (may_be u) kind false) then Some (fault.WrongKind p.item) else
     if lacks_definition u p.item kind site then Some (fault.Undefined p.item) else
-    if is_some_and is_routine kind && is_in_other p.mode site then Some (fault.WrongMode p.item) else
+    if option_map_or is_routine kind false && option_map_or (λ q. not (is_mode p.mode q.mode)) site false then Some (fault.WrongMode p.item) else
     None
 
 -- the first among, substring or end of a region in these occurrences is an among of this mode
@@ -130,21 +117,11 @@ waits_after _ waits = waits
 
 -- after these occurrences a substring is still without its among
 abbrev pub is_awaited : List Occurrence → Bool → Bool
-is_awaited [] waits = waits
-is_awaited (m ∷ ms) waits = is_awaited ms (waits_after m.notice waits)
+is_awaited ms waits = fold (λ w m. waits_after m.notice w) waits ms
 
--- these characters are a string of the among of this number
-abbrev pub is_text : ℕ → List ℕ → Notice → Bool
-is_text k text (string o t) = nat_eq k o && bytes_eq text t
-is_text k text _ = false
-
--- the occurrence is such a string in this item
+-- the occurrence is a string with these characters, in the among of this number of this item
 abbrev pub is_text_of : ℕ → ℕ → List ℕ → Occurrence → Bool
-is_text_of item k text m = is_text k text m.notice && nat_eq item m.site.item
-
--- some occurrence is such a string
-abbrev pub has_text : ℕ → ℕ → List ℕ → List Occurrence → Bool
-has_text item k text ms = list_any (is_text_of item k text) ms
+is_text_of item k text m = elim m.notice [ string o t ↦ (nat_eq k o && bytes_eq text t) && nat_eq item m.site.item | _ ↦ false ]
 
 -- the fault of an occurrence; if it has several, the one that is tried first here
 abbrev pub fault_at : List Occurrence → List Occurrence → Occurrence → List Occurrence → Option ScriptFault
@@ -162,7 +139,7 @@ fault_at all before m after = elim m.notice [
       if is_empty then Some (fault.EmptyAmong m.site.item) else
       None
   -- an earlier string of the same among has the same characters
-  | string k text ↦ if has_text m.site.item k text before then Some (fault.RepeatedString m.site.item) else None
+  | string k text ↦ if list_any (is_text_of m.site.item k text) before then Some (fault.RepeatedString m.site.item) else None
   -- in backward mode
   | backwards ↦ if is_mode Backward m.site.mode then Some (fault.NestedBackwards m.site.item) else None
   | region_end ↦ None
@@ -173,16 +150,40 @@ abbrev pub fault_behind : List Occurrence → List Occurrence → List Occurrenc
 fault_behind all before [] = None
 fault_behind all before (m ∷ after) = option_or (fault_at all before m after) (fault_behind all (before ++ m ∷ []) after)
 
--- the name is declared in `externals` and defined in forward mode
-abbrev pub has_external : List Item → List ℕ → List Occurrence → Bool
-has_external items external all = is_some_and (is_kind kinds.Externals) (kind_of external all) && is_some (body_in external items)
-
--- the first fault of a script with this external; that it has no such external comes last
+-- The first fault of a script with this external. Last comes that the name is not declared in `externals`, or not
+-- defined in forward mode.
 abbrev pub fault_of : List Item → List ℕ → Option ScriptFault
 fault_of items external =
     let all = occurrences_of items in
-    option_or (fault_behind all [] all) (if has_external items external all then None else Some fault.NoExternal)
+    let has_external = option_map_or (is_kind kinds.Externals) (kind_of external all) false && is_some (body_in external items) in
+    option_or (fault_behind all [] all) (if has_external then None else Some fault.NoExternal)
 
 -- no check fails
 abbrev pub WellDeclared : List Item → List ℕ → Type 0
 WellDeclared items external = fault_of items external ≡ None
+
+-- ---- names for parts of these definitions, which only laws and proofs use
+
+-- there is a value, and it passes the test
+abbrev pub is_some_and : {X : Type 0} → (X → Bool) → Option X → Bool
+is_some_and test o = option_map_or test o false
+
+-- a name of this kind needs a definition
+abbrev pub needs_definition : DeclarationKind → Bool
+needs_definition k = is_routine k || is_grouping k
+
+-- there is a definition in the other mode
+abbrev pub is_in_other : Mode → Option Site → Bool
+is_in_other m site = option_map_or (λ p. not (is_mode m p.mode)) site false
+
+abbrev pub is_text : ℕ → List ℕ → Notice → Bool
+is_text k text (string o t) = nat_eq k o && bytes_eq text t
+is_text k text _ = false
+
+-- some occurrence is a string of this among of this item
+abbrev pub has_text : ℕ → ℕ → List ℕ → List Occurrence → Bool
+has_text item k text ms = list_any (is_text_of item k text) ms
+
+-- the name is declared in `externals` and defined in forward mode
+abbrev pub has_external : List Item → List ℕ → List Occurrence → Bool
+has_external items external all = option_map_or (is_kind kinds.Externals) (kind_of external all) false && is_some (body_in external items)

@@ -1,14 +1,16 @@
 -- What the checks look at: the occurrences of a script, in text order.
-use Rattle.std.specs.Prelude.{ℕ, ◌+◌, Bool, true, false, List, [], ◌∷◌, ◌++◌, Option, Some, None}
+use Rattle.std.specs.Prelude.{ℕ, ◌+◌, Bool, true, false, List, [], ◌∷◌, ◌++◌, Option}
 use Rattle.std.specs.List.{fold}
+use Rattle.std.specs.Option.{option_map_or}
 use Rattle.sbl_ast.specs.declared.tree.DeclarationKind.{DeclarationKind}
-use Rattle.sbl_ast.specs.declared.tree.Simple.{Simple}
 use Rattle.sbl_ast.specs.declared.tree.Simple.TheVariants as simples
-use Rattle.sbl_ast.specs.declared.tree.Prefix.{Prefix}
 use Rattle.sbl_ast.specs.declared.tree.Prefix.TheVariants as prefixes
 use Rattle.sbl_ast.specs.declared.tree.Naming.{Naming}
 use Rattle.sbl_ast.specs.declared.tree.Naming.TheVariants as namings
-use Rattle.sbl_ast.specs.Tree.{Argument, written_out, by_name, Expression, expression, Sums, no_sums, sum, Product, product, Scales, no_scales, scale, Factor, negated, bracketed, numeral, variable, fixed, length_of, Entry, entry, Command, bracket, simple_, literal_, name_, non_, prefixed, counted, move_, named, splice_, setlimit_, assign_, compare_, compare_values_, among_, Rows, no_rows, row, Others, no_others, joined, Starter, no_starter, starter, Groups, bare, group, Term, term, Plain, declaration, escapes, macro, routine, grouping, Item}
+use Rattle.sbl_ast.specs.Terminal.{Terminal}
+use Rattle.sbl_ast.specs.Terminal as t
+use Rattle.sbl_ast.specs.Places.{placed_expression, tokens}
+use Rattle.sbl_ast.specs.Tree.{Argument, written_out, by_name, Expression, Entry, entry, Command, bracket, simple_, literal_, name_, non_, prefixed, counted, move_, named, splice_, setlimit_, assign_, compare_, compare_values_, among_, Rows, no_rows, row, Others, no_others, joined, Starter, no_starter, starter, Groups, bare, group, Term, term, Plain, declaration, escapes, macro, routine, grouping, Item}
 use Rattle.sbl_ast.specs.Order.{ItemInMode, in_order}
 use Rattle.sbl_ast.specs.declared.mode.Mode.TheVariants.{Backward}
 use Rattle.sbl_resolver.specs.declared.occurrences.Use.{Use}
@@ -45,8 +47,7 @@ amongs_after _ k = k
 
 -- the number of amongs in the last routine of these occurrences; if there is no routine, k plus all amongs
 abbrev pub amongs_in : List Occurrence → ℕ → ℕ
-amongs_in [] k = k
-amongs_in (m ∷ ms) k = amongs_in ms (amongs_after m.notice k)
+amongs_in ms k = fold (λ j m. amongs_after m.notice j) k ms
 
 -- ---- names of strings and integers
 
@@ -55,43 +56,17 @@ abbrev pub noted_name : Use → Argument → Site → List Occurrence → List O
 noted_name u (written_out q) p sofar = sofar
 noted_name u (by_name n) p sofar = put (uses u n) p sofar
 
-abbrev mutual
-  pub noted_expression : Expression → Site → List Occurrence → List Occurrence
-  noted_expression (expression x ss) p sofar = noted_sums ss p (noted_product x p sofar)
+-- the names among these tokens of an expression, in text order: an integer each, but a string after `lenof`
+abbrev pub noted_tokens : List Terminal → Site → List Occurrence → List Occurrence
+noted_tokens [] p sofar = sofar
+noted_tokens (t.len_of ∷ t.name n ∷ ts) p sofar = noted_tokens ts p (put (uses use_as.String n) p sofar)
+noted_tokens (t.name n ∷ ts) p sofar = noted_tokens ts p (put (uses use_as.Integer n) p sofar)
+noted_tokens (_ ∷ ts) p sofar = noted_tokens ts p sofar
 
-  pub noted_sums : Sums → Site → List Occurrence → List Occurrence
-  noted_sums no_sums p sofar = sofar
-  noted_sums (sum o x ss) p sofar = noted_sums ss p (noted_product x p sofar)
-
-  pub noted_product : Product → Site → List Occurrence → List Occurrence
-  noted_product (product f ss) p sofar = noted_scales ss p (noted_factor f p sofar)
-
-  pub noted_scales : Scales → Site → List Occurrence → List Occurrence
-  noted_scales no_scales p sofar = sofar
-  noted_scales (scale o f ss) p sofar = noted_scales ss p (noted_factor f p sofar)
-
-  pub noted_factor : Factor → Site → List Occurrence → List Occurrence
-  noted_factor (negated f) p sofar = noted_factor f p sofar
-  noted_factor (bracketed e) p sofar = noted_expression e p sofar
-  noted_factor (numeral n) p sofar = sofar
-  noted_factor (variable n) p sofar = put (uses use_as.Integer n) p sofar
-  noted_factor (fixed c) p sofar = sofar
-  noted_factor (length_of a) p sofar = noted_name use_as.String a p sofar
+abbrev pub noted_expression : Expression → Site → List Occurrence → List Occurrence
+noted_expression e p sofar = noted_tokens (tokens (placed_expression e 0 [])) p sofar
 
 -- ---- commands
-
-abbrev pub noted_simple : Simple → Site → List Occurrence → List Occurrence
-noted_simple simples.Substring p sofar = put substring p sofar
-noted_simple _ p sofar = sofar
-
-abbrev pub noted_prefix : Prefix → Site → List Occurrence → List Occurrence
-noted_prefix prefixes.Backwards p sofar = put backwards p sofar
-noted_prefix _ p sofar = sofar
-
--- the site of a command after a prefix
-abbrev pub site_behind : Prefix → Site → Site
-site_behind prefixes.Backwards p = record { item = p.item; mode = Backward }
-site_behind _ p = p
 
 abbrev pub use_of : Naming → Use
 use_of namings.SetMark = use_as.Integer
@@ -99,20 +74,12 @@ use_of namings.Set = use_as.Boolean
 use_of namings.Unset = use_as.Boolean
 use_of namings.Arrow = use_as.String
 
-abbrev pub noted_condition : Option (List ℕ) → Site → List Occurrence → List Occurrence
-noted_condition None p sofar = sofar
-noted_condition (Some n) p sofar = put (uses use_as.Condition n) p sofar
-
--- a string of the among of this number
+-- a string of the among of this number, and its condition
 abbrev pub noted_entry : Entry → ℕ → Site → List Occurrence → List Occurrence
-noted_entry (entry q c) k p sofar = noted_condition c p (put (string k q.value) p sofar)
+noted_entry (entry q c) k p sofar = let s = put (string k q.value) p sofar in option_map_or (λ n. put (uses use_as.Condition n) p s) c s
 
 abbrev pub noted_entries : List Entry → ℕ → Site → List Occurrence → List Occurrence
 noted_entries es k p sofar = fold (λ s e. noted_entry e k p s) sofar es
-
-abbrev pub has_starter : Starter → Bool
-has_starter no_starter = false
-has_starter (starter rs) = true
 
 abbrev pub is_empty : Groups → Bool
 is_empty (bare []) = true
@@ -121,11 +88,13 @@ is_empty _ = false
 abbrev mutual
   pub noted_command : Command → Site → List Occurrence → List Occurrence
   noted_command (bracket rs) p sofar = noted_rows rs p sofar
-  noted_command (simple_ s) p sofar = noted_simple s p sofar
+  noted_command (simple_ simples.Substring) p sofar = put substring p sofar
+  noted_command (simple_ s) p sofar = sofar
   noted_command (literal_ q) p sofar = sofar
   noted_command (name_ n) p sofar = put (uses use_as.Command n) p sofar
   noted_command (non_ with_minus n) p sofar = put (uses use_as.Excluded n) p sofar
-  noted_command (prefixed x c) p sofar = noted_command c (site_behind x p) (noted_prefix x p sofar)
+  noted_command (prefixed prefixes.Backwards c) p sofar = noted_command c (record { item = p.item; mode = Backward }) (put backwards p sofar)
+  noted_command (prefixed x c) p sofar = noted_command c p sofar
   noted_command (counted n e c) p sofar = noted_command c p (noted_expression e p sofar)
   noted_command (move_ m e) p sofar = noted_expression e p sofar
   noted_command (named x n) p sofar = put (uses (use_of x) n) p sofar
@@ -134,7 +103,8 @@ abbrev mutual
   noted_command (assign_ n o e) p sofar = noted_expression e p (put (uses use_as.Integer n) p sofar)
   noted_command (compare_ n o e) p sofar = noted_expression e p (put (uses use_as.Integer n) p sofar)
   noted_command (compare_values_ e o f) p sofar = noted_expression f p (noted_expression e p sofar)
-  noted_command (among_ s gs) p sofar = noted_groups gs (amongs_in sofar 0 + 1) p (noted_starter s p (put (among (has_starter s) (is_empty gs)) p sofar))
+  noted_command (among_ no_starter gs) p sofar = noted_groups gs (amongs_in sofar 0 + 1) p (put (among false (is_empty gs)) p sofar)
+  noted_command (among_ (starter rs) gs) p sofar = noted_groups gs (amongs_in sofar 0 + 1) p (put region_end p (noted_rows rs p (put (among true (is_empty gs)) p sofar)))
 
   pub noted_rows : Rows → Site → List Occurrence → List Occurrence
   noted_rows no_rows p sofar = sofar
@@ -144,26 +114,19 @@ abbrev mutual
   noted_others no_others p sofar = sofar
   noted_others (joined j c os) p sofar = noted_others os p (noted_command c p sofar)
 
-  pub noted_starter : Starter → Site → List Occurrence → List Occurrence
-  noted_starter no_starter p sofar = sofar
-  noted_starter (starter rs) p sofar = put region_end p (noted_rows rs p sofar)
-
   pub noted_groups : Groups → ℕ → Site → List Occurrence → List Occurrence
   noted_groups (bare es) k p sofar = noted_entries es k p sofar
   noted_groups (group e es rs gs) k p sofar = noted_groups gs k p (put region_end p (noted_rows rs p (noted_entries es k p (noted_entry e k p sofar))))
 
 -- ---- items
 
-abbrev pub noted_terms : List Term → Site → List Occurrence → List Occurrence
-noted_terms [] p sofar = sofar
-noted_terms (term o a ∷ ts) p sofar = noted_terms ts p (noted_name use_as.Term a p sofar)
-
 abbrev pub noted_plain : Plain → Site → List Occurrence → List Occurrence
 noted_plain (declaration k ns) p sofar = fold (λ s n. put (declares k n) p s) sofar ns
 noted_plain (escapes a b) p sofar = sofar
 noted_plain (macro n b q) p sofar = sofar
 noted_plain (routine n c os) p sofar = put region_end p (noted_others os p (noted_command c p (put (defines_routine n) p sofar)))
-noted_plain (grouping n a ts) p sofar = noted_terms ts p (noted_name use_as.Term a p (put (defines_grouping n) p sofar))
+noted_plain (grouping n a ts) p sofar =
+    fold (λ s x. elim x [ term o b ↦ noted_name use_as.Term b p s ]) (noted_name use_as.Term a p (put (defines_grouping n) p sofar)) ts
 
 -- the occurrences of these items; n is the number of the first one
 abbrev pub noted_items : List ItemInMode → ℕ → List Occurrence → List Occurrence

@@ -5,6 +5,7 @@ ghost use Rattle.sbl_ast.specs.View.{view_argument, view_expression, view_factor
 ghost use Rattle.sbl_ast.specs.Order.{view_in_mode};
 ghost use Rattle.sbl_ast.specs.Tree as trees;
 ghost use Rattle.sbl_resolver.specs.Occurrences as spec;
+ghost use Rattle.sbl_resolver.specs.OccurrenceView as walk;
 ghost use Rattle.sbl_resolver.specs.OccurrenceView.{Adds, noted_names, view_occurrences};
 
 use crate::occurrences::{Notice, Occurrence, Site, Use};
@@ -28,7 +29,7 @@ macro_rules! each {
 
 /// Returns the site of a command after a prefix.
 fn site_behind(prefix: Prefix, site: Site) -> Site
-    ensures { result ≡ spec.site_behind prefix site }
+    ensures { result ≡ walk.site_behind prefix site }
 {
     match prefix {
         Prefix::Backwards => Site {
@@ -50,7 +51,7 @@ fn use_of(naming: Naming) -> Use
 }
 
 fn has_starter(among: &Among) -> bool
-    ensures { result ≡ spec.has_starter (view_among among.now).0 }
+    ensures { result ≡ walk.has_starter (view_among among.now).0 }
 {
     among.starter.is_some()
 }
@@ -80,9 +81,16 @@ impl<'a> SoFar<'a> {
     }
 
     /// Appends the occurrences of an arithmetic expression.
-    #[cycle(arithmetic)]
     fn note_expression(&mut self, expression: &'a Expression, site: Site) -> Result<(), AllocError>
         ensures { OnOk result (Adds self.old self.new (spec.noted_expression (view_expression expression.now) site)) }
+    {
+        self.walk_expression(expression, site)?;
+        Ok(())
+    }
+
+    #[cycle(arithmetic)]
+    fn walk_expression(&mut self, expression: &'a Expression, site: Site) -> Result<(), AllocError>
+        ensures { OnOk result (Adds self.old self.new (walk.walked_expression (view_expression expression.now) site)) }
     {
         self.note_product(&expression.first, site)?;
         self.note_sums(&expression.others, site)
@@ -90,7 +98,7 @@ impl<'a> SoFar<'a> {
 
     #[cycle(arithmetic)]
     fn note_product(&mut self, product: &'a Product, site: Site) -> Result<(), AllocError>
-        ensures { OnOk result (Adds self.old self.new (spec.noted_product (view_product product.now) site)) }
+        ensures { OnOk result (Adds self.old self.new (walk.noted_product (view_product product.now) site)) }
     {
         self.note_factor(&product.first, site)?;
         self.note_scales(&product.others, site)
@@ -98,11 +106,11 @@ impl<'a> SoFar<'a> {
 
     #[cycle(arithmetic)]
     fn note_factor(&mut self, factor: &'a Factor, site: Site) -> Result<(), AllocError>
-        ensures { OnOk result (Adds self.old self.new (spec.noted_factor (view_factor factor.now) site)) }
+        ensures { OnOk result (Adds self.old self.new (walk.noted_factor (view_factor factor.now) site)) }
     {
         match factor {
             Factor::Minus(inner) => self.note_factor(inner, site),
-            Factor::Bracket(inner) => self.note_expression(inner, site),
+            Factor::Bracket(inner) => self.walk_expression(inner, site),
             Factor::Name(name) => self.put(Notice::Uses(Use::Integer, name.as_str()), site),
             Factor::LenOf(string) => self.note_name(Use::String, string, site),
             Factor::Number(_) | Factor::Constant(_) => Ok(()),
@@ -111,14 +119,14 @@ impl<'a> SoFar<'a> {
 
     #[cycle(arithmetic)]
     fn note_sums(&mut self, others: &'a Vec<NextProduct>, site: Site) -> Result<(), AllocError>
-        ensures { OnOk result (Adds self.old self.new (spec.noted_sums (view_sums others.now.items) site)) }
+        ensures { OnOk result (Adds self.old self.new (walk.noted_sums (view_sums others.now.items) site)) }
     {
         each!(others, added => self.note_product(&added.product, site))
     }
 
     #[cycle(arithmetic)]
     fn note_scales(&mut self, others: &'a Vec<NextFactor>, site: Site) -> Result<(), AllocError>
-        ensures { OnOk result (Adds self.old self.new (spec.noted_scales (view_scales others.now.items) site)) }
+        ensures { OnOk result (Adds self.old self.new (walk.noted_scales (view_scales others.now.items) site)) }
     {
         each!(others, scaled => self.note_factor(&scaled.factor, site))
     }
@@ -145,7 +153,7 @@ impl<'a> SoFar<'a> {
     }
 
     fn note_simple(&mut self, simple: Simple, site: Site) -> Result<(), AllocError>
-        ensures { OnOk result (Adds self.old self.new (spec.noted_simple simple site)) }
+        ensures { OnOk result (Adds self.old self.new (walk.noted_simple simple site)) }
     {
         match simple {
             Simple::Substring => self.put(Notice::Substring, site),
@@ -154,7 +162,7 @@ impl<'a> SoFar<'a> {
     }
 
     fn note_prefix(&mut self, prefix: Prefix, site: Site) -> Result<(), AllocError>
-        ensures { OnOk result (Adds self.old self.new (spec.noted_prefix prefix site)) }
+        ensures { OnOk result (Adds self.old self.new (walk.noted_prefix prefix site)) }
     {
         match prefix {
             Prefix::Backwards => self.put(Notice::Backwards, site),
@@ -230,7 +238,7 @@ impl<'a> SoFar<'a> {
     /// Appends the occurrences of an among, of its starter, and then of each string and group.
     #[cycle(commands)]
     fn note_among(&mut self, among: &'a Among, site: Site) -> Result<(), AllocError>
-        ensures { OnOk result (Adds self.old self.new (spec.noted_command (trees.among_ (view_among among.now).0 (view_among among.now).1) site)) }
+        ensures { OnOk result (Adds self.old self.new (walk.noted_among (view_among among.now).0 (view_among among.now).1 site)) }
     {
         let number = self.next_among();
         let notice = Notice::Among {
@@ -277,7 +285,7 @@ impl<'a> SoFar<'a> {
     }
 
     fn note_terms(&mut self, terms: &'a Vec<Term>, site: Site) -> Result<(), AllocError>
-        ensures { OnOk result (Adds self.old self.new (spec.noted_terms (map view_term terms.now.items) site)) }
+        ensures { OnOk result (Adds self.old self.new (walk.noted_terms (map view_term terms.now.items) site)) }
     {
         each!(terms, term => self.note_name(Use::Term, &term.argument, site))
     }

@@ -1,30 +1,25 @@
 -- Two scripts with one canonical text have the same items.
-use Rattle.std.proofs.Common.{◌≡◌, ℕ, List, [], ◌∷◌, map, refl, sym, ap, subst, ◌∙◌}
+use Rattle.std.proofs.Common.{◌≡◌, ℕ, List, ap, subst, ◌∙◌}
 use Rattle.std.specs.Str.{chars}
 use Rattle.sbl_text.specs.Directives.{start}
 use Rattle.sbl_text.specs.Laws.{TokensAreOne}
 use Rattle.sbl_text.specs.SpacedTokens.{after_all, AreSaid}
 use Rattle.sbl_text.specs.Tokens.{AreTokensFrom, MayEnd}
-use Rattle.sbl_ast.specs.Terminal.{Terminal, lexeme_as, terminal_of}
-use Rattle.sbl_ast.specs.Tree.{Item, lexemes_of, script_tokens}
+use Rattle.sbl_ast.specs.Tree.{Item}
+use Rattle.sbl_ast.specs.Places.{lexemes_of}
 use Rattle.sbl_print.specs.Canonical.{canonical}
 use Rattle.sbl_ast.specs.Source.{Source}
 use Rattle.sbl_script.proofs.Printed.{Known, tokens_back}
-
-terminals_back : ((x : Terminal) → terminal_of (lexeme_as x) ≡ x) → (us : List Terminal) → map terminal_of (map lexeme_as us) ≡ us
-terminals_back back [] = refl
-terminals_back back (u ∷ us) = ap (λ (x : Terminal). x ∷ map terminal_of (map lexeme_as us)) (back u) ∙ ap (λ (xs : List Terminal). u ∷ xs) (terminals_back back us)
 
 -- what is known of the tokens of items
 pub record Says (items : List Item) : Type 0 where
   pub said : AreSaid start (lexemes_of items)
   pub ends : MayEnd (after_all start (lexemes_of items))
 
-pub items_are_one : Known → TokensAreOne → ((t u : List Item) → script_tokens t ≡ script_tokens u → t ≡ u) → (a b : List Item) → Says a → Says b → canonical a ≡ canonical b → a ≡ b
+pub items_are_one : Known → TokensAreOne → ((t u : List Item) → lexemes_of t ≡ lexemes_of u → t ≡ u) → (a b : List Item) → Says a → Says b → canonical a ≡ canonical b → a ≡ b
 items_are_one k one tree a b x y same =
     let read = subst (λ (text : List ℕ). AreTokensFrom start (chars text) (lexemes_of a)) same (tokens_back k a x.said x.ends) in
-    let are = one start (chars (canonical b)) (lexemes_of a) (lexemes_of b) read (tokens_back k b y.said y.ends) in
-    tree a b (sym (terminals_back k.back (script_tokens a)) ∙ ap (map terminal_of) are ∙ terminals_back k.back (script_tokens b))
+    tree a b (one start (chars (canonical b)) (lexemes_of a) (lexemes_of b) read (tokens_back k b y.said y.ends))
 
 pub sources_same : (a b : Source) → a.items ≡ b.items → a.external ≡ b.external → a ≡ b
 sources_same a b is es =

@@ -16,11 +16,11 @@ use Rattle.sbl_script.specs.declared.edit_fault.ScriptEditFault.TheVariants as e
 use Rattle.sbl_script.specs.declared.edits.DefinitionKind.TheVariants as kinds
 use Rattle.sbl_ast.specs.Source.{Source}
 use Rattle.sbl_resolver.specs.Checks.{WellDeclared, fault_of}
-use Rattle.sbl_script.specs.Reading.{HasTokens, IsTextFault, IsUnread, first_left_out, max_script, terminals}
+use Rattle.sbl_script.specs.Reading.{HasTokens, IsTextFault, IsUnread, first_left_out, max_script, lexemes}
 use Rattle.sbl_script.specs.Refusals.{Refuses}
-use Rattle.sbl_script.specs.Edits.{ScriptEdit, body, among, terms, Home, IsEditFault, IsSubstituted, defines, first_of, home, home_in}
-use Rattle.sbl_script.specs.Homes.{home_of_among, IsFaultAt, home_of_body, home_of_held, home_of_terms}
-use Rattle.sbl_script.proofs.AmongDepths.{home_same}
+use Rattle.sbl_script.specs.Edits.{ScriptEdit, body, among, terms, defines, text_for, IsEditFault}
+use Rattle.sbl_script.specs.Homes.{Home, IsSubstitutedAt, first_passing, home, home_in, home_of_among, IsFaultAt, home_of_body, home_of_held, home_of_terms}
+use Rattle.sbl_script.proofs.Agreement.{fault_out, missing_in}
 
 pub tokens_there : (e f : InForce) (text bytes : List ℕ) (ts : List PlacedToken) → e ≡ f → text ≡ bytes → length bytes ≤ max_script → IsUtf8 bytes → ArePlacedFrom (start_under e) (chars text) ts → HasTokens (start_under f) bytes ts
 tokens_there e f text bytes ts same is short utf8 cut = record {
@@ -31,37 +31,28 @@ tokens_there e f text bytes ts same is short utf8 cut = record {
 
 -- ---- the home
 
-pub no_routine : (items : List Item) (n : List ℕ) → first_of (defines kinds.Routine n) items ≡ None → home items (body n) ≡ Err edits.NoRoutine
-no_routine items n is = ap (λ (o : Option Plain). home_in items o (body n)) is
-
-pub no_routine_for_among : (items : List Item) (n : List ℕ) (k : ℕ) → first_of (defines kinds.Routine n) items ≡ None → home items (among n k) ≡ Err edits.NoRoutine
-no_routine_for_among items n k is = ap (λ (o : Option Plain). home_in items o (among n k)) is
-
-pub no_grouping : (items : List Item) (n : List ℕ) → first_of (defines kinds.Grouping n) items ≡ None → home items (terms n) ≡ Err edits.NoGrouping
-no_grouping items n is = ap (λ (o : Option Plain). home_in items o (terms n)) is
-
-pub body_home : (items : List Item) (n : List ℕ) (b : RowView) → first_of (defines kinds.Routine n) items ≡ Some (routine n b.0 b.1) → home items (body n) ≡ Ok (home_of_body items n)
+pub body_home : (items : List Item) (n : List ℕ) (b : RowView) → first_passing (defines kinds.Routine n) items ≡ Some (routine n b.0 b.1) → home items (body n) ≡ Ok (home_of_body items n)
 body_home items n b is = ap (λ (o : Option Plain). home_in items o (body n)) is
 
-pub no_among : (items : List Item) (n : List ℕ) (k : ℕ) (b : RowView) → first_of (defines kinds.Routine n) items ≡ Some (routine n b.0 b.1) → nth_held k (amongs_of_body b) ≡ None → home items (among n k) ≡ Err edits.NoAmong
-no_among items n k b is none = ap (λ (o : Option Plain). home_in items o (among n k)) is ∙ home_same items n b k ∙ ap (home_of_held items n b k) none
+pub no_among : (items : List Item) (n : List ℕ) (k : ℕ) (b : RowView) → first_passing (defines kinds.Routine n) items ≡ Some (routine n b.0 b.1) → nth_held k (amongs_of_body b) ≡ None → home items (among n k) ≡ Err edits.NoAmong
+no_among items n k b is none = ap (λ (o : Option Plain). home_in items o (among n k)) is ∙ ap (home_of_held items n b k) none
 
-pub among_home : (items : List Item) (n : List ℕ) (k : ℕ) (b : RowView) (h : AmongContents) → first_of (defines kinds.Routine n) items ≡ Some (routine n b.0 b.1) → nth_held k (amongs_of_body b) ≡ Some h → home items (among n k) ≡ Ok (home_of_among items n b k h)
-among_home items n k b h is there = ap (λ (o : Option Plain). home_in items o (among n k)) is ∙ home_same items n b k ∙ ap (home_of_held items n b k) there
+pub among_home : (items : List Item) (n : List ℕ) (k : ℕ) (b : RowView) (h : AmongContents) → first_passing (defines kinds.Routine n) items ≡ Some (routine n b.0 b.1) → nth_held k (amongs_of_body b) ≡ Some h → home items (among n k) ≡ Ok (home_of_among items n b k h)
+among_home items n k b h is there = ap (λ (o : Option Plain). home_in items o (among n k)) is ∙ ap (home_of_held items n b k) there
 
-pub terms_home : (items : List Item) (n : List ℕ) (a : Argument) (ts : List Term) → first_of (defines kinds.Grouping n) items ≡ Some (grouping n a ts) → home items (terms n) ≡ Ok (home_of_terms items n)
+pub terms_home : (items : List Item) (n : List ℕ) (a : Argument) (ts : List Term) → first_passing (defines kinds.Grouping n) items ≡ Some (grouping n a ts) → home items (terms n) ≡ Ok (home_of_terms items n)
 terms_home items n a ts is = ap (λ (o : Option Plain). home_in items o (terms n)) is
 
 -- where there is a home nothing is missing
-pub not_missing : {X : Type 0} (items : List Item) (e : ScriptEdit) (h : Home) (r : Result X ScriptEditFault) → home items e ≡ Ok h → (f : ScriptEditFault) → home items e ≡ Err f → r ≡ Err f
-not_missing items e h r is f missing = let clash : Ok h ≡ Err f = sym is ∙ missing in absurd cc
+pub not_missing : {X : Type 0} (items : List Item) (e : ScriptEdit) (h : Home) (r : Result X ScriptEditFault) → home items e ≡ Ok h → (f : ScriptEditFault) → text_for items e ≡ Err f → r ≡ Err f
+not_missing items e h r is f missing = let clash : Ok h ≡ Err f = sym is ∙ missing_in items e f missing in absurd cc
 
 err_same : (r : Result Home ScriptEditFault) (f g : ScriptEditFault) → r ≡ Err f → r ≡ Err g → f ≡ g
 err_same r f g a b = cc
 
 -- what is missing is told
-pub missing_told : {X : Type 0} (items : List Item) (e : ScriptEdit) (g : ScriptEditFault) (r : Result X ScriptEditFault) → home items e ≡ Err g → r ≡ Err g → (f : ScriptEditFault) → home items e ≡ Err f → r ≡ Err f
-missing_told items e g r is told f missing = told ∙ ap Err (err_same (home items e) g f is missing)
+pub missing_told : {X : Type 0} (items : List Item) (e : ScriptEdit) (g : ScriptEditFault) (r : Result X ScriptEditFault) → home items e ≡ Err g → r ≡ Err g → (f : ScriptEditFault) → text_for items e ≡ Err f → r ≡ Err f
+missing_told items e g r is told f missing = told ∙ ap Err (err_same (home items e) g f is (missing_in items e f missing))
 
 -- ---- faults of the text
 
@@ -71,7 +62,7 @@ Refused s e text f = (f ≡ edits.OutOfMemory) ⊎ IsEditFault s e text f
 pub told_as : (s : Source) (e : ScriptEdit) (h : Home) (text : List ℕ) (f : ScriptFault) (g : ScriptEditFault) → home s.items e ≡ Ok h → Refuses f g → (f ≡ fault.OutOfMemory) ⊎ IsFaultAt s h text f → Refused s e text g
 told_as s e h text f g there (inl memory) x = inl memory.1
 told_as s e h text f g there (inr other) (inl memory) = absurd (other.0 memory)
-told_as s e h text f g there (inr other) (inr x) = inr (subst (IsEditFault s e text) (sym other.1) (h, there, x))
+told_as s e h text f g there (inr other) (inr x) = inr (subst (IsEditFault s e text) (sym other.1) (fault_out s e text (edits.Script f) (h, there, x)))
 
 pub text_told : (s : Source) (h : Home) (text : List ℕ) (f : ScriptFault) → (f ≡ fault.OutOfMemory) ⊎ IsTextFault h.state text f → (f ≡ fault.OutOfMemory) ⊎ IsFaultAt s h text f
 text_told s h text f (inl m) = inl m
@@ -81,15 +72,15 @@ pub unread_told : (s : Source) (h : Home) (text : List ℕ) (ts : List PlacedTok
 unread_told s h text ts f tokens (inl m) = inl m
 unread_told s h text ts f tokens (inr u) = inr (inr (inl (ts, tokens, u)))
 
-pub check_told : (s : Source) (h : Home) (text : List ℕ) (ts : List PlacedToken) (x : TreeOf h.text) (f : ScriptFault) → HasTokens h.state text ts → first_left_out ts ≡ None → IsReadAs h.text (terminals ts) x
+pub check_told : (s : Source) (h : Home) (text : List ℕ) (ts : List PlacedToken) (x : TreeOf h.text) (f : ScriptFault) → HasTokens h.state text ts → first_left_out ts ≡ None → IsReadAs h.text (lexemes ts) x
     → (f ≡ fault.OutOfMemory) ⊎ (fault_of (h.around x) s.external ≡ Some f) → (f ≡ fault.OutOfMemory) ⊎ IsFaultAt s h text f
 check_told s h text ts x f tokens offered read (inl m) = inl m
 check_told s h text ts x f tokens offered read (inr g) = inr (inr (inr (ts, tokens, offered, record { tree = x; read = read; is = g })))
 
 -- ---- the script
 
-pub substituted : (s t : Source) (h : Home) (text : List ℕ) (ts : List PlacedToken) (x : TreeOf h.text) (n : Bool) → HasTokens h.state text ts → first_left_out ts ≡ None → IsReadAs h.text (terminals ts) x
-    → t.items ≡ h.around x → t.external ≡ s.external → WellDeclared t.items t.external → h.keeps_count x ≡ n → IsSubstituted s h text n t
+pub substituted : (s t : Source) (h : Home) (text : List ℕ) (ts : List PlacedToken) (x : TreeOf h.text) (n : Bool) → HasTokens h.state text ts → first_left_out ts ≡ None → IsReadAs h.text (lexemes ts) x
+    → t.items ≡ h.around x → t.external ≡ s.external → WellDeclared t.items t.external → h.keeps_count x ≡ n → IsSubstitutedAt s h text n t
 substituted s t h text ts x n tokens offered read items external well counted = record { placed = ts; tree = x; tokens = tokens; offered = offered; read = read; items_are = items; external_is = external; well_declared = well; counted = counted }
 
 -- ---- results

@@ -14,7 +14,8 @@ use Rattle.sbl_ast.specs.Tree.{Command, Others, Plain, declaration, escapes, mac
 use Rattle.sbl_ast.specs.Tree as trees
 use Rattle.sbl_ast.specs.View.{view_plain}
 use Rattle.sbl_script.specs.declared.edits.DefinitionKind.TheVariants as kinds
-use Rattle.sbl_script.specs.Edits.{defines, first_in, first_of, plain_if}
+use Rattle.sbl_script.specs.Edits.{defines}
+use Rattle.sbl_script.specs.Homes.{first_in, first_passing, plain_if}
 
 pub some_plain : (x y : Plain) → Some x ≡ Some y → x ≡ y
 some_plain x y e = cc
@@ -35,10 +36,10 @@ in_is : (p : Plain → Bool) (xs : List Plain) (y : Plain) → first_in p xs ≡
 in_is p [] y e = absurd cc
 in_is p (x ∷ xs) y e = either_is p (plain_if p x) (first_in p xs) y (λ g. if_is p x y g) (λ g. in_is p xs y g) e
 
-pub found_is : (p : Plain → Bool) (items : List Item) (y : Plain) → first_of p items ≡ Some y → p y ≡ true
+pub found_is : (p : Plain → Bool) (items : List Item) (y : Plain) → first_passing p items ≡ Some y → p y ≡ true
 found_is p [] y e = absurd cc
-found_is p (plain x ∷ is) y e = either_is p (plain_if p x) (first_of p is) y (λ g. if_is p x y g) (λ g. found_is p is y g) e
-found_is p (backward xs ∷ is) y e = either_is p (first_in p xs) (first_of p is) y (λ g. in_is p xs y g) (λ g. found_is p is y g) e
+found_is p (plain x ∷ is) y e = either_is p (plain_if p x) (first_passing p is) y (λ g. if_is p x y g) (λ g. found_is p is y g) e
+found_is p (backward xs ∷ is) y e = either_is p (first_in p xs) (first_passing p is) y (λ g. in_is p xs y g) (λ g. found_is p is y g) e
 
 -- ---- a definition of a kind
 
@@ -60,21 +61,21 @@ grouping_is n (macro m b q) h = absurd cc
 grouping_is n (routine m c os) h = absurd cc
 
 -- what is found under a name has that name
-pub routine_found : (n : List ℕ) (items : List Item) (m : List ℕ) (c : Command) (os : Others) → first_of (defines kinds.Routine n) items ≡ Some (routine m c os) → first_of (defines kinds.Routine n) items ≡ Some (routine n c os)
+pub routine_found : (n : List ℕ) (items : List Item) (m : List ℕ) (c : Command) (os : Others) → first_passing (defines kinds.Routine n) items ≡ Some (routine m c os) → first_passing (defines kinds.Routine n) items ≡ Some (routine n c os)
 routine_found n items m c os e = e ∙ ap (λ (z : List ℕ). Some (routine z c os)) (sym ((bytes_eq-Decides n m).0 (found_is (defines kinds.Routine n) items (routine m c os) e)))
 
-pub grouping_found : (n : List ℕ) (items : List Item) (m : List ℕ) (a : trees.Argument) (ts : List trees.Term) → first_of (defines kinds.Grouping n) items ≡ Some (grouping m a ts) → first_of (defines kinds.Grouping n) items ≡ Some (grouping n a ts)
+pub grouping_found : (n : List ℕ) (items : List Item) (m : List ℕ) (a : trees.Argument) (ts : List trees.Term) → first_passing (defines kinds.Grouping n) items ≡ Some (grouping m a ts) → first_passing (defines kinds.Grouping n) items ≡ Some (grouping n a ts)
 grouping_found n items m a ts e = e ∙ ap (λ (z : List ℕ). Some (grouping z a ts)) (sym ((bytes_eq-Decides n m).0 (found_is (defines kinds.Grouping n) items (grouping m a ts) e)))
 
 -- and is of that kind
-pub no_other_routine : (n : List ℕ) (items : List Item) (x : declared.Plain) → ((m : String Global) (b : Row) → x ≡ plains.Routine m b → ⊥) → first_of (defines kinds.Routine n) items ≡ Some (view_plain x) → ⊥
+pub no_other_routine : (n : List ℕ) (items : List Item) (x : declared.Plain) → ((m : String Global) (b : Row) → x ≡ plains.Routine m b → ⊥) → first_passing (defines kinds.Routine n) items ≡ Some (view_plain x) → ⊥
 no_other_routine n items (plains.Routine m b) h e = h m b refl
 no_other_routine n items (plains.Declaration k ns) h e = let no : false ≡ true = found_is (defines kinds.Routine n) items _ e in absurd cc
 no_other_routine n items (plains.StringEscapes a b) h e = let no : false ≡ true = found_is (defines kinds.Routine n) items _ e in absurd cc
 no_other_routine n items (plains.StringDef m b l) h e = let no : false ≡ true = found_is (defines kinds.Routine n) items _ e in absurd cc
 no_other_routine n items (plains.Grouping m a ts) h e = let no : false ≡ true = found_is (defines kinds.Routine n) items _ e in absurd cc
 
-pub no_other_grouping : (n : List ℕ) (items : List Item) (x : declared.Plain) → ((m : String Global) (a : Argument) (ts : Vec Term) → x ≡ plains.Grouping m a ts → ⊥) → first_of (defines kinds.Grouping n) items ≡ Some (view_plain x) → ⊥
+pub no_other_grouping : (n : List ℕ) (items : List Item) (x : declared.Plain) → ((m : String Global) (a : Argument) (ts : Vec Term) → x ≡ plains.Grouping m a ts → ⊥) → first_passing (defines kinds.Grouping n) items ≡ Some (view_plain x) → ⊥
 no_other_grouping n items (plains.Grouping m a ts) h e = h m a ts refl
 no_other_grouping n items (plains.Declaration k ns) h e = let no : false ≡ true = found_is (defines kinds.Grouping n) items _ e in absurd cc
 no_other_grouping n items (plains.StringEscapes a b) h e = let no : false ≡ true = found_is (defines kinds.Grouping n) items _ e in absurd cc

@@ -11,7 +11,8 @@ use Rattle.sbl_ast.specs.Order.{ItemInMode, in_mode, in_order}
 use Rattle.sbl_resolver.specs.Bodies.{body_in}
 use Rattle.sbl_script.specs.declared.edits.DefinitionKind.{DefinitionKind}
 use Rattle.sbl_script.specs.declared.edits.DefinitionKind.TheVariants as kinds
-use Rattle.sbl_script.specs.Edits.{defines, first_in, first_of, plain_if, plains_with, items_with}
+use Rattle.sbl_script.specs.Edits.{defines, plains_with, items_with}
+use Rattle.sbl_script.specs.Homes.{first_in, first_passing, plain_if}
 use Rattle.sbl_script.specs.OnlyTheItem.{number_from}
 
 -- ---- the item, and those around it
@@ -81,21 +82,21 @@ module _ (p : Plain → Bool) (y : Plain) where
     at true h g more = absurd cc
     at false h g more = later (at_mode Backward x) (in_mode Backward xs ++ rest) (in_mode Backward xs ++ other) h (more g)
 
-  pub parts_of : (is : List Item) → is_some (first_of p is) ≡ true → Parts p y (in_order is) (in_order (items_with p y is))
+  pub parts_of : (is : List Item) → is_some (first_passing p is) ≡ true → Parts p y (in_order is) (in_order (items_with p y is))
   parts_of [] e = absurd cc
   parts_of (plain x ∷ is) e = at (p x) refl (λ g. parts_of is g) where
-    rest : p x ≡ false → is_some (first_of p is) ≡ true
-    rest h = sym (ap (λ o. is_some (option_or o (first_of p is))) (if_none p x h)) ∙ e
+    rest : p x ≡ false → is_some (first_passing p is) ≡ true
+    rest h = sym (ap (λ o. is_some (option_or o (first_passing p is))) (if_none p x h)) ∙ e
 
-    at : (k : Bool) → p x ≡ k → (is_some (first_of p is) ≡ true → Parts p y (in_order is) (in_order (items_with p y is)))
+    at : (k : Bool) → p x ≡ k → (is_some (first_passing p is) ≡ true → Parts p y (in_order is) (in_order (items_with p y is)))
         → Parts p y (in_order (plain x ∷ is)) (in_order (cond k (plain y ∷ is) (plain x ∷ items_with p y is)))
     at true h more = here Forward x (in_order is) h
     at false h more = later (at_mode Forward x) (in_order is) (in_order (items_with p y is)) h (more (rest h))
   parts_of (backward xs ∷ is) e = at (list_any p xs) refl (λ g. parts_of is g) where
-    rest : list_any p xs ≡ false → is_some (first_of p is) ≡ true
-    rest h = sym (ap (λ o. is_some (option_or o (first_of p is))) (none_in p xs h)) ∙ e
+    rest : list_any p xs ≡ false → is_some (first_passing p is) ≡ true
+    rest h = sym (ap (λ o. is_some (option_or o (first_passing p is))) (none_in p xs h)) ∙ e
 
-    at : (k : Bool) → list_any p xs ≡ k → (is_some (first_of p is) ≡ true → Parts p y (in_order is) (in_order (items_with p y is)))
+    at : (k : Bool) → list_any p xs ≡ k → (is_some (first_passing p is) ≡ true → Parts p y (in_order is) (in_order (items_with p y is)))
         → Parts p y (in_order (backward xs ∷ is)) (in_order (cond k (backward (plains_with p y xs) ∷ is) (backward xs ∷ items_with p y is)))
     at true h more = in_plains xs (in_order is) h
     at false h more = behind_plains xs (in_order is) (in_order (items_with p y is)) h (more (rest h))

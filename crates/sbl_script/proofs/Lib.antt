@@ -17,4 +17,6 @@ pub mod Offered
 pub mod Printed
 pub mod Compared
 pub mod ItemSteps
+pub mod AmongEnds
 pub mod AmongDepths
+pub mod Agreement

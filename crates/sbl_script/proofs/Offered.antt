@@ -1,5 +1,5 @@
 -- The tokens of a tree are all offered: none is left out.
-use Rattle.std.proofs.Common.{◌≡◌, ℕ, Bool, true, false, List, [], ◌∷◌, Option, Some, None, map, refl, ◌∙◌}
+use Rattle.std.proofs.Common.{◌≡◌, ℕ, Bool, true, false, List, [], ◌∷◌, Option, Some, None, map, refl, ap, ◌∙◌}
 use Rattle.std.specs.List.{list_any}
 use Rattle.sbl_ast.specs.declared.tree.DeclarationKind.{DeclarationKind}
 use Rattle.sbl_ast.specs.declared.tree.DeclarationKind.TheVariants as declarations
@@ -31,14 +31,19 @@ use Rattle.sbl_ast.specs.declared.tree.Constant.{Constant}
 use Rattle.sbl_ast.specs.declared.tree.Constant.TheVariants as constants
 use Rattle.sbl_ast.specs.Terminal.{Terminal, lexeme_as}
 use Rattle.sbl_ast.specs.Terminal as t
-use Rattle.sbl_ast.specs.Tree.{Expression, expression, Sums, no_sums, sum, Product, product, Scales, no_scales, scale, Factor, negated, bracketed, numeral, variable, fixed, length_of, Argument, written_out, by_name, Entry, entry, Command, bracket, simple_, literal_, name_, non_, prefixed, counted, move_, named, splice_, setlimit_, assign_, compare_, compare_values_, among_, Rows, no_rows, row, Others, no_others, joined, Starter, no_starter, starter, Groups, bare, group, Term, term, Plain, declaration, escapes, macro, routine, grouping, Item, plain, backward, argument_terminal, spelled_expression, spelled_sums, spelled_product, spelled_scales, spelled_factor, spelled_entry, spelled_entries, spelled_command, spelled_rows, spelled_others, spelled_starter, spelled_groups, spelled_names, spelled_base, spelled_terms, spelled_plain, spelled_plains, spelled_items, script_tokens}
+use Rattle.sbl_ast.specs.Tree.{Expression, expression, Sums, no_sums, sum, Product, product, Scales, no_scales, scale, Factor, negated, bracketed, numeral, variable, fixed, length_of, Argument, written_out, by_name, Entry, entry, Command, bracket, simple_, literal_, name_, non_, prefixed, counted, move_, named, splice_, setlimit_, assign_, compare_, compare_values_, among_, Rows, no_rows, row, Others, no_others, joined, Starter, no_starter, starter, Groups, bare, group, Term, term, Plain, declaration, escapes, macro, routine, grouping, Item, plain, backward}
+use Rattle.sbl_ast.specs.Spelled.{argument_terminal, spelled_expression, spelled_sums, spelled_product, spelled_scales, spelled_factor, spelled_entry, spelled_entries, spelled_command, spelled_rows, spelled_others, spelled_starter, spelled_groups, spelled_names, spelled_base, spelled_terms, spelled_plain, spelled_plains, spelled_items, script_tokens}
+use Rattle.sbl_ast.specs.Places.{lexemes_of}
+use Rattle.sbl_ast.specs.Texts.{script}
+use Rattle.sbl_ast.proofs.Lexed.{text_lexed}
+use Rattle.sbl_parser.proofs.Faults.{places_tokens}
 use Rattle.sbl_parser.specs.Profile.{is_left_out}
 
 abbrev Ts : Type 0
 Ts = List Terminal
 
 -- whether one of them is left out
-abbrev pub any_left_out : Ts → Bool
+abbrev any_left_out : Ts → Bool
 any_left_out ts = list_any is_left_out (map lexeme_as ts)
 
 abbrev IsOffered : Terminal → Type 0
@@ -236,7 +241,10 @@ of_plains : (ps : List Plain) (ts : Ts) → any_left_out (spelled_plains ps ts) 
 of_plains [] ts = refl
 of_plains (p ∷ ps) ts = of_plain p (spelled_plains ps ts) ∙ of_plains ps ts
 
-pub none_left_out : (items : List Item) → any_left_out (script_tokens items) ≡ false
-none_left_out [] = refl
-none_left_out (plain p ∷ is) = of_plain p (spelled_items is []) ∙ none_left_out is
-none_left_out (backward ps ∷ is) = of_plains ps (t.close_ ∷ spelled_items is []) ∙ none_left_out is
+none_in : (items : List Item) → any_left_out (script_tokens items) ≡ false
+none_in [] = refl
+none_in (plain p ∷ is) = of_plain p (spelled_items is []) ∙ none_in is
+none_in (backward ps ∷ is) = of_plains ps (t.close_ ∷ spelled_items is []) ∙ none_in is
+
+pub none_left_out : (items : List Item) → list_any is_left_out (lexemes_of items) ≡ false
+none_left_out items = ap (list_any is_left_out) (text_lexed script items ∙ ap (map lexeme_as) (places_tokens items)) ∙ none_in items

@@ -15,7 +15,7 @@ use Rattle.sbl_parser.specs.Reading.{IsReadAs, IsSyntaxAt, IsTooDeepAt, IsOutOfP
 use Rattle.sbl_parser.specs.Laws as grammar
 use Rattle.sbl_ast.specs.Source.{Source}
 use Rattle.sbl_resolver.specs.Checks.{fault_of}
-use Rattle.sbl_script.specs.Reading.{HasTokens, IsScriptOf, IsTextFault, IsGrammarFault, IsCheckFault, IsUnread, IsFaultIn, IsFaultOf, first_left_out, place_of, terminals}
+use Rattle.sbl_script.specs.Reading.{HasTokens, IsScriptOf, IsTextFault, IsGrammarFault, IsCheckFault, IsUnread, IsFaultIn, IsFaultOf, first_left_out, place_of, lexemes}
 
 -- what is known of tokens and of trees
 pub record Known : Type 0 where
@@ -70,11 +70,11 @@ told grammar.out_of_profile place = fault.OutOfProfile place
 
 -- what is wrong, and where
 abbrev Found : Text → List PlacedToken → ℕ → List PlacedToken → ScriptFault → Type 0
-Found w ts end rest f = (x : grammar.Wrong) × grammar.IsWrongAt w x (terminals ts) (terminals rest) × (f ≡ told x (place_of end rest))
+Found w ts end rest f = (x : grammar.Wrong) × grammar.IsWrongAt w x (lexemes ts) (lexemes rest) × (f ≡ told x (place_of end rest))
 
 found : (w : Text) (ts : List PlacedToken) (end : ℕ) (f : ScriptFault) (h : IsGrammarFault w ts end f) → Found w ts end h.rest f
 found w ts end f h = go h.is where
-  go : (IsSyntaxAt w (terminals ts) (terminals h.rest) × (f ≡ fault.Syntax (place_of end h.rest))) ⊎ (IsTooDeepAt w (terminals ts) (terminals h.rest) × (f ≡ fault.TooDeep (place_of end h.rest))) ⊎ (IsOutOfProfileAt w (terminals ts) (terminals h.rest) × (f ≡ fault.OutOfProfile (place_of end h.rest))) → Found w ts end h.rest f
+  go : (IsSyntaxAt w (lexemes ts) (lexemes h.rest) × (f ≡ fault.Syntax (place_of end h.rest))) ⊎ (IsTooDeepAt w (lexemes ts) (lexemes h.rest) × (f ≡ fault.TooDeep (place_of end h.rest))) ⊎ (IsOutOfProfileAt w (lexemes ts) (lexemes h.rest) × (f ≡ fault.OutOfProfile (place_of end h.rest))) → Found w ts end h.rest f
   go (inl a) = (grammar.syntax, a.0, a.1)
   go (inr (inl a)) = (grammar.too_deep, a.0, a.1)
   go (inr (inr a)) = (grammar.out_of_profile, a.0, a.1)
@@ -89,14 +89,14 @@ grammar_is_one : Known → (w : Text) (ts : List PlacedToken) (end : ℕ) (f g :
 grammar_is_one k w ts end f g h j =
     let a = found w ts end f h in
     let b = found w ts end g j in
-    let same = k.fault w (terminals ts) (terminals h.rest) (terminals j.rest) a.0 b.0 a.1 b.1 in
+    let same = k.fault w (lexemes ts) (lexemes h.rest) (lexemes j.rest) a.0 b.0 a.1 b.1 in
     let lengths : length h.rest ≡ length j.rest = sym (length-map h.rest _) ∙ ap length same.1 ∙ length-map j.rest _ in
     let rest : h.rest ≡ j.rest = same_rest h.before j.before h.rest j.rest (sym h.parts ∙ j.parts) lengths in
     a.2 ∙ ap (λ (x : grammar.Wrong). told x (place_of end h.rest)) same.0 ∙ ap (λ (r : List PlacedToken). told b.0 (place_of end r)) rest ∙ sym b.2
 
 -- a tree has none
-no_grammar_fault : Known → (w : Text) (ts : List PlacedToken) (end : ℕ) (f : ScriptFault) (tree : TreeOf w) → IsReadAs w (terminals ts) tree → IsGrammarFault w ts end f → ⊥
-no_grammar_fault k w ts end f tree h j = let a = found w ts end f j in k.none w (terminals ts) (terminals j.rest) tree a.0 h a.1
+no_grammar_fault : Known → (w : Text) (ts : List PlacedToken) (end : ℕ) (f : ScriptFault) (tree : TreeOf w) → IsReadAs w (lexemes ts) tree → IsGrammarFault w ts end f → ⊥
+no_grammar_fault k w ts end f tree h j = let a = found w ts end f j in k.none w (lexemes ts) (lexemes j.rest) tree a.0 h a.1
 
 pub some_one : {X : Type 0} (x y : X) → Some x ≡ Some y → x ≡ y
 some_one x y e = cc
@@ -110,13 +110,13 @@ unread_is_one k w ts end f g (inl a) (inr b) = absurd (some_none a.0 (first_left
 unread_is_one k w ts end f g (inr a) (inl b) = absurd (some_none b.0 (first_left_out ts) a.0 b.1)
 unread_is_one k w ts end f g (inr a) (inr b) = grammar_is_one k w ts end f g a.1 b.1
 
-pub no_unread : Known → (w : Text) (ts : List PlacedToken) (end : ℕ) (f : ScriptFault) (tree : TreeOf w) → first_left_out ts ≡ None → IsReadAs w (terminals ts) tree → IsUnread w ts end f → ⊥
+pub no_unread : Known → (w : Text) (ts : List PlacedToken) (end : ℕ) (f : ScriptFault) (tree : TreeOf w) → first_left_out ts ≡ None → IsReadAs w (lexemes ts) tree → IsUnread w ts end f → ⊥
 no_unread k w ts end f tree offered h (inl a) = some_none a.0 (first_left_out ts) offered a.1
 no_unread k w ts end f tree offered h (inr a) = no_grammar_fault k w ts end f tree h a.1
 
 -- ---- the checks
 
-pub tree_one : Known → (w : Text) (ts : List PlacedToken) (x y : TreeOf w) → IsReadAs w (terminals ts) x → IsReadAs w (terminals ts) y → x ≡ y
+pub tree_one : Known → (w : Text) (ts : List PlacedToken) (x y : TreeOf w) → IsReadAs w (lexemes ts) x → IsReadAs w (lexemes ts) y → x ≡ y
 tree_one k w ts x y h g = k.tree w x y (h.0 ∙ sym g.0)
 
 -- ---- the laws
@@ -153,7 +153,7 @@ same_source s t a b = ap (λ (i : List Item). with_external i s.external) a ∙ 
 pub script_is_one : Known → (bytes external : List ℕ) (s t : Source) → IsScriptOf bytes external s → IsScriptOf bytes external t → s ≡ t
 script_is_one k bytes external s t h g =
     let same = placed_one k start bytes h.placed g.placed h.tokens g.tokens in
-    let tree = subst (λ (ts : List PlacedToken). IsReadAs script (terminals ts) s.items) same h.tree in
+    let tree = subst (λ (ts : List PlacedToken). IsReadAs script (lexemes ts) s.items) same h.tree in
     same_source s t (tree_one k script g.placed s.items t.items tree g.tree) (h.external_is ∙ sym g.external_is)
 
 pub script_or_fault : Known → (bytes external : List ℕ) (s : Source) (f : ScriptFault) → IsScriptOf bytes external s → IsFaultOf bytes external f → ⊥
@@ -163,7 +163,7 @@ script_or_fault k bytes external s f h (inr (inl a)) =
     no_unread k script h.placed (length bytes) f s.items h.offered h.tree (subst (λ (ts : List PlacedToken). IsUnread script ts (length bytes) f) same a.2)
 script_or_fault k bytes external s f h (inr (inr a)) =
     let same = placed_one k start bytes h.placed a.0 h.tokens a.1 in
-    let tree = subst (λ (ts : List PlacedToken). IsReadAs script (terminals ts) s.items) same h.tree in
+    let tree = subst (λ (ts : List PlacedToken). IsReadAs script (lexemes ts) s.items) same h.tree in
     let items : s.items ≡ a.3.tree = tree_one k script a.0 s.items a.3.tree tree a.3.read in
     let named : fault_of s.items s.external ≡ fault_of a.3.tree external = ap (λ (is : List Item). fault_of is s.external) items ∙ ap (λ (e : List ℕ). fault_of a.3.tree e) h.external_is in
     some_none f (fault_of s.items s.external) h.well_declared (named ∙ a.3.is)

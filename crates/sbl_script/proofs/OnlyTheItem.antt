@@ -14,6 +14,7 @@ use Rattle.sbl_amongs.specs.Amongs.{AmongContents, amongs_of_body, nth_held, put
 use Rattle.sbl_resolver.specs.declared.occurrences.Site.{Site}
 use Rattle.sbl_resolver.specs.Occurrences.{Occurrence, Notice, declares, defines_routine, defines_grouping, uses, substring, among, string, backwards, region_end, noted_items, occurrences_of}
 use Rattle.sbl_script.specs.declared.edit_fault.ScriptEditFault.{ScriptEditFault}
+use Rattle.sbl_script.specs.declared.edit_fault.ScriptEditFault.TheVariants as edits
 use Rattle.sbl_ast.specs.Source.{Source}
 use Rattle.sbl_script.specs.Reading.{IsCheckFault}
 use Rattle.sbl_resolver.specs.Bodies.{body_in}
@@ -21,12 +22,12 @@ use Rattle.sbl_resolver.specs.Checks.{declared_as, kind_of, defined_at, definiti
 use Rattle.sbl_resolver.specs.Laws.{EachPasses, IsFirst}
 use Rattle.sbl_script.specs.declared.edits.DefinitionKind.{DefinitionKind}
 use Rattle.sbl_script.specs.declared.edits.DefinitionKind.TheVariants as kinds
-use Rattle.sbl_script.specs.Edits.{ScriptEdit, body, terms, Home, changes, defines, first_of, home, home_in, items_with}
-use Rattle.sbl_script.specs.Homes.{home_of_among, home_of_body, home_of_held, home_of_terms, IsFaultAt}
+use Rattle.sbl_script.specs.Edits.{ScriptEdit, body, terms, changes, defines, items_with}
+use Rattle.sbl_script.specs.Homes.{Home, first_passing, home, home_in, home_of_among, home_of_body, home_of_held, home_of_terms, IsEditFaultAt, IsFaultAt}
 use Rattle.sbl_script.specs.Edits as script
 use Rattle.sbl_script.specs.OnlyTheItem.{item_of, number_of, OnlyTheItem, ExternalStays}
 use Rattle.sbl_resolver.proofs.FirstFault as first
-use Rattle.sbl_script.proofs.AmongDepths.{home_same}
+use Rattle.sbl_script.proofs.Agreement.{fault_in}
 use Rattle.sbl_script.proofs.Found.{grouping_is, routine_is, same_name}
 use Rattle.sbl_script.proofs.Own.{Each, each_as, is_quiet, IsOfCommand, RoutineParts, routine_parts, is_use, IsUse, GroupingParts, grouping_parts}
 use Rattle.sbl_script.proofs.RoundItem.{Closed, followed_same, decided_at, own, InItem, NotBefore, plain_sites, routine_sites, items_closed, items_sites, round_item}
@@ -205,10 +206,22 @@ each_at : (Q : Occurrence → Type 0) (xs : List Occurrence) (m : Occurrence) (y
 each_at Q [] m ys h = h.0
 each_at Q (x ∷ xs) m ys h = each_at Q xs m ys h.1
 
+text_is : (j k : ℕ) (t : List ℕ) (p : Site) (n : Notice) → is_text_of j k t (record { site = p; notice = n }) ≡ (is_text k t n && nat_eq j p.item)
+text_is j k t p (declares d x) = refl
+text_is j k t p (defines_routine x) = refl
+text_is j k t p (defines_grouping x) = refl
+text_is j k t p (uses u x) = refl
+text_is j k t p substring = refl
+text_is j k t p (among a b) = refl
+text_is j k t p (string o x) = refl
+text_is j k t p backwards = refl
+text_is j k t p region_end = refl
+
 no_text : (i j k : ℕ) (t : List ℕ) (xs : List Occurrence) → Each (InItem i) xs → i + 1 ≤ j → has_text j k t xs ≡ false
 no_text i j k t [] h later = refl
 no_text i j k t (x ∷ xs) h later =
-    or_is (is_text k t x.notice) (nat_eq j x.site.item) (has_text j k t xs) (another j x.site.item (ap (λ z. z + 1) h.0)) (no_text i j k t xs h.1 later) where
+    ap (λ (b : Bool). b || has_text j k t xs) (text_is j k t x.site x.notice)
+    ∙ or_is (is_text k t x.notice) (nat_eq j x.site.item) (has_text j k t xs) (another j x.site.item (ap (λ z. z + 1) h.0)) (no_text i j k t xs h.1 later) where
       another : (a c : ℕ) → c + 1 ≡ i + 1 → nat_eq j x.site.item ≡ false
       another a c e = let is : x.site.item ≡ i = h.0 in grind (arith, nat_tests)
 
@@ -359,7 +372,7 @@ pub record Replaces (items : List Item) (e : ScriptEdit) (h : Home) (x : TreeOf 
   pub name : List ℕ
   pub item : Plain
   pub which : changes e ≡ defines kind name
-  pub there : is_some (first_of (defines kind name) items) ≡ true
+  pub there : is_some (first_passing (defines kind name) items) ≡ true
   pub same : defines kind name item ≡ true
   pub is : h.around x ≡ items_with (defines kind name) item items
 
@@ -372,19 +385,19 @@ is_there o x e = ap is_some e
 home_one : (r : Result Home ScriptEditFault) (h g : Home) → r ≡ Ok h → r ≡ Ok g → h ≡ g
 home_one r h g a b = cc
 
-place_of : (items : List Item) (e : ScriptEdit) (h : Home) (o : Option Plain) → first_of (changes e) items ≡ o → home_in items o e ≡ Ok h → IsPlaced items e h
+place_of : (items : List Item) (e : ScriptEdit) (h : Home) (o : Option Plain) → first_passing (changes e) items ≡ o → home_in items o e ≡ Ok h → IsPlaced items e h
 place_of items (body n) h (Some (routine m c os)) at is =
     subst (IsPlaced items (body n)) (home_one (home_in items (Some (routine m c os)) (body n)) (home_of_body items n) h refl is)
-    (λ b. record { kind = kinds.Routine; name = n; item = routine n b.0 b.1; which = refl; there = is_there (first_of (defines kinds.Routine n) items) (routine m c os) at; same = same_name n; is = refl })
-place_of items (script.among n k) h (Some (routine m c os)) at is = held (nth_held k (amongs_of_body (c, os))) (sym (home_same items n (c, os) k) ∙ is) where
+    (λ b. record { kind = kinds.Routine; name = n; item = routine n b.0 b.1; which = refl; there = is_there (first_passing (defines kinds.Routine n) items) (routine m c os) at; same = same_name n; is = refl })
+place_of items (script.among n k) h (Some (routine m c os)) at is = held (nth_held k (amongs_of_body (c, os))) is where
   held : (o : Option AmongContents) → home_of_held items n (c, os) k o ≡ Ok h → IsPlaced items (script.among n k) h
   held None e = absurd cc
   held (Some g) e =
       subst (IsPlaced items (script.among n k)) (home_one (home_of_held items n (c, os) k (Some g)) (home_of_among items n (c, os) k g) h refl e)
-      (λ a. record { kind = kinds.Routine; name = n; item = routine n (put_in_body (c, os) k a).0 (put_in_body (c, os) k a).1; which = refl; there = is_there (first_of (defines kinds.Routine n) items) (routine m c os) at; same = same_name n; is = refl })
+      (λ a. record { kind = kinds.Routine; name = n; item = routine n (put_in_body (c, os) k a).0 (put_in_body (c, os) k a).1; which = refl; there = is_there (first_passing (defines kinds.Routine n) items) (routine m c os) at; same = same_name n; is = refl })
 place_of items (terms n) h (Some (grouping m a ts)) at is =
     subst (IsPlaced items (terms n)) (home_one (home_in items (Some (grouping m a ts)) (terms n)) (home_of_terms items n) h refl is)
-    (λ x. record { kind = kinds.Grouping; name = n; item = grouping n x.0 x.1; which = refl; there = is_there (first_of (defines kinds.Grouping n) items) (grouping m a ts) at; same = same_name n; is = refl })
+    (λ x. record { kind = kinds.Grouping; name = n; item = grouping n x.0 x.1; which = refl; there = is_there (first_passing (defines kinds.Grouping n) items) (grouping m a ts) at; same = same_name n; is = refl })
 place_of items (body n) h None at is = absurd cc
 place_of items (body n) h (Some (declaration d ns)) at is = absurd cc
 place_of items (body n) h (Some (escapes a b)) at is = absurd cc
@@ -405,7 +418,7 @@ place_of items (terms n) h (Some (routine m c os)) at is = absurd cc
 check_tells : (s : Source) (e : ScriptEdit) (h : Home) (ts : List PlacedToken) (f : ScriptFault) → WellDeclared s.items s.external → home s.items e ≡ Ok h → IsCheckFault h.text h.around s.external ts f →
     (i : ℕ) × (item_of f ≡ Some i) × (number_of (changes e) s.items ≡ Some i)
 check_tells s e h ts f well there bad =
-    let r = place_of s.items e h (first_of (changes e) s.items) refl there bad.tree in
+    let r = place_of s.items e h (first_passing (changes e) s.items) refl there bad.tree in
     let parts = parts_of (defines r.kind r.name) r.item s.items r.there in
     let tells = told s.items s.external r.kind r.name r.item r.same well parts f (ap (λ (is : List Item). fault_of is s.external) (sym r.is) ∙ bad.is) in
     (tells.0, tells.1, ap (λ (p : Plain → Bool). number_of p s.items) r.which ∙ tells.2)
@@ -421,14 +434,20 @@ same_number : (i j : ℕ) → Some i ≡ Some j → i ≡ j
 same_number i j e = cc
 
 pub only_the_item : OnlyTheItem
-only_the_item s e text f i well bad tells = at bad.2 where
+only_the_item s e text f i well fails tells = at bad.2 where
+  bad : IsEditFaultAt s e text (edits.Script f)
+  bad = fault_in s e text (edits.Script f) fails
+
   at : IsFaultAt s bad.0 text f → number_of (changes e) s.items ≡ Some i
   at (inl h) = absurd (not_told f i (text_fault bad.0.state text f h) tells)
   at (inr (inl h)) = absurd (not_told f i (unread bad.0.text h.0 (length text) f h.2) tells)
   at (inr (inr h)) = let r = check_tells s e bad.0 h.0 f well bad.1 h.3 in r.2 ∙ ap Some (same_number r.0 i (sym r.1 ∙ tells))
 
 pub external_stays : ExternalStays
-external_stays s e text well bad = at bad.2 where
+external_stays s e text well fails = at bad.2 where
+  bad : IsEditFaultAt s e text (edits.Script fault.NoExternal)
+  bad = fault_in s e text (edits.Script fault.NoExternal) fails
+
   not_text : is_checked fault.NoExternal ≡ false → ⊥
   not_text h = cc
 

@@ -9,8 +9,9 @@ use Rattle.sbl_ast.specs.declared.tree.Prefix.TheVariants as prefixes
 use Rattle.sbl_ast.specs.Tree.{Argument, written_out, by_name, Expression, expression, Sums, no_sums, sum, Product, product, Scales, no_scales, scale, Factor, negated, bracketed, numeral, variable, fixed, length_of, Entry, entry, Command, bracket, simple_, literal_, name_, non_, prefixed, counted, move_, named, splice_, setlimit_, assign_, compare_, compare_values_, among_, Rows, no_rows, row, Others, no_others, joined, Starter, no_starter, starter, Groups, bare, group, Term, term, Plain, declaration, escapes, macro, routine, grouping}
 use Rattle.sbl_resolver.specs.declared.occurrences.Use.TheVariants as use_as
 use Rattle.sbl_resolver.specs.declared.occurrences.Site.{Site}
-use Rattle.sbl_resolver.specs.Occurrences.{Occurrence, Notice, put, uses, substring, among, string, backwards, region_end, declares, defines_routine, defines_grouping, amongs_after, amongs_in, noted_expression, noted_sums, noted_product, noted_scales, noted_factor, noted_simple, noted_prefix, site_behind, use_of, noted_condition, noted_entry, noted_entries, has_starter, is_empty, noted_command, noted_rows, noted_others, noted_starter, noted_groups, noted_terms, noted_plain, noted_name}
-use Rattle.sbl_resolver.specs.OccurrenceView.{noted_names}
+use Rattle.sbl_resolver.specs.Occurrences.{Occurrence, Notice, put, uses, substring, among, string, backwards, region_end, declares, defines_routine, defines_grouping, amongs_after, amongs_in, noted_expression, use_of, noted_entry, noted_entries, is_empty, noted_command, noted_rows, noted_others, noted_groups, noted_plain, noted_name}
+use Rattle.sbl_resolver.specs.OccurrenceView.{noted_names, walked_expression, noted_sums, noted_product, noted_scales, noted_factor, noted_simple, noted_prefix, site_behind, noted_condition, has_starter, noted_starter, noted_terms}
+use Rattle.sbl_resolver.proofs.Walked.{expression_is, prefixed_is, among_is}
 
 -- it holds of each occurrence
 abbrev pub Each : (Occurrence → Type 0) → List Occurrence → Type 0
@@ -57,6 +58,15 @@ module _ (P : List Occurrence → Type 0) (kept : (s t : List Occurrence) → P 
     holds : (s : List Occurrence) → P s → P (f s)
     holds s p = subst P (sym (h.is s)) (kept s (h.more s) p)
 
+  -- the same of a function that is equal at each list
+  as_ : {f g : List Occurrence → List Occurrence} → Own P Q f → ((s : List Occurrence) → g s ≡ f s) → Own P Q g
+  as_ {f} {g} h e = record {
+    more = h.more;
+    is = λ s. e s ∙ h.is s;
+    each = h.each;
+    alone = λ a s p. e (a ++ s) ∙ h.alone a s p ∙ ap (λ t. a ++ t) (sym (e s));
+  }
+
   put_own : (n : Notice) (p : Site) → Q (record { site = p; notice = n }) → Own P Q (λ s. put n p s)
   put_own n p q = record {
     more = λ s. (record { site = p; notice = n }) ∷ [];
@@ -99,6 +109,9 @@ module _ (i : ℕ) where
   and_ : {f g : List Occurrence → List Occurrence} → Ours f → Ours g → Ours (λ s. g (f s))
   and_ h k = then_ HasRoutine routine_more (IsOfCommand i) h k
 
+  like : {f g : List Occurrence → List Occurrence} → Ours f → ((s : List Occurrence) → g s ≡ f s) → Ours g
+  like h e = as_ HasRoutine routine_more (IsOfCommand i) h e
+
   one : (n : Notice) (p : Site) → p.item ≡ i → is_quiet n ≡ true → Ours (λ s. put n p s)
   one n p h q = put_own HasRoutine routine_more (IsOfCommand i) n p (h, q)
 
@@ -107,8 +120,8 @@ module _ (i : ℕ) where
   string_own (by_name n) p h = one (uses use_as.String n) p h refl
 
   mutual
-    expression_own : (e : Expression) (p : Site) → p.item ≡ i → Ours (λ s. noted_expression e p s)
-    expression_own (expression x ss) p h = and_ (product_own x p h) (sums_own ss p h)
+    walked_own : (e : Expression) (p : Site) → p.item ≡ i → Ours (λ s. walked_expression e p s)
+    walked_own (expression x ss) p h = and_ (product_own x p h) (sums_own ss p h)
 
     sums_own : (ss : Sums) (p : Site) → p.item ≡ i → Ours (λ s. noted_sums ss p s)
     sums_own no_sums p h = none
@@ -123,11 +136,14 @@ module _ (i : ℕ) where
 
     factor_own : (f : Factor) (p : Site) → p.item ≡ i → Ours (λ s. noted_factor f p s)
     factor_own (negated f) p h = factor_own f p h
-    factor_own (bracketed e) p h = expression_own e p h
+    factor_own (bracketed e) p h = walked_own e p h
     factor_own (numeral n) p h = none
     factor_own (variable n) p h = one (uses use_as.Integer n) p h refl
     factor_own (fixed c) p h = none
     factor_own (length_of a) p h = string_own a p h
+
+  expression_own : (e : Expression) (p : Site) → p.item ≡ i → Ours (λ s. noted_expression e p s)
+  expression_own e p h = like (walked_own e p h) (λ s. expression_is e p s)
 
   simple_own : (x : Simple) (p : Site) → p.item ≡ i → Ours (λ s. noted_simple x p s)
   simple_own simples.Substring p h = one substring p h refl
@@ -178,7 +194,7 @@ module _ (i : ℕ) where
     command_own (literal_ q) p h = none
     command_own (name_ n) p h = one (uses use_as.Command n) p h refl
     command_own (non_ m n) p h = one (uses use_as.Excluded n) p h refl
-    command_own (prefixed x c) p h = and_ (prefix_own x p h) (command_own c (site_behind x p) (behind_item x p ∙ h))
+    command_own (prefixed x c) p h = like (and_ (prefix_own x p h) (command_own c (site_behind x p) (behind_item x p ∙ h))) (λ s. prefixed_is x c p s)
     command_own (counted n e c) p h = and_ (expression_own e p h) (command_own c p h)
     command_own (move_ m e) p h = expression_own e p h
     command_own (named x n) p h = one (uses (use_of x) n) p h refl
@@ -189,7 +205,7 @@ module _ (i : ℕ) where
     command_own (compare_values_ e o f) p h = and_ (expression_own e p h) (expression_own f p h)
     command_own (among_ x gs) p h =
         let n = among (has_starter x) (is_empty gs) in
-        numbered (λ k s. noted_groups gs k p (noted_starter x p (put n p s))) (λ k. and_ (one n p h refl) (and_ (starter_own x p h) (groups_own gs k p h)))
+        like (numbered (λ k s. noted_groups gs k p (noted_starter x p (put n p s))) (λ k. and_ (one n p h refl) (and_ (starter_own x p h) (groups_own gs k p h)))) (λ s. among_is x gs p s)
 
     rows_own : (rs : Rows) (p : Site) → p.item ≡ i → Ours (λ s. noted_rows rs p s)
     rows_own no_rows p h = none

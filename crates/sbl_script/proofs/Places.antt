@@ -4,17 +4,16 @@ use Rattle.std.proofs.lemmas.List.{take-append-drop, map-append}
 use Rattle.sbl_text.specs.declared.fault.ScriptFault.{ScriptFault}
 use Rattle.sbl_text.specs.declared.fault.ScriptFault.TheVariants as fault
 use Rattle.sbl_token.specs.declared.token.Token.{Token}
-use Rattle.sbl_token.specs.Lexemes.{lexeme_of}
+use Rattle.sbl_token.specs.Lexemes.{Lexeme, lexeme_of}
 use Rattle.sbl_text.specs.Tokens.{PlacedToken, placed_of}
-use Rattle.sbl_ast.specs.Terminal.{Terminal, terminal_of, terminals_of, tokens_left}
 use Rattle.sbl_parser.specs.Reading.{IsSyntaxAt, IsTooDeepAt, IsOutOfProfileAt}
 use Rattle.sbl_ast.specs.Texts.{Text}
 use Rattle.sbl_parser.specs.FaultOffsets as grammar
-use Rattle.sbl_script.specs.Reading.{terminals, place_of, IsGrammarFault, IsUnread, first_left_out}
+use Rattle.sbl_script.specs.Reading.{lexemes, place_of, IsGrammarFault, IsUnread, first_left_out}
 
-pub terminals_same : (ts : List Token) → terminals_of ts ≡ terminals (map placed_of ts)
-terminals_same [] = refl
-terminals_same (t ∷ ts) = ap (λ (r : List Terminal). terminal_of (lexeme_of t) ∷ r) (terminals_same ts)
+pub lexemes_same : (ts : List Token) → map lexeme_of ts ≡ lexemes (map placed_of ts)
+lexemes_same [] = refl
+lexemes_same (t ∷ ts) = ap (λ (r : List Lexeme). lexeme_of t ∷ r) (lexemes_same ts)
 
 place_same : (ts : List Token) (end : ℕ) → grammar.place_of ts end ≡ place_of end (map placed_of ts)
 place_same [] end = refl
@@ -23,9 +22,9 @@ place_same (t ∷ ts) end = refl
 cut : (ts : List Token) (n : ℕ) → map placed_of ts ≡ map placed_of (take n ts) ++ map placed_of (drop n ts)
 cut ts n = ap (map placed_of) (sym (take-append-drop n ts)) ∙ map-append placed_of (take n ts) (drop n ts)
 
-moved : (P : List Terminal → List Terminal → Type 0) (ts : List Token) (n : ℕ) → P (terminals_of ts) (tokens_left ts n) → P (terminals (map placed_of ts)) (terminals (map placed_of (drop n ts)))
+moved : (P : List Lexeme → List Lexeme → Type 0) (ts : List Token) (n : ℕ) → P (map lexeme_of ts) (map lexeme_of (drop n ts)) → P (lexemes (map placed_of ts)) (lexemes (map placed_of (drop n ts)))
 moved P ts n h =
-    subst (λ (x : List Terminal). P x (terminals (map placed_of (drop n ts)))) (terminals_same ts) (subst (λ (x : List Terminal). P (terminals_of ts) x) (terminals_same (drop n ts)) h)
+    subst (λ (x : List Lexeme). P x (lexemes (map placed_of (drop n ts)))) (lexemes_same ts) (subst (λ (x : List Lexeme). P (map lexeme_of ts) x) (lexemes_same (drop n ts)) h)
 
 -- the grammar's fault of some tokens
 pub told : (w : Text) (ts : List Token) (end : ℕ) (f : ScriptFault) → grammar.IsFaultOf w ts end f → IsGrammarFault w (map placed_of ts) end f
@@ -55,8 +54,8 @@ unread w (Ok x) ts end offered h = h
 unread w (Err f) ts end offered (inl e) = inl e
 unread w (Err f) ts end offered (inr h) = inr (inr (offered, told w ts end f h))
 
-pub read_as : {X : Type 0} (r : Result X ScriptFault) (P : List Terminal → X → Type 0) (ts : List Token) → IfOk r (λ x. P (terminals_of ts) x) → IfOk r (λ x. P (terminals (map placed_of ts)) x)
-read_as (Ok x) P ts h = subst (λ (t : List Terminal). P t x) (terminals_same ts) h
+pub read_as : {X : Type 0} (r : Result X ScriptFault) (P : List Lexeme → X → Type 0) (ts : List Token) → IfOk r (λ x. P (map lexeme_of ts) x) → IfOk r (λ x. P (lexemes (map placed_of ts)) x)
+read_as (Ok x) P ts h = subst (λ (t : List Lexeme). P t x) (lexemes_same ts) h
 read_as (Err f) P ts h = h
 
 pub offered_too : {X : Type 0} (r : Result X ScriptFault) (ts : List PlacedToken) → first_left_out ts ≡ None → IfOk r (λ x. first_left_out ts ≡ None)

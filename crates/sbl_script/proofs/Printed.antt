@@ -8,17 +8,15 @@ use Rattle.sbl_text.specs.Directives.{start}
 use Rattle.sbl_text.specs.Tokens.{PlacedToken, AreTokensFrom, MayEnd, placed_from}
 use Rattle.sbl_text.specs.SpacedTokens.{after_all, AreSaid, spaced_text}
 use Rattle.sbl_text.specs.Laws.{SpacedAreRead}
-use Rattle.sbl_ast.specs.Terminal.{Terminal, lexeme_as, terminal_of}
-use Rattle.sbl_ast.specs.Tree.{Item, lexemes_of, script_tokens}
-use Rattle.sbl_parser.specs.Laws.{PlacesAreWritten}
-use Rattle.sbl_ast.specs.Places.{places, AreShallow}
+use Rattle.sbl_ast.specs.Tree.{Item}
+use Rattle.sbl_ast.specs.Places.{lexemes_of, places, AreShallow}
 use Rattle.sbl_print.specs.Canonical.{canonical}
 use Rattle.sbl_print.specs.SpacedItems.{CanonicalIsSpaced}
 use Rattle.sbl_ast.specs.Source.{Source}
 use Rattle.sbl_resolver.specs.Checks.{WellDeclared}
 use Rattle.sbl_script.specs.CanonicalText.{CanonicalIsRead}
 use Rattle.sbl_parser.specs.Profile.{is_left_out}
-use Rattle.sbl_script.specs.Reading.{first_left_out, terminals}
+use Rattle.sbl_script.specs.Reading.{first_left_out, lexemes}
 use Rattle.sbl_script.specs.SpelledScript.{AreSpelled}
 use Rattle.sbl_script.proofs.Offered.{none_left_out}
 use Rattle.sbl_script.proofs.OneReading.{said_so}
@@ -26,8 +24,6 @@ use Rattle.sbl_script.proofs.OneReading.{said_so}
 -- what is known of tokens, of trees and of the canonical text
 pub record Known : Type 0 where
   pub read : SpacedAreRead
-  pub back : (x : Terminal) → terminal_of (lexeme_as x) ≡ x
-  pub places : PlacesAreWritten
   pub spaced : CanonicalIsSpaced
 
 -- what is known of the script
@@ -36,9 +32,6 @@ pub record Kept (s : Source) : Type 0 where
   pub shallow : AreShallow (places s.items)
   pub spelled : AreSpelled s.items
   pub ends : MayEnd (after_all start (lexemes_of s.items))
-
-abbrev lexemes : List PlacedToken → List Lexeme
-lexemes ts = map (λ (p : PlacedToken). p.lexeme) ts
 
 -- ---- tokens that are left out
 
@@ -49,17 +42,6 @@ none_offered (t ∷ ts) h = at (is_left_out t.lexeme) refl (none_offered ts)
     at : (b : Bool) → is_left_out t.lexeme ≡ b → (list_any is_left_out (lexemes ts) ≡ false → first_left_out ts ≡ None) → (if b then Some t.start else first_left_out ts) ≡ None
     at true i more = let e : list_any is_left_out (lexemes (t ∷ ts)) ≡ true = rw i refl in absurd (cc (sym h ∙ e))
     at false i more = let e : list_any is_left_out (lexemes (t ∷ ts)) ≡ list_any is_left_out (lexemes ts) = rw i refl in more (sym e ∙ h)
-
--- ---- tokens and lexemes
-
-terminals_are : Known → (ts : List PlacedToken) (us : List Terminal) → lexemes ts ≡ map lexeme_as us → terminals ts ≡ us
-terminals_are k [] [] e = refl
-terminals_are k [] (u ∷ us) e = absurd cc
-terminals_are k (t ∷ ts) [] e = absurd cc
-terminals_are k (t ∷ ts) (u ∷ us) e =
-    let first : t.lexeme ≡ lexeme_as u = cc in
-    let others : lexemes ts ≡ map lexeme_as us = cc in
-    ap (λ (x : Terminal). x ∷ terminals ts) (ap terminal_of first ∙ k.back u) ∙ ap (λ (xs : List Terminal). u ∷ xs) (terminals_are k ts us others)
 
 -- ---- the canonical text
 
@@ -79,7 +61,7 @@ read_back k text utf8 s kept is short =
       placed = found;
       tokens = record { short = short; text = utf8; cut = (t.0, t.1, t.2, t.3, refl) };
       offered = none_offered found (ap (list_any is_left_out) are ∙ none_left_out s.items);
-      tree = (k.places s.items ∙ sym (terminals_are k found (script_tokens s.items) are), kept.shallow);
+      tree = (sym are, kept.shallow);
       external_is = refl;
       well_declared = kept.declared;
     }

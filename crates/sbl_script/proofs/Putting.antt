@@ -1,7 +1,9 @@
 -- What holds of each token of a routine's body and of an among holds of each token of the body with that among in the place of another.
 use Rattle.std.proofs.Common.{ℕ, ◌+◌, ◌-◌, Bool, true, false, nat_eq, List, [], ◌∷◌, ◌++◌, if◌then◌else◌, sym, subst}
 use Rattle.std.specs.List.{AllByRecursion}
-use Rattle.sbl_ast.specs.Terminal as t
+use Rattle.sbl_token.specs.Lexemes as lex
+use Rattle.sbl_token.specs.declared.words.Word.TheVariants as words
+use Rattle.sbl_token.specs.declared.signs.Sign.TheVariants as signs
 use Rattle.sbl_ast.specs.Tree.{Command, bracket, simple_, literal_, name_, non_, prefixed, counted, move_, named, splice_, setlimit_, assign_, compare_, compare_values_, among_, Rows, no_rows, row, Others, no_others, joined, Starter, no_starter, starter, Groups, bare, group}
 use Rattle.sbl_ast.specs.Counts.{count_amongs, count_in_rows, count_in_others, count_in_starter}
 use Rattle.sbl_amongs.specs.Amongs.{put_among, put_in_rows, put_in_others, put_in_starter, put_in_groups, put_in_body}
@@ -43,7 +45,7 @@ HoldsIn P a = (d : ℕ) → Each P (placed_command (among_ a.0 a.1) d [])
 
 -- an among with the others inside it that are put there
 chosen : (P : AtDepth → Type 0) (a : Starter × Groups) → HoldsIn P a → (s : Starter) (gs : Groups) (d k : ℕ) (r q : Ps) → (Each P r → Each P q) → Each P (placed_command (among_ s gs) d r)
-    → Each P (placed_starter (put_in_starter s (k - 1) a) d (placed_groups (put_in_groups gs (k - 1 - count_in_starter s) a) d ((t.close_, d) ∷ q))) → Each P (placed_command (put_among (among_ s gs) k a) d q)
+    → Each P (placed_starter (put_in_starter s (k - 1) a) d (placed_groups (put_in_groups gs (k - 1 - count_in_starter s) a) d ((lex.sign signs.Close, d) ∷ q))) → Each P (placed_command (put_among (among_ s gs) k a) d q)
 chosen P a o s gs d k r q f h inside = go (nat_eq k 1) where
   go : (b : Bool) → Each P (placed_command (if b then among_ a.0 a.1 else among_ (put_in_starter s (k - 1) a) (put_in_groups gs (k - 1 - count_in_starter s) a)) d q)
   go true = instead P (placed_command (among_ s gs) d) (placed_command (among_ a.0 a.1) d) (tree_before (among_ s gs) d) (tree_before (among_ a.0 a.1) d) r q (o d) f h
@@ -51,7 +53,7 @@ chosen P a o s gs d k r q f h inside = go (nat_eq k 1) where
 
 mutual
   tree_put : (P : AtDepth → Type 0) (a : Starter × Groups) → HoldsIn P a → (c : Command) (d k : ℕ) (r q : Ps) → (Each P r → Each P q) → Each P (placed_command c d r) → Each P (placed_command (put_among c k a) d q)
-  tree_put P a o (bracket rs) d k r q f h = (h.0, rows_put P a o rs (d + 1) k ((t.close_, d) ∷ r) ((t.close_, d) ∷ q) (λ x. (x.0, f x.1)) h.1)
+  tree_put P a o (bracket rs) d k r q f h = (h.0, rows_put P a o rs (d + 1) k ((lex.sign signs.Close, d) ∷ r) ((lex.sign signs.Close, d) ∷ q) (λ x. (x.0, f x.1)) h.1)
   tree_put P a o (simple_ x) d k r q f h = behind P (placed_command (simple_ x) d) (tree_before (simple_ x) d) r q f h
   tree_put P a o (literal_ x) d k r q f h = behind P (placed_command (literal_ x) d) (tree_before (literal_ x) d) r q f h
   tree_put P a o (name_ x) d k r q f h = behind P (placed_command (name_ x) d) (tree_before (name_ x) d) r q f h
@@ -64,14 +66,14 @@ mutual
   tree_put P a o (splice_ x y) d k r q f h = behind P (placed_command (splice_ x y) d) (tree_before (splice_ x y) d) r q f h
   tree_put P a o (setlimit_ b c) d k r q f h =
       let m = k - count_amongs b in
-      (h.0, tree_put P a o b (d + 1) k ((t.for_, d) ∷ placed_command c (d + 1) r) ((t.for_, d) ∷ placed_command (put_among c m a) (d + 1) q) (λ x. (x.0, tree_put P a o c (d + 1) m r q f x.1)) h.1)
+      (h.0, tree_put P a o b (d + 1) k ((lex.word words.For, d) ∷ placed_command c (d + 1) r) ((lex.word words.For, d) ∷ placed_command (put_among c m a) (d + 1) q) (λ x. (x.0, tree_put P a o c (d + 1) m r q f x.1)) h.1)
   tree_put P a o (assign_ x y z) d k r q f h = behind P (placed_command (assign_ x y z) d) (tree_before (assign_ x y z) d) r q f h
   tree_put P a o (compare_ x y z) d k r q f h = behind P (placed_command (compare_ x y z) d) (tree_before (compare_ x y z) d) r q f h
   tree_put P a o (compare_values_ x y z) d k r q f h = behind P (placed_command (compare_values_ x y z) d) (tree_before (compare_values_ x y z) d) r q f h
   tree_put P a o (among_ s gs) d k r q f h =
       let m = k - 1 - count_in_starter s in
-      let old = (t.close_, d) ∷ r in
-      let new = (t.close_, d) ∷ q in
+      let old = (lex.sign signs.Close, d) ∷ r in
+      let new = (lex.sign signs.Close, d) ∷ q in
       chosen P a o s gs d k r q f h (starter_put P a o s d (k - 1) (placed_groups gs d old) (placed_groups (put_in_groups gs m a) d new) (λ x. groups_put P a o gs d m old new (λ y. (y.0, f y.1)) x) h.1.1)
 
   rows_put : (P : AtDepth → Type 0) (a : Starter × Groups) → HoldsIn P a → (rs : Rows) (d k : ℕ) (r q : Ps) → (Each P r → Each P q) → Each P (placed_rows rs d r) → Each P (placed_rows (put_in_rows rs k a) d q)
@@ -91,16 +93,16 @@ mutual
 
   starter_put : (P : AtDepth → Type 0) (a : Starter × Groups) → HoldsIn P a → (s : Starter) (d k : ℕ) (r q : Ps) → (Each P r → Each P q) → Each P (placed_starter s d r) → Each P (placed_starter (put_in_starter s k a) d q)
   starter_put P a o no_starter d k r q f h = f h
-  starter_put P a o (starter rs) d k r q f h = (h.0, rows_put P a o rs (d + 1 + 1) k ((t.close_, d + 1) ∷ r) ((t.close_, d + 1) ∷ q) (λ x. (x.0, f x.1)) h.1)
+  starter_put P a o (starter rs) d k r q f h = (h.0, rows_put P a o rs (d + 1 + 1) k ((lex.sign signs.Close, d + 1) ∷ r) ((lex.sign signs.Close, d + 1) ∷ q) (λ x. (x.0, f x.1)) h.1)
 
   groups_put : (P : AtDepth → Type 0) (a : Starter × Groups) → HoldsIn P a → (gs : Groups) (d k : ℕ) (r q : Ps) → (Each P r → Each P q) → Each P (placed_groups gs d r) → Each P (placed_groups (put_in_groups gs k a) d q)
   groups_put P a o (bare es) d k r q f h = behind P (placed_entries es d) (entries_before es d) r q f h
   groups_put P a o (group e es rs gs) d k r q f h =
       let m = k - count_in_rows rs in
-      let old = (t.close_, d + 1) ∷ placed_groups gs d r in
-      let new = (t.close_, d + 1) ∷ placed_groups (put_in_groups gs m a) d q in
-      let before = (t.open_, d + 1) ∷ placed_rows rs (d + 1 + 1) old in
-      let after = (t.open_, d + 1) ∷ placed_rows (put_in_rows rs k a) (d + 1 + 1) new in
+      let old = (lex.sign signs.Close, d + 1) ∷ placed_groups gs d r in
+      let new = (lex.sign signs.Close, d + 1) ∷ placed_groups (put_in_groups gs m a) d q in
+      let before = (lex.sign signs.Open, d + 1) ∷ placed_rows rs (d + 1 + 1) old in
+      let after = (lex.sign signs.Open, d + 1) ∷ placed_rows (put_in_rows rs k a) (d + 1 + 1) new in
       behind P (placed_entry e d) (entry_before e d) (placed_entries es d before) (placed_entries es d after)
       (λ x. behind P (placed_entries es d) (entries_before es d) before after (λ y. (y.0, rows_put P a o rs (d + 1 + 1) k old new (λ z. (z.0, groups_put P a o gs d m r q f z.1)) y.1)) x) h
 

@@ -28,9 +28,12 @@ use Rattle.sbl_ast.specs.declared.tree.Comparison.{Comparison}
 use Rattle.sbl_ast.specs.declared.tree.Comparison.TheVariants as comparisons
 use Rattle.sbl_ast.specs.declared.tree.Constant.{Constant}
 use Rattle.sbl_ast.specs.declared.tree.Constant.TheVariants as constants
-use Rattle.sbl_ast.specs.Terminal.{Terminal, lexeme_as}
-use Rattle.sbl_ast.specs.Terminal as t
-use Rattle.sbl_ast.specs.Tree.{Argument, written_out, by_name, argument_terminal, Expression, expression, Sums, no_sums, sum, Product, product, Scales, no_scales, scale, Factor, negated, bracketed, numeral, variable, fixed, length_of, Entry, entry, Command, bracket, simple_, literal_, name_, non_, prefixed, counted, move_, named, splice_, setlimit_, assign_, compare_, compare_values_, among_, Rows, no_rows, row, Others, no_others, joined, Starter, no_starter, starter, Groups, bare, group, Term, term}
+use Rattle.sbl_token.specs.Lexemes.{Lexeme}
+use Rattle.sbl_token.specs.Lexemes as lex
+use Rattle.sbl_token.specs.declared.words.Word.TheVariants as words
+use Rattle.sbl_token.specs.declared.signs.Sign.TheVariants as signs
+use Rattle.sbl_ast.specs.Symbols as t
+use Rattle.sbl_ast.specs.Tree.{Argument, written_out, by_name, Expression, expression, Sums, no_sums, sum, Product, product, Scales, no_scales, scale, Factor, negated, bracketed, numeral, variable, fixed, length_of, Entry, entry, Command, bracket, simple_, literal_, name_, non_, prefixed, counted, move_, named, splice_, setlimit_, assign_, compare_, compare_values_, among_, Rows, no_rows, row, Others, no_others, joined, Starter, no_starter, starter, Groups, bare, group, Term, term}
 use Rattle.sbl_ast.specs.Places.{AtDepth, placed_command, placed_rows, placed_others, placed_starter, placed_groups, placed_entry, placed_entries, placed_expression, placed_sums, placed_product, placed_scales, placed_factor, placed_names, placed_terms}
 use Rattle.sbl_ast.specs.Texts.{body, places_in}
 use Rattle.sbl_script.proofs.Putting.{Each}
@@ -38,8 +41,8 @@ use Rattle.sbl_script.proofs.Putting.{Each}
 abbrev Ps : Type 0
 Ps = List AtDepth
 
-abbrev Keeps : Terminal → Type 0
-Keeps x = (e : InForce) → after (no_directive e) (lexeme_as x) ≡ no_directive e
+abbrev Keeps : Lexeme → Type 0
+Keeps x = (e : InForce) → after (no_directive e) x ≡ no_directive e
 
 -- such a token, at any depth
 abbrev pub IsQuiet : AtDepth → Type 0
@@ -94,11 +97,11 @@ naming_keeps namings.SetMark e = refl
 naming_keeps namings.Unset e = refl
 naming_keeps namings.Arrow e = refl
 
-edit_keeps : (x : Splice) → Keeps (t.edit x)
-edit_keeps edits.Attach e = refl
-edit_keeps edits.Insert e = refl
-edit_keeps edits.Replace e = refl
-edit_keeps edits.InsertSign e = refl
+splice_keeps : (x : Splice) → Keeps (t.splice x)
+splice_keeps edits.Attach e = refl
+splice_keeps edits.Insert e = refl
+splice_keeps edits.Replace e = refl
+splice_keeps edits.InsertSign e = refl
 
 additive_keeps : (x : Additive) → Keeps (t.additive x)
 additive_keeps additives.Plus e = refl
@@ -130,7 +133,7 @@ constant_keeps constants.Limit e = refl
 constant_keeps constants.MaxInt e = refl
 constant_keeps constants.MinInt e = refl
 
-argument_keeps : (a : Argument) → Keeps (argument_terminal a)
+argument_keeps : (a : Argument) → Keeps (t.argument a)
 argument_keeps (written_out q) e = refl
 argument_keeps (by_name n) e = refl
 
@@ -153,7 +156,7 @@ mutual
 
   factor_quiet : (f : Factor) (d : ℕ) (r : Ps) → Each IsQuiet r → Each IsQuiet (placed_factor f d r)
   factor_quiet (negated f) d r h = ((λ e. refl), factor_quiet f (d + 1) r h)
-  factor_quiet (bracketed x) d r h = ((λ e. refl), expression_quiet x (d + 1) ((t.close_, d + 1) ∷ r) ((λ e. refl), h))
+  factor_quiet (bracketed x) d r h = ((λ e. refl), expression_quiet x (d + 1) ((lex.sign signs.Close, d + 1) ∷ r) ((λ e. refl), h))
   factor_quiet (numeral n) d r h = ((λ e. refl), h)
   factor_quiet (variable n) d r h = ((λ e. refl), h)
   factor_quiet (fixed c) d r h = (constant_keeps c, h)
@@ -169,7 +172,7 @@ entries_quiet (x ∷ es) d r h = entry_quiet x d (placed_entries es d r) (entrie
 
 mutual
   tree_quiet : (c : Command) (d : ℕ) (r : Ps) → Each IsQuiet r → Each IsQuiet (placed_command c d r)
-  tree_quiet (bracket rs) d r h = ((λ e. refl), rows_quiet rs (d + 1) ((t.close_, d) ∷ r) ((λ e. refl), h))
+  tree_quiet (bracket rs) d r h = ((λ e. refl), rows_quiet rs (d + 1) ((lex.sign signs.Close, d) ∷ r) ((λ e. refl), h))
   tree_quiet (simple_ s) d r h = (simple_keeps s, h)
   tree_quiet (literal_ q) d r h = ((λ e. refl), h)
   tree_quiet (name_ n) d r h = ((λ e. refl), h)
@@ -179,15 +182,15 @@ mutual
   tree_quiet (counted n x c) d r h = (count_keeps n, expression_quiet x d (placed_command c (d + 1) r) (tree_quiet c (d + 1) r h))
   tree_quiet (move_ m x) d r h = (move_keeps m, expression_quiet x d r h)
   tree_quiet (named x n) d r h = (naming_keeps x, ((λ e. refl), h))
-  tree_quiet (splice_ x a) d r h = (edit_keeps x, (argument_keeps a, h))
-  tree_quiet (setlimit_ b c) d r h = ((λ e. refl), tree_quiet b (d + 1) ((t.for_, d) ∷ placed_command c (d + 1) r) ((λ e. refl), tree_quiet c (d + 1) r h))
+  tree_quiet (splice_ x a) d r h = (splice_keeps x, (argument_keeps a, h))
+  tree_quiet (setlimit_ b c) d r h = ((λ e. refl), tree_quiet b (d + 1) ((lex.word words.For, d) ∷ placed_command c (d + 1) r) ((λ e. refl), tree_quiet c (d + 1) r h))
   tree_quiet (assign_ n o x) d r h = ((λ e. refl), ((λ e. refl), (assigns_keeps o, expression_quiet x d r h)))
   tree_quiet (compare_ n o x) d r h = ((λ e. refl), ((λ e. refl), (compares_keeps o, expression_quiet x d r h)))
   tree_quiet (compare_values_ x o y) d r h =
-      let close = (t.close_, d) ∷ r in
+      let close = (lex.sign signs.Close, d) ∷ r in
       ((λ e. refl), ((λ e. refl), expression_quiet x d ((t.compares o, d) ∷ placed_expression y d close) (compares_keeps o, expression_quiet y d close ((λ e. refl), h))))
   tree_quiet (among_ s gs) d r h =
-      let close = (t.close_, d) ∷ r in
+      let close = (lex.sign signs.Close, d) ∷ r in
       ((λ e. refl), ((λ e. refl), starter_quiet s d (placed_groups gs d close) (groups_quiet gs d close ((λ e. refl), h))))
 
   rows_quiet : (rs : Rows) (d : ℕ) (r : Ps) → Each IsQuiet r → Each IsQuiet (placed_rows rs d r)
@@ -200,13 +203,13 @@ mutual
 
   starter_quiet : (s : Starter) (d : ℕ) (r : Ps) → Each IsQuiet r → Each IsQuiet (placed_starter s d r)
   starter_quiet no_starter d r h = h
-  starter_quiet (starter rs) d r h = ((λ e. refl), rows_quiet rs (d + 1 + 1) ((t.close_, d + 1) ∷ r) ((λ e. refl), h))
+  starter_quiet (starter rs) d r h = ((λ e. refl), rows_quiet rs (d + 1 + 1) ((lex.sign signs.Close, d + 1) ∷ r) ((λ e. refl), h))
 
   groups_quiet : (gs : Groups) (d : ℕ) (r : Ps) → Each IsQuiet r → Each IsQuiet (placed_groups gs d r)
   groups_quiet (bare es) d r h = entries_quiet es d r h
   groups_quiet (group x es rs gs) d r h =
-      let close = (t.close_, d + 1) ∷ placed_groups gs d r in
-      let inner = (t.open_, d + 1) ∷ placed_rows rs (d + 1 + 1) close in
+      let close = (lex.sign signs.Close, d + 1) ∷ placed_groups gs d r in
+      let inner = (lex.sign signs.Open, d + 1) ∷ placed_rows rs (d + 1 + 1) close in
       entry_quiet x d (placed_entries es d inner) (entries_quiet es d inner ((λ e. refl), rows_quiet rs (d + 1 + 1) close ((λ e. refl), groups_quiet gs d r h)))
 
 pub among_quiet : (s : Starter) (gs : Groups) (d : ℕ) → Each IsQuiet (placed_command (among_ s gs) d [])
@@ -217,13 +220,13 @@ body_quiet b = tree_quiet b.0 1 (placed_others b.1 1 []) (others_quiet b.1 1 [] 
 
 -- ---- names and terms
 
-pub names_quiet : (k : DeclarationKind) (ns : List (List ℕ)) → Each IsQuiet ((t.declares k, 0) ∷ (t.open_, 0) ∷ placed_names ns ((t.close_, 0) ∷ []))
+pub names_quiet : (k : DeclarationKind) (ns : List (List ℕ)) → Each IsQuiet ((t.declares k, 0) ∷ (lex.sign signs.Open, 0) ∷ placed_names ns ((lex.sign signs.Close, 0) ∷ []))
 names_quiet k ns = (declares_keeps k, ((λ e. refl), go ns)) where
-  go : (ms : List (List ℕ)) → Each IsQuiet (placed_names ms ((t.close_, 0) ∷ []))
+  go : (ms : List (List ℕ)) → Each IsQuiet (placed_names ms ((lex.sign signs.Close, 0) ∷ []))
   go [] = ((λ e. refl), tt)
   go (m ∷ ms) = ((λ e. refl), go ms)
 
-pub terms_quiet : (a : Argument) (xs : List Term) → Each IsQuiet ((argument_terminal a, 0) ∷ placed_terms xs [])
+pub terms_quiet : (a : Argument) (xs : List Term) → Each IsQuiet ((t.argument a, 0) ∷ placed_terms xs [])
 terms_quiet a xs = (argument_keeps a, go xs) where
   go : (ys : List Term) → Each IsQuiet (placed_terms ys [])
   go [] = tt

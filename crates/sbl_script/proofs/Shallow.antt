@@ -3,7 +3,8 @@ use Rattle.std.proofs.Common.{◌≡◌, ◌≤◌, ℕ, Bool, true, false, List
 use Rattle.std.specs.List.{list_any}
 use Rattle.std.specs.Option.{option_or}
 use Rattle.sbl_amongs.specs.Amongs.{FitsAt, AmongContents, nth_held}
-use Rattle.sbl_ast.specs.Terminal as t
+use Rattle.sbl_token.specs.Lexemes as lex
+use Rattle.sbl_token.specs.declared.signs.Sign.TheVariants as signs
 use Rattle.sbl_ast.specs.Tree.{Argument, Term, Plain, routine, grouping, Item, plain, backward, Starter, Groups, among_}
 use Rattle.sbl_ast.specs.Places.{AtDepth, placed_command, placed_plain, placed_plains, placed_items, AreShallow}
 use Rattle.sbl_ast.specs.Texts.{among, body, terms, places_in}
@@ -11,7 +12,8 @@ use Rattle.sbl_ast.specs.View.{RowView}
 use Rattle.sbl_ast.proofs.Behind.{IsBefore, by_itself, behind_it, with_behind, plain_before}
 use Rattle.sbl_script.specs.declared.edits.DefinitionKind.TheVariants as kinds
 use Rattle.sbl_script.proofs.Found.{some_plain}
-use Rattle.sbl_script.specs.Edits.{defines, first_in, first_of, items_with, plain_if, plains_with}
+use Rattle.sbl_script.specs.Edits.{defines, items_with, plains_with}
+use Rattle.sbl_script.specs.Homes.{first_in, first_passing, plain_if}
 
 abbrev Ps : Type 0
 Ps = List AtDepth
@@ -40,13 +42,13 @@ items_shallow p y (plain x ∷ is) hy h = go (p x) (items_shallow p y is hy (beh
   go true more = with_behind (placed_plain y) (plain_before y) rest hy (behind_it (placed_plain x) (plain_before x) rest h)
   go false more = with_behind (placed_plain x) (plain_before x) (placed_items (items_with p y is) []) (by_itself (placed_plain x) (plain_before x) rest h) more
 items_shallow p y (backward xs ∷ is) hy h =
-    let rest = (t.close_, 0) ∷ placed_items is [] in
+    let rest = (lex.sign signs.Close, 0) ∷ placed_items is [] in
     let own = by_itself (placed_plains xs) (plains_before xs) rest h.1.1 in
     let tail = behind_it (placed_plains xs) (plains_before xs) rest h.1.1 in
     go (list_any p xs) own tail (items_shallow p y is hy tail.1) where
-      go : (here : Bool) → AreShallow (placed_plains xs []) → AreShallow ((t.close_, 0) ∷ placed_items is []) → AreShallow (placed_items (items_with p y is) []) → AreShallow (placed_items (if here then backward (plains_with p y xs) ∷ is else backward xs ∷ items_with p y is) [])
-      go true own tail more = let ys = plains_with p y xs in (h.0, (h.1.0, with_behind (placed_plains ys) (plains_before ys) ((t.close_, 0) ∷ placed_items is []) (plains_shallow p y xs hy own) tail))
-      go false own tail more = (h.0, (h.1.0, with_behind (placed_plains xs) (plains_before xs) ((t.close_, 0) ∷ placed_items (items_with p y is) []) own (tail.0, more)))
+      go : (here : Bool) → AreShallow (placed_plains xs []) → AreShallow ((lex.sign signs.Close, 0) ∷ placed_items is []) → AreShallow (placed_items (items_with p y is) []) → AreShallow (placed_items (if here then backward (plains_with p y xs) ∷ is else backward xs ∷ items_with p y is) [])
+      go true own tail more = let ys = plains_with p y xs in (h.0, (h.1.0, with_behind (placed_plains ys) (plains_before ys) ((lex.sign signs.Close, 0) ∷ placed_items is []) (plains_shallow p y xs hy own) tail))
+      go false own tail more = (h.0, (h.1.0, with_behind (placed_plains xs) (plains_before xs) ((lex.sign signs.Close, 0) ∷ placed_items (items_with p y is) []) own (tail.0, more)))
 
 -- ---- a definition in a script that is nowhere too deep
 
@@ -65,14 +67,14 @@ in_shallow p [] y h is = absurd cc
 in_shallow p (x ∷ xs) y h is =
     either_shallow (plain_if p x) (first_in p xs) y (λ e. if_shallow p x y (by_itself (placed_plain x) (plain_before x) (placed_plains xs []) h) e) (λ e. in_shallow p xs y (behind_it (placed_plain x) (plain_before x) (placed_plains xs []) h) e) is
 
-pub first_shallow : (p : Plain → Bool) (items : List Item) (y : Plain) → AreShallow (placed_items items []) → first_of p items ≡ Some y → AreShallow (placed_plain y [])
+pub first_shallow : (p : Plain → Bool) (items : List Item) (y : Plain) → AreShallow (placed_items items []) → first_passing p items ≡ Some y → AreShallow (placed_plain y [])
 first_shallow p [] y h is = absurd cc
 first_shallow p (plain x ∷ items) y h is =
-    either_shallow (plain_if p x) (first_of p items) y (λ e. if_shallow p x y (by_itself (placed_plain x) (plain_before x) (placed_items items []) h) e) (λ e. first_shallow p items y (behind_it (placed_plain x) (plain_before x) (placed_items items []) h) e) is
+    either_shallow (plain_if p x) (first_passing p items) y (λ e. if_shallow p x y (by_itself (placed_plain x) (plain_before x) (placed_items items []) h) e) (λ e. first_shallow p items y (behind_it (placed_plain x) (plain_before x) (placed_items items []) h) e) is
 first_shallow p (backward xs ∷ items) y h is =
-    let rest = (t.close_, 0) ∷ placed_items items [] in
+    let rest = (lex.sign signs.Close, 0) ∷ placed_items items [] in
     let inner = behind_it (placed_plains xs) (plains_before xs) rest h.1.1 in
-    either_shallow (first_in p xs) (first_of p items) y (λ e. in_shallow p xs y (by_itself (placed_plains xs) (plains_before xs) rest h.1.1) e) (λ e. first_shallow p items y inner.1 e) is
+    either_shallow (first_in p xs) (first_passing p items) y (λ e. in_shallow p xs y (by_itself (placed_plains xs) (plains_before xs) rest h.1.1) e) (λ e. first_shallow p items y inner.1 e) is
 
 -- a routine with a body that is not too deep, and a grouping
 pub routine_shallow : (n : List ℕ) (b : RowView) → AreShallow (places_in body b) → AreShallow (placed_plain (routine n b.0 b.1) [])
@@ -81,7 +83,7 @@ routine_shallow n b hb = let top : 0 ≤ 64 = omega arith in (top, (top, (top, h
 pub grouping_shallow : (n : List ℕ) (a : Argument) (ts : List Term) → AreShallow (places_in terms (a, ts)) → AreShallow (placed_plain (grouping n a ts) [])
 grouping_shallow n a ts h = let top : 0 ≤ 64 = omega arith in (top, (top, h))
 
-pub body_shallow : (n : List ℕ) (items : List Item) (b : RowView) → AreShallow (placed_items items []) → first_of (defines kinds.Routine n) items ≡ Some (routine n b.0 b.1) → AreShallow (places_in body b)
+pub body_shallow : (n : List ℕ) (items : List Item) (b : RowView) → AreShallow (placed_items items []) → first_passing (defines kinds.Routine n) items ≡ Some (routine n b.0 b.1) → AreShallow (places_in body b)
 body_shallow n items b h is = (first_shallow (defines kinds.Routine n) items (routine n b.0 b.1) h is).1.1.1
 
 -- what is read where an among stands may stand there

@@ -11,22 +11,25 @@ use Rattle.sbl_text.specs.Tokens.{PlacedToken, Piece, MayEnd, and_more, placed_f
 use Rattle.sbl_text.specs.SpacedTokens.{IsSaid, AreSaid, after_all}
 use Rattle.sbl_text.proofs.Spaced.{tokens_said}
 use Rattle.sbl_ast.specs.declared.tree.Base.TheVariants as bases
-use Rattle.sbl_ast.specs.Terminal.{Terminal, lexeme_as, terminal_of}
-use Rattle.sbl_ast.specs.Terminal as t
-use Rattle.sbl_ast.specs.Tree.{Argument, Term, Starter, Groups, among_, Plain, declaration, escapes, macro, routine, grouping, Item, plain, backward, lexemes_of}
+use Rattle.sbl_ast.specs.Terminal.{lexeme_as}
+use Rattle.sbl_token.specs.Lexemes as lex
+use Rattle.sbl_token.specs.declared.signs.Sign.TheVariants as signs
+use Rattle.sbl_ast.specs.Tree.{Argument, Term, Starter, Groups, among_, Plain, declaration, escapes, macro, routine, grouping, Item, plain, backward}
+use Rattle.sbl_ast.specs.Places.{lexemes_of, AtDepth, placed_command, placed_plain, placed_plains, placed_items, places, tokens}
 use Rattle.sbl_ast.specs.View.{RowView}
 use Rattle.sbl_amongs.specs.Amongs.{put_in_body}
-use Rattle.sbl_ast.specs.Places.{AtDepth, placed_command, placed_plain, placed_plains, placed_items, places, tokens}
 use Rattle.sbl_ast.specs.Texts.{Text, TreeOf, body, places_in, script, tokens_of}
 use Rattle.sbl_ast.specs.Texts as texts
 use Rattle.sbl_parser.specs.Reading.{IsReadAs}
+use Rattle.sbl_ast.specs.Spelled.{spelled_command}
+use Rattle.sbl_ast.proofs.Lexed.{text_lexed}
 use Rattle.sbl_ast.proofs.Behind.{IsBefore, plain_before}
-use Rattle.sbl_parser.proofs.Faults.{tree_tokens, places_tokens}
-use Rattle.sbl_parser.proofs.Parts.{there}
+use Rattle.sbl_parser.proofs.Faults.{tree_tokens}
 use Rattle.sbl_script.specs.declared.edits.DefinitionKind.{DefinitionKind}
 use Rattle.sbl_script.specs.declared.edits.DefinitionKind.TheVariants as kinds
-use Rattle.sbl_script.specs.Edits.{Reached, defines, escapes_before, escapes_behind, first_in, first_of, items_with, plain_if, plains_with, walk_to, walk_in, state_before}
-use Rattle.sbl_script.specs.Reading.{HasTokens, terminals}
+use Rattle.sbl_script.specs.Edits.{defines, escapes_behind, items_with, plains_with}
+use Rattle.sbl_script.specs.Homes.{Reached, escapes_before, first_in, first_passing, plain_if, walk_to, walk_in, state_reached}
+use Rattle.sbl_script.specs.Reading.{HasTokens, lexemes}
 use Rattle.sbl_script.specs.SpelledScript.{AreSpelled, IsSpelled}
 use Rattle.sbl_script.proofs.Putting.{Each, body_put}
 use Rattle.sbl_script.proofs.Quiet.{IsQuiet, among_quiet, body_quiet, names_quiet, terms_quiet}
@@ -37,7 +40,7 @@ abbrev Ps : Type 0
 Ps = List AtDepth
 
 abbrev lexed : Ps → List Lexeme
-lexed ps = map lexeme_as (tokens ps)
+lexed ps = tokens ps
 
 abbrev Say : Directives → Ps → Type 0
 Say s ps = AreSaid s (lexed ps)
@@ -49,19 +52,19 @@ Then s ps = after_all s (lexed ps)
 
 front : (s : Directives) (ps qs : Ps) → Say s (ps ++ qs) → Say s ps
 front s [] qs h = tt
-front s (p ∷ ps) qs h = (h.0, front (after s (lexeme_as p.0)) ps qs h.1)
+front s (p ∷ ps) qs h = (h.0, front (after s (p.0)) ps qs h.1)
 
 rest_of : (s : Directives) (ps qs : Ps) → Say s (ps ++ qs) → Say (Then s ps) qs
 rest_of s [] qs h = h
-rest_of s (p ∷ ps) qs h = rest_of (after s (lexeme_as p.0)) ps qs h.1
+rest_of s (p ∷ ps) qs h = rest_of (after s (p.0)) ps qs h.1
 
 both : (s : Directives) (ps qs : Ps) → Say s ps → Say (Then s ps) qs → Say s (ps ++ qs)
 both s [] qs h g = g
-both s (p ∷ ps) qs h g = (h.0, both (after s (lexeme_as p.0)) ps qs h.1 g)
+both s (p ∷ ps) qs h g = (h.0, both (after s (p.0)) ps qs h.1 g)
 
 then_both : (s : Directives) (ps qs : Ps) → Then s (ps ++ qs) ≡ Then (Then s ps) qs
 then_both s [] qs = refl
-then_both s (p ∷ ps) qs = then_both (after s (lexeme_as p.0)) ps qs
+then_both s (p ∷ ps) qs = then_both (after s (p.0)) ps qs
 
 part_front : (part : Ps → Ps) → IsBefore part → (s : Directives) (r : Ps) → Say s (part r) → Say s (part [])
 part_front part before s r h = front s (part []) r (subst (Say s) (before [] r) h)
@@ -82,7 +85,7 @@ quiet_then e [] h = refl
 quiet_then e (p ∷ ps) h = ap (λ (s : Directives). Then s ps) (h.0 e) ∙ quiet_then e ps h.1
 
 abbrev SaidUnder : InForce → AtDepth → Type 0
-SaidUnder e p = IsSaid (no_directive e) (lexeme_as p.0)
+SaidUnder e p = IsSaid (no_directive e) (p.0)
 
 each_said : (e : InForce) (ps : Ps) → Each IsQuiet ps → Say (no_directive e) ps → Each (SaidUnder e) ps
 each_said e [] q h = tt
@@ -92,8 +95,11 @@ said_each : (e : InForce) (ps : Ps) → Each IsQuiet ps → Each (SaidUnder e) p
 said_each e [] q h = tt
 said_each e (p ∷ ps) q h = (h.0, subst (λ (s : Directives). Say s ps) (sym (q.0 e)) (said_each e ps q.1 h.1))
 
+among_tokens : (a : Starter × Groups) (d : ℕ) → tokens_of (texts.among d) a ≡ map lexeme_as (spelled_command (among_ a.0 a.1) [])
+among_tokens a d = text_lexed (texts.among d) a ∙ ap (map lexeme_as) (tree_tokens (among_ a.0 a.1) d [])
+
 among_anywhere : (e : InForce) (a : Starter × Groups) (d f : ℕ) → Say (no_directive e) (placed_command (among_ a.0 a.1) d []) → Say (no_directive e) (placed_command (among_ a.0 a.1) f [])
-among_anywhere e a d f h = subst (λ (ts : List Terminal). AreSaid (no_directive e) (map lexeme_as ts)) (tree_tokens (among_ a.0 a.1) d [] ∙ sym (tree_tokens (among_ a.0 a.1) f [])) h
+among_anywhere e a d f h = subst (AreSaid (no_directive e)) (among_tokens a d ∙ sym (among_tokens a f)) h
 
 put_said : (e : InForce) (b : RowView) (k : ℕ) (a : Starter × Groups) (d : ℕ) → Say (no_directive e) (places_in body b) → Say (no_directive e) (placed_command (among_ a.0 a.1) d []) → Say (no_directive e) (places_in body (put_in_body b k a))
 put_said e b k a d h g =
@@ -127,7 +133,7 @@ items_settle (plain x ∷ is) e =
     let r = items_settle is (escapes_behind e x) in
     (r.0, part_then (placed_plain x) (plain_before x) (no_directive e) more ∙ ap (λ (s : Directives). Then s more) (plain_sets e x) ∙ r.1)
 items_settle (backward xs ∷ is) e =
-    let more = (t.close_, 0) ∷ placed_items is [] in
+    let more = (lex.sign signs.Close, 0) ∷ placed_items is [] in
     let r = items_settle is (all_behind e xs) in
     (r.0, part_then (placed_plains xs) (plains_before xs) (no_directive e) more ∙ ap (λ (s : Directives). Then s more) (plains_set e xs) ∙ r.1)
 
@@ -210,11 +216,11 @@ module _ (k : DefinitionKind) (n : List ℕ) (y : Plain) (new : defines k n y �
 
     go : (here : Bool) → list_any q xs ≡ here → InItems is (all_behind e xs) → Say (no_directive e) (placed_items (if here then backward (plains_with q y xs) ∷ is else backward xs ∷ items_with q y is) [])
     go true i more =
-        let rest = (t.close_, 0) ∷ placed_items is [] in
+        let rest = (lex.sign signs.Close, 0) ∷ placed_items is [] in
         (h.0, (h.1.0, plains_new k n y new xs e rest rest i (found true i) (λ z. z) h.1.1))
     go false i more =
         let l = subst (λ (f : InForce). Say (no_directive (walk_to q is f).0) (placed_plain y [])) (not_held q xs e i) (found false i) in
-        (h.0, (h.1.0, plains_same xs e ((t.close_, 0) ∷ placed_items is []) ((t.close_, 0) ∷ placed_items (items_with q y is) []) (λ z. (z.0, more l z.1)) h.1.1))
+        (h.0, (h.1.0, plains_same xs e ((lex.sign signs.Close, 0) ∷ placed_items is []) ((lex.sign signs.Close, 0) ∷ placed_items (items_with q y is) []) (λ z. (z.0, more l z.1)) h.1.1))
 
 -- ---- a definition that there is
 
@@ -236,18 +242,14 @@ in_said p (x ∷ xs) e y o r later is h more =
     first_said p x e y (option_or (first_in p xs) o) (walk_in p xs (escapes_behind e x)) (λ (z : Reached). if z.1 then z else later z.0) (λ l. l) (sym (or_either (plain_if p x) (first_in p xs) o) ∙ is) (part_front (placed_plain x) (plain_before x) (no_directive e) (placed_plains xs r) h)
     (λ i. in_said p xs (escapes_behind e x) y o r later i (behind_plain e x (placed_plains xs r) h) more)
 
-found_said : (p : Plain → Bool) (is : List Item) (e : InForce) (y : Plain) → first_of p is ≡ Some y → Say (no_directive e) (placed_items is []) → Say (no_directive (walk_to p is e).0) (placed_plain y [])
+found_said : (p : Plain → Bool) (is : List Item) (e : InForce) (y : Plain) → first_passing p is ≡ Some y → Say (no_directive e) (placed_items is []) → Say (no_directive (walk_to p is e).0) (placed_plain y [])
 found_said p [] e y i h = absurd cc
 found_said p (plain x ∷ is) e y i h =
-    first_said p x e y (first_of p is) (walk_to p is (escapes_behind e x)) (λ (z : Reached). z) (λ l. l) i (part_front (placed_plain x) (plain_before x) (no_directive e) (placed_items is []) h)
+    first_said p x e y (first_passing p is) (walk_to p is (escapes_behind e x)) (λ (z : Reached). z) (λ l. l) i (part_front (placed_plain x) (plain_before x) (no_directive e) (placed_items is []) h)
     (λ j. found_said p is (escapes_behind e x) y j (behind_plain e x (placed_items is []) h))
-found_said p (backward xs ∷ is) e y i h = in_said p xs e y (first_of p is) ((t.close_, 0) ∷ placed_items is []) (λ (f : InForce). walk_to p is f) i h.1.1 (λ j z. found_said p is (all_behind e xs) y j z.1)
+found_said p (backward xs ∷ is) e y i h = in_said p xs e y (first_passing p is) ((lex.sign signs.Close, 0) ∷ placed_items is []) (λ (f : InForce). walk_to p is f) i h.1.1 (λ j z. found_said p is (all_behind e xs) y j z.1)
 
 -- ---- what is read
-
-lexemes_there : (ts : List PlacedToken) → map lexeme_as (terminals ts) ≡ map (λ (x : PlacedToken). x.lexeme) ts
-lexemes_there [] = refl
-lexemes_there (x ∷ ts) = ap (λ (l : Lexeme). l ∷ map lexeme_as (terminals ts)) (there x.lexeme) ∙ ap (λ (ls : List Lexeme). x.lexeme ∷ ls) (lexemes_there ts)
 
 said_there : (ps : List Piece) (place : ℕ) → map (λ (x : PlacedToken). x.lexeme) (placed_from place ps) ≡ piece_lexemes ps
 said_there [] place = refl
@@ -256,47 +258,41 @@ said_there (p ∷ ps) place = go p.lexeme (said_there ps (place + byte_length p.
   go None more = more
   go (Some l) more = ap (λ (ls : List Lexeme). l ∷ ls) more
 
-pub read_said : (s : Directives) (bytes : List ℕ) (ts : List PlacedToken) (w : Text) (x : TreeOf w) → HasTokens s bytes ts → IsReadAs w (terminals ts) x → AreSaid s (map lexeme_as (tokens_of w x))
+pub read_said : (s : Directives) (bytes : List ℕ) (ts : List PlacedToken) (w : Text) (x : TreeOf w) → HasTokens s bytes ts → IsReadAs w (lexemes ts) x → AreSaid s (tokens_of w x)
 read_said s bytes ts w x has read =
     let cut = has.cut in
-    let is : map lexeme_as (tokens_of w x) ≡ piece_lexemes cut.0 = ap (map lexeme_as) read.0 ∙ lexemes_there ts ∙ ap (map (λ (z : PlacedToken). z.lexeme)) cut.4 ∙ said_there cut.0 0 in
+    let is : tokens_of w x ≡ piece_lexemes cut.0 = read.0 ∙ ap (map (λ (z : PlacedToken). z.lexeme)) cut.4 ∙ said_there cut.0 0 in
     subst (AreSaid s) (sym is) (tokens_said s bytes (piece_lexemes cut.0) has.text (cut.0, cut.1, cut.2, cut.3, refl)).0
 
 -- ---- scripts
 
-written_said : (items : List Item) → AreSpelled items → Say start (places items)
-written_said items h = subst (λ (ts : List Terminal). AreSaid start (map lexeme_as ts)) (sym (places_tokens items)) h
+pub script_said : (bytes : List ℕ) (ts : List PlacedToken) (items : List Item) → HasTokens start bytes ts → IsReadAs script (lexemes ts) items → AreSpelled items
+script_said bytes ts items has read = read_said start bytes ts script items has read
 
-said_written : (items : List Item) → Say start (places items) → AreSpelled items
-said_written items h = subst (λ (ts : List Terminal). AreSaid start (map lexeme_as ts)) (places_tokens items) h
-
-pub script_said : (bytes : List ℕ) (ts : List PlacedToken) (items : List Item) → HasTokens start bytes ts → IsReadAs script (terminals ts) items → AreSpelled items
-script_said bytes ts items has read = said_written items (read_said start bytes ts script items has read)
-
-pub definition_replaced : (k : DefinitionKind) (n : List ℕ) (y : Plain) (items : List Item) → defines k n y ≡ true → AreSpelled items → IsSpelled (state_before (defines k n) items) y → AreSpelled (items_with (defines k n) y items)
-definition_replaced k n y items new h hy = said_written (items_with (defines k n) y items) (items_said k n y new items nothing_set hy (written_said items h))
+pub definition_replaced : (k : DefinitionKind) (n : List ℕ) (y : Plain) (items : List Item) → defines k n y ≡ true → AreSpelled items → IsSpelled (state_reached (defines k n) items) y → AreSpelled (items_with (defines k n) y items)
+definition_replaced k n y items new h hy = items_said k n y new items nothing_set hy h
 
 -- a routine with another body, or with another among in it, and a grouping with other terms
-pub body_said : (n : List ℕ) (items : List Item) (b new : RowView) → AreSpelled items → first_of (defines kinds.Routine n) items ≡ Some (routine n b.0 b.1) → AreSaid (state_before (defines kinds.Routine n) items) (map lexeme_as (tokens_of body new))
-    → IsSpelled (state_before (defines kinds.Routine n) items) (routine n new.0 new.1)
+pub body_said : (n : List ℕ) (items : List Item) (b new : RowView) → AreSpelled items → first_passing (defines kinds.Routine n) items ≡ Some (routine n b.0 b.1) → AreSaid (state_reached (defines kinds.Routine n) items) (tokens_of body new)
+    → IsSpelled (state_reached (defines kinds.Routine n) items) (routine n new.0 new.1)
 body_said n items b new h is piece_lexemes =
-    let old = found_said (defines kinds.Routine n) items nothing_set (routine n b.0 b.1) is (written_said items h) in
+    let old = found_said (defines kinds.Routine n) items nothing_set (routine n b.0 b.1) is h in
     (old.0, (old.1.0, (old.1.1.0, piece_lexemes)))
 
-pub among_said : (n : List ℕ) (items : List Item) (b : RowView) (k : ℕ) (a : Starter × Groups) (d : ℕ) → AreSpelled items → first_of (defines kinds.Routine n) items ≡ Some (routine n b.0 b.1)
-    → AreSaid (state_before (defines kinds.Routine n) items) (map lexeme_as (tokens_of (texts.among d) a)) → IsSpelled (state_before (defines kinds.Routine n) items) (routine n (put_in_body b k a).0 (put_in_body b k a).1)
+pub among_said : (n : List ℕ) (items : List Item) (b : RowView) (k : ℕ) (a : Starter × Groups) (d : ℕ) → AreSpelled items → first_passing (defines kinds.Routine n) items ≡ Some (routine n b.0 b.1)
+    → AreSaid (state_reached (defines kinds.Routine n) items) (tokens_of (texts.among d) a) → IsSpelled (state_reached (defines kinds.Routine n) items) (routine n (put_in_body b k a).0 (put_in_body b k a).1)
 among_said n items b k a d h is ha =
-    let old = found_said (defines kinds.Routine n) items nothing_set (routine n b.0 b.1) is (written_said items h) in
+    let old = found_said (defines kinds.Routine n) items nothing_set (routine n b.0 b.1) is h in
     body_said n items b (put_in_body b k a) h is (put_said (escapes_before (defines kinds.Routine n) items) b k a d old.1.1.1 ha)
 
-pub terms_said : (n : List ℕ) (items : List Item) (a : Argument) (ts : List Term) (x : Argument × List Term) → AreSpelled items → first_of (defines kinds.Grouping n) items ≡ Some (grouping n a ts)
-    → AreSaid (state_before (defines kinds.Grouping n) items) (map lexeme_as (tokens_of texts.terms x)) → IsSpelled (state_before (defines kinds.Grouping n) items) (grouping n x.0 x.1)
+pub terms_said : (n : List ℕ) (items : List Item) (a : Argument) (ts : List Term) (x : Argument × List Term) → AreSpelled items → first_passing (defines kinds.Grouping n) items ≡ Some (grouping n a ts)
+    → AreSaid (state_reached (defines kinds.Grouping n) items) (tokens_of texts.terms x) → IsSpelled (state_reached (defines kinds.Grouping n) items) (grouping n x.0 x.1)
 terms_said n items a ts x h is piece_lexemes =
-    let old = found_said (defines kinds.Grouping n) items nothing_set (grouping n a ts) is (written_said items h) in
+    let old = found_said (defines kinds.Grouping n) items nothing_set (grouping n a ts) is h in
     (old.0, (old.1.0, piece_lexemes))
 
 -- a text may end behind a script
 pub ends : (items : List Item) → MayEnd (after_all start (lexemes_of items))
 ends items =
     let r = items_settle items nothing_set in
-    subst (λ (ts : List Terminal). MayEnd (after_all start (map lexeme_as ts))) (places_tokens items) (subst MayEnd (sym r.1) (λ i. cc))
+    subst MayEnd (sym r.1) (λ i. cc)

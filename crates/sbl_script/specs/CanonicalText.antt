@@ -3,7 +3,7 @@ use Rattle.std.specs.Prelude.{◌≡◌, ℕ, ◌*◌, List, length, ◌≤◌}
 use Rattle.std.specs.Str.{chars}
 use Rattle.sbl_text.specs.Directives.{max_macro}
 use Rattle.sbl_text.specs.Laws.{all_literals}
-use Rattle.sbl_ast.specs.Tree.{lexemes_of}
+use Rattle.sbl_ast.specs.Places.{lexemes_of}
 use Rattle.sbl_print.specs.Canonical.{canonical}
 use Rattle.sbl_ast.specs.Source.{Source}
 use Rattle.sbl_script.specs.Reading.{IsScriptOf, max_script}

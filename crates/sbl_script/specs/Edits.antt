@@ -1,8 +1,7 @@
--- What an edit may replace in a script, the place that it changes, the script after the edit, and the faults of an
--- edit.
-use Rattle.std.specs.Prelude.{◌≡◌, ℕ, ◌-◌, Bool, true, false, List, [], ◌∷◌, length, map, Option, Some, None, Result, Ok, Err, nat_eq, if◌then◌else◌}
-use Rattle.std.specs.List.{filter, list_any}
-use Rattle.std.specs.Option.{ok_or, option_map, option_or}
+-- What an edit may replace in a script, the script after the edit, and the faults of an edit.
+use Rattle.std.specs.Prelude.{◌≡◌, ℕ, ◌+◌, Bool, true, false, List, [], ◌∷◌, ◌++◌, length, map, Option, Some, None, Result, Ok, Err, nat_eq, if◌then◌else◌}
+use Rattle.std.specs.List.{before_first, enumerate_from, filter, find, fold, list_any}
+use Rattle.std.specs.Option.{ok_or, option_map}
 use Rattle.std.specs.Str.{bytes_eq, chars}
 use Rattle.sbl_text.specs.declared.directives.Coding.{Coding}
 use Rattle.sbl_text.specs.declared.directives.Coding.TheVariants as coding
@@ -11,10 +10,10 @@ use Rattle.sbl_text.specs.Directives.{Directives, start_under, value_for_macro, 
 use Rattle.sbl_text.specs.Tokens.{PlacedToken}
 use Rattle.sbl_ast.specs.declared.tree.Base.{Base}
 use Rattle.sbl_ast.specs.declared.tree.Base.TheVariants as bases
-use Rattle.sbl_amongs.specs.Amongs.{put_in_body}
 use Rattle.sbl_amongs.specs.Replacement.{is_among}
-use Rattle.sbl_ast.specs.Tree.{Plain, escapes, macro, routine, grouping, Item, plain, backward}
-use Rattle.sbl_ast.specs.View.{RowView}
+use Rattle.sbl_ast.specs.Order.{ItemInMode, in_order}
+use Rattle.sbl_ast.specs.Tree.{Plain, escapes, macro, routine, grouping, Item, plain, backward, Starter, Groups}
+use Rattle.sbl_ast.specs.Places.{AtDepth, places, placed_plain}
 use Rattle.sbl_ast.specs.Texts.{Text, TreeOf, places_in}
 use Rattle.sbl_ast.specs.Texts as texts
 use Rattle.sbl_parser.specs.Reading.{IsReadAs}
@@ -24,7 +23,7 @@ use Rattle.sbl_script.specs.declared.edits.DefinitionKind.{DefinitionKind}
 use Rattle.sbl_script.specs.declared.edits.DefinitionKind.TheVariants as kinds
 use Rattle.sbl_ast.specs.Source.{Source}
 use Rattle.sbl_resolver.specs.Checks.{WellDeclared}
-use Rattle.sbl_script.specs.Reading.{HasTokens, IsFaultIn, first_left_out, terminals}
+use Rattle.sbl_script.specs.Reading.{HasTokens, IsFaultIn, first_left_out, lexemes}
 
 -- ---- what an edit may replace
 
@@ -49,18 +48,13 @@ changes (body n) = defines kinds.Routine n
 changes (among n k) = defines kinds.Routine n
 changes (terms n) = defines kinds.Grouping n
 
-abbrev pub plain_if : (Plain → Bool) → Plain → Option Plain
-plain_if p x = if p x then Some x else None
+-- the items in text order, without their modes
+abbrev pub plains_of : List Item → List Plain
+plains_of is = map (λ (x : ItemInMode). x.plain) (in_order is)
 
-abbrev pub first_in : (Plain → Bool) → List Plain → Option Plain
-first_in p [] = None
-first_in p (x ∷ xs) = option_or (plain_if p x) (first_in p xs)
-
--- the first item that passes the test, in text order
+-- the first item that passes the test
 abbrev pub first_of : (Plain → Bool) → List Item → Option Plain
-first_of p [] = None
-first_of p (plain x ∷ is) = option_or (plain_if p x) (first_of p is)
-first_of p (backward xs ∷ is) = option_or (first_in p xs) (first_of p is)
+first_of p is = find p (plains_of is)
 
 -- ---- what is in force where that definition begins
 
@@ -75,25 +69,9 @@ escapes_behind e (escapes a b) = with_inserts e a b
 escapes_behind e (macro n b q) = defined_as e (chars n) (value_for_macro (coding_of b) q.value)
 escapes_behind e _ = e
 
--- what is in force before the first item that passes, and whether one passes
-abbrev pub Reached : Type 0
-Reached = InForce × Bool
-
-abbrev pub walk_in : (Plain → Bool) → List Plain → InForce → Reached
-walk_in p [] e = (e, false)
-walk_in p (x ∷ xs) e = if p x then (e, true) else walk_in p xs (escapes_behind e x)
-
-abbrev pub walk_to : (Plain → Bool) → List Item → InForce → Reached
-walk_to p [] e = (e, false)
-walk_to p (plain x ∷ is) e = if p x then (e, true) else walk_to p is (escapes_behind e x)
-walk_to p (backward xs ∷ is) e = if (walk_in p xs e).1 then walk_in p xs e else walk_to p is (walk_in p xs e).0
-
--- the insert characters and macros that all items before the first that passes set
-abbrev pub escapes_before : (Plain → Bool) → List Item → InForce
-escapes_before p is = (walk_to p is nothing_set).0
-
+-- the state of the text before the first item that passes: what all items before it set is in force
 abbrev pub state_before : (Plain → Bool) → List Item → Directives
-state_before p is = start_under (escapes_before p is)
+state_before p is = start_under (fold escapes_behind nothing_set (before_first p (plains_of is)))
 
 -- ---- the items with another definition in its place
 
@@ -107,72 +85,76 @@ items_with p y [] = []
 items_with p y (plain x ∷ is) = if p x then plain y ∷ is else plain x ∷ items_with p y is
 items_with p y (backward xs ∷ is) = if list_any p xs then backward (plains_with p y xs) ∷ is else backward xs ∷ items_with p y is
 
--- ---- the place that an edit changes
+-- ---- the part that an edit replaces
 
--- The kind of text that is read; the state in which that text begins; the items of the script with the tree of the text
--- in this place; whether that tree holds as many amongs as what it replaces.
-pub record Home : Type 0 where
-  pub text : Text
-  pub state : Directives
-  pub around : TreeOf text → List Item
-  pub keeps_count : TreeOf text → Bool
+-- the depths of the words `among`
+abbrev pub among_depths : List AtDepth → List ℕ
+among_depths ps = map (λ p. p.1) (filter (λ p. is_among p.0) ps)
 
--- a place in the first item that passes: `item` makes that item from the tree of the text
-abbrev pub home_at : List Item → (Plain → Bool) → (w : Text) → (TreeOf w → Plain) → (TreeOf w → Bool) → Home
-home_at items p w item keeps = record { text = w; state = state_before p items; around = λ x. items_with p (item x) items; keeps_count = keeps }
+-- what an edit reads in place of a part of this definition; or the fault if there is none, or no such among
+abbrev pub text_in : Option Plain → ScriptEdit → Result Text ScriptEditFault
+text_in (Some (routine m c os)) (body n) = Ok texts.body
+text_in (Some (routine m c os)) (among n k) = ok_or (option_map (λ p. texts.among p.1) (find (λ p. nat_eq p.0 k) (enumerate_from 1 (among_depths (places_in texts.body (c, os)))))) edits.NoAmong
+text_in (Some (grouping m a ts)) (terms n) = Ok texts.terms
+text_in _ (terms n) = Err edits.NoGrouping
+text_in _ e = Err edits.NoRoutine
 
--- the nesting depths of the words `among` in a routine's body
-abbrev pub among_depths : RowView → List ℕ
-among_depths b = map (λ p. p.1) (filter (λ p. is_among p.0) (places_in texts.body b))
+-- the same of the first definition that the edit may change
+abbrev pub text_for : List Item → ScriptEdit → Result Text ScriptEditFault
+text_for items e = text_in (first_of (changes e) items) e
 
--- the one with number k, counted from 1
-abbrev pub nth : ℕ → List ℕ → Option ℕ
-nth k [] = None
-nth k (d ∷ ds) = if nat_eq k 1 then Some d else nth (k - 1) ds
+-- The definition `new` has the among `a` in place of the among of `old` with number k, which is at depth d: there are
+-- k - 1 words `among` before it. All other tokens stay.
+pub record IsAmongReplaced (k d : ℕ) (a : Starter × Groups) (old new : Plain) : Type 0 where
+  pub front : List AtDepth
+  pub replaced : Starter × Groups
+  pub behind : List AtDepth
+  pub number : k ≡ length (among_depths front) + 1
+  pub was : placed_plain old [] ≡ front ++ places_in (texts.among d) replaced ++ behind
+  pub is : placed_plain new [] ≡ front ++ places_in (texts.among d) a ++ behind
 
--- a new among is read at the depth of the one that it replaces, and the body has to hold as many amongs as before
-abbrev pub home_at_among : List Item → List ℕ → RowView → ℕ → ℕ → Home
-home_at_among items n b k d =
-    home_at items (defines kinds.Routine n) (texts.among d) (λ a. routine n (put_in_body b k a).0 (put_in_body b k a).1)
-    (λ a. nat_eq (length (among_depths (put_in_body b k a))) (length (among_depths b)))
+-- with the tree x of its text, an edit makes the definition `new` of `old`
+abbrev pub IsChanged : ScriptEdit → (w : Text) → TreeOf w → Plain → Plain → Type 0
+IsChanged (body n) texts.body x old new = new ≡ routine n x.0 x.1
+IsChanged (among n k) (texts.among d) x old new = IsAmongReplaced k d x old new
+IsChanged (terms n) texts.terms x old new = new ≡ grouping n x.0 x.1
+IsChanged e w x old new = ⊥
 
--- a new body may hold any number of amongs
-abbrev pub home_in : List Item → Option Plain → ScriptEdit → Result Home ScriptEditFault
-home_in items (Some (routine m c os)) (body n) = Ok (home_at items (defines kinds.Routine n) texts.body (λ b. routine n b.0 b.1) (λ b. true))
-home_in items (Some (routine m c os)) (among n k) = ok_or (option_map (home_at_among items n (c, os) k) (nth k (among_depths (c, os)))) edits.NoAmong
-home_in items (Some (grouping m a ts)) (terms n) = Ok (home_at items (defines kinds.Grouping n) texts.terms (λ x. grouping n x.0 x.1) (λ x. true))
-home_in items _ (terms n) = Err edits.NoGrouping
-home_in items _ e = Err edits.NoRoutine
+-- and so it makes the items js of is
+abbrev pub IsMade : List Item → ScriptEdit → (w : Text) → TreeOf w → List Item → Type 0
+IsMade is e w x js = (old : Plain) × (new : Plain) × (first_of (changes e) is ≡ Some old) × IsChanged e w x old new × (js ≡ items_with (changes e) new is)
 
--- the place that an edit changes; or the fault if the script lacks the definition, or else the among
-abbrev pub home : List Item → ScriptEdit → Result Home ScriptEditFault
-home items e = home_in items (first_of (changes e) items) e
+-- after an edit of an among there have to be as many amongs as before
+abbrev pub keeps_count : ScriptEdit → List Item → List Item → Bool
+keeps_count (among n k) is js = nat_eq (length (among_depths (places js))) (length (among_depths (places is)))
+keeps_count e is js = true
 
 -- ---- the script after an edit
 
--- The text, read in this place, has a tree. With this tree the script passes all checks and is t. `as_many` is true if
--- the tree holds as many amongs as what it replaces.
-pub record IsSubstituted (s : Source) (h : Home) (text : List ℕ) (as_many : Bool) (t : Source) : Type 0 where
+-- The text, read as w in this place, has a tree. With this tree the script passes all checks and is t. `as_many` is
+-- true if the number of amongs is as the edit has to keep it.
+pub record IsSubstituted (s : Source) (e : ScriptEdit) (w : Text) (text : List ℕ) (as_many : Bool) (t : Source) : Type 0 where
   pub placed : List PlacedToken
-  pub tree : TreeOf h.text
-  pub tokens : HasTokens h.state text placed
+  pub tree : TreeOf w
+  pub tokens : HasTokens (state_before (changes e) s.items) text placed
   pub offered : first_left_out placed ≡ None
-  pub read : IsReadAs h.text (terminals placed) tree
-  pub items_are : t.items ≡ h.around tree
+  pub read : IsReadAs w (lexemes placed) tree
+  pub items_are : IsMade s.items e w tree t.items
   pub external_is : t.external ≡ s.external
   pub well_declared : WellDeclared t.items t.external
-  pub counted : h.keeps_count tree ≡ as_many
+  pub counted : keeps_count e s.items t.items ≡ as_many
 
--- the script has the place that the edit changes; with the text there, and as many amongs as before, it is the script t
+-- the script has the part that the edit replaces; with the text there it is the script t
 abbrev pub IsEdited : Source → ScriptEdit → List ℕ → Source → Type 0
-IsEdited s e text t = (h : Home) × (home s.items e ≡ Ok h) × IsSubstituted s h text true t
+IsEdited s e text t = (w : Text) × (text_for s.items e ≡ Ok w) × IsSubstituted s e w text true t
 
 -- ---- faults, in the order of the checks: no such routine or grouping; no such among; a fault of the text in its
 -- place; another number of amongs
 
 -- what each fault means; running out of memory is not a fault of the edit
 abbrev pub IsEditFault : Source → ScriptEdit → List ℕ → ScriptEditFault → Type 0
-IsEditFault s e text edits.AmongCount = (h : Home) × (home s.items e ≡ Ok h) × (t : Source) × IsSubstituted s h text false t
-IsEditFault s e text (edits.Script f) = (h : Home) × (home s.items e ≡ Ok h) × IsFaultIn h.text h.state h.around s.external text f
+IsEditFault s e text edits.AmongCount = (w : Text) × (text_for s.items e ≡ Ok w) × (t : Source) × IsSubstituted s e w text false t
+IsEditFault s e text (edits.Script f) =
+    (w : Text) × (text_for s.items e ≡ Ok w) × (around : TreeOf w → List Item) × ((x : TreeOf w) → IsMade s.items e w x (around x)) × IsFaultIn w (state_before (changes e) s.items) around s.external text f
 IsEditFault s e text edits.OutOfMemory = ⊥
-IsEditFault s e text f = home s.items e ≡ Err f
+IsEditFault s e text f = text_for s.items e ≡ Err f

@@ -5,7 +5,7 @@ use Rattle.sbl_text.specs.declared.fault.ScriptFault.{ScriptFault}
 use Rattle.sbl_text.specs.declared.fault.ScriptFault.TheVariants as fault
 use Rattle.sbl_text.specs.Directives.{Directives, start}
 use Rattle.sbl_text.specs.Tokens.{PlacedToken, ArePlacedFrom, IsFirstFaultFrom}
-use Rattle.sbl_ast.specs.Terminal.{Terminal, terminal_of}
+use Rattle.sbl_token.specs.Lexemes.{Lexeme}
 use Rattle.sbl_ast.specs.Tree.{Item}
 use Rattle.sbl_ast.specs.Texts.{Text, TreeOf, script}
 use Rattle.sbl_parser.specs.Profile.{is_left_out}
@@ -23,8 +23,8 @@ pub record HasTokens (s : Directives) (bytes : List ℕ) (ts : List PlacedToken)
   pub text : IsUtf8 bytes
   pub cut : ArePlacedFrom s (chars bytes) ts
 
-abbrev pub terminals : List PlacedToken → List Terminal
-terminals ts = map (λ (t : PlacedToken). terminal_of t.lexeme) ts
+abbrev pub lexemes : List PlacedToken → List Lexeme
+lexemes ts = map (λ (t : PlacedToken). t.lexeme) ts
 
 -- the position of the first token that this workbench does not support
 abbrev pub first_left_out : List PlacedToken → Option ℕ
@@ -39,7 +39,7 @@ pub record IsScriptOf (bytes external : List ℕ) (s : Source) : Type 0 where
   pub placed : List PlacedToken
   pub tokens : HasTokens start bytes placed
   pub offered : first_left_out placed ≡ None
-  pub tree : IsReadAs script (terminals placed) s.items
+  pub tree : IsReadAs script (lexemes placed) s.items
   pub external_is : s.external ≡ external
   pub well_declared : WellDeclared s.items s.external
 
@@ -63,9 +63,9 @@ pub record IsGrammarFault (w : Text) (ts : List PlacedToken) (end : ℕ) (f : Sc
   pub rest : List PlacedToken
   pub parts : ts ≡ before ++ rest
   pub is :
-      (IsSyntaxAt w (terminals ts) (terminals rest) × (f ≡ fault.Syntax (place_of end rest)))
-      ⊎ (IsTooDeepAt w (terminals ts) (terminals rest) × (f ≡ fault.TooDeep (place_of end rest)))
-      ⊎ (IsOutOfProfileAt w (terminals ts) (terminals rest) × (f ≡ fault.OutOfProfile (place_of end rest)))
+      (IsSyntaxAt w (lexemes ts) (lexemes rest) × (f ≡ fault.Syntax (place_of end rest)))
+      ⊎ (IsTooDeepAt w (lexemes ts) (lexemes rest) × (f ≡ fault.TooDeep (place_of end rest)))
+      ⊎ (IsOutOfProfileAt w (lexemes ts) (lexemes rest) × (f ≡ fault.OutOfProfile (place_of end rest)))
 
 -- a token is not supported, or the tokens form no tree
 abbrev pub IsUnread : Text → List PlacedToken → ℕ → ScriptFault → Type 0
@@ -75,7 +75,7 @@ IsUnread w ts end f = ((place : ℕ) × (first_left_out ts ≡ Some place) × (f
 -- script from the tree.
 pub record IsCheckFault (w : Text) (around : TreeOf w → List Item) (external : List ℕ) (ts : List PlacedToken) (f : ScriptFault) : Type 0 where
   pub tree : TreeOf w
-  pub read : IsReadAs w (terminals ts) tree
+  pub read : IsReadAs w (lexemes ts) tree
   pub is : fault_of (around tree) external ≡ Some f
 
 -- f is the fault of a text that begins in state s: as bytes, else as tokens, else in a check

@@ -46,7 +46,7 @@ fn defines(plain: &Plain, kind: DefinitionKind, name: &str) -> bool
 }
 
 fn plain_if<'a>(plain: &'a Plain, kind: DefinitionKind, name: &str) -> Option<&'a Plain>
-    ensures { MatchOption result (spec.plain_if (spec.defines kind name.now) (view_plain plain.now) ≡ None) (λ x. spec.plain_if (spec.defines kind name.now) (view_plain plain.now) ≡ Some (view_plain x.now)) }
+    ensures { MatchOption result (homes.plain_if (spec.defines kind name.now) (view_plain plain.now) ≡ None) (λ x. homes.plain_if (spec.defines kind name.now) (view_plain plain.now) ≡ Some (view_plain x.now)) }
 {
     if defines(plain, kind, name) {
         Some(plain)
@@ -56,7 +56,7 @@ fn plain_if<'a>(plain: &'a Plain, kind: DefinitionKind, name: &str) -> Option<&'
 }
 
 fn first_in<'a>(plains: &'a [Plain], kind: DefinitionKind, name: &str) -> Option<&'a Plain>
-    ensures { MatchOption result (spec.first_in (spec.defines kind name.now) (map view_plain plains.now) ≡ None) (λ x. spec.first_in (spec.defines kind name.now) (map view_plain plains.now) ≡ Some (view_plain x.now)) }
+    ensures { MatchOption result (homes.first_in (spec.defines kind name.now) (map view_plain plains.now) ≡ None) (λ x. homes.first_in (spec.defines kind name.now) (map view_plain plains.now) ≡ Some (view_plain x.now)) }
 {
     for plain in plains {
         if let Some(found) = plain_if(plain, kind, name) {
@@ -153,7 +153,7 @@ fn reach_in(
     name: &str,
     escapes: &mut Escapes,
 ) -> Result<bool, ScriptFault>
-    ensures reached { IfOk result (λ found. (escapes.new, found) ≡ spec.walk_in (spec.defines kind name.now) (map view_plain plains.now) escapes.old) }
+    ensures reached { IfOk result (λ found. (escapes.new, found) ≡ homes.walk_in (spec.defines kind name.now) (map view_plain plains.now) escapes.old) }
     ensures fault { IfErr result (λ f. f ≡ ScriptFault.OutOfMemory) }
 {
     for plain in plains {
@@ -172,7 +172,7 @@ fn reach(
     name: &str,
     escapes: &mut Escapes,
 ) -> Result<bool, ScriptFault>
-    ensures reached { IfOk result (λ found. (escapes.new, found) ≡ spec.walk_to (spec.defines kind name.now) (view_items items.now) escapes.old) }
+    ensures reached { IfOk result (λ found. (escapes.new, found) ≡ homes.walk_to (spec.defines kind name.now) (view_items items.now) escapes.old) }
     ensures fault { IfErr result (λ f. f ≡ ScriptFault.OutOfMemory) }
 {
     for item in items {
@@ -200,7 +200,7 @@ pub fn escapes_before(
     kind: DefinitionKind,
     name: &str,
 ) -> Result<Escapes, ScriptFault>
-    ensures escapes { IfOk result (λ e. e ≡ spec.escapes_before (spec.defines kind name.now) (view_items items.now)) }
+    ensures escapes { IfOk result (λ e. e ≡ homes.escapes_before (spec.defines kind name.now) (view_items items.now)) }
     ensures fault { IfErr result (λ f. f ≡ ScriptFault.OutOfMemory) }
 {
     let mut escapes = Escapes::new(alloc);

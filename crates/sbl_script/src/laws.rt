@@ -8,7 +8,7 @@ ghost use Rattle.sbl_script.specs.CanonicalText.{CanonicalIsOne, CanonicalIsRead
 
 use crate::script::Script;
 pub use crate::script::{is_shallow, is_spelled, is_well_declared};
-use sbl_parser::{one_fault, one_part, one_tree};
+use sbl_parser::{one_fault, one_tree};
 use sbl_print::laws::canonical_is_spaced;
 pub use sbl_resolver::laws::{
     amongs_are_sound, fault_is_first, names_resolve, substrings_are_paired, well_declared_passes,
@@ -58,8 +58,6 @@ pub fn canonical_is_read(script: &Script, text: &str)
 {
     spaced_are_read();
     canonical_is_spaced();
-    one_part();
-    one_tree();
     is_well_declared(script);
     is_shallow(script);
     is_spelled(script);
@@ -73,7 +71,6 @@ pub fn canonical_is_one(script: &Script, other: &Script)
     tokens_are_one();
     spaced_are_read();
     canonical_is_spaced();
-    one_part();
     one_tree();
     is_spelled(script);
     is_spelled(other);
@@ -87,7 +84,5 @@ pub fn literals_fit(script: &Script)
     literals_are_short();
     spaced_are_read();
     canonical_is_spaced();
-    one_part();
-    one_tree();
     is_spelled(script);
 }

@@ -2,7 +2,7 @@
 
 ghost use Rattle.std.specs.Prelude.{◌≡◌, ◌⊎◌, ◌≤◌, None, Some, true, [], length, map, IfOk, IfErr};
 ghost use Rattle.std.specs.Str.{IsUtf8};
-ghost use Rattle.sbl_ast.specs.Places.{AreShallow, placed_plain, places, max_depth};
+ghost use Rattle.sbl_ast.specs.Places.{AreShallow, placed_plain, places, max_depth, lexemes_of};
 ghost use Rattle.sbl_parser.specs.Reading.{IsReadAs};
 ghost use Rattle.sbl_ast.specs.Texts as texts;
 ghost use Rattle.sbl_ast.specs.View.{view_among, view_argument, view_items, view_plain, view_row, view_term};
@@ -12,7 +12,6 @@ ghost use Rattle.sbl_script.specs.SpelledScript.{AreSpelled, IsSpelled};
 ghost use Rattle.sbl_text.specs.Directives.{start, Directives};
 ghost use Rattle.sbl_text.specs.SpacedTokens.{after_all};
 ghost use Rattle.sbl_text.specs.Tokens.{MayEnd, placed_of};
-ghost use Rattle.sbl_ast.specs.Tree.{lexemes_of};
 ghost use Rattle.sbl_script.specs.ParsedScript.{source_of};
 ghost use Rattle.sbl_script.specs.Reading as spec;
 
@@ -60,7 +59,7 @@ fn text_of(bytes: &[u8]) -> Result<&str, ScriptFault>
 /// Returns the tree of these tokens. `end` is the length of their text in bytes.
 fn tree_of(alloc: Global, tokens: &[Token], end: usize) -> Result<Vec<ScriptItem>, ScriptFault>
     ensures offered { IfOk result (λ items. spec.first_left_out (map placed_of tokens.now) ≡ None) }
-    ensures tree { IfOk result (λ items. IsReadAs texts.script (spec.terminals (map placed_of tokens.now)) (view_items items.items)) }
+    ensures tree { IfOk result (λ items. IsReadAs texts.script (spec.lexemes (map placed_of tokens.now)) (view_items items.items)) }
     ensures fault { IfErr result (λ f. (f ≡ ScriptFault.OutOfMemory) ⊎ spec.IsUnread texts.script (map placed_of tokens.now) end f) }
 {
     if let Some(place) = first_left_out(tokens) {
@@ -72,7 +71,7 @@ fn tree_of(alloc: Global, tokens: &[Token], end: usize) -> Result<Vec<ScriptItem
 /// Returns the body that these tokens form, as a routine's. `end` is the length of their text in bytes.
 fn body_of_tokens(alloc: Global, tokens: &[Token], end: usize) -> Result<RowOfCommands, ScriptFault>
     ensures offered { IfOk result (λ row. spec.first_left_out (map placed_of tokens.now) ≡ None) }
-    ensures tree { IfOk result (λ row. IsReadAs texts.body (spec.terminals (map placed_of tokens.now)) (view_row row)) }
+    ensures tree { IfOk result (λ row. IsReadAs texts.body (spec.lexemes (map placed_of tokens.now)) (view_row row)) }
     ensures fault { IfErr result (λ f. (f ≡ ScriptFault.OutOfMemory) ⊎ spec.IsUnread texts.body (map placed_of tokens.now) end f) }
 {
     if let Some(place) = first_left_out(tokens) {
@@ -90,7 +89,7 @@ fn among_of_tokens(
 ) -> Result<Among, ScriptFault>
     requires { depth ≤ max_depth }
     ensures offered { IfOk result (λ a. spec.first_left_out (map placed_of tokens.now) ≡ None) }
-    ensures tree { IfOk result (λ a. IsReadAs (texts.among depth) (spec.terminals (map placed_of tokens.now)) (view_among a)) }
+    ensures tree { IfOk result (λ a. IsReadAs (texts.among depth) (spec.lexemes (map placed_of tokens.now)) (view_among a)) }
     ensures few { IfOk result (λ a. count_in_among (view_among a) ≤ length tokens.now) }
     ensures fault { IfErr result (λ f. (f ≡ ScriptFault.OutOfMemory) ⊎ spec.IsUnread (texts.among depth) (map placed_of tokens.now) end f) }
 {
@@ -107,7 +106,7 @@ fn terms_of_tokens(
     end: usize,
 ) -> Result<(Argument, Vec<Term>), ScriptFault>
     ensures offered { IfOk result (λ x. spec.first_left_out (map placed_of tokens.now) ≡ None) }
-    ensures tree { IfOk result (λ x. IsReadAs texts.terms (spec.terminals (map placed_of tokens.now)) (view_argument x.0, map view_term x.1.items)) }
+    ensures tree { IfOk result (λ x. IsReadAs texts.terms (spec.lexemes (map placed_of tokens.now)) (view_argument x.0, map view_term x.1.items)) }
     ensures fault { IfErr result (λ f. (f ≡ ScriptFault.OutOfMemory) ⊎ spec.IsUnread texts.terms (map placed_of tokens.now) end f) }
 {
     if let Some(place) = first_left_out(tokens) {
@@ -149,7 +148,8 @@ impl Script {
     ghost use Rattle.sbl_script.specs.ParsedScript.{body_of};
     ghost use Rattle.sbl_print.specs.Canonical.{canonical};
     ghost use Rattle.sbl_script.specs.Reading.{HasTokens};
-    ghost use Rattle.sbl_script.specs.Edits.{IsEditFault, IsEdited, among, body, defines, home, items_with, state_before, terms};
+    ghost use Rattle.sbl_script.specs.Edits.{IsEditFault, IsEdited, among, body, defines, items_with, terms, text_for};
+    ghost use Rattle.sbl_script.specs.Homes.{state_reached};
 
     /// Checks a tree and returns its script, or the fault of the first check that fails.
     fn check_tree(
@@ -198,7 +198,7 @@ impl Script {
     ) -> Result<Script, ScriptEditFault>
         ensures script { IfOk result (λ s. IsEdited (source_of self.now) (body name.now) text.now (source_of s)) }
         ensures fault { IfErr result (λ f. (f ≡ ScriptEditFault.OutOfMemory) ⊎ IsEditFault (source_of self.now) (body name.now) text.now f) }
-        ensures missing { (f : ScriptEditFault) → home (source_of self.now).items (body name.now) ≡ Err f → result ≡ Err f }
+        ensures missing { (f : ScriptEditFault) → text_for (source_of self.now).items (body name.now) ≡ Err f → result ≡ Err f }
     {
         let Some(_replaced) = edits::routine_of(&self.items, name) else {
             return Err(ScriptEditFault::NoRoutine);
@@ -228,7 +228,7 @@ impl Script {
     ) -> Result<Script, ScriptEditFault>
         ensures script { IfOk result (λ s. IsEdited (source_of self.now) (among routine.now k) text.now (source_of s)) }
         ensures fault { IfErr result (λ f. (f ≡ ScriptEditFault.OutOfMemory) ⊎ IsEditFault (source_of self.now) (among routine.now k) text.now f) }
-        ensures missing { (f : ScriptEditFault) → home (source_of self.now).items (among routine.now k) ≡ Err f → result ≡ Err f }
+        ensures missing { (f : ScriptEditFault) → text_for (source_of self.now).items (among routine.now k) ≡ Err f → result ≡ Err f }
     {
         let Some(body) = edits::routine_of(&self.items, routine) else {
             return Err(ScriptEditFault::NoRoutine);
@@ -263,7 +263,7 @@ impl Script {
     ) -> Result<Script, ScriptEditFault>
         ensures script { IfOk result (λ s. IsEdited (source_of self.now) (terms name.now) text.now (source_of s)) }
         ensures fault { IfErr result (λ f. (f ≡ ScriptEditFault.OutOfMemory) ⊎ IsEditFault (source_of self.now) (terms name.now) text.now f) }
-        ensures missing { (f : ScriptEditFault) → home (source_of self.now).items (terms name.now) ≡ Err f → result ≡ Err f }
+        ensures missing { (f : ScriptEditFault) → text_for (source_of self.now).items (terms name.now) ≡ Err f → result ≡ Err f }
     {
         let Some(_replaced) = edits::grouping_of(&self.items, name) else {
             return Err(ScriptEditFault::NoGrouping);
@@ -283,8 +283,8 @@ impl Script {
         name: &str,
         text: &'a str,
     ) -> Result<Vec<Token<'a>>, ScriptFault>
-        ensures tokens { IfOk result (λ ts. HasTokens (state_before (defines kind name.now) (source_of self.now).items) text.now (map placed_of ts.items)) }
-        ensures fault { IfErr result (λ f. (f ≡ ScriptFault.OutOfMemory) ⊎ spec.IsTextFault (state_before (defines kind name.now) (source_of self.now).items) text.now f) }
+        ensures tokens { IfOk result (λ ts. HasTokens (state_reached (defines kind name.now) (source_of self.now).items) text.now (map placed_of ts.items)) }
+        ensures fault { IfErr result (λ f. (f ≡ ScriptFault.OutOfMemory) ⊎ spec.IsTextFault (state_reached (defines kind name.now) (source_of self.now).items) text.now f) }
     {
         let text = text_of(text.as_bytes())?;
         let escapes = escapes_before(alloc, &self.items, kind, name)?;
@@ -301,7 +301,7 @@ impl Script {
     ) -> Result<Script, ScriptFault>
         requires same { defines kind name.now (view_plain new.now) ≡ true }
         requires shallow { AreShallow (placed_plain (view_plain new.now) []) }
-        requires spelled { IsSpelled (state_before (defines kind name.now) (source_of self.now).items) (view_plain new.now) }
+        requires spelled { IsSpelled (state_reached (defines kind name.now) (source_of self.now).items) (view_plain new.now) }
         ensures items { IfOk result (λ s. (source_of s).items ≡ items_with (defines kind name.now) (view_plain new.now) (source_of self.now).items) }
         ensures external { IfOk result (λ s. (source_of s).external ≡ (source_of self.now).external) }
         ensures well_declared { IfOk result (λ s. WellDeclared (source_of s).items (source_of s).external) }

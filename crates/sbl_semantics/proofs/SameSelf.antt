@@ -12,8 +12,7 @@ use Rattle.sbl_ast.specs.contracts.tree.Multiplicative as multiplicative
 use Rattle.sbl_ast.specs.contracts.tree.Constant as constant
 use Rattle.sbl_ast.specs.contracts.tree.Base as base
 use Rattle.sbl_ast.specs.declared.tree.Base.{Base}
-use Rattle.sbl_ast.specs.Terminal.{QuotedText}
-use Rattle.sbl_ast.specs.Tree.{Argument, written_out, by_name, Expression, expression, Sums, no_sums, sum, Product, product, Scales, no_scales, scale, Factor, negated, bracketed, numeral, variable, fixed, length_of, Entry, entry, Term, term}
+use Rattle.sbl_ast.specs.Tree.{QuotedText, Argument, written_out, by_name, Expression, expression, Sums, no_sums, sum, Product, product, Scales, no_scales, scale, Factor, negated, bracketed, numeral, variable, fixed, length_of, Entry, entry, Term, term}
 use Rattle.sbl_semantics.specs.Same.{same_argument, same_entry, same_expression, same_factor, same_product, same_quoted, same_scales, same_sums, same_term}
 
 pub also : (a b : Bool) → a ≡ true → b ≡ true → (a && b) ≡ true

@@ -6,9 +6,10 @@ use Rattle.std.proofs.lemmas.Str.{IsUtf8-from_is_utf8}
 use Rattle.std.specs.Option.{is_some, option_and_then}
 use Rattle.std.specs.Str.{IsUtf8, is_utf8}
 use Rattle.std.specs.declared.alloc.AllocError.{AllocError}
+use Rattle.sbl_script.specs.Edits.{ScriptEdit}
 use Rattle.sbl_sessions.specs.CommandViews.{FindsTarget, view_found}
-use Rattle.sbl_sessions.specs.Commands.{target_by, target_of}
-use Rattle.sbl_sessions.specs.Requests.{BlockWord, block_word}
+use Rattle.sbl_sessions.specs.Commands.{target_of}
+use Rattle.sbl_sessions.specs.Requests.{block_word}
 use Rattle.sbl_sessions.specs.Words.{argument, command_word, is_space}
 use Rattle.sbl_sessions.specs.declared.commands.Target.{Target}
 
@@ -39,12 +40,16 @@ not_text bytes none = by (is_utf8 bytes) refl
 pub finds_none : (line : List ℕ) → is_utf8 line ≡ false → None ≡ target_of line
 finds_none line bytes = rw bytes refl
 
-target_is : (line given : List ℕ) (word : BlockWord) → is_utf8 line ≡ true → block_word line ≡ Some word → given ≡ argument line → target_by word given ≡ target_of line
-target_is line given word utf8 asked is =
-    ap (target_by word) is ∙ sym (ap (λ (b : Bool). if b then option_and_then (λ (w : BlockWord). target_by w (argument line)) (block_word line) else None) utf8 ∙ ap (option_and_then (λ (w : BlockWord). target_by w (argument line))) asked)
+target_is : (line given : List ℕ) (target : List ℕ → Option ScriptEdit) → is_utf8 line ≡ true → block_word (command_word line) ≡ Some target → given ≡ argument line
+    → target given ≡ target_of line
+target_is line given target utf8 asked is =
+    ap target is
+    ∙ sym (ap (λ (b : Bool). if b then option_and_then (λ (t : List ℕ → Option ScriptEdit). t (argument line)) (block_word (command_word line)) else None) utf8
+    ∙ ap (option_and_then (λ (t : List ℕ → Option ScriptEdit). t (argument line))) asked)
 
 -- what was found for the word and the argument is what the line wants
-pub finds : (r : Result (Option Target) AllocError) (line given : List ℕ) (word : BlockWord) → is_utf8 line ≡ true → block_word line ≡ Some word → given ≡ argument line
-    → IfOk r (λ found. view_found found ≡ target_by word given) → OnErr r (is_some (target_by word given) ≡ true) → FindsTarget r line
-finds (Ok o) line given word utf8 asked is found refused = found ∙ target_is line given word utf8 asked is
-finds (Err e) line given word utf8 asked is found refused = sym (ap is_some (target_is line given word utf8 asked is)) ∙ refused
+pub finds : (r : Result (Option Target) AllocError) (line given : List ℕ) (target : List ℕ → Option ScriptEdit) → is_utf8 line ≡ true
+    → block_word (command_word line) ≡ Some target → given ≡ argument line
+    → IfOk r (λ found. view_found found ≡ target given) → OnErr r (is_some (target given) ≡ true) → FindsTarget r line
+finds (Ok o) line given target utf8 asked is found refused = found ∙ target_is line given target utf8 asked is
+finds (Err e) line given target utf8 asked is found refused = sym (ap is_some (target_is line given target utf8 asked is)) ∙ refused

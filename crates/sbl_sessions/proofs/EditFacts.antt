@@ -26,7 +26,7 @@ out_of_memory s t e h = by h.is
 
     by : (PassesTests s e × (t ≡ s)) ⊎ IsBrokenOff s e t → IsEditAnswer s e (edit_text (Some fault.OutOfMemory)) t
     by (inl p) = (RefusedAfter 0, (Some fault.OutOfMemory, (refl, p.1 ∙ ap (λ (k : ℕ). record s { count = k }) none_more, h), refl))
-    by (inr b) = (RefusedAfter b.runs, (Some fault.OutOfMemory, (refl, b.is, h), refl))
+    by (inr b) = (RefusedAfter b.2, (Some fault.OutOfMemory, (refl, b.4, h), refl))
 
 pub answered : (r : Result (Unit {0}) EditFault) (s t : Contents) (e : Edit) → Edits r s e t → IsEditAnswer s e (edit_text (fault_in r)) t
 answered (Ok u) s t e h = (Enough, (None, h, refl))
@@ -70,14 +70,18 @@ verdict_long s t word cut f long short h = by h.0
   where
     by : IsRefused s (Add cut) f ⊎ IsMeterFull s (Add cut) f → IsVerdict s (Add word) (Some f) t
     by (inl is) = (inl (long ∙ sym short ∙ is), h.1)
-    by (inr m) = let none : Some fault.WordTooLong ≡ None = sym short ∙ m.after.0 in absurd (cc none)
+    by (inr m) = let none : Some fault.WordTooLong ≡ None = sym short ∙ m.1.0 in absurd (cc none)
 
 not_for_memory : (s t : Contents) (cut : List ℕ) → refusal_of_add s cut ≡ Some fault.WordTooLong → IsOutOfMemory s (Add cut) t → ⊥
 not_for_memory s t cut short h = by h.is
   where
+    of_text : (fault.WordTooLong ≡ fault.AmongCount) ⊎ ((g : ScriptFault) × (fault.WordTooLong ≡ fault.Script g)) → ⊥
+    of_text (inl e) = cc e
+    of_text (inr e) = let differ : fault.WordTooLong ≡ fault.Script e.0 = e.1 in cc differ
+
     by : (PassesTests s (Add cut) × (t ≡ s)) ⊎ IsBrokenOff s (Add cut) t → ⊥
-    by (inl p) = let no : false ≡ true = p.0 fault.WordTooLong short in cc no
-    by (inr b) = not_accepted s b.made cut short b.accepted
+    by (inl p) = of_text (p.0 fault.WordTooLong short)
+    by (inr b) = not_accepted s b.0 cut short b.1
 
 refused_long : (r : Result (Unit {0}) EditFault) (s t : Contents) (word cut : List ℕ) → refusal_of_add s word ≡ Some fault.WordTooLong
     → refusal_of_add s cut ≡ Some fault.WordTooLong → Edits r s (Add cut) t → Edits r s (Add word) t
@@ -142,7 +146,7 @@ block_too_long s line lines what is long =
     (sym (command_is line lines what is ∙ ap (with_text what) (text_long lines long))) (Enough, (refl, refl))
 
 text_refused : (s : Contents) (what : ScriptEdit) (r : Result (List ℕ) ScriptFault) → IsTextAnswer s (with_text what r) (edit_text (Some fault.OutOfMemory)) s
-text_refused s what (Ok text) = (BlockRefused, (Some fault.OutOfMemory, (refl, refl, refl), refl))
+text_refused s what (Ok text) = (BlockRefused, (Some fault.OutOfMemory, (refl, refl), refl))
 text_refused s what (Err f) = (BlockRefused, (refl, refl))
 
 -- the memory of the name that the line has was refused

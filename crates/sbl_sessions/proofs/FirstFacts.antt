@@ -81,13 +81,13 @@ verdict_absent s t word cut f none h missing = by h.0
   where
     by : IsRefused s (Remove cut) f ⊎ IsMeterFull s (Remove cut) f → IsVerdict s (Remove word) (Some f) t
     by (inl is) = (inl (none, is.1), h.1)
-    by (inr m) = let no : true ≡ false = sym m.after.0 ∙ missing in absurd (cc no)
+    by (inr m) = let no : true ≡ false = sym m.1.0 ∙ missing in absurd (cc no)
 
 not_removed : (s t : Contents) (cut : List ℕ) → is_word cut s.words ≡ false → IsAccepted s (Remove cut) t → ⊥
 not_removed s t cut missing h = let no : true ≡ false = sym h.after.0 ∙ missing in cc no
 
 no_memory : (s t : Contents) (cut : List ℕ) → IsOutOfMemory s (Remove cut) t → ⊥
-no_memory s t cut h = let no : false ≡ true = h.wanted in cc no
+no_memory s t cut h = h.wanted cut refl
 
 removes_absent : (r : Result (Unit {0}) EditFault) (s t : Contents) (word cut : List ℕ) → is_word word s.words ≡ false → is_word cut s.words ≡ false
     → Edits r s (Remove cut) t → Edits r s (Remove word) t

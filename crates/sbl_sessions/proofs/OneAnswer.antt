@@ -1,50 +1,40 @@
 -- What is answered, and the bench after it, are one.
-use Rattle.std.proofs.Common.{codes, decimal, ◌≡◌, ◌∙◌, ◌++◌, ℕ, List, [], ◌∷◌, Option, Some, None, sym, ap, subst}
+use Rattle.std.proofs.Common.{◌≡◌, ◌∙◌, ◌++◌, ℕ, List, [], ◌∷◌, Option, Some, None, sym, ap, subst}
 use Rattle.sbl_bench.specs.Contents.{Contents}
-use Rattle.sbl_bench.specs.Edits.{Edit}
+use Rattle.sbl_bench.specs.Edits.{Edit, Add, Remove, Replace, Whole, Install, Limit}
 use Rattle.sbl_bench.specs.OneVerdict.{VerdictIsOne}
 use Rattle.sbl_bench.specs.declared.fault.EditFault.{EditFault}
 use Rattle.sbl_bench.specs.declared.fault.EditFault.TheVariants as fault
-use Rattle.sbl_print.specs.Canonical.{canonical}
-use Rattle.sbl_sessions.specs.Answers.{Answers, BlockRefused, Enough, IsEdit, IsNoText, IsReplyTo, IsReport, Memory, RefusedAfter, Tells, edit_text, with_line_feed}
-use Rattle.sbl_sessions.specs.Commands.{Command, Nothing, Makes, Stems, Classes, Script, Class, Trace, Runs, HasNoNumber, HasNoText, Bad, command_of}
+use Rattle.sbl_sessions.specs.Answers.{Answers, BlockRefused, Enough, IsEdit, IsReplyTo, IsReport, Memory, RefusedAfter, Tells, edit_text}
+use Rattle.sbl_sessions.specs.Commands.{Command, Makes, Reports, Says, HasNoText, command_of}
 use Rattle.sbl_sessions.specs.OneAnswer.{AnswersAreOne}
-use Rattle.sbl_formats.specs.Rows.{class_text, classes_text, stems_text}
-use Rattle.sbl_formats.specs.Traces.{trace_text}
 
 tells-one : (s : Contents) (expected a b : List ℕ) (t u : Contents) → Tells s expected a t → Tells s expected b u → (a ≡ b) × (t ≡ u)
 tells-one s expected a b t u p q = (p.0 ∙ sym q.0, p.1 ∙ sym q.1)
 
-edit-one : VerdictIsOne → (s : Contents) (e : Edit) (m : Memory) (f g : Option EditFault) (t u : Contents) → IsEdit s e m f t → IsEdit s e m g u → (f ≡ g) × (t ≡ u)
-edit-one one s e Enough f g t u p q = one s e f g t u p q
-edit-one one s e BlockRefused f g t u p q = (p.1 ∙ sym q.1, p.2 ∙ sym q.2)
-edit-one one s e (RefusedAfter n) f g t u p q = (p.0 ∙ sym q.0, p.1 ∙ sym q.1)
+edit-one : VerdictIsOne → (s : Contents) (m : Memory) (e : Edit) (f g : Option EditFault) (t u : Contents) → IsEdit s m e f t → IsEdit s m e g u → (f ≡ g) × (t ≡ u)
+edit-one one s Enough e f g t u p q = one s e f g t u p q
+edit-one one s BlockRefused (Replace what text) f g t u p q = (p.0 ∙ sym q.0, p.1 ∙ sym q.1)
+edit-one one s BlockRefused (Add word) f g t u p q = absurd p
+edit-one one s BlockRefused (Remove word) f g t u p q = absurd p
+edit-one one s BlockRefused (Whole bytes) f g t u p q = absurd p
+edit-one one s BlockRefused (Install script) f g t u p q = absurd p
+edit-one one s BlockRefused (Limit n) f g t u p q = absurd p
+edit-one one s (RefusedAfter n) e f g t u p q = (p.0 ∙ sym q.0, p.1 ∙ sym q.1)
 
 report-one : (s : Contents) (report : Option (List ℕ)) (m : Memory) (a b : List ℕ) (t u : Contents) → IsReport s report m a t → IsReport s report m b u → (a ≡ b) × (t ≡ u)
 report-one s None m a b t u p q = tells-one s (edit_text (Some fault.Absent)) a b t u p q
 report-one s (Some report) Enough a b t u p q = tells-one s report a b t u p q
-report-one s (Some report) BlockRefused a b t u p q = absurd p
+report-one s (Some report) BlockRefused a b t u p q = tells-one s (edit_text (Some fault.OutOfMemory)) a b t u p q
 report-one s (Some report) (RefusedAfter n) a b t u p q = tells-one s (edit_text (Some fault.OutOfMemory)) a b t u p q
 
-no_text-one : (s : Contents) (f : EditFault) (m : Memory) (a b : List ℕ) (t u : Contents) → IsNoText s f m a t → IsNoText s f m b u → (a ≡ b) × (t ≡ u)
-no_text-one s f Enough a b t u p q = tells-one s (edit_text (Some f)) a b t u p q
-no_text-one s f BlockRefused a b t u p q = tells-one s (edit_text (Some fault.OutOfMemory)) a b t u p q
-no_text-one s f (RefusedAfter n) a b t u p q = absurd p
-
 reply-one : VerdictIsOne → (s : Contents) (c : Command) (m : Memory) (a b : List ℕ) (t u : Contents) → IsReplyTo s c m a t → IsReplyTo s c m b u → (a ≡ b) × (t ≡ u)
-reply-one one s Nothing m a b t u p q = tells-one s [] a b t u p q
 reply-one one s (Makes e) m a b t u p q =
-    let o = edit-one one s e m p.0 q.0 t u p.1 q.1 in
+    let o = edit-one one s m e p.0 q.0 t u p.1 q.1 in
     (p.2 ∙ ap edit_text o.0 ∙ sym q.2, o.1)
-reply-one one s Stems m a b t u p q = report-one s (Some (stems_text s)) m a b t u p q
-reply-one one s Classes m a b t u p q = report-one s (Some (classes_text s)) m a b t u p q
-reply-one one s Script m a b t u p q = report-one s (Some (canonical s.setting.script.items)) m a b t u p q
-reply-one one s (Class word) m a b t u p q = report-one s (class_text s word) m a b t u p q
-reply-one one s (Trace word) m a b t u p q = report-one s (trace_text s word) m a b t u p q
-reply-one one s Runs m a b t u p q = report-one s (Some (with_line_feed (decimal s.count))) m a b t u p q
-reply-one one s HasNoNumber m a b t u p q = tells-one s (edit_text (Some fault.BadLimit)) a b t u p q
-reply-one one s (HasNoText f) m a b t u p q = no_text-one s (fault.Script f) m a b t u p q
-reply-one one s Bad m a b t u p q = tells-one s (with_line_feed (codes "no 52 BadCommand")) a b t u p q
+reply-one one s (Reports report) m a b t u p q = report-one s (report s) m a b t u p q
+reply-one one s (Says reply) m a b t u p q = tells-one s reply a b t u p q
+reply-one one s (HasNoText f) m a b t u p q = report-one s (Some (edit_text (Some (fault.Script f)))) m a b t u p q
 
 pub answers-one : VerdictIsOne → AnswersAreOne
 answers-one one s [] [] a b t u p q = tells-one s [] a b t u p q

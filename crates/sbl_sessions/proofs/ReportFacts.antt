@@ -6,9 +6,9 @@ use Rattle.std.specs.declared.vec.Vec.{Vec}
 use Rattle.std.specs.declared.alloc.Global.{Global}
 use Rattle.std.specs.declared.alloc.AllocError.{AllocError}
 use Rattle.sbl_bench.specs.Contents.{Contents}
-use Rattle.std.specs.Option.{option_map, option_map_or}
+use Rattle.std.specs.Option.{option_and_then, option_map, option_map_or}
 use Rattle.std.specs.Str.{bytes_eq}
-use Rattle.sbl_bench.specs.Classes.{Class, class_of}
+use Rattle.sbl_bench.specs.Classes.{Class, class_of, class_with, stem_of}
 use Rattle.sbl_bench.specs.Rows.{Row}
 use Rattle.sbl_bench.specs.Traces.{trace_of}
 use Rattle.sbl_bench.specs.Vocabulary.{is_word}
@@ -78,9 +78,25 @@ missed {A} p (y ∷ xs) (suc i) x none at fails = by (λ rest. missed p xs i x r
 
 -- ---- the report of a word's class
 
+-- the text of a row's class, or of the row if it has no stem
+abbrev text_for_row : Contents → Row → List ℕ
+text_for_row s row = records_text (option_map_or (λ (stem : List ℕ). class_fields (class_with (rows_now s) stem)) (stem_of row.outcome) (row_fields row) ∷ [])
+
+map_or_map : {A B C : Type 0} (g : B → C) (f : A → B) (o : Option A) (d : C) → option_map_or (λ (x : A). g (f x)) o d ≡ option_map_or g (option_map f o) d
+map_or_map g f None d = refl
+map_or_map g f (Some x) d = refl
+
+row_text_is : (s : Contents) (word : List ℕ) (row : Row) → find (λ (r : Row). bytes_eq word r.word) (rows_now s) ≡ Some row → text_for_row s row ≡ class_or_row_text s word row
+row_text_is s word row is =
+    let given : List ℕ → Class = class_with (rows_now s) in
+    let class : option_map given (stem_of row.outcome) ≡ class_of (rows_now s) word = ap (λ (o : Option Row). option_map given (option_and_then (λ (r : Row). stem_of r.outcome) o)) (sym is) in
+    ap (λ (fields : List (List ℕ)). records_text (fields ∷ []))
+    (map_or_map class_fields given (stem_of row.outcome) (row_fields row) ∙ ap (λ (o : Option Class). option_map_or class_fields o (row_fields row)) class)
+
 pub class_text_is : (s : Contents) (word : List ℕ) (row : Option Row) → find (λ (r : Row). bytes_eq word r.word) (rows_now s) ≡ row → class_text s word ≡ option_map (class_or_row_text s word) row
 unfolding class_text
-class_text_is s word row is = ap (option_map (class_or_row_text s word)) is
+class_text_is s word None is = ap (option_map (λ (r : Row). text_for_row s r)) is
+class_text_is s word (Some row) is = ap (option_map (λ (r : Row). text_for_row s r)) is ∙ ap Some (row_text_is s word row is)
 
 -- ---- the trace of a word
 

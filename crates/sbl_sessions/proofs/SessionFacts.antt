@@ -1,5 +1,5 @@
 -- A session goes on request by request.
-use Rattle.std.proofs.Common.{◌⊎◌, Bool, true, false, ◌≡◌, ◌∙◌, ◌++◌, ◌≤◌, ℕ, List, [], ◌∷◌, Option, Some, None, Ok, Err, refl, take, sym, ap, subst, append_assoc, arith, length}
+use Rattle.std.proofs.Common.{◌⊎◌, inl, inr, true, false, ◌≡◌, ◌∙◌, ◌++◌, ◌≤◌, ℕ, List, [], ◌∷◌, Option, Some, None, Ok, Err, refl, take, sym, ap, subst, append_assoc, arith, length}
 use Rattle.std.proofs.lemmas.List.{append-nil}
 use Rattle.std.proofs.lemmas.List.Elements.{All-append, All-cons, All-nil}
 use Rattle.std.proofs.lemmas.Grind.{flat_map-append}
@@ -12,7 +12,9 @@ use Rattle.sbl_formats.specs.Block.{BlockLines, Breaks, HoldsText, ReadsBlock, p
 use Rattle.sbl_sessions.specs.CommandViews.{IsAnswer, IsAnswered, IsReply, IsTextAnswer}
 use Rattle.sbl_sessions.specs.Commands.{block_command, command_of, line_command}
 use Rattle.sbl_io.specs.HeldInput.{AllFit, BeginsLong, BreaksOff, GivesLine, Took, TookWhole}
-use Rattle.sbl_sessions.specs.Requests.{BlockWord, HasBlock, IsBegun, IsRequest, Request, TookRequests, asks_block, block_lines, block_word, lines_in, lines_in_all}
+use Rattle.sbl_script.specs.Edits.{ScriptEdit}
+use Rattle.sbl_sessions.specs.Words.{command_word}
+use Rattle.sbl_sessions.specs.Requests.{IsBegun, IsRequest, Request, TookRequests, asks_block, block_lines, block_word, lines_in, lines_in_all}
 use Rattle.sbl_sessions.specs.Session.{Answered, HalfAnswered, IsSession, Served}
 use Rattle.sbl_formats.specs.declared.block_text.BlockText.{BlockText}
 use Rattle.sbl_io.specs.Faults.{serve_fault_of}
@@ -92,16 +94,16 @@ session_ends a b c h i s t so keeps end =
 pub session_at_line : (a b c h i : Option (List ℕ)) (s t : Contents) (k : Option LineFault) (part : List ℕ) (f : LineFault) → Served a b h i s t → k ≡ None
     → (f ≡ read.Read → TookWhole a b) → (f ≡ read.TooLong → BeginsLong b ⊎ (k ≡ Some f)) → (f ≡ read.Read → k ≡ None → BreaksOff b c part)
     → IsSession a c h i s t (Err (serve_fault_of f))
-session_at_line a b c h i s t k part read.Read so none whole long cut = (b, whole refl, so, broken IsBegun b b c k [] part read.Read tt (took-none b) none long cut)
-session_at_line a b c h i s t k part read.TooLong so none whole long cut = (b, so, broken IsBegun b b c k [] part read.TooLong tt (took-none b) none long cut)
+session_at_line a b c h i s t k part read.Read so none whole long cut = (b, λ _. whole refl, so, broken IsBegun b b c k [] part read.Read (inl refl) (took-none b) none long cut)
+session_at_line a b c h i s t k part read.TooLong so none whole long cut = (b, λ is. cc is, so, broken IsBegun b b c k [] part read.TooLong (inl refl) (took-none b) none long cut)
 
 -- where a block has no end
 pub session_open : (a b c d h i : Option (List ℕ)) (s t : Contents) (line : List ℕ) (f : ServeFault) → Served a b h i s t → GivesLine b c line → length line ≤ 65536
     → asks_block line ≡ true → (f ≡ fault.Read → TookWhole a b) → Breaks BlockLines c d f → IsSession a d h i s t (Err f)
 session_open a b c d h i s t line fault.Read so gives fits asks whole breaks =
-    (b, whole refl, so, (line ∷ breaks.0, breaks.1, breaks.2, (asks, fits, breaks.3), took-trans b c breaks.1 (line ∷ []) breaks.0 gives breaks.4, breaks.5))
+    (b, whole, so, (line ∷ breaks.0, breaks.1, breaks.2, inr (asks, fits, breaks.3), took-trans b c breaks.1 (line ∷ []) breaks.0 gives breaks.4, breaks.5))
 session_open a b c d h i s t line fault.LineTooLong so gives fits asks whole breaks =
-    (b, so, (line ∷ breaks.0, breaks.1, (asks, fits, breaks.2), took-trans b c breaks.1 (line ∷ []) breaks.0 gives breaks.3, breaks.4))
+    (b, whole, so, (line ∷ breaks.0, breaks.1, inr (asks, fits, breaks.2), took-trans b c breaks.1 (line ∷ []) breaks.0 gives breaks.3, breaks.4))
 session_open a b c d h i s t line fault.Cut so gives fits asks whole breaks =
     (b, so, (line ∷ breaks.0, (asks, fits, breaks.1), took-trans b c d (line ∷ []) breaks.0 gives breaks.2, breaks.3))
 session_open a b c d h i s t line fault.Write so gives fits asks whole breaks = absurd breaks
@@ -122,17 +124,17 @@ session_at_write a b c d h i j s t u line reply n so gives fits is writes = (
 
 -- ---- the answer to a request
 
-pub asks : (line : List ℕ) {word : BlockWord} → block_word line ≡ Some word → asks_block line ≡ true
+pub asks : (line : List ℕ) {target : List ℕ → Option ScriptEdit} → block_word (command_word line) ≡ Some target → asks_block line ≡ true
 asks line is = ap is_some is
 
-pub asks_none : (line : List ℕ) → block_word line ≡ None → asks_block line ≡ false
+pub asks_none : (line : List ℕ) → block_word (command_word line) ≡ None → asks_block line ≡ false
 asks_none line is = ap is_some is
 
 -- a line that asks for no block
 pub answered_line : (a : Option (List ℕ)) (line : List ℕ) (s t : Contents) (reply : Reply) → asks_block line ≡ false → IsAnswer s (line_command line) reply t → IsAnswered a a line s reply t
 answered_line a line s t reply asks is = record {
   block = None;
-  formed = subst (λ (b : Bool). HasBlock b None) (sym asks) tt;
+  formed = (asks, tt);
   fit = tt;
   took = took-none a;
   answer = is;
@@ -145,7 +147,7 @@ answered_block a b line s t block text reply asks reads is shown =
     let answer = is reads.0 reads.2 in
     record {
       block = Some reads.0;
-      formed = subst (λ (b : Bool). HasBlock b (Some reads.0)) (sym asks) reads.1.0.0;
+      formed = (asks, reads.1.0.0);
       fit = all_fit-push reads.0 point reads.1.0.1 (omega arith);
       took = reads.1.1;
       answer = (answer.0, text, shown, answer.1);

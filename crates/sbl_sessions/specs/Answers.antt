@@ -1,15 +1,12 @@
 -- The replies of a session to its requests.
-use Rattle.std.specs.Prelude.{◌≡◌, ℕ, true, List, [], ◌∷◌, ◌++◌, codes, decimal, Option, Some, None}
+use Rattle.std.specs.Prelude.{◌≡◌, ℕ, List, [], ◌∷◌, ◌++◌, codes, Option, Some, None}
 use Rattle.sbl_bench.specs.Contents.{Contents}
-use Rattle.sbl_bench.specs.Edits.{Edit, IsOutOfMemory, IsVerdict, count_runs, is_of_script}
+use Rattle.sbl_bench.specs.Edits.{Edit, Replace, IsOutOfMemory, IsVerdict, count_runs}
 use Rattle.sbl_bench.specs.Names.{script_name}
 use Rattle.sbl_bench.specs.declared.fault.EditFault.{EditFault}
 use Rattle.sbl_bench.specs.declared.fault.EditFault.TheVariants as fault
-use Rattle.sbl_print.specs.Canonical.{canonical}
-use Rattle.sbl_sessions.specs.Commands.{Command, Nothing, Makes, Stems, Classes, Script, Class, Trace, Runs, HasNoNumber, HasNoText, Bad, command_of}
+use Rattle.sbl_sessions.specs.Commands.{Command, Makes, Reports, Says, HasNoText, command_of}
 use Rattle.sbl_sessions.specs.Requests.{Request}
-use Rattle.sbl_formats.specs.Rows.{class_text, classes_text, stems_text}
-use Rattle.sbl_formats.specs.Traces.{trace_text}
 
 -- a text and the line feed that ends it
 abbrev pub with_line_feed : List ℕ → List ℕ
@@ -45,38 +42,25 @@ Tells s expected text t = (text ≡ expected) × (t ≡ s)
 
 -- An edit has its verdict, and the bench is the one after it. If an allocation fails, the fault is `OutOfMemory`, and only the
 -- count of runs may change, by the number of runs that were made.
-abbrev pub IsEdit : Contents → Edit → Memory → Option EditFault → Contents → Type 0
-IsEdit s e Enough f t = IsVerdict s e f t
-IsEdit s e BlockRefused f t = (is_of_script e ≡ true) × (f ≡ Some fault.OutOfMemory) × (t ≡ s)
-IsEdit s e (RefusedAfter n) f t = (f ≡ Some fault.OutOfMemory) × (t ≡ count_runs n s) × IsOutOfMemory s e t
+abbrev pub IsEdit : Contents → Memory → Edit → Option EditFault → Contents → Type 0
+IsEdit s Enough e f t = IsVerdict s e f t
+IsEdit s BlockRefused (Replace what block) f t = (f ≡ Some fault.OutOfMemory) × (t ≡ s)
+IsEdit s BlockRefused e f t = ⊥
+IsEdit s (RefusedAfter n) e f t = (f ≡ Some fault.OutOfMemory) × (t ≡ count_runs n s) × IsOutOfMemory s e t
 
 -- A report is written whole, or an allocation for it fails. There is no report of a word that is not in the vocabulary; that is
 -- said without an allocation.
 abbrev pub IsReport : Contents → Option (List ℕ) → Memory → List ℕ → Contents → Type 0
 IsReport s None memory text t = Tells s (edit_text (Some fault.Absent)) text t
 IsReport s (Some report) Enough text t = Tells s report text t
-IsReport s (Some report) BlockRefused text t = ⊥
-IsReport s (Some report) (RefusedAfter n) text t = Tells s (edit_text (Some fault.OutOfMemory)) text t
+IsReport s (Some report) memory text t = Tells s (edit_text (Some fault.OutOfMemory)) text t
 
--- a block that is not a text is refused for that, or an allocation for it fails
-abbrev pub IsNoText : Contents → EditFault → Memory → List ℕ → Contents → Type 0
-IsNoText s f Enough text t = Tells s (edit_text (Some f)) text t
-IsNoText s f BlockRefused text t = Tells s (edit_text (Some fault.OutOfMemory)) text t
-IsNoText s f (RefusedAfter n) text t = ⊥
-
--- the reply to a command, and the bench after it
+-- The reply to a command, and the bench after it. A block that is not a text is refused for that, or an allocation for it fails.
 abbrev pub IsReplyTo : Contents → Command → Memory → List ℕ → Contents → Type 0
-IsReplyTo s Nothing memory text t = Tells s [] text t
-IsReplyTo s (Makes e) memory text t = (f : Option EditFault) × IsEdit s e memory f t × (text ≡ edit_text f)
-IsReplyTo s Stems memory text t = IsReport s (Some (stems_text s)) memory text t
-IsReplyTo s Classes memory text t = IsReport s (Some (classes_text s)) memory text t
-IsReplyTo s Script memory text t = IsReport s (Some (canonical s.setting.script.items)) memory text t
-IsReplyTo s (Class word) memory text t = IsReport s (class_text s word) memory text t
-IsReplyTo s (Trace word) memory text t = IsReport s (trace_text s word) memory text t
-IsReplyTo s Runs memory text t = IsReport s (Some (with_line_feed (decimal s.count))) memory text t
-IsReplyTo s HasNoNumber memory text t = Tells s (edit_text (Some fault.BadLimit)) text t
-IsReplyTo s (HasNoText f) memory text t = IsNoText s (fault.Script f) memory text t
-IsReplyTo s Bad memory text t = Tells s (with_line_feed (codes "no 52 BadCommand")) text t
+IsReplyTo s (Makes e) memory text t = (f : Option EditFault) × IsEdit s memory e f t × (text ≡ edit_text f)
+IsReplyTo s (Reports report) memory text t = IsReport s (report s) memory text t
+IsReplyTo s (Says reply) memory text t = Tells s reply text t
+IsReplyTo s (HasNoText f) memory text t = IsReport s (Some (edit_text (Some (fault.Script f)))) memory text t
 
 -- The whole text of a session with these requests that starts with this bench, and the bench after it. The list gives the
 -- memory of each request in turn.

@@ -10,8 +10,9 @@ use Rattle.sbl_bench.specs.Contents.{Contents}
 use Rattle.sbl_sessions.specs.Answers.{IsReplyTo, Memory}
 use Rattle.sbl_formats.specs.Block.{BlockLines, Breaks}
 use Rattle.sbl_io.specs.HeldInput.{AllFit, Took}
-use Rattle.sbl_sessions.specs.Requests as request
 use Rattle.sbl_sessions.specs.Requests.{IsRequest, asks_block, block_lines}
+use Rattle.sbl_sessions.specs.Numbers.{number_in}
+use Rattle.sbl_sessions.specs.Words.{argument, command_word}
 use Rattle.sbl_io.specs.declared.faults.ServeFault.{ServeFault}
 use Rattle.sbl_sessions.specs.declared.commands.BlockWord.{BlockWord}
 use Rattle.sbl_sessions.specs.declared.commands.BlockWord.TheVariants as word
@@ -27,7 +28,7 @@ view_command variants.Nothing = command.Nothing
 view_command (variants.Add word) = command.Makes (edits.Add (chars word.now))
 view_command (variants.Remove word) = command.Makes (edits.Remove (chars word.now))
 view_command (variants.Limit n) = command.Makes (edits.Limit n)
-view_command variants.HasNoNumber = command.HasNoNumber
+view_command variants.HasNoNumber = command.Makes (edits.Limit 0)
 view_command variants.Stems = command.Stems
 view_command variants.Classes = command.Classes
 view_command variants.Script = command.Script
@@ -52,12 +53,13 @@ abbrev pub FindsTarget : Result (Option Target) AllocError → List ℕ → Type
 FindsTarget (Ok found) line = view_found found ≡ command.target_of line
 FindsTarget (Err e) line = is_some (command.target_of line) ≡ true
 
-abbrev pub view_word : BlockWord → request.BlockWord
-view_word word.Routine = request.Routine
-view_word word.Among = request.Among
-view_word word.Grouping = request.Grouping
+-- what a block word replaces, by its argument
+abbrev pub view_word : BlockWord → List ℕ → Option ScriptEdit
+view_word word.Routine = λ name. Some (body name)
+view_word word.Among = λ text. option_map (among (command_word text)) (number_in (argument text))
+view_word word.Grouping = λ name. Some (terms name)
 
-abbrev pub view_asked : Option BlockWord → Option request.BlockWord
+abbrev pub view_asked : Option BlockWord → Option (List ℕ → Option ScriptEdit)
 view_asked asked = option_map view_word asked
 
 abbrev pub IsReply : Reply → List ℕ → Type 0

@@ -1,49 +1,48 @@
 -- The commands of requests.
-use Rattle.std.specs.Prelude.{ℕ, List, [], ◌∷◌, codes, if◌then◌else◌, length, nat_lt, Option, Some, None, Result, Ok, Err}
-use Rattle.std.specs.Option.{option_and_then, option_map, option_map_or}
+use Rattle.std.specs.Prelude.{ℕ, List, [], ◌∷◌, ◌++◌, codes, decimal, if◌then◌else◌, length, nat_lt, Option, Some, None, Result, Ok, Err}
+use Rattle.std.specs.Option.{option_and_then, option_map_or, unwrap_or}
 use Rattle.std.specs.Str.{bytes_eq, chars, is_utf8}
+use Rattle.sbl_bench.specs.Contents.{Contents}
 use Rattle.sbl_bench.specs.Edits as edits
-use Rattle.sbl_script.specs.Edits.{ScriptEdit, among, body, terms}
+use Rattle.sbl_formats.specs.Rows.{class_text, classes_text, stems_text}
+use Rattle.sbl_formats.specs.Traces.{trace_text}
+use Rattle.sbl_print.specs.Canonical.{canonical}
+use Rattle.sbl_script.specs.Edits.{ScriptEdit}
 use Rattle.sbl_text.specs.declared.fault.ScriptFault.{ScriptFault}
 use Rattle.sbl_text.specs.declared.fault.ScriptFault.TheVariants as fault
 use Rattle.sbl_formats.specs.Block.{made_text, max_script}
 use Rattle.sbl_sessions.specs.Numbers.{number_in}
-use Rattle.sbl_sessions.specs.Requests.{BlockWord, Request, Routine, Among, Grouping, block_word}
+use Rattle.sbl_sessions.specs.Requests.{Request, block_word}
 use Rattle.sbl_sessions.specs.Words.{argument, command_word}
 
--- nothing, an edit, the rows, the classes, the script, the class of a word, what its run touches, the number of runs, a limit
--- that is not a number, an edit whose block is not a text, or an unknown command
+-- an edit; a report of the bench, or that the word which it is about is absent; a fixed reply; or an edit whose block is not a text
 pub data Command : Type 0 where
-  Nothing : Command
   Makes : edits.Edit → Command
-  Stems : Command
-  Classes : Command
-  Script : Command
-  Class : List ℕ → Command
-  Trace : List ℕ → Command
-  Runs : Command
-  HasNoNumber : Command
+  Reports : (Contents → Option (List ℕ)) → Command
+  Says : List ℕ → Command
   HasNoText : ScriptFault → Command
-  Bad : Command
+
+abbrev pub Bad : Command
+Bad = Says (codes "no 52 BadCommand" ++ 10 ∷ [])
 
 -- ---- a line alone
 
--- the command of a line that is UTF-8; a limit is written in decimal digits
+-- the command of a line that is UTF-8; a limit that is not written in decimal digits is read as 0, which is refused
 abbrev pub text_command : List ℕ → Command
 text_command line =
     if bytes_eq (command_word line) (codes "add") then Makes (edits.Add (chars (argument line)))
     else (if bytes_eq (command_word line) (codes "remove") then Makes (edits.Remove (chars (argument line)))
-    else (if bytes_eq (command_word line) (codes "class") then Class (chars (argument line))
-    else (if bytes_eq (command_word line) (codes "trace") then Trace (chars (argument line))
-    else (if bytes_eq (command_word line) (codes "limit") then option_map_or (λ n. Makes (edits.Limit n)) (number_in (argument line)) HasNoNumber
-    else (if bytes_eq line (codes "stems") then Stems
-    else (if bytes_eq line (codes "classes") then Classes
-    else (if bytes_eq line (codes "script") then Script
-    else (if bytes_eq line (codes "runs") then Runs else Bad))))))))
+    else (if bytes_eq (command_word line) (codes "class") then Reports (λ s. class_text s (chars (argument line)))
+    else (if bytes_eq (command_word line) (codes "trace") then Reports (λ s. trace_text s (chars (argument line)))
+    else (if bytes_eq (command_word line) (codes "limit") then Makes (edits.Limit (unwrap_or (number_in (argument line)) 0))
+    else (if bytes_eq line (codes "stems") then Reports (λ s. Some (stems_text s))
+    else (if bytes_eq line (codes "classes") then Reports (λ s. Some (classes_text s))
+    else (if bytes_eq line (codes "script") then Reports (λ s. Some (canonical s.setting.script.items))
+    else (if bytes_eq line (codes "runs") then Reports (λ s. Some (decimal s.count ++ 10 ∷ [])) else Bad))))))))
 
--- an empty line has no command, and a line that is not UTF-8 has an unknown one
+-- an empty line has no reply, and a line that is not UTF-8 is bad
 unfoldable pub line_command : List ℕ → Command
-line_command [] = Nothing
+line_command [] = Says []
 line_command (b ∷ line) = if is_utf8 (b ∷ line) then text_command (b ∷ line) else Bad
 
 -- ---- a line and its block
@@ -54,16 +53,9 @@ text_of_block lines =
     if nat_lt max_script (length (made_text lines)) then Err fault.ScriptTooLong
     else (if is_utf8 (made_text lines) then Ok (made_text lines) else Err fault.NotUtf8)
 
--- what a block word and its argument replace: the body of the routine of this name; an among, with a name, a space and a number
--- as the argument; the terms of the grouping of this name; none if the line is bad
-abbrev pub target_by : BlockWord → List ℕ → Option ScriptEdit
-target_by Routine name = Some (body name)
-target_by Among text = option_map (among (command_word text)) (number_in (argument text))
-target_by Grouping name = Some (terms name)
-
 -- what a line replaces; a line that is not UTF-8 is bad
 abbrev pub target_of : List ℕ → Option ScriptEdit
-target_of line = if is_utf8 line then option_and_then (λ word. target_by word (argument line)) (block_word line) else None
+target_of line = if is_utf8 line then option_and_then (λ target. target (argument line)) (block_word (command_word line)) else None
 
 abbrev pub with_text : ScriptEdit → Result (List ℕ) ScriptFault → Command
 with_text what (Ok text) = Makes (edits.Replace what text)
@@ -77,3 +69,26 @@ block_command line lines = option_map_or (λ what. with_text what (text_of_block
 
 abbrev pub command_of : Request → Command
 command_of r = option_map_or (block_command r.line) r.block (line_command r.line)
+
+-- ---- names for proofs
+
+abbrev pub Nothing : Command
+Nothing = Says []
+
+abbrev pub Stems : Command
+Stems = Reports (λ s. Some (stems_text s))
+
+abbrev pub Classes : Command
+Classes = Reports (λ s. Some (classes_text s))
+
+abbrev pub Script : Command
+Script = Reports (λ s. Some (canonical s.setting.script.items))
+
+abbrev pub Runs : Command
+Runs = Reports (λ s. Some (decimal s.count ++ 10 ∷ []))
+
+abbrev pub Class : List ℕ → Command
+Class word = Reports (λ s. class_text s word)
+
+abbrev pub Trace : List ℕ → Command
+Trace word = Reports (λ s. trace_text s word)

@@ -1,53 +1,41 @@
 -- The requests of a session: a line, and the block after it if its command word asks for one.
-use Rattle.std.specs.Prelude.{◌≡◌, ◌≤◌, ℕ, length, Bool, true, false, List, [], ◌∷◌, ◌++◌, Option, Some, None, ⊤, codes, if◌then◌else◌}
+use Rattle.std.specs.Prelude.{◌≡◌, ◌⊎◌, ◌≤◌, ℕ, length, Bool, true, List, [], ◌∷◌, ◌++◌, Option, Some, None, codes, if◌then◌else◌}
 use Rattle.std.specs.List.{All, flat_map}
-use Rattle.std.specs.Option.{is_some}
+use Rattle.std.specs.Option.{IfSome, is_some, option_map, option_map_or}
 use Rattle.std.specs.Str.{bytes_eq}
 use Rattle.sbl_formats.specs.Block.{BlockLines, NoPoint, point}
 use Rattle.sbl_io.specs.HeldInput.{AllFit, Took}
 use Rattle.sbl_io.specs.LinesOf.{max_line}
-use Rattle.sbl_sessions.specs.Words.{command_word}
+use Rattle.sbl_script.specs.Edits.{ScriptEdit, among, body, terms}
+use Rattle.sbl_sessions.specs.Numbers.{number_in}
+use Rattle.sbl_sessions.specs.Words.{argument, command_word}
 
 pub record Request : Type 0 where
   pub line : List ℕ
   pub block : Option (List (List ℕ))
 
--- the command words that a block follows: those of the edits of a script
-pub data BlockWord : Type 0 where
-  Routine : BlockWord
-  Among : BlockWord
-  Grouping : BlockWord
-
--- the block word that the command word of a line is, if it is one
-abbrev pub block_word : List ℕ → Option BlockWord
-block_word line =
-    if bytes_eq (command_word line) (codes "routine") then Some Routine
-    else (if bytes_eq (command_word line) (codes "among") then Some Among
-    else (if bytes_eq (command_word line) (codes "grouping") then Some Grouping else None))
+-- The command words that a block follows, each with what it replaces by its argument: the body of the routine of this name; an
+-- among, with a name, a space and a number as the argument; the terms of the grouping of this name; none if the argument is bad.
+abbrev pub block_word : List ℕ → Option (List ℕ → Option ScriptEdit)
+block_word word =
+    if bytes_eq word (codes "routine") then Some (λ name. Some (body name))
+    else (if bytes_eq word (codes "among") then Some (λ text. option_map (among (command_word text)) (number_in (argument text)))
+    else (if bytes_eq word (codes "grouping") then Some (λ name. Some (terms name)) else None))
 
 -- whether a block follows the line, whatever else the line contains
 abbrev pub asks_block : List ℕ → Bool
-asks_block line = is_some (block_word line)
+asks_block line = is_some (block_word (command_word line))
 
--- if a block is asked for, there is one, and none of its lines is `.`; otherwise there is none
+-- there is a block exactly if one is asked for, and none of its lines is `.`
 abbrev pub HasBlock : Bool → Option (List (List ℕ)) → Type 0
-HasBlock true (Some lines) = NoPoint lines
-HasBlock false None = ⊤
-HasBlock asked block = ⊥
+HasBlock asked block = (asked ≡ is_some block) × IfSome block NoPoint
 
 abbrev pub IsRequest : Request → Type 0
 IsRequest r = HasBlock (asks_block r.line) r.block
 
--- the lines of a block, and its line `.`
-abbrev pub block_lines : Option (List (List ℕ)) → List (List ℕ)
-block_lines None = []
-block_lines (Some lines) = lines ++ point ∷ []
-
-abbrev pub lines_in : Request → List (List ℕ)
-lines_in r = r.line ∷ block_lines r.block
-
+-- the lines of requests: of each, its line and, if it has a block, the lines of the block and a line `.`
 abbrev pub lines_in_all : List Request → List (List ℕ)
-lines_in_all requests = flat_map lines_in requests
+lines_in_all requests = flat_map (λ r. r.line ∷ option_map_or (λ lines. lines ++ point ∷ []) r.block []) requests
 
 -- These requests were taken from the input. They are whole, and no line of them is too long.
 pub record TookRequests (old new : Option (List ℕ)) (requests : List Request) : Type 0 where
@@ -60,7 +48,15 @@ abbrev pub IsOpen : List (List ℕ) → Type 0
 IsOpen [] = ⊥
 IsOpen (line ∷ lines) = (asks_block line ≡ true) × (length line ≤ max_line) × BlockLines lines
 
+-- ---- names for proofs
+
+-- the lines of a block, and its line `.`
+abbrev pub block_lines : Option (List (List ℕ)) → List (List ℕ)
+block_lines block = option_map_or (λ lines. lines ++ point ∷ []) block []
+
+abbrev pub lines_in : Request → List (List ℕ)
+lines_in r = r.line ∷ block_lines r.block
+
 -- the lines of a request that is not whole: none yet, or these
 abbrev pub IsBegun : List (List ℕ) → Type 0
-IsBegun [] = ⊤
-IsBegun (line ∷ lines) = IsOpen (line ∷ lines)
+IsBegun lines = (lines ≡ []) ⊎ IsOpen lines

@@ -7,7 +7,7 @@ use Rattle.sbl_formats.specs.Block.{Breaks}
 use Rattle.sbl_sessions.specs.Commands.{command_of}
 use Rattle.sbl_io.specs.Devices.{HasStopped, Tally}
 use Rattle.sbl_io.specs.HeldInput.{HasCause, TookWhole, fault_of}
-use Rattle.sbl_sessions.specs.Requests.{IsBegun, IsOpen, Request, TookRequests}
+use Rattle.sbl_sessions.specs.Requests.{IsOpen, Request, TookRequests}
 use Rattle.sbl_io.specs.declared.lines.Lines.{Lines}
 use Rattle.sbl_io.specs.declared.faults.LineFault.TheVariants as line
 use Rattle.sbl_io.specs.declared.faults.ServeFault.{ServeFault}
@@ -21,13 +21,6 @@ pub record Answered (s : Contents) (requests : List Request) (held new_held : Op
   pub answers : Answers s requests m text t
   pub written : Appends held new_held text
 
--- After the replies to these requests, the edit of one more was made, and a prefix of its reply was written.
-abbrev pub HalfAnswered : Contents → List Request → Request → Option (List ℕ) → Option (List ℕ) → Contents → Type 0
-HalfAnswered s requests request held new_held t =
-    (between : Contents) × (middle : Option (List ℕ)) × Answered s requests held middle between
-    × (memory : Memory) × (reply : List ℕ) × IsReplyTo between (command_of request) memory reply t
-    × (count : ℕ) × Appends middle new_held (take count reply)
-
 -- Requests were taken from the input, and exactly these have their replies.
 abbrev pub Served : Option (List ℕ) → Option (List ℕ) → Option (List ℕ) → Option (List ℕ) → Contents → Contents → Type 0
 Served input new_input held new_held s t = (requests : List Request) × TookRequests input new_input requests × Answered s requests held new_held t
@@ -40,13 +33,14 @@ Served input new_input held new_held s t = (requests : List Request) × TookRequ
 abbrev pub IsSession : Option (List ℕ) → Option (List ℕ) → Option (List ℕ) → Option (List ℕ) → Contents → Contents → Result (Unit {0}) ServeFault → Type 0
 IsSession input new_input held new_held s t (Ok u) = Served input new_input held new_held s t × IsAtEnd new_input
 IsSession input new_input held new_held s t (Err fault.Write) =
-    (requests : List Request) × (request : Request) × TookRequests input new_input (requests ++ request ∷ []) × HalfAnswered s requests request held new_held t
+    (requests : List Request) × (request : Request) × TookRequests input new_input (requests ++ request ∷ [])
+    × (between : Contents) × (middle : Option (List ℕ)) × Answered s requests held middle between
+    × (memory : Memory) × (reply : List ℕ) × IsReplyTo between (command_of request) memory reply t × (count : ℕ) × Appends middle new_held (take count reply)
 IsSession input new_input held new_held s t (Err fault.Cut) =
     (between : Option (List ℕ)) × Served input between held new_held s t × Breaks IsOpen between new_input fault.Cut
-IsSession input new_input held new_held s t (Err fault.Read) =
-    (between : Option (List ℕ)) × TookWhole input between × Served input between held new_held s t × Breaks IsBegun between new_input fault.Read
 IsSession input new_input held new_held s t (Err f) =
-    (between : Option (List ℕ)) × Served input between held new_held s t × Breaks IsBegun between new_input f
+    (between : Option (List ℕ)) × (f ≡ fault.Read → TookWhole input between) × Served input between held new_held s t
+    × Breaks (λ lines. (lines ≡ []) ⊎ IsOpen lines) between new_input f
 
 -- Why a session may end. A fault of reading or writing is caused by the device or a bound, or the lines returned it before. A
 -- line that is too long, or a block that the end of input cuts off, is in the input, as defined above.
@@ -57,3 +51,12 @@ Ends reads writes lines new_lines writer new_writer (Err fault.Write) = HasStopp
 Ends reads writes lines new_lines writer new_writer (Err fault.LineTooLong) = ⊤
 Ends reads writes lines new_lines writer new_writer (Err fault.Cut) = ⊤
 Ends reads writes lines new_lines writer new_writer (Err f) = ⊥
+
+-- ---- names for proofs
+
+-- After the replies to these requests, the edit of one more was made, and a prefix of its reply was written.
+abbrev pub HalfAnswered : Contents → List Request → Request → Option (List ℕ) → Option (List ℕ) → Contents → Type 0
+HalfAnswered s requests request held new_held t =
+    (between : Contents) × (middle : Option (List ℕ)) × Answered s requests held middle between
+    × (memory : Memory) × (reply : List ℕ) × IsReplyTo between (command_of request) memory reply t
+    × (count : ℕ) × Appends middle new_held (take count reply)

@@ -1,6 +1,6 @@
 //! The commands of a session.
 ghost use Rattle.std.specs.Prelude.{◌≡◌, IfOk, OnErr, Some, true};
-ghost use Rattle.std.specs.Option.{is_some, option_map_or};
+ghost use Rattle.std.specs.Option.{is_some, unwrap_or};
 ghost use Rattle.sbl_bench.specs.Edits as edits;
 ghost use Rattle.sbl_sessions.specs.Commands as spec;
 ghost use Rattle.sbl_sessions.specs.Requests as requests;
@@ -69,7 +69,7 @@ fn text_command(text: &str) -> Command<'_>
 
 /// Returns the command that sets the limit of steps to the number in the argument.
 fn limit_command(argument: &str) -> Command<'static>
-    ensures { view_command result ≡ option_map_or (λ n. spec.Makes (edits.Limit n)) (numbers.number_in argument.now) spec.HasNoNumber }
+    ensures { view_command result ≡ spec.Makes (edits.Limit (unwrap_or (numbers.number_in argument.now) 0)) }
 {
     match number_in(argument.as_bytes()) {
         Some(number) => Command::Limit(number),
@@ -90,7 +90,7 @@ pub enum BlockWord {
 
 /// Returns the command word of a line if a block follows the line, whatever else the line contains.
 pub fn block_word(line: &[u8]) -> Option<BlockWord>
-    ensures { view_asked result ≡ requests.block_word line.now }
+    ensures { view_asked result ≡ requests.block_word (words.command_word line.now) }
 {
     let word = command_word(line);
     if word == b"routine".as_slice() {
@@ -119,7 +119,7 @@ pub enum Target {
 /// Returns what a line with this block word replaces; `None` if the line is bad: it is not UTF-8, or the argument of `among` is
 /// not a name, a space and a number. Returns `AllocError` if an allocation fails. Does not allocate for a bad line.
 pub fn target_of(alloc: Global, word: BlockWord, line: &[u8]) -> Result<Option<Target>, AllocError>
-    requires { requests.block_word line.now ≡ Some (view_word word) }
+    requires { requests.block_word (words.command_word line.now) ≡ Some (view_word word) }
     ensures { FindsTarget result line.now }
 {
     let Ok(line) = str::from_utf8(line) else {
@@ -130,8 +130,8 @@ pub fn target_of(alloc: Global, word: BlockWord, line: &[u8]) -> Result<Option<T
 
 /// Returns what a block word and its argument replace, as `target_of` does.
 fn target_by(alloc: Global, word: BlockWord, argument: &str) -> Result<Option<Target>, AllocError>
-    ensures found { IfOk result (λ found. view_found found ≡ spec.target_by (view_word word) argument.now) }
-    ensures refused { OnErr result (is_some (spec.target_by (view_word word) argument.now) ≡ true) }
+    ensures found { IfOk result (λ found. view_found found ≡ view_word word argument.now) }
+    ensures refused { OnErr result (is_some (view_word word argument.now) ≡ true) }
 {
     match word {
         BlockWord::Routine => Ok(Some(Target::Body(String::from_str(alloc, argument)?))),

@@ -9,8 +9,8 @@ use Rattle.sbl_text.specs.Skip.{past}
 use Rattle.sbl_token.specs.SignCuts.{sign_of, sign_front, or_one, one, two}
 use Rattle.sbl_text.specs.Escapes.{opens, closes}
 use Rattle.sbl_text.specs.Classes.{slash, begins_with}
-use Rattle.sbl_text.specs.Pieces.{is_inner, has_end}
-use Rattle.sbl_text.specs.Scan.{past_literal, past_block}
+use Rattle.sbl_text.specs.Pieces.{is_inner}
+use Rattle.sbl_text.specs.Scan.{past_literal, past_block, has_end}
 
 pub and_left : (a b : Bool) → a && b ≡ true → a ≡ true
 and_left true b h = refl
@@ -132,6 +132,33 @@ slash_same (c ∷ x) t = refl
 pub and_false : (b : Bool) → b && false ≡ false
 and_false true = refl
 and_false false = refl
+
+or_more : (a b : Bool) → b ≡ true → (a || b) ≡ true
+or_more true b h = refl
+or_more false b h = h
+
+neither : (a b : Bool) → a ≡ false → b ≡ false → (a || b) ≡ false
+neither true b h k = h
+neither false b h k = k
+
+contains_end : (a b : List ℕ) → has_end (a ++ 42 ∷ 47 ∷ b) ≡ true
+contains_end [] b = refl
+contains_end (c ∷ a) b = or_more (c == 42 && begins_with slash (a ++ 42 ∷ 47 ∷ b)) (has_end (a ++ 42 ∷ 47 ∷ b)) (contains_end a b)
+
+-- no end of a comment is in the text
+pub no_end : (x : List ℕ) → has_end x ≡ false → (a b : List ℕ) → x ≡ a ++ 42 ∷ 47 ∷ b → ⊥
+no_end x h a b e = let both : true ≡ false = sym (contains_end a b) ∙ ap has_end (sym e) ∙ h in cc
+
+no_end_here : (c : ℕ) (x : List ℕ) → ((a b : List ℕ) → c ∷ x ≡ a ++ 42 ∷ 47 ∷ b → ⊥) → (b : Bool) → (c == 42 && begins_with slash x) ≡ b → b ≡ false
+no_end_here c x h true i =
+    absurd (h [] (drop 1 x) (ap (λ (n : ℕ). n ∷ x) (same_number c 42 (and_left (c == 42) (begins_with slash x) i)) ∙ ap (λ (t : List ℕ). 42 ∷ t) (slash_first x (and_right (c == 42) (begins_with slash x) i))))
+no_end_here c x h false i = refl
+
+pub has_no_end : (x : List ℕ) → ((a b : List ℕ) → x ≡ a ++ 42 ∷ 47 ∷ b → ⊥) → has_end x ≡ false
+has_no_end [] h = refl
+has_no_end (c ∷ x) h =
+    neither (c == 42 && begins_with slash x) (has_end x) (no_end_here c x h (c == 42 && begins_with slash x) refl)
+    (has_no_end x (λ a b e. h (c ∷ a) b (ap (λ (t : List ℕ). c ∷ t) e)))
 
 block_at : (c : ℕ) (cs rest : List ℕ) (b : Bool) → (c == 42 && begins_with slash cs) ≡ b → (past_block cs ≡ Some rest → Block cs rest)
     → (if b then Some (drop 1 cs) else past_block cs) ≡ Some rest → Block (c ∷ cs) rest

@@ -17,7 +17,7 @@ use Rattle.sbl_token.specs.SignCuts.{sign_of, sign_front, one, two}
 use Rattle.sbl_text.specs.Pieces.{Has, may_come, Setting, setting, Stands, IsPiece, NoPiece, BeginsComment, Gap, AreGaps, AfterGaps, is_gap}
 use Rattle.sbl_text.specs.Scan.{IsCutFrom, Piece_at, past_literal, past_block, start_of, Cut, cut, cut_at, cut_as, sign_cut, slash_cut, pair_from, pair_cut, name_cut, cut_in}
 use Rattle.sbl_text.proofs.Written.{sign_is, sign_found_as}
-use Rattle.sbl_text.proofs.Cuts.{or_left, or_right, run, run_longest, sign_found, sign_longest, literal_parts, literal_ends, block_parts, block_ends, same_number}
+use Rattle.sbl_text.proofs.Cuts.{or_left, or_right, run, run_longest, sign_found, sign_longest, literal_parts, literal_ends, block_parts, block_ends, no_end, has_no_end, same_number}
 
 -- ---- first characters
 
@@ -120,7 +120,7 @@ longest_token e shape.LineComment y more h may free =
 longest_token e shape.BlockComment y more h may free =
     subst (λ (t : List ℕ). LeavesCut shape.BlockComment (length more) (cut e (t ++ more))) (sym h.1)
     (along e shape.BlockComment (length more) 47 (42 ∷ ((h.0 ++ 42 ∷ 47 ∷ []) ++ more)) start.Slash refl
-    (let a : past_block ((h.0 ++ 42 ∷ 47 ∷ []) ++ more) ≡ Some more = ap past_block (append_assoc h.0 (42 ∷ 47 ∷ []) more) ∙ block_ends h.0 more h.2 in
+    (let a : past_block ((h.0 ++ 42 ∷ 47 ∷ []) ++ more) ≡ Some more = ap past_block (append_assoc h.0 (42 ∷ 47 ∷ []) more) ∙ block_ends h.0 more (has_no_end h.0 h.2) in
     subst (λ (t : Option (List ℕ)). LeavesCut shape.BlockComment (length more) (cut_as shape.BlockComment t)) (sym a) (refl, omega arith)))
 longest_token e shape.Literal y more h may free =
     subst (λ (t : List ℕ). LeavesCut shape.Literal (length more) (cut e (t ++ more))) (sym h.1)
@@ -161,7 +161,7 @@ block_stands : (e : Option Inserts) (cs : List ℕ) (o : Option (List ℕ)) → 
 block_stands e cs None h = tt
 block_stands e cs (Some rest) h =
     let r = block_parts cs rest h in
-    run_stands e shape.BlockComment 47 (42 ∷ cs) rest (42 ∷ (r.0 ++ 42 ∷ 47 ∷ [])) (ap (λ (t : List ℕ). 42 ∷ t) (r.1 ∙ sym (append_assoc r.0 (42 ∷ 47 ∷ []) rest))) (r.0, refl, r.2) refl (λ i. cc)
+    run_stands e shape.BlockComment 47 (42 ∷ cs) rest (42 ∷ (r.0 ++ 42 ∷ 47 ∷ [])) (ap (λ (t : List ℕ). 42 ∷ t) (r.1 ∙ sym (append_assoc r.0 (42 ∷ 47 ∷ []) rest))) (r.0, refl, no_end r.0 r.2) refl (λ i. cc)
 
 line_stands : (e : Option Inserts) (cs : List ℕ) → FoundCut e (47 ∷ 47 ∷ cs) (Some (shape.LineComment, past (λ d. not (d == 10)) cs))
 line_stands e cs =

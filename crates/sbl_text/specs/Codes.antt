@@ -28,17 +28,10 @@ abbrev pub all_codes : ℕ → ℕ → List (List ℕ) → Option (List ℕ)
 all_codes base most [] = Some []
 all_codes base most (ds ∷ more) = option_and_then (λ c. option_map (λ cs. c ∷ cs) (all_codes base most more)) (code_of base most ds)
 
--- the most digits of a hexadecimal code, and of a decimal one
-abbrev pub max_hex_digits : ℕ
-max_hex_digits = 6
-
-abbrev pub max_decimal_digits : ℕ
-max_decimal_digits = 7
-
 -- The value of a macro, given the numbers of its literal: 1 to 6 hexadecimal or 1 to 7 decimal digits each.
 abbrev pub codes_of : Bool → List ℕ → Option (List ℕ)
-codes_of true cs = all_codes 16 max_hex_digits (numbers_in cs)
-codes_of false cs = all_codes 10 max_decimal_digits (numbers_in cs)
+codes_of true cs = all_codes 16 6 (numbers_in cs)
+codes_of false cs = all_codes 10 7 (numbers_in cs)
 
 -- ---- a name for a part of these definitions, which only proofs use
 

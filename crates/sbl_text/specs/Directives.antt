@@ -10,7 +10,7 @@ use Rattle.sbl_text.specs.declared.directives.Coding.{Coding}
 use Rattle.sbl_text.specs.declared.directives.Coding.TheVariants as coding
 use Rattle.sbl_token.specs.declared.words.Word.{Word}
 use Rattle.sbl_token.specs.declared.words.Word.TheVariants as reserved
-use Rattle.sbl_text.specs.Codes.{numbers_in, all_codes, max_hex_digits, max_decimal_digits}
+use Rattle.sbl_text.specs.Codes.{numbers_in, all_codes}
 use Rattle.sbl_text.specs.Escapes.{InForce, nothing_set, with_inserts, with_macro}
 use Rattle.sbl_token.specs.Lexemes.{Lexeme, word, literal, inserts, macro_name}
 use Rattle.sbl_text.specs.Pieces.{Setting}
@@ -35,11 +35,11 @@ start_under e = record { escapes = e; wanted = wanted.Token; defining = None }
 abbrev pub start : Directives
 start = start_under nothing_set
 
--- the characters that a literal writes, as they are or as codes
+-- the characters that a literal writes: as they are, or as codes of 1 to 6 hexadecimal or 1 to 7 decimal digits
 abbrev pub literal_characters : Coding → List ℕ → Option (List ℕ)
 literal_characters coding.Plain v = Some v
-literal_characters coding.Hex v = all_codes 16 max_hex_digits (numbers_in v)
-literal_characters coding.Decimal v = all_codes 10 max_decimal_digits (numbers_in v)
+literal_characters coding.Hex v = all_codes 16 6 (numbers_in v)
+literal_characters coding.Decimal v = all_codes 10 7 (numbers_in v)
 
 -- the most characters of a macro
 abbrev pub max_macro : ℕ
@@ -56,13 +56,6 @@ value_for d v = option_map_or (λ m. value_for_macro m.coding v) d (Some v)
 abbrev pub with_coding : Option Defining → Coding → Option Defining
 with_coding d k = option_and_then (λ m. if sameb codings.the_type m.coding coding.Plain then Some (record { name = m.name; coding = k }) else None) d
 
-abbrev pub after_word : Directives → Word → Directives
-after_word s reserved.StringEscapes = record { escapes = s.escapes; wanted = wanted.Inserts; defining = None }
-after_word s reserved.StringDef = record { escapes = s.escapes; wanted = wanted.MacroName; defining = None }
-after_word s reserved.Hex = record { escapes = s.escapes; wanted = wanted.Token; defining = with_coding s.defining coding.Hex }
-after_word s reserved.Decimal = record { escapes = s.escapes; wanted = wanted.Token; defining = with_coding s.defining coding.Decimal }
-after_word s _ = start_under s.escapes
-
 abbrev pub defined_as : InForce → List ℕ → Option (List ℕ) → InForce
 defined_as e n value = option_map_or (λ v. with_macro e n v) value e
 
@@ -71,7 +64,10 @@ defined_by e d v = option_map_or (λ m. defined_as e m.name (value_for_macro m.c
 
 -- the state after a token: some words require insert characters or a macro's name next; a literal may define a macro
 abbrev pub after : Directives → Lexeme → Directives
-after s (word w) = after_word s w
+after s (word reserved.StringEscapes) = record { escapes = s.escapes; wanted = wanted.Inserts; defining = None }
+after s (word reserved.StringDef) = record { escapes = s.escapes; wanted = wanted.MacroName; defining = None }
+after s (word reserved.Hex) = record { escapes = s.escapes; wanted = wanted.Token; defining = with_coding s.defining coding.Hex }
+after s (word reserved.Decimal) = record { escapes = s.escapes; wanted = wanted.Token; defining = with_coding s.defining coding.Decimal }
 after s (literal spelling v) = start_under (defined_by s.escapes s.defining v)
 after s (inserts a b) = start_under (with_inserts s.escapes a b)
 after s (macro_name n) = record { escapes = s.escapes; wanted = wanted.Token; defining = Some (record { name = chars n; coding = coding.Plain }) }
@@ -81,6 +77,9 @@ after s _ = start_under s.escapes
 
 abbrev pub if_short : Option (List ℕ) → Option (List ℕ)
 if_short o = option_and_then (λ w. if nat_le (length w) max_macro then Some w else None) o
+
+abbrev pub after_word : Directives → Word → Directives
+after_word s w = after s (word w)
 
 -- the state after most tokens
 abbrev pub no_directive : InForce → Directives

@@ -7,7 +7,7 @@ use Rattle.sbl_text.specs.declared.escapes.Inserts.{Inserts}
 use Rattle.sbl_text.specs.declared.fault.ScriptFault.{ScriptFault}
 use Rattle.sbl_text.specs.declared.fault.ScriptFault.TheVariants as fault
 use Rattle.sbl_text.specs.Classes.{is_white, line_feed, quote}
-use Rattle.sbl_text.specs.Codes.{code_of, max_hex_digits}
+use Rattle.sbl_text.specs.Codes.{code_of}
 use Rattle.sbl_text.specs.Escapes.{InForce, opens, closes, find}
 
 -- the length of a text in UTF-8 bytes
@@ -16,18 +16,14 @@ byte_length text = length (encode_utf8_all text)
 
 -- ---- the name in an insertion
 
--- a fault without its byte offset
-abbrev pub Refusal : Type 0
-Refusal = ℕ → ScriptFault
-
--- a quote, the opening insert character, or `U+` and 1 to 6 hexadecimal digits
-abbrev pub character_named : Option Inserts → List ℕ → Result ℕ Refusal
+-- a quote, the opening insert character, or `U+` and 1 to 6 hexadecimal digits; otherwise the fault, given its byte offset
+abbrev pub character_named : Option Inserts → List ℕ → Result ℕ (ℕ → ScriptFault)
 character_named e [] = Err fault.UnknownEscape
 character_named e (c ∷ []) = if c == quote || opens e c then Ok c else Err fault.UnknownEscape
-character_named e (c ∷ d ∷ cs) = if c == 85 && d == 43 then ok_or (code_of 16 max_hex_digits cs) fault.BadCode else Err fault.UnknownEscape
+character_named e (c ∷ d ∷ cs) = if c == 85 && d == 43 then ok_or (code_of 16 6 cs) fault.BadCode else Err fault.UnknownEscape
 
 -- The value of an insertion: nothing for white space, the value of a macro, otherwise the character that is named.
-abbrev pub insertion_value : InForce → List ℕ → Result (List ℕ) Refusal
+abbrev pub insertion_value : InForce → List ℕ → Result (List ℕ) (ℕ → ScriptFault)
 insertion_value e name =
     if list_all is_white name then Ok []
     else option_map_or Ok (find e.macros name) (result_map_both (λ c. c ∷ []) (λ f. f) (character_named e.inserts name))
@@ -63,7 +59,7 @@ Means e spelling v = (ps : List Part) × AreParts e spelling ps [] × (v ≡ fla
 abbrev pub IsWrong : InForce → List ℕ → ℕ → ScriptFault → Type 0
 IsWrong e text place f =
     ((more : List ℕ) × (text ≡ quote ∷ more) × (f ≡ fault.BadCharacter place))
-    ⊎ ((x : List ℕ) × (name : List ℕ) × (more : List ℕ) × (text ≡ x ++ more) × IsInsertion e x name × (g : Refusal) × (insertion_value e name ≡ Err g) × (f ≡ g place))
+    ⊎ ((x : List ℕ) × (name : List ℕ) × (more : List ℕ) × (text ≡ x ++ more) × IsInsertion e x name × (g : ℕ → ScriptFault) × (insertion_value e name ≡ Err g) × (f ≡ g place))
 
 -- the first fault of a spelling that begins at this byte offset
 abbrev pub FirstWrong : InForce → List ℕ → ℕ → ScriptFault → Type 0
@@ -83,6 +79,10 @@ IsLiteral e spelling (Err f) =
     ((is_closed e.inserts false spelling ≡ false) × (f ≡ fault.UnclosedString 0)) ⊎ ((is_closed e.inserts false spelling ≡ true) × FirstWrong e spelling 0 f)
 
 -- ---- names for parts of these definitions, which only proofs use
+
+-- a fault without its byte offset
+abbrev pub Refusal : Type 0
+Refusal = ℕ → ScriptFault
 
 abbrev pub code_or_fault : Option ℕ → Result ℕ Refusal
 code_or_fault o = ok_or o fault.BadCode

@@ -20,11 +20,6 @@ is_inner e true (c ∷ cs) = is_inner e (not (closes e c)) cs
 is_inner e false (c ∷ cs) =
     if c == quote || c == line_feed then false else is_inner e (opens e c) cs
 
--- the text contains `*/`
-abbrev pub has_end : List ℕ → Bool
-has_end [] = false
-has_end (c ∷ cs) = (c == star && begins_with slash cs) || has_end cs
-
 abbrev pub is_one_of : List Shape → Shape → Bool
 is_one_of ks k = list_any (sameb shapes.the_type k) ks
 
@@ -32,7 +27,7 @@ is_one_of ks k = list_any (sameb shapes.the_type k) ks
 abbrev pub Has : Option Inserts → Shape → List ℕ → Type 0
 Has e shape.Blank x = (c : ℕ) × (x ≡ c ∷ []) × (is_white c ≡ true)
 Has e shape.LineComment x = (inner : List ℕ) × (x ≡ slash ∷ slash ∷ inner) × (list_all (λ c. not (c == line_feed)) inner ≡ true)
-Has e shape.BlockComment x = (inner : List ℕ) × (x ≡ slash ∷ star ∷ (inner ++ star ∷ slash ∷ [])) × (has_end inner ≡ false)
+Has e shape.BlockComment x = (inner : List ℕ) × (x ≡ slash ∷ star ∷ (inner ++ star ∷ slash ∷ [])) × ((a b : List ℕ) → inner ≡ a ++ star ∷ slash ∷ b → ⊥)
 Has e shape.Word x = (c : ℕ) × (cs : List ℕ) × (x ≡ c ∷ cs) × (is_letter c ≡ true) × (list_all is_word cs ≡ true)
 Has e shape.Number x = (c : ℕ) × (cs : List ℕ) × (x ≡ c ∷ cs) × (is_digit c ≡ true) × (list_all is_digit cs ≡ true)
 Has e shape.Sign x = (s : Sign) × (x ≡ sign_text s)

@@ -33,6 +33,11 @@ abbrev pub past_block : List ℕ → Option (List ℕ)
 past_block [] = None
 past_block (c ∷ cs) = if c == star && begins_with slash cs then Some (drop 1 cs) else past_block cs
 
+-- the text contains `*/`
+abbrev pub has_end : List ℕ → Bool
+has_end [] = false
+has_end (c ∷ cs) = (c == star && begins_with slash cs) || has_end cs
+
 -- the shape of a piece, and the text after it
 abbrev pub Cut : Type 0
 Cut = Option (Shape × List ℕ)

@@ -1,5 +1,5 @@
 -- Work goes on request by request.
-use Rattle.std.proofs.Common.{◌⊎◌, inl, inr, Bool, true, false, ◌≡◌, ◌∙◌, ◌++◌, ◌+◌, ◌≤◌, ◌<◌, ℕ, List, [], ◌∷◌, Option, Some, None, Result, Ok, Err, refl, take, length, sym, ap, subst, append_assoc, arith}
+use Rattle.std.proofs.Common.{◌⊎◌, inl, inr, true, false, ◌≡◌, ◌∙◌, ◌++◌, ◌+◌, ◌≤◌, ◌<◌, ℕ, List, [], ◌∷◌, Option, Some, None, Ok, Err, refl, take, length, sym, ap, subst, append_assoc, arith}
 use Rattle.std.proofs.lemmas.Bool.{cases_lt}
 use Rattle.std.proofs.lemmas.List.{append-nil, take-append-le, take_all}
 use Rattle.std.proofs.Math.Seq.{take-append-add, take-append_seam}
@@ -20,7 +20,7 @@ use Rattle.sbl_io.specs.declared.faults.ServeFault.TheVariants as fault
 use Rattle.sbl_formats.proofs.BlockFacts.{all_fit-append, all_fit-push, broken}
 use Rattle.sbl_formats.specs.Block.{BlockLines, Breaks, HoldsText, ReadsBlock, point}
 use Rattle.sbl_sessions.specs.CommandViews.{IsReply}
-use Rattle.sbl_sessions.specs.Requests.{HasBlock, Request, block_lines, lines_in, lines_in_all}
+use Rattle.sbl_sessions.specs.Requests.{Request, block_lines, lines_in, lines_in_all}
 use Rattle.sbl_formats.specs.declared.block_text.BlockText.{BlockText}
 use Rattle.sbl_sessions.specs.declared.replies.Reply.{Reply}
 use Rattle.sbl_work.specs.Answering.{IsWorkAnswered}
@@ -188,7 +188,7 @@ pub answered_line : (a : Option (List ℕ)) (line : List ℕ) (s t : Contents) (
     → IsWorkAnswered a a line s x reply t y
 answered_line a line s t x y reply asks is = record {
   block = None;
-  formed = subst (λ (b : Bool). HasBlock b None) (sym asks) tt;
+  formed = (asks, tt);
   fit = tt;
   took = took-none a;
   file = is.0;
@@ -200,7 +200,7 @@ pub answered_block : (a b : Option (List ℕ)) (line : List ℕ) (s t : Contents
     → ((lines : List (List ℕ)) → HoldsText block lines → IsWorkAnswer s x (block_command line lines) reply t y) → IsWorkAnswered a b line s x reply t y
 answered_block a b line s t x y block reply asks reads is = record {
   block = Some reads.0;
-  formed = subst (λ (b : Bool). HasBlock b (Some reads.0)) (sym asks) reads.1.0.0;
+  formed = (asks, reads.1.0.0);
   fit = all_fit-push reads.0 point reads.1.0.1 (omega arith);
   took = reads.1.1;
   file = None;

@@ -78,4 +78,4 @@ lines_read (line ∷ lines) h =
 
 pub lists-read : ListsAreRead
 lists-read input rest lines more took =
-    lines_read lines (free_front lines more (subst AreFree took.lines_are (free_map (raw_lines took.front) (free_raw took.front))))
+    lines_read lines (free_front lines more (subst AreFree took.3 (free_map (raw_lines took.0) (free_raw took.0))))

@@ -1,7 +1,7 @@
 //! Tests of parsing scripts: each kind of refusal once, depth, length, and what a script keeps. tests/cases has rows of
 //! single checks.
 
-use sbl_parser::{one_fault, one_part, one_tree};
+use sbl_parser::{one_fault, one_tree};
 use sbl_script::Script;
 use sbl_script::laws::{
     amongs_are_sound, fault_is_first, is_well_declared, names_resolve, one_edit, one_reading,
@@ -129,7 +129,6 @@ fn a_script_under_another_external_is_another(rt: HostRuntime) {
 #[test]
 fn the_laws_of_trees_and_scripts_are_called(_rt: HostRuntime) {
     one_tree();
-    one_part();
     one_fault();
     one_reading();
     one_edit();

@@ -5,6 +5,7 @@ use Rattle.sbl_ast.specs.declared.tree.NextFactor.{NextFactor}
 use Rattle.sbl_ast.specs.Terminal.{Terminal}
 use Rattle.sbl_ast.specs.Terminal as t
 use Rattle.sbl_ast.specs.Tree as trees
+use Rattle.sbl_ast.specs.Spelled as written
 use Rattle.sbl_ast.specs.View as view
 use Rattle.sbl_parser.specs.Gives.{ahead}
 use Rattle.sbl_parser.specs.Steps as s
@@ -24,7 +25,7 @@ expression-loop-operator-preserved t_ c =
     let last : view.NextProductView = (c.in-Additive.operator, view.view_product c.in_ok-product.field-0) in
     let more : map view.view_next_product c.push.new.self.items ≡ map view.view_next_product c.loop-operator.others.items ++ last ∷ [] = ap (λ (xs : List NextProduct). map view.view_next_product xs) c.in_ok-push.ensures.items ∙ map_push view.view_next_product c.loop-operator.others.items _ ∙ ap (λ (x : view.NextProductView). map view.view_next_product c.loop-operator.others.items ++ x ∷ []) (views.view_of_next_product (record { operator = c.in-Additive.operator; product = c.in_ok-product.field-0 })) in
     record {
-      spelled = turns.next_sum (trees.spelled_product (view.view_product c.in_ok-first.first)) (map view.view_next_product c.loop-operator.others.items) (map view.view_next_product c.push.new.self.items) last _ (ahead c.loop-operator.cursor) (ahead c.product-in-Additive.new.cursor) c.loop-operator.invariant.spelled (first ∙ ap (λ (r : List Terminal). t.additive c.in-Additive.operator ∷ r) c.in_ok-product.ensures.0) more;
+      spelled = turns.next_sum (written.spelled_product (view.view_product c.in_ok-first.first)) (map view.view_next_product c.loop-operator.others.items) (map view.view_next_product c.push.new.self.items) last _ (ahead c.loop-operator.cursor) (ahead c.product-in-Additive.new.cursor) c.loop-operator.invariant.spelled (first ∙ ap (λ (r : List Terminal). t.additive c.in-Additive.operator ∷ r) c.in_ok-product.ensures.0) more;
       faults = λ k. c.loop-operator.invariant.faults k ∙ d.goes_on (ahead c.loop-operator.cursor) (t.additive c.in-Additive.operator) (ahead c.skip.new.self) (s.sums c.args.depth ∷ k) (s.expression c.args.depth k) c.args.depth first refl (omega arith) ∙ c.in_ok-product.ensures.1 (s.sums c.args.depth ∷ k);
     }
 
@@ -37,12 +38,12 @@ product-loop-operator-preserved t_ c =
     let last : view.NextFactorView = (c.in-Multiplicative.operator, view.view_factor c.in_ok-factor.field-0) in
     let more : map view.view_next_factor c.push.new.self.items ≡ map view.view_next_factor c.loop-operator.others.items ++ last ∷ [] = ap (λ (xs : List NextFactor). map view.view_next_factor xs) c.in_ok-push.ensures.items ∙ map_push view.view_next_factor c.loop-operator.others.items _ ∙ ap (λ (x : view.NextFactorView). map view.view_next_factor c.loop-operator.others.items ++ x ∷ []) (views.view_of_next_factor (record { operator = c.in-Multiplicative.operator; factor = c.in_ok-factor.field-0 })) in
     record {
-      spelled = turns.next_scale (trees.spelled_factor (view.view_factor _)) (map view.view_next_factor c.loop-operator.others.items) (map view.view_next_factor c.push.new.self.items) last _ (ahead c.loop-operator.cursor) (ahead c.factor-in-Multiplicative.new.cursor) c.loop-operator.invariant.spelled (first ∙ ap (λ (r : List Terminal). t.multiplicative c.in-Multiplicative.operator ∷ r) c.in_ok-factor.ensures.0) more;
+      spelled = turns.next_scale (written.spelled_factor (view.view_factor _)) (map view.view_next_factor c.loop-operator.others.items) (map view.view_next_factor c.push.new.self.items) last _ (ahead c.loop-operator.cursor) (ahead c.factor-in-Multiplicative.new.cursor) c.loop-operator.invariant.spelled (first ∙ ap (λ (r : List Terminal). t.multiplicative c.in-Multiplicative.operator ∷ r) c.in_ok-factor.ensures.0) more;
       faults = λ k. c.loop-operator.invariant.faults k ∙ d.goes_on (ahead c.loop-operator.cursor) (t.multiplicative c.in-Multiplicative.operator) (ahead c.skip.new.self) (s.scales c.args.depth ∷ k) (s.factor c.args.depth ∷ s.scales c.args.depth ∷ k) c.args.depth first refl (omega arith) ∙ c.in_ok-factor.ensures.1 (s.scales c.args.depth ∷ k);
     }
 
 pub product-returns : goal.product-returns
 product-returns t_ c = (
-  c.loop-operator.invariant.spelled ∙ ap (λ (x : trees.Product). trees.spelled_product x (ahead c.loop-operator.cursor)) (sym (views.view_of_product (record { first = _; others = c.loop-operator.others }))),
+  c.loop-operator.invariant.spelled ∙ ap (λ (x : trees.Product). written.spelled_product x (ahead c.loop-operator.cursor)) (sym (views.view_of_product (record { first = _; others = c.loop-operator.others }))),
   λ k. c.loop-operator.invariant.faults k ∙ d.skips_scales (ahead c.loop-operator.cursor) c.args.depth k (λ o e. c.in_default.not-Multiplicative o (c.role.ensures ∙ e)),
 )

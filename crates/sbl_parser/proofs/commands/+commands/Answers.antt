@@ -8,6 +8,7 @@ use Rattle.sbl_ast.specs.declared.tree.RowOfCommands.{RowOfCommands as Row}
 use Rattle.sbl_ast.specs.Terminal.{Terminal}
 use Rattle.sbl_ast.specs.Terminal as t
 use Rattle.sbl_ast.specs.Tree as trees
+use Rattle.sbl_ast.specs.Spelled as written
 use Rattle.sbl_ast.specs.View as view
 use Rattle.sbl_parser.specs.declared.role.Role.{Role}
 use Rattle.sbl_parser.specs.First.{first_literal}
@@ -39,7 +40,7 @@ rows-loop-rows-preserved t_ c =
     let last : view.RowView = view.view_row c.in_ok-row.field-0 in
     let more : map view.view_row c.push.new.self.items ≡ map view.view_row c.loop-rows.rows.items ++ last ∷ [] = ap (λ (xs : List Row). map view.view_row xs) c.in_ok-push.ensures.items ∙ map_push view.view_row c.loop-rows.rows.items _ in
     record {
-      spelled = c.loop-rows.invariant.spelled ∙ ap (λ (r : List Terminal). trees.spelled_rows (view.rows_of (map view.view_row c.loop-rows.rows.items)) r) c.in_ok-row.ensures.0 ∙ sym (turns.rows_push (map view.view_row c.loop-rows.rows.items) last (ahead c.row.new.cursor)) ∙ ap (λ (xs : List view.RowView). trees.spelled_rows (view.rows_of xs) (ahead c.row.new.cursor)) (sym more);
+      spelled = c.loop-rows.invariant.spelled ∙ ap (λ (r : List Terminal). written.spelled_rows (view.rows_of (map view.view_row c.loop-rows.rows.items)) r) c.in_ok-row.ensures.0 ∙ sym (turns.rows_push (map view.view_row c.loop-rows.rows.items) last (ahead c.row.new.cursor)) ∙ ap (λ (xs : List view.RowView). written.spelled_rows (view.rows_of xs) (ahead c.row.new.cursor)) (sym more);
       faults = λ k. c.loop-rows.invariant.faults k ∙ d.row_first (ahead c.loop-rows.cursor) c.args.depth k begun ∙ c.in_ok-row.ensures.1 (s.rows c.args.depth ∷ k);
     }
 
@@ -47,7 +48,7 @@ pub rows-loop-rows-smaller : goal.rows-loop-rows-smaller
 rows-loop-rows-smaller t_ c =
     let row : view.RowView = view.view_row c.in_ok-row.field-0 in
     let next : List Terminal = ahead c.row.new.cursor in
-    subst (λ (r : List Terminal). length (ahead c.row.new.cursor) < length r) (sym c.in_ok-row.ensures.0) (turns.through (trees.spelled_command row.0 (trees.spelled_others row.1 next)) (trees.spelled_others row.1 next) next (lengths.tree_length row.0 (trees.spelled_others row.1 next)) (lengths.others_length row.1 next))
+    subst (λ (r : List Terminal). length (ahead c.row.new.cursor) < length r) (sym c.in_ok-row.ensures.0) (turns.through (written.spelled_command row.0 (written.spelled_others row.1 next)) (written.spelled_others row.1 next) next (lengths.tree_length row.0 (written.spelled_others row.1 next)) (lengths.others_length row.1 next))
 
 pub row-loop-joiner-smaller : goal.row-loop-joiner-smaller
 row-loop-joiner-smaller t_ c = turns.shorter (ahead c.loop-joiner.cursor) (ahead c.command-in-Joiner.new.cursor) (ahead c.skip.new.self) c.skip.ensures (subst (λ (r : List Terminal). length (ahead c.command-in-Joiner.new.cursor) < length r) (sym c.in_ok-command.ensures.gives.0) (lengths.tree_length (view.view_command c.in_ok-command.field-0) (ahead c.command-in-Joiner.new.cursor)))
@@ -59,7 +60,7 @@ row-loop-joiner-preserved t_ c =
     let more : map view.view_next_command c.push.new.self.items ≡ map view.view_next_command c.loop-joiner.others.items ++ last ∷ [] = ap (λ (xs : List NextCommand). map view.view_next_command xs) c.in_ok-push.ensures.items ∙ map_push view.view_next_command c.loop-joiner.others.items _ ∙ ap (λ (x : view.NextCommandView). map view.view_next_command c.loop-joiner.others.items ++ x ∷ []) (views.view_of_next_command (record { joiner = c.in-Joiner.joiner; command = c.in_ok-command.field-0 })) in
     record {
       shallow = c.loop-joiner.invariant.shallow;
-      spelled = turns.next_joined (trees.spelled_command (view.view_command _)) (map view.view_next_command c.loop-joiner.others.items) (map view.view_next_command c.push.new.self.items) last _ (ahead c.loop-joiner.cursor) (ahead c.command-in-Joiner.new.cursor) c.loop-joiner.invariant.spelled (first ∙ ap (λ (r : List Terminal). t.joiner c.in-Joiner.joiner ∷ r) c.in_ok-command.ensures.gives.0) more;
+      spelled = turns.next_joined (written.spelled_command (view.view_command _)) (map view.view_next_command c.loop-joiner.others.items) (map view.view_next_command c.push.new.self.items) last _ (ahead c.loop-joiner.cursor) (ahead c.command-in-Joiner.new.cursor) c.loop-joiner.invariant.spelled (first ∙ ap (λ (r : List Terminal). t.joiner c.in-Joiner.joiner ∷ r) c.in_ok-command.ensures.gives.0) more;
       faults = λ k. c.loop-joiner.invariant.faults k ∙ d.goes_on (ahead c.loop-joiner.cursor) (t.joiner c.in-Joiner.joiner) (ahead c.skip.new.self) (s.others c.args.depth ∷ k) (s.command c.args.depth ∷ s.others c.args.depth ∷ k) c.args.depth first refl c.loop-joiner.invariant.shallow ∙ c.in_ok-command.ensures.gives.1 (s.others c.args.depth ∷ k);
     }
 
@@ -71,7 +72,7 @@ groups-loop-cursor-preserved t_ c =
     let last : view.GroupView = record { first = view.view_entry c.in_ok-first.first; others = map view.view_entry c.in_ok-others.others.items; rows = view.view_rows c.in_ok-rows-in-Open.rows.items } in
     let more : map view.view_group c.push.new.self.items ≡ map view.view_group c.loop-cursor.groups.items ++ last ∷ [] = ap (λ (xs : List Group). map view.view_group xs) c.in_ok-push-in-Open.ensures.items ∙ map_push view.view_group c.loop-cursor.groups.items _ ∙ ap (λ (x : view.GroupView). map view.view_group c.loop-cursor.groups.items ++ x ∷ []) (views.view_of_group (record { first = c.in_ok-first.first; others = c.in_ok-others.others; rows = c.in_ok-rows-in-Open.rows })) in
     record {
-      spelled = c.loop-cursor.invariant.spelled ∙ ap (λ (r : List Terminal). trees.spelled_groups (view.groups_of (map view.view_group c.loop-cursor.groups.items) []) r) (c.in_ok-first.ensures.spelled ∙ ap (λ (r : List Terminal). trees.spelled_entry (view.view_entry c.in_ok-first.first) r) (c.in_ok-others.ensures.spelled ∙ ap (λ (r : List Terminal). trees.spelled_entries (map view.view_entry c.in_ok-others.others.items) r) (second ∙ ap (λ (r : List Terminal). t.open_ ∷ r) c.in_ok-rows-in-Open.ensures.0))) ∙ sym (turns.groups_push (map view.view_group c.loop-cursor.groups.items) last (ahead c.block.new.cursor)) ∙ ap (λ (xs : List view.GroupView). trees.spelled_groups (view.groups_of xs []) (ahead c.block.new.cursor)) (sym more);
+      spelled = c.loop-cursor.invariant.spelled ∙ ap (λ (r : List Terminal). written.spelled_groups (view.groups_of (map view.view_group c.loop-cursor.groups.items) []) r) (c.in_ok-first.ensures.spelled ∙ ap (λ (r : List Terminal). written.spelled_entry (view.view_entry c.in_ok-first.first) r) (c.in_ok-others.ensures.spelled ∙ ap (λ (r : List Terminal). written.spelled_entries (map view.view_entry c.in_ok-others.others.items) r) (second ∙ ap (λ (r : List Terminal). t.open_ ∷ r) c.in_ok-rows-in-Open.ensures.0))) ∙ sym (turns.groups_push (map view.view_group c.loop-cursor.groups.items) last (ahead c.block.new.cursor)) ∙ ap (λ (xs : List view.GroupView). written.spelled_groups (view.groups_of xs []) (ahead c.block.new.cursor)) (sym more);
       faults = λ k. c.loop-cursor.invariant.faults k ∙ d.goes_on now (t.literal (first_literal c.loop-cursor.cursor.tokens.now)) (drop 1 now) (s.groups c.args.depth ∷ k) (s.condition c.args.depth ∷ s.entries c.args.depth ∷ k) c.args.depth first refl (omega arith) ∙ c.in_ok-first.ensures.faults (s.entries c.args.depth ∷ k) ∙ c.in_ok-others.ensures.faults k ∙ d.goes_on (ahead c.entries.new.cursor) t.open_ (ahead c.skip.new.self) (s.entries c.args.depth ∷ k) (s.rows (c.args.depth + 1 + 1) ∷ s.closing (c.args.depth + 1) ∷ s.groups c.args.depth ∷ k) (c.args.depth + 1) second refl (omega arith) ∙ c.in_ok-rows-in-Open.ensures.1 (s.groups c.args.depth ∷ k);
     }
 
@@ -86,6 +87,6 @@ groups-returns-in_default-role t_ c =
     let now : List Terminal = ahead c.loop-cursor.cursor in
     let first : ahead c.loop-cursor.cursor ≡ t.literal (first_literal c.loop-cursor.cursor.tokens.now) ∷ drop 1 (ahead c.loop-cursor.cursor) = of_role.as_literal c.loop-cursor.cursor.tokens.now (sym c.role.ensures ∙ c.in-Literal.is) in
     let same : map view.view_entry c.insert.new.self.items ≡ view.view_entry c.in_ok-first.first ∷ map view.view_entry c.in_ok-others.others.items = ap (λ (xs : List Entry). map view.view_entry xs) c.in_ok-insert-in_default-role.ensures.items in (
-      c.loop-cursor.invariant.spelled ∙ ap (λ (r : List Terminal). trees.spelled_groups (view.groups_of (map view.view_group c.loop-cursor.groups.items) []) r) (c.in_ok-first.ensures.spelled ∙ ap (λ (r : List Terminal). trees.spelled_entry (view.view_entry c.in_ok-first.first) r) c.in_ok-others.ensures.spelled) ∙ sym (turns.groups_bare (map view.view_group c.loop-cursor.groups.items) (view.view_entry c.in_ok-first.first ∷ map view.view_entry c.in_ok-others.others.items) (ahead c.entries.new.cursor)) ∙ ap (λ (xs : List trees.Entry). trees.spelled_groups (view.groups_of (map view.view_group c.loop-cursor.groups.items) xs) (ahead c.entries.new.cursor)) (sym same),
+      c.loop-cursor.invariant.spelled ∙ ap (λ (r : List Terminal). written.spelled_groups (view.groups_of (map view.view_group c.loop-cursor.groups.items) []) r) (c.in_ok-first.ensures.spelled ∙ ap (λ (r : List Terminal). written.spelled_entry (view.view_entry c.in_ok-first.first) r) c.in_ok-others.ensures.spelled) ∙ sym (turns.groups_bare (map view.view_group c.loop-cursor.groups.items) (view.view_entry c.in_ok-first.first ∷ map view.view_entry c.in_ok-others.others.items) (ahead c.entries.new.cursor)) ∙ ap (λ (xs : List trees.Entry). written.spelled_groups (view.groups_of (map view.view_group c.loop-cursor.groups.items) xs) (ahead c.entries.new.cursor)) (sym same),
       λ k. c.loop-cursor.invariant.faults k ∙ d.goes_on now (t.literal (first_literal c.loop-cursor.cursor.tokens.now)) (drop 1 now) (s.groups c.args.depth ∷ k) (s.condition c.args.depth ∷ s.entries c.args.depth ∷ k) c.args.depth first refl (omega arith) ∙ c.in_ok-first.ensures.faults (s.entries c.args.depth ∷ k) ∙ c.in_ok-others.ensures.faults k ∙ d.skips_entries (ahead c.entries.new.cursor) c.args.depth k c.in_ok-others.ensures.ended (λ e. c.in_default-role.not-Open (c.role-in-Literal.ensures ∙ e)),
     )

@@ -4,6 +4,7 @@ use Rattle.sbl_ast.specs.declared.tree.Entry.{Entry}
 use Rattle.sbl_ast.specs.Terminal.{Terminal}
 use Rattle.sbl_ast.specs.Terminal as t
 use Rattle.sbl_ast.specs.Tree as trees
+use Rattle.sbl_ast.specs.Spelled as written
 use Rattle.sbl_ast.specs.View as view
 use Rattle.sbl_parser.specs.First.{first_literal}
 use Rattle.sbl_parser.specs.Gives.{ahead}
@@ -20,6 +21,6 @@ loop-entries-preserved c =
     let last : trees.Entry = view.view_entry c.in_ok-entry.field-0 in
     let more : map view.view_entry c.push.new.self.items ≡ map view.view_entry c.loop-entries.entries.items ++ last ∷ [] = ap (λ (xs : List Entry). map view.view_entry xs) c.in_ok-push.ensures.items ∙ map_push view.view_entry c.loop-entries.entries.items _ in
     record {
-      spelled = c.loop-entries.invariant.spelled ∙ ap (λ (r : List Terminal). trees.spelled_entries (map view.view_entry c.loop-entries.entries.items) r) c.in_ok-entry.ensures.spelled ∙ sym (turns.entries_push (map view.view_entry c.loop-entries.entries.items) last (ahead c.entry.new.cursor)) ∙ ap (λ (xs : List trees.Entry). trees.spelled_entries xs (ahead c.entry.new.cursor)) (sym more);
+      spelled = c.loop-entries.invariant.spelled ∙ ap (λ (r : List Terminal). written.spelled_entries (map view.view_entry c.loop-entries.entries.items) r) c.in_ok-entry.ensures.spelled ∙ sym (turns.entries_push (map view.view_entry c.loop-entries.entries.items) last (ahead c.entry.new.cursor)) ∙ ap (λ (xs : List trees.Entry). written.spelled_entries xs (ahead c.entry.new.cursor)) (sym more);
       faults = λ k. c.loop-entries.invariant.faults k ∙ d.goes_on now (t.literal (first_literal c.loop-entries.cursor.tokens.now)) (drop 1 now) (s.entries c.args.depth ∷ k) (s.condition c.args.depth ∷ s.entries c.args.depth ∷ k) c.args.depth first refl (omega arith) ∙ c.in_ok-entry.ensures.faults (s.entries c.args.depth ∷ k);
     }

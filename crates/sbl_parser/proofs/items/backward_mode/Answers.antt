@@ -5,6 +5,7 @@ use Rattle.sbl_ast.specs.declared.tree.Plain.{Plain}
 use Rattle.sbl_ast.specs.Terminal.{Terminal}
 use Rattle.sbl_ast.specs.Terminal as t
 use Rattle.sbl_ast.specs.Tree as trees
+use Rattle.sbl_ast.specs.Spelled as written
 use Rattle.sbl_ast.specs.View as view
 use Rattle.sbl_parser.specs.declared.role.Role.{Role}
 use Rattle.sbl_parser.specs.Gives.{ahead}
@@ -31,7 +32,7 @@ loop-plains-preserved c =
     let last : trees.Plain = view.view_plain c.in_ok-plain.field-0 in
     let more : map view.view_plain c.push.new.self.items ≡ map view.view_plain c.loop-plains.plains.items ++ last ∷ [] = ap (λ (xs : List Plain). map view.view_plain xs) c.in_ok-push.ensures.items ∙ map_push view.view_plain c.loop-plains.plains.items _ in
     record {
-      spelled = c.loop-plains.invariant.spelled ∙ ap (λ (r : List Terminal). t.backward_mode ∷ t.open_ ∷ r) (ap (λ (r : List Terminal). trees.spelled_plains (map view.view_plain c.loop-plains.plains.items) r) c.in_ok-plain.ensures.0 ∙ sym (turns.plains_push (map view.view_plain c.loop-plains.plains.items) last (ahead c.plain.new.cursor)) ∙ ap (λ (xs : List trees.Plain). trees.spelled_plains xs (ahead c.plain.new.cursor)) (sym more));
+      spelled = c.loop-plains.invariant.spelled ∙ ap (λ (r : List Terminal). t.backward_mode ∷ t.open_ ∷ r) (ap (λ (r : List Terminal). written.spelled_plains (map view.view_plain c.loop-plains.plains.items) r) c.in_ok-plain.ensures.0 ∙ sym (turns.plains_push (map view.view_plain c.loop-plains.plains.items) last (ahead c.plain.new.cursor)) ∙ ap (λ (xs : List trees.Plain). written.spelled_plains xs (ahead c.plain.new.cursor)) (sym more));
       faults = λ k. c.loop-plains.invariant.faults k ∙ d.plain_first (ahead c.loop-plains.cursor) (s.closing 0 ∷ k) begun ∙ c.in_ok-plain.ensures.1 (s.plains ∷ s.closing 0 ∷ k);
     }
 

@@ -1,6 +1,6 @@
 use Rattle.std.proofs.Common.{◌≡◌, ◌∷◌, length, map}
 use Rattle.sbl_ast.specs.Terminal as t
-use Rattle.sbl_ast.specs.Tree as trees
+use Rattle.sbl_ast.specs.Spelled as written
 use Rattle.sbl_ast.specs.View as view
 use Rattle.sbl_parser.specs.Gives.{ahead}
 use Rattle.sbl_parser.specs.Steps as wanted
@@ -8,7 +8,7 @@ use Rattle.sbl_parser.proofs.items.backward_mode.Given as goal
 
 abbrev pub invariant-loop-plains : goal.invariant-loop-plains
 invariant-loop-plains l = record {
-  spelled : ahead l.fn.cursor ≡ t.backward_mode ∷ t.open_ ∷ trees.spelled_plains (map view.view_plain l.plains.items) (ahead l.cursor);
+  spelled : ahead l.fn.cursor ≡ t.backward_mode ∷ t.open_ ∷ written.spelled_plains (map view.view_plain l.plains.items) (ahead l.cursor);
   faults : (k : wanted.Stack) → wanted.fault (ahead l.fn.cursor) (wanted.item ∷ k) ≡ wanted.fault (ahead l.cursor) (wanted.plains ∷ wanted.closing 0 ∷ k);
 }
 

@@ -4,6 +4,7 @@ use Rattle.std.proofs.lemmas.Result.{err_from_is_err_and}
 use Rattle.sbl_ast.specs.declared.tree.ScriptItem.{ScriptItem as Item}
 use Rattle.sbl_ast.specs.Terminal.{Terminal}
 use Rattle.sbl_ast.specs.Tree as trees
+use Rattle.sbl_ast.specs.Spelled as written
 use Rattle.sbl_ast.specs.View as view
 use Rattle.sbl_parser.specs.declared.role.Role.{Role}
 use Rattle.sbl_parser.specs.Gives.{ahead}
@@ -30,6 +31,6 @@ loop-items-preserved c =
     let last : trees.Item = view.view_item c.in_ok-item.field-0 in
     let more : map view.view_item c.push.new.self.items ≡ map view.view_item c.loop-items.items.items ++ last ∷ [] = ap (λ (xs : List Item). map view.view_item xs) c.in_ok-push.ensures.items ∙ map_push view.view_item c.loop-items.items.items _ in
     record {
-      spelled = c.loop-items.invariant.spelled ∙ ap (λ (r : List Terminal). trees.spelled_items (map view.view_item c.loop-items.items.items) r) c.in_ok-item.ensures.0 ∙ sym (turns.items_push (map view.view_item c.loop-items.items.items) last (ahead c.item.new.cursor)) ∙ ap (λ (xs : List trees.Item). trees.spelled_items xs (ahead c.item.new.cursor)) (sym more);
+      spelled = c.loop-items.invariant.spelled ∙ ap (λ (r : List Terminal). written.spelled_items (map view.view_item c.loop-items.items.items) r) c.in_ok-item.ensures.0 ∙ sym (turns.items_push (map view.view_item c.loop-items.items.items) last (ahead c.item.new.cursor)) ∙ ap (λ (xs : List trees.Item). written.spelled_items xs (ahead c.item.new.cursor)) (sym more);
       faults = λ k. c.loop-items.invariant.faults k ∙ d.item_first (ahead c.loop-items.cursor) k begun ∙ c.in_ok-item.ensures.1 (s.items ∷ k);
     }

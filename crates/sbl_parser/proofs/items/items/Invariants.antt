@@ -1,5 +1,5 @@
 use Rattle.std.proofs.Common.{◌≡◌, ◌∷◌, length}
-use Rattle.sbl_ast.specs.Tree as trees
+use Rattle.sbl_ast.specs.Spelled as written
 use Rattle.sbl_ast.specs.View as view
 use Rattle.sbl_parser.specs.Gives.{ahead}
 use Rattle.sbl_parser.specs.Steps as wanted
@@ -7,7 +7,7 @@ use Rattle.sbl_parser.proofs.items.items.Given as goal
 
 abbrev pub invariant-loop-items : goal.invariant-loop-items
 invariant-loop-items l = record {
-  spelled : ahead l.fn.cursor ≡ trees.spelled_items (view.view_items l.items.items) (ahead l.cursor);
+  spelled : ahead l.fn.cursor ≡ written.spelled_items (view.view_items l.items.items) (ahead l.cursor);
   faults : (k : wanted.Stack) → wanted.fault (ahead l.fn.cursor) (wanted.items ∷ k) ≡ wanted.fault (ahead l.cursor) (wanted.items ∷ k);
 }
 

@@ -1,6 +1,6 @@
 use Rattle.std.proofs.Common.{◌≡◌, ◌++◌, List, drop, map, string_bytes}
 use Rattle.sbl_ast.specs.Terminal.{Terminal}
-use Rattle.sbl_ast.specs.Tree.{spelled_entries}
+use Rattle.sbl_ast.specs.Spelled.{spelled_entries}
 use Rattle.sbl_ast.specs.View.{view_entry}
 use Rattle.sbl_print.specs.Adding.{more}
 use Rattle.sbl_print.proofs.commands.put_entries.Given as goal

@@ -1,6 +1,6 @@
 use Rattle.std.proofs.Common.{◌≡◌, ◌++◌, List, drop, map, string_bytes}
 use Rattle.sbl_ast.specs.Terminal.{Terminal}
-use Rattle.sbl_ast.specs.Tree.{spelled_names}
+use Rattle.sbl_ast.specs.Spelled.{spelled_names}
 use Rattle.sbl_print.specs.Adding.{more}
 use Rattle.sbl_print.proofs.items.put_names.Given as goal
 

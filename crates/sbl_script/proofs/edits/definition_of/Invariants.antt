@@ -1,7 +1,8 @@
 use Rattle.std.proofs.Common.{◌≡◌, drop}
 use Rattle.sbl_ast.specs.View.{view_items}
 use Rattle.sbl_script.specs.Edits as spec
+use Rattle.sbl_script.specs.Homes as homes
 use Rattle.sbl_script.proofs.edits.definition_of.Given as goal
 
 abbrev pub invariant-loop-item : goal.invariant-loop-item
-invariant-loop-item l = spec.first_of (spec.defines l.kind l.name) (view_items (drop l.item-index l.items)) ≡ spec.first_of (spec.defines l.kind l.name) (view_items l.items)
+invariant-loop-item l = homes.first_passing (spec.defines l.kind l.name) (view_items (drop l.item-index l.items)) ≡ homes.first_passing (spec.defines l.kind l.name) (view_items l.items)

@@ -7,8 +7,6 @@ returns c =
     items_are_one
     (record {
       read = c.spaced_are_read.ensures.read;
-      back = c.one_part.ensures.back;
-      places = c.one_tree.ensures.places;
       spaced = c.canonical_is_spaced.ensures;
     })
     c.tokens_are_one.ensures.tokens c.one_tree.ensures.script

@@ -7,8 +7,6 @@ returns c =
     read_back
     (record {
       read = c.spaced_are_read.ensures.read;
-      back = c.one_part.ensures.back;
-      places = c.one_tree.ensures.places;
       spaced = c.canonical_is_spaced.ensures;
     })
     c.args.text.now c.utf8.text (source_of c.args.script.now)

@@ -1,6 +1,6 @@
 use Rattle.std.specs.Str.{chars}
 use Rattle.sbl_text.specs.Directives.{start}
-use Rattle.sbl_ast.specs.Tree.{lexemes_of}
+use Rattle.sbl_ast.specs.Places.{lexemes_of}
 use Rattle.sbl_print.specs.Canonical.{canonical}
 use Rattle.sbl_script.specs.ParsedScript.{source_of}
 use Rattle.sbl_script.proofs.Printed.{tokens_back}
@@ -12,8 +12,6 @@ returns c =
     (tokens_back
     (record {
       read = c.spaced_are_read.ensures.read;
-      back = c.one_part.ensures.back;
-      places = c.one_tree.ensures.places;
       spaced = c.canonical_is_spaced.ensures;
     })
     (source_of c.args.script.now).items c.is_spelled.ensures.spelled c.is_spelled.ensures.ends)

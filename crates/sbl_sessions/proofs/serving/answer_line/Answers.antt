@@ -1,9 +1,10 @@
-use Rattle.std.proofs.Common.{List, ℕ, decimal, refl, subst, sym}
+use Rattle.std.proofs.Common.{List, ℕ, Some, decimal, inl, refl, subst, sym}
 use Rattle.std.specs.Str.{chars}
 use Rattle.sbl_bench.specs.Edits as edits
 use Rattle.sbl_bench.specs.KeptRuns.{KeptRuns, contents_of}
+use Rattle.sbl_bench.specs.declared.fault.EditFault.TheVariants as fault
 use Rattle.sbl_print.specs.Canonical.{canonical}
-use Rattle.sbl_sessions.specs.Answers.{with_line_feed}
+use Rattle.sbl_sessions.specs.Answers.{Enough, with_line_feed}
 use Rattle.sbl_sessions.specs.CommandViews.{IsAnswer, IsEditAnswer}
 use Rattle.sbl_sessions.specs.Commands.{Class, Classes, Command, Makes, Runs, Script, Stems}
 use Rattle.sbl_formats.specs.Rows.{classes_text, stems_text}
@@ -73,3 +74,10 @@ returns-in-Runs c =
     let s = contents_of c.args.bench.now in
     let a : IsAnswer s Runs c.report-in-Runs.result s = report_answer c.runs_text.result c.report-in-Runs.result s (with_line_feed (decimal s.count)) c.runs_text.ensures c.report-in-Runs.ensures.made c.report-in-Runs.ensures.refused in
     subst (λ (x : Command). IsAnswer s x c.report-in-Runs.result s) c.in-Runs.ensures a
+
+pub returns-in-HasNoNumber : goal.returns-in-HasNoNumber
+returns-in-HasNoNumber c =
+    let s = contents_of c.args.bench.now in
+    let r = reply.Fixed c.edit_text-in-HasNoNumber.result in
+    let a : IsAnswer s (Makes (edits.Limit 0)) r s = (Enough, c.edit_text-in-HasNoNumber.result.now, refl, (Some fault.BadLimit, (inl (refl, refl), refl), c.edit_text-in-HasNoNumber.ensures)) in
+    subst (λ (x : Command). IsAnswer s x r s) c.in-HasNoNumber.ensures a

@@ -13,7 +13,7 @@ use Rattle.sbl_bench.proofs.bench.Bench.take_edited.Goals as goal
 pub returns-in_err-affected-clause-edits : goal.returns-in_err-affected-clause-edits
 returns-in_err-affected-clause-edits c e text is =
     let f = err_from_is_err_and c.from_residual.result c.from_residual.ensures.1 in
-    rw (f.1, f.2) (record { wanted = refl; is = inl (is.passes, refl) })
+    rw (f.1, f.2) (record { wanted = λ w same. cc same; is = inl (is.passes, refl) })
 
 pub take_script-requires : goal.take_script-requires
 take_script-requires c =

@@ -1,7 +1,6 @@
 use Rattle.std.proofs.Common.{◌≡◌, drop}
 use Rattle.sbl_ast.specs.View.{view_sums, view_scales}
-use Rattle.sbl_resolver.specs.Occurrences.{noted_sums, noted_scales}
-use Rattle.sbl_resolver.specs.OccurrenceView.{view_occurrences}
+use Rattle.sbl_resolver.specs.OccurrenceView.{noted_sums, noted_scales, view_occurrences}
 use Rattle.sbl_resolver.proofs.sofar.SoFar.+arithmetic.Given as goal
 
 abbrev pub invariant-note_scales-loop-scaled : goal.invariant-note_scales-loop-scaled

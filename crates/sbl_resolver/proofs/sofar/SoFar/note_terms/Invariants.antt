@@ -1,7 +1,6 @@
 use Rattle.std.proofs.Common.{◌≡◌, drop, map}
 use Rattle.sbl_ast.specs.View.{view_term}
-use Rattle.sbl_resolver.specs.Occurrences.{noted_terms}
-use Rattle.sbl_resolver.specs.OccurrenceView.{view_occurrences}
+use Rattle.sbl_resolver.specs.OccurrenceView.{noted_terms, view_occurrences}
 use Rattle.sbl_resolver.proofs.sofar.SoFar.note_terms.Given as goal
 
 abbrev pub invariant-loop-term : goal.invariant-loop-term

@@ -7,7 +7,7 @@ use Rattle.sbl_text.specs.Tokens.{ArePlacedFrom, placed_of}
 use Rattle.sbl_parser.specs.Reading.{IsReadAs}
 use Rattle.sbl_ast.specs.Texts as texts
 use Rattle.sbl_ast.specs.View.{view_items}
-use Rattle.sbl_script.specs.Reading.{terminals}
+use Rattle.sbl_script.specs.Reading.{lexemes}
 use Rattle.sbl_script.proofs.Spelled.{script_said}
 use Rattle.sbl_script.proofs.script.Script.parse.Goals as goal
 
@@ -21,6 +21,6 @@ check_tree-requires-clause-spelled c =
     let items = view_items c.in_ok-items.items.items in
     let ts = map placed_of c.in_ok-found.found.items in
     let text = c.in_ok-text.ensures.ok in
-    let read = subst (λ (xs : List Token). IsReadAs texts.script (terminals (map placed_of xs)) items) c.deref.ensures.value c.in_ok-items.ensures.tree in
+    let read = subst (λ (xs : List Token). IsReadAs texts.script (lexemes (map placed_of xs)) items) c.deref.ensures.value c.in_ok-items.ensures.tree in
     let cut = subst (λ (x : List ℕ). ArePlacedFrom start (chars x) ts) text.0 c.in_ok-found.ensures.placed in
     script_said c.args.bytes.now ts items (record { short = text.1; text = text.2; cut = cut }) read

@@ -2,14 +2,15 @@ use Rattle.std.proofs.Common.{rules, ◌≡◌, inr, map}
 use Rattle.std.proofs.lemmas.Result.{err_from_is_err_and}
 use Rattle.sbl_text.specs.Tokens.{placed_of}
 use Rattle.sbl_script.specs.ParsedScript.{source_of}
-use Rattle.sbl_script.specs.Edits.{defines, escapes_before, state_before}
+use Rattle.sbl_script.specs.Edits.{defines}
+use Rattle.sbl_script.specs.Homes.{escapes_before, state_reached}
 use Rattle.sbl_script.proofs.Editing as editing
 use Rattle.sbl_script.proofs.script.Script.tokens_in.Goals as goal
 
 pub returns-in_err-text-clause-fault : goal.returns-in_err-text-clause-fault
 returns-in_err-text-clause-fault c =
     let p = err_from_is_err_and c.from_residual.result c.from_residual.ensures.1 in
-    let there = state_before (defines c.args.kind c.args.name.now) (source_of c.args.self.now).items in
+    let there = state_reached (defines c.args.kind c.args.name.now) (source_of c.args.self.now).items in
     rw (p.1, p.2) (inr (editing.text_moved there _ _ _ c.as_bytes.ensures.value (c.in_err-text.ensures.fault there)))
 
 pub returns-clause-tokens : goal.returns-clause-tokens

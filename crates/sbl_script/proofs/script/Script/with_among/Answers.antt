@@ -11,11 +11,12 @@ use Rattle.sbl_ast.specs.Tree.{Item, Plain, routine}
 use Rattle.sbl_ast.specs.View.{RowView, view_among, view_items, view_row}
 use Rattle.sbl_resolver.specs.Checks.{fault_of}
 use Rattle.sbl_script.specs.ParsedScript.{source_of}
-use Rattle.sbl_script.specs.Reading.{IsUnread, first_left_out, terminals}
+use Rattle.sbl_script.specs.Reading.{IsUnread, first_left_out, lexemes}
 use Rattle.sbl_script.specs.declared.edits.DefinitionKind.TheVariants as kinds
 use Rattle.sbl_script.specs.declared.edit_fault.ScriptEditFault.TheVariants as edits
-use Rattle.sbl_script.specs.Homes.{home_of_among}
-use Rattle.sbl_script.specs.Edits.{among, defines, first_of, items_with, state_before}
+use Rattle.sbl_script.specs.Edits.{among, defines, items_with, first_of}
+use Rattle.sbl_script.specs.Homes.{home_of_among, state_reached}
+use Rattle.sbl_script.proofs.Agreement.{edited_out, fault_out, first_same, missing_out}
 use Rattle.sbl_script.proofs.Editing as editing
 use Rattle.sbl_script.specs.SpelledScript.{AreSpelled, IsSpelled}
 use Rattle.sbl_script.proofs.Found.{same_name}
@@ -28,7 +29,8 @@ nth_among-requires c =
     let items = (source_of c.args.self.now).items in
     let n = c.args.routine.now in
     let b = view_row c.in-Some.body.now in
-    let found : first_of (defines kinds.Routine n) items ≡ Some (routine n b.0 b.1) = search rules in
+    let seen : first_of (defines kinds.Routine n) items ≡ Some (routine n b.0 b.1) = search rules in
+    let found = sym (first_same (defines kinds.Routine n) items) ∙ seen in
     let own : view_items c.self.inside.items.items ≡ items = search rules in
     body_shallow n items b (subst (λ (is : List Item). AreShallow (places is)) own c.self.invariant.1) found
 
@@ -43,7 +45,8 @@ returns-in_err-found-clause-fault c =
     let old = view_among c.in-Some-nth_among.replaced.now in
     let d : AmongContents = (c.in-Some-nth_among.depth, old.0, old.1) in
     let h = home_of_among s.items n b k d in
-    let found : first_of (defines kinds.Routine n) s.items ≡ Some (routine n b.0 b.1) = search rules in
+    let seen : first_of (defines kinds.Routine n) s.items ≡ Some (routine n b.0 b.1) = search rules in
+    let found = sym (first_same (defines kinds.Routine n) s.items) ∙ seen in
     let there = editing.among_home s.items n k b d found c.in-Some-nth_among.ensures.held in
     rw p.1 (editing.told_as s (among n k) h text _ p.0 there p.2 (editing.text_told s h text _ c.in_err-found.ensures.fault))
 
@@ -58,7 +61,8 @@ returns-in_err-among-clause-fault c =
     let old = view_among c.in-Some-nth_among.replaced.now in
     let d : AmongContents = (c.in-Some-nth_among.depth, old.0, old.1) in
     let h = home_of_among s.items n b k d in
-    let found : first_of (defines kinds.Routine n) s.items ≡ Some (routine n b.0 b.1) = search rules in
+    let seen : first_of (defines kinds.Routine n) s.items ≡ Some (routine n b.0 b.1) = search rules in
+    let found = sym (first_same (defines kinds.Routine n) s.items) ∙ seen in
     let there = editing.among_home s.items n k b d found c.in-Some-nth_among.ensures.held in
     let f = c.in_err-among.field-0.0 in
     let ts = map placed_of c.in_ok-found.found.items in
@@ -76,7 +80,8 @@ with_definition-requires-clause-shallow c =
     let b = view_row c.in-Some.body.now in
     let old = view_among c.in-Some-nth_among.replaced.now in
     let d : AmongContents = (c.in-Some-nth_among.depth, old.0, old.1) in
-    let found : first_of (defines kinds.Routine n) items ≡ Some (routine n b.0 b.1) = search rules in
+    let seen : first_of (defines kinds.Routine n) items ≡ Some (routine n b.0 b.1) = search rules in
+    let found = sym (first_same (defines kinds.Routine n) items) ∙ seen in
     let own : view_items c.self.inside.items.items ≡ items = search rules in
     let shallow = body_shallow n items b (subst (λ (is : List Item). AreShallow (places is)) own c.self.invariant.1) found in
     let put = c.in_ok-body.ensures.shallow shallow (fits c.args.k (amongs_of_body b) d (view_among c.in_ok-among.among) c.in-Some-nth_among.ensures.held c.in_ok-among.ensures.tree.1) in
@@ -89,10 +94,11 @@ with_definition-requires-clause-spelled c =
     let b = view_row c.in-Some.body.now in
     let x = view_among c.in_ok-among.among in
     let d = c.in-Some-nth_among.depth in
-    let there = state_before (defines kinds.Routine n) s.items in
-    let found : first_of (defines kinds.Routine n) s.items ≡ Some (routine n b.0 b.1) = search rules in
+    let there = state_reached (defines kinds.Routine n) s.items in
+    let seen : first_of (defines kinds.Routine n) s.items ≡ Some (routine n b.0 b.1) = search rules in
+    let found = sym (first_same (defines kinds.Routine n) s.items) ∙ seen in
     let own : view_items c.self.inside.items.items ≡ s.items = search rules in
-    let read = subst (λ (xs : List Token). IsReadAs (texts.among d) (terminals (map placed_of xs)) x) c.deref-2.ensures.value c.in_ok-among.ensures.tree in
+    let read = subst (λ (xs : List Token). IsReadAs (texts.among d) (lexemes (map placed_of xs)) x) c.deref-2.ensures.value c.in_ok-among.ensures.tree in
     let said = read_said there c.args.text.now (map placed_of c.in_ok-found.found.items) (texts.among d) x c.in_ok-found.ensures.tokens read in
     let new = c.in_ok-new.ensures ∙ ap (λ (r : RowView). routine n r.0 r.1) c.in_ok-body.ensures.put in
     subst (IsSpelled there) (sym new) (among_said n s.items b c.args.k x d (subst AreSpelled own c.self.invariant.2) found said)
@@ -108,12 +114,13 @@ returns-in_err-script-clause-fault c =
     let old = view_among c.in-Some-nth_among.replaced.now in
     let d : AmongContents = (c.in-Some-nth_among.depth, old.0, old.1) in
     let h = home_of_among s.items n b k d in
-    let found : first_of (defines kinds.Routine n) s.items ≡ Some (routine n b.0 b.1) = search rules in
+    let seen : first_of (defines kinds.Routine n) s.items ≡ Some (routine n b.0 b.1) = search rules in
+    let found = sym (first_same (defines kinds.Routine n) s.items) ∙ seen in
     let there = editing.among_home s.items n k b d found c.in-Some-nth_among.ensures.held in
     let ts = map placed_of c.in_ok-found.found.items in
     let x = view_among c.in_ok-among.among in
     let offered = subst (λ (xs : List Token). first_left_out (map placed_of xs) ≡ None) c.deref-2.ensures.value c.in_ok-among.ensures.offered in
-    let read = subst (λ (xs : List Token). IsReadAs (texts.among c.in-Some-nth_among.depth) (terminals (map placed_of xs)) x) c.deref-2.ensures.value c.in_ok-among.ensures.tree in
+    let read = subst (λ (xs : List Token). IsReadAs (texts.among c.in-Some-nth_among.depth) (lexemes (map placed_of xs)) x) c.deref-2.ensures.value c.in_ok-among.ensures.tree in
     let f = c.in_err-script.field-0.0 in
     let new = c.in_ok-new.ensures ∙ ap (λ (r : RowView). routine n r.0 r.1) c.in_ok-body.ensures.put in
     let failed = subst (λ (y : Plain). (f ≡ fault.OutOfMemory) ⊎ (fault_of (items_with (defines kinds.Routine n) y s.items) s.external ≡ Some f)) new c.in_err-script.ensures.fault in
@@ -129,17 +136,18 @@ returns-then-has_as_many_amongs-clause-script c =
     let old = view_among c.in-Some-nth_among.replaced.now in
     let d : AmongContents = (c.in-Some-nth_among.depth, old.0, old.1) in
     let h = home_of_among s.items n b k d in
-    let found : first_of (defines kinds.Routine n) s.items ≡ Some (routine n b.0 b.1) = search rules in
+    let seen : first_of (defines kinds.Routine n) s.items ≡ Some (routine n b.0 b.1) = search rules in
+    let found = sym (first_same (defines kinds.Routine n) s.items) ∙ seen in
     let there = editing.among_home s.items n k b d found c.in-Some-nth_among.ensures.held in
     let ts = map placed_of c.in_ok-found.found.items in
     let x = view_among c.in_ok-among.among in
     let offered = subst (λ (xs : List Token). first_left_out (map placed_of xs) ≡ None) c.deref-2.ensures.value c.in_ok-among.ensures.offered in
-    let read = subst (λ (xs : List Token). IsReadAs (texts.among c.in-Some-nth_among.depth) (terminals (map placed_of xs)) x) c.deref-2.ensures.value c.in_ok-among.ensures.tree in
+    let read = subst (λ (xs : List Token). IsReadAs (texts.among c.in-Some-nth_among.depth) (lexemes (map placed_of xs)) x) c.deref-2.ensures.value c.in_ok-among.ensures.tree in
     let u = source_of c.in_ok-script.script in
     let new = c.in_ok-new.ensures ∙ ap (λ (r : RowView). routine n r.0 r.1) c.in_ok-body.ensures.put in
     let items = c.in_ok-script.ensures.items ∙ ap (λ (y : Plain). items_with (defines kinds.Routine n) y s.items) new in
     let counted : h.keeps_count x ≡ true = search rules in
-    (h, there, editing.substituted s u h text ts x true c.in_ok-found.ensures.tokens offered read items c.in_ok-script.ensures.external c.in_ok-script.ensures.well_declared counted)
+    edited_out s (among n k) text u (h, there, editing.substituted s u h text ts x true c.in_ok-found.ensures.tokens offered read items c.in_ok-script.ensures.external c.in_ok-script.ensures.well_declared counted)
 
 pub returns-clause-fault : goal.returns-clause-fault
 returns-clause-fault c =
@@ -151,17 +159,18 @@ returns-clause-fault c =
     let old = view_among c.in-Some-nth_among.replaced.now in
     let d : AmongContents = (c.in-Some-nth_among.depth, old.0, old.1) in
     let h = home_of_among s.items n b k d in
-    let found : first_of (defines kinds.Routine n) s.items ≡ Some (routine n b.0 b.1) = search rules in
+    let seen : first_of (defines kinds.Routine n) s.items ≡ Some (routine n b.0 b.1) = search rules in
+    let found = sym (first_same (defines kinds.Routine n) s.items) ∙ seen in
     let there = editing.among_home s.items n k b d found c.in-Some-nth_among.ensures.held in
     let ts = map placed_of c.in_ok-found.found.items in
     let x = view_among c.in_ok-among.among in
     let offered = subst (λ (xs : List Token). first_left_out (map placed_of xs) ≡ None) c.deref-2.ensures.value c.in_ok-among.ensures.offered in
-    let read = subst (λ (xs : List Token). IsReadAs (texts.among c.in-Some-nth_among.depth) (terminals (map placed_of xs)) x) c.deref-2.ensures.value c.in_ok-among.ensures.tree in
+    let read = subst (λ (xs : List Token). IsReadAs (texts.among c.in-Some-nth_among.depth) (lexemes (map placed_of xs)) x) c.deref-2.ensures.value c.in_ok-among.ensures.tree in
     let u = source_of c.in_ok-script.script in
     let new = c.in_ok-new.ensures ∙ ap (λ (r : RowView). routine n r.0 r.1) c.in_ok-body.ensures.put in
     let items = c.in_ok-script.ensures.items ∙ ap (λ (y : Plain). items_with (defines kinds.Routine n) y s.items) new in
     let counted : h.keeps_count x ≡ false = search rules in
-    inr (h, there, u, editing.substituted s u h text ts x false c.in_ok-found.ensures.tokens offered read items c.in_ok-script.ensures.external c.in_ok-script.ensures.well_declared counted)
+    inr (fault_out s (among n k) text edits.AmongCount (h, there, u, editing.substituted s u h text ts x false c.in_ok-found.ensures.tokens offered read items c.in_ok-script.ensures.external c.in_ok-script.ensures.well_declared counted))
 
 pub returns-in_err-found-clause-missing : goal.returns-in_err-found-clause-missing
 returns-in_err-found-clause-missing c =
@@ -172,7 +181,8 @@ returns-in_err-found-clause-missing c =
     let old = view_among c.in-Some-nth_among.replaced.now in
     let d : AmongContents = (c.in-Some-nth_among.depth, old.0, old.1) in
     let h = home_of_among s.items n b k d in
-    let found : first_of (defines kinds.Routine n) s.items ≡ Some (routine n b.0 b.1) = search rules in
+    let seen : first_of (defines kinds.Routine n) s.items ≡ Some (routine n b.0 b.1) = search rules in
+    let found = sym (first_same (defines kinds.Routine n) s.items) ∙ seen in
     let there = editing.among_home s.items n k b d found c.in-Some-nth_among.ensures.held in
     λ f missing. editing.not_missing s.items (among n k) h _ there f missing
 
@@ -185,7 +195,8 @@ returns-in_err-among-clause-missing c =
     let old = view_among c.in-Some-nth_among.replaced.now in
     let d : AmongContents = (c.in-Some-nth_among.depth, old.0, old.1) in
     let h = home_of_among s.items n b k d in
-    let found : first_of (defines kinds.Routine n) s.items ≡ Some (routine n b.0 b.1) = search rules in
+    let seen : first_of (defines kinds.Routine n) s.items ≡ Some (routine n b.0 b.1) = search rules in
+    let found = sym (first_same (defines kinds.Routine n) s.items) ∙ seen in
     let there = editing.among_home s.items n k b d found c.in-Some-nth_among.ensures.held in
     λ f missing. editing.not_missing s.items (among n k) h _ there f missing
 
@@ -198,7 +209,8 @@ returns-in_err-body-clause-missing c =
     let old = view_among c.in-Some-nth_among.replaced.now in
     let d : AmongContents = (c.in-Some-nth_among.depth, old.0, old.1) in
     let h = home_of_among s.items n b k d in
-    let found : first_of (defines kinds.Routine n) s.items ≡ Some (routine n b.0 b.1) = search rules in
+    let seen : first_of (defines kinds.Routine n) s.items ≡ Some (routine n b.0 b.1) = search rules in
+    let found = sym (first_same (defines kinds.Routine n) s.items) ∙ seen in
     let there = editing.among_home s.items n k b d found c.in-Some-nth_among.ensures.held in
     λ f missing. editing.not_missing s.items (among n k) h _ there f missing
 
@@ -211,7 +223,8 @@ returns-in_err-new-clause-missing c =
     let old = view_among c.in-Some-nth_among.replaced.now in
     let d : AmongContents = (c.in-Some-nth_among.depth, old.0, old.1) in
     let h = home_of_among s.items n b k d in
-    let found : first_of (defines kinds.Routine n) s.items ≡ Some (routine n b.0 b.1) = search rules in
+    let seen : first_of (defines kinds.Routine n) s.items ≡ Some (routine n b.0 b.1) = search rules in
+    let found = sym (first_same (defines kinds.Routine n) s.items) ∙ seen in
     let there = editing.among_home s.items n k b d found c.in-Some-nth_among.ensures.held in
     λ f missing. editing.not_missing s.items (among n k) h _ there f missing
 
@@ -224,7 +237,8 @@ returns-in_err-script-clause-missing c =
     let old = view_among c.in-Some-nth_among.replaced.now in
     let d : AmongContents = (c.in-Some-nth_among.depth, old.0, old.1) in
     let h = home_of_among s.items n b k d in
-    let found : first_of (defines kinds.Routine n) s.items ≡ Some (routine n b.0 b.1) = search rules in
+    let seen : first_of (defines kinds.Routine n) s.items ≡ Some (routine n b.0 b.1) = search rules in
+    let found = sym (first_same (defines kinds.Routine n) s.items) ∙ seen in
     let there = editing.among_home s.items n k b d found c.in-Some-nth_among.ensures.held in
     λ f missing. editing.not_missing s.items (among n k) h _ there f missing
 
@@ -237,7 +251,8 @@ returns-then-has_as_many_amongs-clause-missing c =
     let old = view_among c.in-Some-nth_among.replaced.now in
     let d : AmongContents = (c.in-Some-nth_among.depth, old.0, old.1) in
     let h = home_of_among s.items n b k d in
-    let found : first_of (defines kinds.Routine n) s.items ≡ Some (routine n b.0 b.1) = search rules in
+    let seen : first_of (defines kinds.Routine n) s.items ≡ Some (routine n b.0 b.1) = search rules in
+    let found = sym (first_same (defines kinds.Routine n) s.items) ∙ seen in
     let there = editing.among_home s.items n k b d found c.in-Some-nth_among.ensures.held in
     λ f missing. editing.not_missing s.items (among n k) h _ there f missing
 
@@ -250,7 +265,8 @@ returns-clause-missing c =
     let old = view_among c.in-Some-nth_among.replaced.now in
     let d : AmongContents = (c.in-Some-nth_among.depth, old.0, old.1) in
     let h = home_of_among s.items n b k d in
-    let found : first_of (defines kinds.Routine n) s.items ≡ Some (routine n b.0 b.1) = search rules in
+    let seen : first_of (defines kinds.Routine n) s.items ≡ Some (routine n b.0 b.1) = search rules in
+    let found = sym (first_same (defines kinds.Routine n) s.items) ∙ seen in
     let there = editing.among_home s.items n k b d found c.in-Some-nth_among.ensures.held in
     λ f missing. editing.not_missing s.items (among n k) h _ there f missing
 
@@ -259,13 +275,15 @@ returns-in_default-nth_among-clause-fault c =
     let s = source_of c.args.self.now in
     let n = c.args.routine.now in
     let b = view_row c.in-Some.body.now in
-    let found : first_of (defines kinds.Routine n) s.items ≡ Some (routine n b.0 b.1) = search rules in
-    inr (editing.no_among s.items n c.args.k b found (rw c.in_default-nth_among.is at c.nth_among.ensures.held))
+    let seen : first_of (defines kinds.Routine n) s.items ≡ Some (routine n b.0 b.1) = search rules in
+    let found = sym (first_same (defines kinds.Routine n) s.items) ∙ seen in
+    inr (missing_out s.items (among n c.args.k) edits.NoAmong (editing.no_among s.items n c.args.k b found (rw c.in_default-nth_among.is at c.nth_among.ensures.held)))
 
 pub returns-in_default-nth_among-clause-missing : goal.returns-in_default-nth_among-clause-missing
 returns-in_default-nth_among-clause-missing c =
     let s = source_of c.args.self.now in
     let n = c.args.routine.now in
     let b = view_row c.in-Some.body.now in
-    let found : first_of (defines kinds.Routine n) s.items ≡ Some (routine n b.0 b.1) = search rules in
+    let seen : first_of (defines kinds.Routine n) s.items ≡ Some (routine n b.0 b.1) = search rules in
+    let found = sym (first_same (defines kinds.Routine n) s.items) ∙ seen in
     λ f missing. editing.missing_told s.items (among n c.args.k) edits.NoAmong _ (editing.no_among s.items n c.args.k b found (rw c.in_default-nth_among.is at c.nth_among.ensures.held)) refl f missing

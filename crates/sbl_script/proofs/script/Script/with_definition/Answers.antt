@@ -2,7 +2,8 @@ use Rattle.std.proofs.Common.{rules, ◌≡◌, List, sym, subst}
 use Rattle.sbl_ast.specs.Places.{places, AreShallow}
 use Rattle.sbl_ast.specs.Tree.{Item}
 use Rattle.sbl_ast.specs.View.{view_items, view_plain}
-use Rattle.sbl_script.specs.Edits.{defines, items_with, state_before}
+use Rattle.sbl_script.specs.Edits.{defines, items_with}
+use Rattle.sbl_script.specs.Homes.{state_reached}
 use Rattle.sbl_script.specs.ParsedScript.{source_of}
 use Rattle.sbl_script.specs.SpelledScript.{AreSpelled, IsSpelled}
 use Rattle.sbl_script.proofs.Shallow.{items_shallow}
@@ -24,5 +25,5 @@ check_tree-requires-clause-spelled c =
     let own = view_items c.self.inside.items.items in
     let same : own ≡ (source_of c.args.self.now).items = search rules in
     let is : view_items c.in_ok-items.items.items ≡ items_with p y own = search rules in
-    let said = subst (λ (xs : List Item). IsSpelled (state_before p xs) y) (sym same) c.requires.spelled in
+    let said = subst (λ (xs : List Item). IsSpelled (state_reached p xs) y) (sym same) c.requires.spelled in
     subst AreSpelled (sym is) (definition_replaced c.args.kind c.args.name.now y own c.requires.same c.self.invariant.2 said)

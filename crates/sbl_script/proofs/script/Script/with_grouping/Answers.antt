@@ -11,10 +11,11 @@ use Rattle.sbl_ast.specs.View.{view_argument, view_items, view_term}
 use Rattle.sbl_resolver.specs.Checks.{fault_of}
 use Rattle.sbl_script.specs.declared.edits.DefinitionKind.TheVariants as kinds
 use Rattle.sbl_script.specs.ParsedScript.{source_of}
-use Rattle.sbl_script.specs.Reading.{IsUnread, first_left_out, terminals}
+use Rattle.sbl_script.specs.Reading.{IsUnread, first_left_out, lexemes}
 use Rattle.sbl_script.specs.SpelledScript.{AreSpelled, IsSpelled}
-use Rattle.sbl_script.specs.Edits.{terms, defines, first_of, items_with}
+use Rattle.sbl_script.specs.Edits.{terms, defines, items_with, first_of}
 use Rattle.sbl_script.specs.Homes.{home_of_terms}
+use Rattle.sbl_script.proofs.Agreement.{edited_out, first_same}
 use Rattle.sbl_script.proofs.Editing as editing
 use Rattle.sbl_script.proofs.Found.{same_name}
 use Rattle.sbl_script.proofs.Shallow.{grouping_shallow}
@@ -30,7 +31,8 @@ returns-in_err-found-clause-fault c =
     let h = home_of_terms s.items n in
     let a = view_argument c.in-Some._replaced.0.now in
     let os = map view_term c.in-Some._replaced.1.now in
-    let found : first_of (defines kinds.Grouping n) s.items ≡ Some (grouping n a os) = search rules in
+    let seen : first_of (defines kinds.Grouping n) s.items ≡ Some (grouping n a os) = search rules in
+    let found = sym (first_same (defines kinds.Grouping n) s.items) ∙ seen in
     let there = editing.terms_home s.items n a os found in
     rw p.1 (editing.told_as s (terms n) h text _ p.0 there p.2 (editing.text_told s h text _ c.in_err-found.ensures.fault))
 
@@ -43,7 +45,8 @@ returns-in_err-terms-clause-fault c =
     let h = home_of_terms s.items n in
     let a = view_argument c.in-Some._replaced.0.now in
     let os = map view_term c.in-Some._replaced.1.now in
-    let found : first_of (defines kinds.Grouping n) s.items ≡ Some (grouping n a os) = search rules in
+    let seen : first_of (defines kinds.Grouping n) s.items ≡ Some (grouping n a os) = search rules in
+    let found = sym (first_same (defines kinds.Grouping n) s.items) ∙ seen in
     let there = editing.terms_home s.items n a os found in
     let f = c.in_err-terms.field-0.0 in
     let ts = map placed_of c.in_ok-found.found.items in
@@ -68,11 +71,12 @@ with_definition-requires-clause-spelled c =
     let h = home_of_terms s.items n in
     let a = view_argument c.in-Some._replaced.0.now in
     let os = map view_term c.in-Some._replaced.1.now in
-    let found : first_of (defines kinds.Grouping n) s.items ≡ Some (grouping n a os) = search rules in
+    let seen : first_of (defines kinds.Grouping n) s.items ≡ Some (grouping n a os) = search rules in
+    let found = sym (first_same (defines kinds.Grouping n) s.items) ∙ seen in
     let there = editing.terms_home s.items n a os found in
     let own : view_items c.self.inside.items.items ≡ s.items = search rules in
     let x : texts.TreeOf texts.terms = (view_argument c.in_ok-terms.terms.0, map view_term c.in_ok-terms.terms.1.items) in
-    let read = subst (λ (xs : List Token). IsReadAs texts.terms (terminals (map placed_of xs)) x) c.deref-2.ensures.value c.in_ok-terms.ensures.tree in
+    let read = subst (λ (xs : List Token). IsReadAs texts.terms (lexemes (map placed_of xs)) x) c.deref-2.ensures.value c.in_ok-terms.ensures.tree in
     let said = read_said h.state text (map placed_of c.in_ok-found.found.items) texts.terms x c.in_ok-found.ensures.tokens read in
     subst (IsSpelled h.state) (sym c.in_ok-new.ensures) (terms_said n s.items a os x (subst AreSpelled own c.self.invariant.2) found said)
 
@@ -85,12 +89,13 @@ returns-in_err-script-clause-fault c =
     let h = home_of_terms s.items n in
     let a = view_argument c.in-Some._replaced.0.now in
     let os = map view_term c.in-Some._replaced.1.now in
-    let found : first_of (defines kinds.Grouping n) s.items ≡ Some (grouping n a os) = search rules in
+    let seen : first_of (defines kinds.Grouping n) s.items ≡ Some (grouping n a os) = search rules in
+    let found = sym (first_same (defines kinds.Grouping n) s.items) ∙ seen in
     let there = editing.terms_home s.items n a os found in
     let ts = map placed_of c.in_ok-found.found.items in
     let x : texts.TreeOf texts.terms = (view_argument c.in_ok-terms.terms.0, map view_term c.in_ok-terms.terms.1.items) in
     let offered = subst (λ (xs : List Token). first_left_out (map placed_of xs) ≡ None) c.deref-2.ensures.value c.in_ok-terms.ensures.offered in
-    let read = subst (λ (xs : List Token). IsReadAs texts.terms (terminals (map placed_of xs)) x) c.deref-2.ensures.value c.in_ok-terms.ensures.tree in
+    let read = subst (λ (xs : List Token). IsReadAs texts.terms (lexemes (map placed_of xs)) x) c.deref-2.ensures.value c.in_ok-terms.ensures.tree in
     let f = c.in_err-script.field-0.0 in
     let failed = subst (λ (y : Plain). (f ≡ fault.OutOfMemory) ⊎ (fault_of (items_with (defines kinds.Grouping n) y s.items) s.external ≡ Some f)) c.in_ok-new.ensures c.in_err-script.ensures.fault in
     rw p.1 (editing.told_as s (terms n) h text f p.0 there p.2 (editing.check_told s h text ts x f c.in_ok-found.ensures.tokens offered read failed))
@@ -103,12 +108,13 @@ returns-clause-script c =
     let h = home_of_terms s.items n in
     let a = view_argument c.in-Some._replaced.0.now in
     let os = map view_term c.in-Some._replaced.1.now in
-    let found : first_of (defines kinds.Grouping n) s.items ≡ Some (grouping n a os) = search rules in
+    let seen : first_of (defines kinds.Grouping n) s.items ≡ Some (grouping n a os) = search rules in
+    let found = sym (first_same (defines kinds.Grouping n) s.items) ∙ seen in
     let there = editing.terms_home s.items n a os found in
     let ts = map placed_of c.in_ok-found.found.items in
     let x : texts.TreeOf texts.terms = (view_argument c.in_ok-terms.terms.0, map view_term c.in_ok-terms.terms.1.items) in
     let offered = subst (λ (xs : List Token). first_left_out (map placed_of xs) ≡ None) c.deref-2.ensures.value c.in_ok-terms.ensures.offered in
-    let read = subst (λ (xs : List Token). IsReadAs texts.terms (terminals (map placed_of xs)) x) c.deref-2.ensures.value c.in_ok-terms.ensures.tree in
+    let read = subst (λ (xs : List Token). IsReadAs texts.terms (lexemes (map placed_of xs)) x) c.deref-2.ensures.value c.in_ok-terms.ensures.tree in
     let u = source_of c.in_ok-script.script in
     let items = c.in_ok-script.ensures.items ∙ ap (λ (y : Plain). items_with (defines kinds.Grouping n) y s.items) c.in_ok-new.ensures in
-    (h, there, editing.substituted s u h text ts x true c.in_ok-found.ensures.tokens offered read items c.in_ok-script.ensures.external c.in_ok-script.ensures.well_declared refl)
+    edited_out s (terms n) text u (h, there, editing.substituted s u h text ts x true c.in_ok-found.ensures.tokens offered read items c.in_ok-script.ensures.external c.in_ok-script.ensures.well_declared refl)

@@ -11,10 +11,11 @@ use Rattle.sbl_ast.specs.View.{view_items, view_row}
 use Rattle.sbl_resolver.specs.Checks.{fault_of}
 use Rattle.sbl_script.specs.declared.edits.DefinitionKind.TheVariants as kinds
 use Rattle.sbl_script.specs.ParsedScript.{source_of}
-use Rattle.sbl_script.specs.Reading.{IsUnread, first_left_out, terminals}
+use Rattle.sbl_script.specs.Reading.{IsUnread, first_left_out, lexemes}
 use Rattle.sbl_script.specs.SpelledScript.{AreSpelled, IsSpelled}
-use Rattle.sbl_script.specs.Edits.{body, defines, first_of, items_with}
+use Rattle.sbl_script.specs.Edits.{body, defines, items_with, first_of}
 use Rattle.sbl_script.specs.Homes.{home_of_body}
+use Rattle.sbl_script.proofs.Agreement.{edited_out, first_same}
 use Rattle.sbl_script.proofs.Editing as editing
 use Rattle.sbl_script.proofs.Found.{same_name}
 use Rattle.sbl_script.proofs.Shallow.{routine_shallow}
@@ -29,7 +30,8 @@ returns-in_err-found-clause-fault c =
     let text = c.args.text.now in
     let h = home_of_body s.items n in
     let b = view_row c.in-Some._replaced.now in
-    let found : first_of (defines kinds.Routine n) s.items ≡ Some (routine n b.0 b.1) = search rules in
+    let seen : first_of (defines kinds.Routine n) s.items ≡ Some (routine n b.0 b.1) = search rules in
+    let found = sym (first_same (defines kinds.Routine n) s.items) ∙ seen in
     let there = editing.body_home s.items n b found in
     rw p.1 (editing.told_as s (body n) h text _ p.0 there p.2 (editing.text_told s h text _ c.in_err-found.ensures.fault))
 
@@ -41,7 +43,8 @@ returns-in_err-body-clause-fault c =
     let text = c.args.text.now in
     let h = home_of_body s.items n in
     let b = view_row c.in-Some._replaced.now in
-    let found : first_of (defines kinds.Routine n) s.items ≡ Some (routine n b.0 b.1) = search rules in
+    let seen : first_of (defines kinds.Routine n) s.items ≡ Some (routine n b.0 b.1) = search rules in
+    let found = sym (first_same (defines kinds.Routine n) s.items) ∙ seen in
     let there = editing.body_home s.items n b found in
     let f = c.in_err-body.field-0.0 in
     let ts = map placed_of c.in_ok-found.found.items in
@@ -65,11 +68,12 @@ with_definition-requires-clause-spelled c =
     let text = c.args.text.now in
     let h = home_of_body s.items n in
     let b = view_row c.in-Some._replaced.now in
-    let found : first_of (defines kinds.Routine n) s.items ≡ Some (routine n b.0 b.1) = search rules in
+    let seen : first_of (defines kinds.Routine n) s.items ≡ Some (routine n b.0 b.1) = search rules in
+    let found = sym (first_same (defines kinds.Routine n) s.items) ∙ seen in
     let there = editing.body_home s.items n b found in
     let own : view_items c.self.inside.items.items ≡ s.items = search rules in
     let x = view_row c.in_ok-body.body in
-    let read = subst (λ (xs : List Token). IsReadAs texts.body (terminals (map placed_of xs)) x) c.deref-2.ensures.value c.in_ok-body.ensures.tree in
+    let read = subst (λ (xs : List Token). IsReadAs texts.body (lexemes (map placed_of xs)) x) c.deref-2.ensures.value c.in_ok-body.ensures.tree in
     let said = read_said h.state text (map placed_of c.in_ok-found.found.items) texts.body x c.in_ok-found.ensures.tokens read in
     subst (IsSpelled h.state) (sym c.in_ok-new.ensures) (body_said n s.items b x (subst AreSpelled own c.self.invariant.2) found said)
 
@@ -81,12 +85,13 @@ returns-in_err-script-clause-fault c =
     let text = c.args.text.now in
     let h = home_of_body s.items n in
     let b = view_row c.in-Some._replaced.now in
-    let found : first_of (defines kinds.Routine n) s.items ≡ Some (routine n b.0 b.1) = search rules in
+    let seen : first_of (defines kinds.Routine n) s.items ≡ Some (routine n b.0 b.1) = search rules in
+    let found = sym (first_same (defines kinds.Routine n) s.items) ∙ seen in
     let there = editing.body_home s.items n b found in
     let ts = map placed_of c.in_ok-found.found.items in
     let x = view_row c.in_ok-body.body in
     let offered = subst (λ (xs : List Token). first_left_out (map placed_of xs) ≡ None) c.deref-2.ensures.value c.in_ok-body.ensures.offered in
-    let read = subst (λ (xs : List Token). IsReadAs texts.body (terminals (map placed_of xs)) x) c.deref-2.ensures.value c.in_ok-body.ensures.tree in
+    let read = subst (λ (xs : List Token). IsReadAs texts.body (lexemes (map placed_of xs)) x) c.deref-2.ensures.value c.in_ok-body.ensures.tree in
     let f = c.in_err-script.field-0.0 in
     let failed = subst (λ (y : Plain). (f ≡ fault.OutOfMemory) ⊎ (fault_of (items_with (defines kinds.Routine n) y s.items) s.external ≡ Some f)) c.in_ok-new.ensures c.in_err-script.ensures.fault in
     rw p.1 (editing.told_as s (body n) h text f p.0 there p.2 (editing.check_told s h text ts x f c.in_ok-found.ensures.tokens offered read failed))
@@ -98,12 +103,13 @@ returns-clause-script c =
     let text = c.args.text.now in
     let h = home_of_body s.items n in
     let b = view_row c.in-Some._replaced.now in
-    let found : first_of (defines kinds.Routine n) s.items ≡ Some (routine n b.0 b.1) = search rules in
+    let seen : first_of (defines kinds.Routine n) s.items ≡ Some (routine n b.0 b.1) = search rules in
+    let found = sym (first_same (defines kinds.Routine n) s.items) ∙ seen in
     let there = editing.body_home s.items n b found in
     let ts = map placed_of c.in_ok-found.found.items in
     let x = view_row c.in_ok-body.body in
     let offered = subst (λ (xs : List Token). first_left_out (map placed_of xs) ≡ None) c.deref-2.ensures.value c.in_ok-body.ensures.offered in
-    let read = subst (λ (xs : List Token). IsReadAs texts.body (terminals (map placed_of xs)) x) c.deref-2.ensures.value c.in_ok-body.ensures.tree in
+    let read = subst (λ (xs : List Token). IsReadAs texts.body (lexemes (map placed_of xs)) x) c.deref-2.ensures.value c.in_ok-body.ensures.tree in
     let u = source_of c.in_ok-script.script in
     let items = c.in_ok-script.ensures.items ∙ ap (λ (y : Plain). items_with (defines kinds.Routine n) y s.items) c.in_ok-new.ensures in
-    (h, there, editing.substituted s u h text ts x true c.in_ok-found.ensures.tokens offered read items c.in_ok-script.ensures.external c.in_ok-script.ensures.well_declared refl)
+    edited_out s (body n) text u (h, there, editing.substituted s u h text ts x true c.in_ok-found.ensures.tokens offered read items c.in_ok-script.ensures.external c.in_ok-script.ensures.well_declared refl)

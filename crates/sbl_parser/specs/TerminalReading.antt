@@ -1,0 +1,60 @@
+-- The specification of parsing, by the roles of tokens.
+use Rattle.std.specs.Prelude.{◌≡◌, ℕ, ◌<◌, List, [], ◌∷◌, ◌++◌}
+use Rattle.sbl_ast.specs.Terminal.{Terminal, dollar, name}
+use Rattle.sbl_ast.specs.Texts.{Text, TreeOf}
+use Rattle.sbl_ast.specs.TerminalPlaces.{places_in, tokens_of, AreShallow, AtDepth, tokens}
+use Rattle.sbl_ast.specs.Places.{max_depth}
+
+-- these tokens are a prefix of the tokens of a tree
+abbrev pub IsFront : Text → List Terminal → Type 0
+IsFront t before = (tree : TreeOf t) × (rest : List Terminal) × (tokens_of t tree ≡ before ++ rest)
+
+-- the token after these tokens is too deep, in a tree whose tokens begin with both
+abbrev pub IsTooDeep : Text → List Terminal → Terminal → Type 0
+IsTooDeep t before x = (tree : TreeOf t) × (front : List AtDepth) × (depth : ℕ) × (rest : List AtDepth)
+    × (places_in t tree ≡ front ++ (x, depth) ∷ rest) × (tokens front ≡ before) × (max_depth < depth)
+
+-- none of these tokens is too deep
+abbrev pub HasNoneTooDeep : Text → List Terminal → Type 0
+HasNoneTooDeep t before = (b c : List Terminal) (x : Terminal) → before ≡ b ++ x ∷ c → IsTooDeep t b x → ⊥
+
+-- these are the tokens of the tree, and none is too deep
+abbrev pub IsReadAs : (t : Text) → List Terminal → TreeOf t → Type 0
+IsReadAs t all tree = (tokens_of t tree ≡ all) × AreShallow (places_in t tree)
+
+-- the first token of the rest cannot follow those before it; if the rest is empty, more tokens are needed
+abbrev pub CannotFollow : Text → List Terminal → List Terminal → Type 0
+CannotFollow t before [] = (tree : TreeOf t) → tokens_of t tree ≡ before → ⊥
+CannotFollow t before (x ∷ more) = IsFront t (before ++ x ∷ []) → ⊥
+
+-- the tokens before are a prefix of a tree and not too deep, and the rest cannot follow
+pub record StopsAt (t : Text) (before rest : List Terminal) : Type 0 where
+  pub front : IsFront t before
+  pub shallow : HasNoneTooDeep t before
+  pub stops : CannotFollow t before rest
+
+-- after `$` and a name the tokens end: if there were more, an operator would be missing
+pub record IsSyntaxAt (t : Text) (all rest : List Terminal) : Type 0 where
+  pub before : List Terminal
+  pub parts : all ≡ before ++ rest
+  pub stops : StopsAt t before rest
+  pub other : (front : List Terminal) (n : List ℕ) → before ≡ front ++ dollar ∷ name n ∷ [] → rest ≡ []
+
+pub record IsTooDeepAt (t : Text) (all rest : List Terminal) : Type 0 where
+  pub before : List Terminal
+  pub first : Terminal
+  pub more : List Terminal
+  pub is : rest ≡ first ∷ more
+  pub parts : all ≡ before ++ rest
+  pub shallow : HasNoneTooDeep t before
+  pub deep : IsTooDeep t before first
+
+-- the rest begins with the `$` and the name before the token that is not an operator
+pub record IsOutOfProfileAt (t : Text) (all rest : List Terminal) : Type 0 where
+  pub before : List Terminal
+  pub subject : List ℕ
+  pub bad : Terminal
+  pub more : List Terminal
+  pub is : rest ≡ dollar ∷ name subject ∷ bad ∷ more
+  pub parts : all ≡ before ++ rest
+  pub stops : StopsAt t (before ++ dollar ∷ name subject ∷ []) (bad ∷ more)

@@ -1,0 +1,56 @@
+-- The occurrences of a part of a script are what a walk over its tree adds.
+use Rattle.std.proofs.Common.{◌≡◌, ℕ, ◌+◌, List, [], ◌∷◌, refl, sym, ap, ◌∙◌}
+use Rattle.sbl_ast.specs.declared.tree.Prefix.{Prefix}
+use Rattle.sbl_ast.specs.declared.tree.Prefix.TheVariants as prefixes
+use Rattle.sbl_ast.specs.Terminal as t
+use Rattle.sbl_ast.specs.Places.{AtDepth, tokens, placed_expression, placed_sums, placed_product, placed_scales, placed_factor}
+use Rattle.sbl_ast.specs.Tree.{written_out, by_name, Expression, expression, Sums, no_sums, sum, Product, product, Scales, no_scales, scale, Factor, negated, bracketed, numeral, variable, fixed, length_of, Command, prefixed, among_, Starter, no_starter, starter, Groups}
+use Rattle.sbl_resolver.specs.declared.occurrences.Site.{Site}
+use Rattle.sbl_resolver.specs.Occurrences.{Occurrence, noted_tokens, noted_expression, noted_command}
+use Rattle.sbl_resolver.specs.OccurrenceView.{walked_expression, noted_sums, noted_product, noted_scales, noted_factor, noted_prefix, site_behind, noted_among}
+
+-- what is noted of these tokens
+abbrev noted : List AtDepth → Site → List Occurrence → List Occurrence
+noted ps p s = noted_tokens (tokens ps) p s
+
+mutual
+  in_expression : (e : Expression) (d : ℕ) (rest : List AtDepth) (p : Site) (s : List Occurrence) → noted (placed_expression e d rest) p s ≡ noted rest p (walked_expression e p s)
+  in_expression (expression x ss) d rest p s = in_product x d (placed_sums ss d rest) p s ∙ in_sums ss d rest p (noted_product x p s)
+
+  in_sums : (ss : Sums) (d : ℕ) (rest : List AtDepth) (p : Site) (s : List Occurrence) → noted (placed_sums ss d rest) p s ≡ noted rest p (noted_sums ss p s)
+  in_sums no_sums d rest p s = refl
+  in_sums (sum o x ss) d rest p s = in_product x d (placed_sums ss d rest) p s ∙ in_sums ss d rest p (noted_product x p s)
+
+  in_product : (x : Product) (d : ℕ) (rest : List AtDepth) (p : Site) (s : List Occurrence) → noted (placed_product x d rest) p s ≡ noted rest p (noted_product x p s)
+  in_product (product f ss) d rest p s = in_factor f d (placed_scales ss d rest) p s ∙ in_scales ss d rest p (noted_factor f p s)
+
+  in_scales : (ss : Scales) (d : ℕ) (rest : List AtDepth) (p : Site) (s : List Occurrence) → noted (placed_scales ss d rest) p s ≡ noted rest p (noted_scales ss p s)
+  in_scales no_scales d rest p s = refl
+  in_scales (scale o f ss) d rest p s = in_factor f d (placed_scales ss d rest) p s ∙ in_scales ss d rest p (noted_factor f p s)
+
+  in_factor : (f : Factor) (d : ℕ) (rest : List AtDepth) (p : Site) (s : List Occurrence) → noted (placed_factor f d rest) p s ≡ noted rest p (noted_factor f p s)
+  in_factor (negated f) d rest p s = in_factor f (d + 1) rest p s
+  in_factor (bracketed e) d rest p s = in_expression e (d + 1) ((t.close_, d + 1) ∷ rest) p s
+  in_factor (numeral n) d rest p s = refl
+  in_factor (variable n) d rest p s = refl
+  in_factor (fixed c) d rest p s = refl
+  in_factor (length_of (written_out q)) d rest p s = refl
+  in_factor (length_of (by_name n)) d rest p s = refl
+
+pub expression_is : (e : Expression) (p : Site) (s : List Occurrence) → noted_expression e p s ≡ walked_expression e p s
+expression_is e p s = in_expression e 0 [] p s
+
+pub prefixed_is : (x : Prefix) (c : Command) (p : Site) (s : List Occurrence) → noted_command (prefixed x c) p s ≡ noted_command c (site_behind x p) (noted_prefix x p s)
+prefixed_is prefixes.Backwards c p s = refl
+prefixed_is prefixes.Not c p s = refl
+prefixed_is prefixes.Test c p s = refl
+prefixed_is prefixes.Try c p s = refl
+prefixed_is prefixes.Do c p s = refl
+prefixed_is prefixes.Fail c p s = refl
+prefixed_is prefixes.Repeat c p s = refl
+prefixed_is prefixes.GoTo c p s = refl
+prefixed_is prefixes.GoPast c p s = refl
+
+pub among_is : (x : Starter) (gs : Groups) (p : Site) (s : List Occurrence) → noted_command (among_ x gs) p s ≡ noted_among x gs p s
+among_is no_starter gs p s = refl
+among_is (starter rs) gs p s = refl
