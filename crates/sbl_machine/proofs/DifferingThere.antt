@@ -16,7 +16,7 @@ use Rattle.sbl_ast.specs.declared.tree.DeclarationKind.TheVariants as kinds
 use Rattle.sbl_ast.specs.Tree.{Plain, declaration, escapes, macro, routine, grouping, Item, plain, backward}
 use Rattle.sbl_semantics.specs.Items.{is_among, known_in, names_by}
 use Rattle.sbl_semantics.specs.Regions.{number_after}
-use Rattle.sbl_parser.proofs.ByLexemes.{one_by_lexemes}
+use Rattle.sbl_parser.proofs.OneTree.{trees_are_one}
 use Rattle.sbl_machine.specs.DifferLaws.{DifferingAreThere}
 use Rattle.sbl_semantics.specs.DiffersByParts.{when, join, differ, differ_others, items_by, differ_plain, differ_plains, differ_item, differ_items}
 use Rattle.sbl_machine.specs.Marks.{has_item}
@@ -136,4 +136,4 @@ own_names names (x ∷ is) p q = (
 )
 
 pub differing_are_there : DifferingAreThere
-differing_are_there s t xs is = items_there (names_of s) s.items t.items xs (if_so _ _ xs (sym (by_parts one_by_lexemes s t) ∙ is)).1 (own_names (names_of s) (in_order s.items) (λ n h. h) (λ n h. h))
+differing_are_there s t xs is = items_there (names_of s) s.items t.items xs (if_so _ _ xs (sym (by_parts trees_are_one s t) ∙ is)).1 (own_names (names_of s) (in_order s.items) (λ n h. h) (λ n h. h))

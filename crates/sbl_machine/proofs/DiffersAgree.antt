@@ -19,7 +19,7 @@ use Rattle.sbl_machine.specs.Frame.{AgreeOutside}
 use Rattle.sbl_machine.specs.Holes.{hole, with_holes, rows_with_holes, others_with_holes, starter_with_holes, groups_with_holes, holed_plain, holed_item}
 use Rattle.sbl_semantics.specs.Same.{same_argument, same_term}
 use Rattle.sbl_semantics.specs.TouchedItems.{Item', Routine, Among, Grouping}
-use Rattle.sbl_parser.proofs.ByLexemes.{one_by_lexemes}
+use Rattle.sbl_parser.proofs.OneTree.{trees_are_one}
 use Rattle.sbl_semantics.proofs.ByParts.{by_parts}
 use Rattle.sbl_machine.proofs.EditsAgree.{unmet_by_one_stay}
 use Rattle.sbl_machine.proofs.HoledPuts.{hole_same}
@@ -543,7 +543,7 @@ module _ (picked : Item' → Bool) where
 
 pub agree_outside : (picked : Item' → Bool) (s t : Source) (zs : List Item') → differs s t ≡ Some zs → list_all picked zs ≡ true → AgreeOutside picked s t
 agree_outside picked s t zs is all =
-    let h = if_so _ _ zs (sym (by_parts one_by_lexemes s t) ∙ is) in
+    let h = if_so _ _ zs (sym (by_parts trees_are_one s t) ∙ is) in
     let external = name_is s.external t.external h.0 in
     let items = items_agree picked s.items t.items zs h.1 all in
     (λ i. record { items = items i; external = external i })

@@ -7,7 +7,7 @@ use Rattle.std.proofs.lemmas.Bool.{true≢false}
 use Rattle.std.proofs.lemmas.Slice.Eq.{bytes_eq-Decides}
 use Rattle.sbl_ast.specs.Tree.{Plain, declaration, escapes, macro, routine, grouping, Item, plain, backward}
 use Rattle.sbl_ast.specs.Source.{Source}
-use Rattle.sbl_parser.proofs.ByLexemes.{one_by_lexemes}
+use Rattle.sbl_parser.proofs.OneTree.{trees_are_one}
 use Rattle.sbl_machine.specs.DifferLaws.{AlikeDifferNowhere, MoreDiffers, OnlyItemsDiffer}
 use Rattle.sbl_semantics.specs.DiffersByParts.{join, differ_plain, differ_plains, differ_item, differ_items}
 use Rattle.sbl_machine.specs.Holes.{holed_plain, holed_item}
@@ -97,11 +97,11 @@ more_differs s t none agree =
     items_some s.items t.items
     ∙ ap (λ (ys : List Item). is_some (differ_items (map (holed_item all) s.items) ys)) (sym items)
     ∙ ap is_some (items_self (map (holed_item all) s.items)) in
-    let not : differ_items s.items t.items ≡ None = sym (ap (λ (b : Bool). if b then differ_items s.items t.items else None) external) ∙ sym (by_parts one_by_lexemes s t) ∙ none in
+    let not : differ_items s.items t.items ≡ None = sym (ap (λ (b : Bool). if b then differ_items s.items t.items else None) external) ∙ sym (by_parts trees_are_one s t) ∙ none in
     true≢false (sym some ∙ ap is_some not)
 
 pub alike_differ_nowhere : AlikeDifferNowhere
 alike_differ_nowhere s =
-    by_parts one_by_lexemes s s
+    by_parts trees_are_one s s
     ∙ ap (λ (b : Bool). if b then differ_items s.items s.items else None) (name_self s.external)
     ∙ items_self s.items

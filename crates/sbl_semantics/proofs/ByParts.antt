@@ -29,8 +29,7 @@ use Rattle.sbl_ast.specs.Counts.{count_in_among}
 use Rattle.sbl_ast.specs.Folds.{foldr}
 use Rattle.sbl_ast.specs.Places.{AtDepth, placed_command, placed_entries, placed_expression, placed_groups, placed_plain}
 use Rattle.sbl_ast.specs.Source.{Source}
-use Rattle.sbl_ast.specs.Terminal.{lexeme_as}
-use Rattle.sbl_ast.specs.Texts.{Text, TreeOf, places_in}
+use Rattle.sbl_ast.specs.Texts.{Text, TreeOf, tokens_of}
 use Rattle.sbl_ast.specs.Texts as texts
 use Rattle.sbl_ast.specs.Tree.{Argument, Term, Expression, Entry, entry, Command, Rows, Others, Starter, Groups, bracket, simple_, literal_, name_, non_, prefixed, counted, move_, named, splice_, setlimit_, assign_, compare_, compare_values_, among_, no_rows, row, no_others, joined, no_starter, starter, bare, group, Plain, declaration, escapes, macro, routine, grouping, Item, plain, backward}
 use Rattle.std.specs.Option.{option_eq}
@@ -47,11 +46,8 @@ use Rattle.sbl_semantics.proofs.SameSelf.{also, name_self, expression_self, entr
 
 -- ---- tokens
 
-abbrev seen : AtDepth → Lexeme
-seen p = lexeme_as p.0
-
 abbrev alike : List AtDepth → List AtDepth → Bool
-alike ps qs = pointwise (λ p q. same_lexeme (seen p) (seen q)) ps qs
+alike ps qs = pointwise same_lexeme (tokens ps) (tokens qs)
 
 never : {X : Type 0} → false ≡ true → X
 never e = absurd (true≢false (sym e))
@@ -83,19 +79,25 @@ lexeme_is (lexemes.inserts a b) (lexemes.inserts c d) e =
 lexeme_is (lexemes.macro_name m) (lexemes.macro_name n) e = ap lexemes.macro_name (name_is m n e)
 lexeme_is _ _ e = never e
 
-alike_self : (ps : List AtDepth) → alike ps ps ≡ true
-alike_self [] = refl
-alike_self (p ∷ ps) = also _ _ (lexeme_self (seen p)) (alike_self ps)
+lexemes_self : (xs : List Lexeme) → pointwise same_lexeme xs xs ≡ true
+lexemes_self [] = refl
+lexemes_self (x ∷ xs) = also _ _ (lexeme_self x) (lexemes_self xs)
 
-alike_are : (ps qs : List AtDepth) → alike ps qs ≡ true → map seen ps ≡ map seen qs
-alike_are [] [] e = refl
-alike_are (p ∷ ps) (q ∷ qs) e =
+lexemes_are : (xs ys : List Lexeme) → pointwise same_lexeme xs ys ≡ true → xs ≡ ys
+lexemes_are [] [] e = refl
+lexemes_are (x ∷ xs) (y ∷ ys) e =
     let h = both _ _ e in
-    let a = lexeme_is (seen p) (seen q) h.0 in
-    let b = alike_are ps qs h.1 in
+    let a = lexeme_is x y h.0 in
+    let b = lexemes_are xs ys h.1 in
     (λ i. a i ∷ b i)
-alike_are [] (q ∷ qs) e = never e
-alike_are (p ∷ ps) [] e = never e
+lexemes_are [] (y ∷ ys) e = never e
+lexemes_are (x ∷ xs) [] e = never e
+
+alike_self : (ps : List AtDepth) → alike ps ps ≡ true
+alike_self ps = lexemes_self (tokens ps)
+
+alike_are : (ps qs : List AtDepth) → alike ps qs ≡ true → tokens ps ≡ tokens qs
+alike_are ps qs e = lexemes_are (tokens ps) (tokens qs) e
 
 -- ---- flags and parts one after another
 
@@ -155,7 +157,7 @@ some_if false b x e = ap (λ (f : Bool). if f then Some x else None) e
 
 -- ---- a tree has no other tree's tokens
 
-module _ (one_tree : (w : Text) (t u : TreeOf w) → map seen (places_in w t) ≡ map seen (places_in w u) → t ≡ u) where
+module _ (one_tree : (w : Text) (t u : TreeOf w) → tokens_of w t ≡ tokens_of w u → t ≡ u) where
   command_is : (c d : Command) → alike (placed_command c 1 []) (placed_command d 1 []) ≡ true → c ≡ d
   command_is c d e = ap (λ (b : Command × Others). b.0) (one_tree texts.body (c, no_others) (d, no_others) (alike_are _ _ e))
 
@@ -169,7 +171,7 @@ module _ (one_tree : (w : Text) (t u : TreeOf w) → map seen (places_in w t) �
       (λ h. subst (λ (x : Expression). same_expression e x ≡ true) (ap (moved e) (command_is (move_ moves.Hop e) (move_ moves.Hop f) h)) (expression_self e))
       (λ h. subst (λ (x : Expression). alike (placed_expression e 1 []) (placed_expression x 1 []) ≡ true) (expression_is e f h) (alike_self (placed_expression e 1 [])))
 
-  closing : (es : List Entry) (rest : List AtDepth) → map seen (placed_entries es 1 rest) ≡ map seen (placed_entries es 1 []) ++ map seen rest
+  closing : (es : List Entry) (rest : List AtDepth) → tokens (placed_entries es 1 rest) ≡ tokens (placed_entries es 1 []) ++ tokens rest
   closing [] rest = refl
   closing (entry q None ∷ es) rest = ap (λ (r : List Lexeme). lexemes.literal q.spelling q.value ∷ r) (closing es rest)
   closing (entry q (Some n) ∷ es) rest = ap (λ (r : List Lexeme). lexemes.literal q.spelling q.value ∷ lexemes.name n ∷ r) (closing es rest)
@@ -177,7 +179,7 @@ module _ (one_tree : (w : Text) (t u : TreeOf w) → map seen (places_in w t) �
   abbrev in_among : List Lexeme → List Lexeme
   in_among r = lexemes.word words.Among ∷ lexemes.sign signs.Open ∷ r
 
-  bare_text : (es : List Entry) → map seen (places_in (texts.among 1) (no_starter, bare es)) ≡ in_among (map seen (placed_entries es 1 []) ++ lexemes.sign signs.Close ∷ [])
+  bare_text : (es : List Entry) → tokens_of (texts.among 1) (no_starter, bare es) ≡ in_among (tokens (placed_entries es 1 []) ++ lexemes.sign signs.Close ∷ [])
   bare_text es = ap in_among (closing es _)
 
   abbrev bare_in : List Entry → Groups → List Entry
@@ -209,12 +211,12 @@ module _ (one_tree : (w : Text) (t u : TreeOf w) → map seen (places_in w t) �
   abbrev opens : List Lexeme → Bool
   opens xs = list_any (same_lexeme (lexemes.sign signs.Open)) xs
 
-  entries_open : (es : List Entry) (rest : List AtDepth) → opens (map seen (placed_entries es 1 rest)) ≡ opens (map seen rest)
+  entries_open : (es : List Entry) (rest : List AtDepth) → opens (tokens (placed_entries es 1 rest)) ≡ opens (tokens rest)
   entries_open [] rest = refl
   entries_open (entry q None ∷ es) rest = entries_open es rest
   entries_open (entry q (Some n) ∷ es) rest = entries_open es rest
 
-  bare_group : (es fs : List Entry) (f : Entry) (ss : Rows) (hs : Groups) → map seen (placed_groups (bare es) 1 []) ≡ map seen (placed_groups (group f fs ss hs) 1 []) → ⊥
+  bare_group : (es fs : List Entry) (f : Entry) (ss : Rows) (hs : Groups) → tokens (placed_groups (bare es) 1 []) ≡ tokens (placed_groups (group f fs ss hs) 1 []) → ⊥
   bare_group es fs f ss hs e = true≢false (sym (entries_open (f ∷ fs) _) ∙ sym (ap opens e) ∙ entries_open es [])
 
   -- ---- commands

@@ -1,6 +1,6 @@
 use Rattle.std.proofs.Common.{◌≡◌, ◌∙◌, IfOk, List, Option, map, subst, sym}
 use Rattle.sbl_ast.specs.View.{view_item}
-use Rattle.sbl_parser.proofs.ByLexemes.{one_by_lexemes}
+use Rattle.sbl_parser.proofs.OneTree.{trees_are_one}
 use Rattle.sbl_semantics.specs.DiffersByParts.{differ_item}
 use Rattle.sbl_semantics.specs.TouchedItems.{Item'}
 use Rattle.sbl_semantics.proofs.ByParts.{items_by_parts}
@@ -13,4 +13,4 @@ returns c =
     let one = c.args.one.now in
     let other = c.args.other.now in
     subst (λ (items : Option (List Item')). IfOk c.differ_each.result (λ r. items_in r ≡ items))
-    (each_viewed view_item differ_item one other ∙ sym (items_by_parts one_by_lexemes (map view_item one) (map view_item other))) c.differ_each.ensures
+    (each_viewed view_item differ_item one other ∙ sym (items_by_parts trees_are_one (map view_item one) (map view_item other))) c.differ_each.ensures
