@@ -153,7 +153,7 @@ PassesTests s e = (f : EditFault) → IsRefused s e f → (f ≡ fault.AmongCoun
 pub record IsOutOfMemory (s : Contents) (e : Edit) (t : Contents) : Type 0 where
   pub wanted : (word : List ℕ) → e ≢ Remove word
   pub is : (PassesTests s e × (t ≡ s))
-    ⊎ ((made : Contents) × (accepted : IsAccepted s e made) × (n : ℕ) × (n ≤ runs_needed s e accepted.setting) × (t ≡ count_runs n s))
+      ⊎ ((made : Contents) × (accepted : IsAccepted s e made) × (n : ℕ) × (n ≤ runs_needed s e accepted.setting) × (t ≡ count_runs n s))
 
 -- ---- the result of an edit, and the bench after it
 

@@ -1,5 +1,5 @@
 -- The vocabulary: a list of words, each a non-empty list of characters, without repeats.
-use Rattle.std.specs.Prelude.{ℕ, Bool, List, [], ◌∷◌, ◌++◌, if◌then◌else◌}
+use Rattle.std.specs.Prelude.{ℕ, Bool, true, List, [], ◌∷◌, ◌++◌, if◌then◌else◌}
 use Rattle.std.specs.Str.{bytes_eq}
 use Rattle.std.specs.List.{fold, list_any}
 
@@ -9,7 +9,8 @@ is_word word words = list_any (bytes_eq word) words
 
 -- the word is empty or in the list
 abbrev pub is_skipped : List ℕ → List (List ℕ) → Bool
-is_skipped word words = is_word word ([] ∷ words)
+is_skipped [] words = true
+is_skipped word words = is_word word words
 
 -- the words with one more at the end, unless it is skipped
 abbrev pub with_word : List (List ℕ) → List ℕ → List (List ℕ)

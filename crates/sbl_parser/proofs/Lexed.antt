@@ -97,8 +97,8 @@ none_to : (w : Text) (b : Ts) → reading.HasNoneTooDeep w b → HasNoneTooDeep 
 none_to w b h p q x e deep = h (T p) (T q) (terminal_of x) (sym (terminals_back b) ∙ ap T e ∙ map-append terminal_of p (x ∷ q)) (deep_back w p x deep)
 
 follow_to : (w : Text) (b r : Ts) → reading.CannotFollow w b r → CannotFollow w (L b) (L r)
-follow_to w b [] h tree e = h tree (text_back w tree ∙ ap T e ∙ terminals_back b)
-follow_to w b (x ∷ more) h front =
+follow_to w b [] h = λ tree e. h tree (text_back w tree ∙ ap T e ∙ terminals_back b)
+follow_to w b (x ∷ more) h = λ front.
     h (subst (λ (z : Ts). reading.IsFront w z) (ap T (sym (map-append lexeme_as b (x ∷ []))) ∙ terminals_back (b ++ x ∷ [])) (front_back w (L b ++ lexeme_as x ∷ []) front))
 
 stops_to : (w : Text) (b r : Ts) → reading.StopsAt w b r → StopsAt w (L b) (L r)

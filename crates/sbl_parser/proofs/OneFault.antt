@@ -4,7 +4,7 @@ use Rattle.std.proofs.lemmas.List.{append-nil, map-append}
 use Rattle.sbl_token.specs.Lexemes as l
 use Rattle.sbl_token.specs.Lexemes.{Lexeme}
 use Rattle.sbl_token.specs.declared.signs.Sign.TheVariants as signs
-use Rattle.sbl_ast.specs.Texts.{Text, TreeOf, places_in, tokens_of}
+use Rattle.sbl_ast.specs.Texts.{Text, TreeOf, tokens_of}
 use Rattle.sbl_ast.specs.Places.{AtDepth, tokens}
 use Rattle.sbl_parser.specs.Reading.{IsFront, IsTooDeep, HasNoneTooDeep, IsReadAs, CannotFollow, StopsAt, IsSyntaxAt, IsTooDeepAt, IsOutOfProfileAt}
 use Rattle.sbl_parser.specs.Laws.{Wrong, syntax, too_deep, out_of_profile, IsWrongAt}

@@ -2,7 +2,15 @@
 use Rattle.std.proofs.Common.{◌≡◌, ℕ, ◌+◌, List, [], ◌∷◌, refl, sym, ap, ◌∙◌}
 use Rattle.sbl_ast.specs.declared.tree.Prefix.{Prefix}
 use Rattle.sbl_ast.specs.declared.tree.Prefix.TheVariants as prefixes
-use Rattle.sbl_ast.specs.Terminal as t
+use Rattle.sbl_ast.specs.declared.tree.Additive.{Additive}
+use Rattle.sbl_ast.specs.declared.tree.Additive.TheVariants as additives
+use Rattle.sbl_ast.specs.declared.tree.Constant.{Constant}
+use Rattle.sbl_ast.specs.declared.tree.Constant.TheVariants as constants
+use Rattle.sbl_ast.specs.declared.tree.Multiplicative.{Multiplicative}
+use Rattle.sbl_ast.specs.declared.tree.Multiplicative.TheVariants as multiplicatives
+use Rattle.sbl_ast.specs.Symbols as t
+use Rattle.sbl_token.specs.Lexemes as lex
+use Rattle.sbl_token.specs.declared.signs.Sign.TheVariants as signs
 use Rattle.sbl_ast.specs.Places.{AtDepth, tokens, placed_expression, placed_sums, placed_product, placed_scales, placed_factor}
 use Rattle.sbl_ast.specs.Tree.{written_out, by_name, Expression, expression, Sums, no_sums, sum, Product, product, Scales, no_scales, scale, Factor, negated, bracketed, numeral, variable, fixed, length_of, Command, prefixed, among_, Starter, no_starter, starter, Groups}
 use Rattle.sbl_resolver.specs.declared.occurrences.Site.{Site}
@@ -13,27 +21,43 @@ use Rattle.sbl_resolver.specs.OccurrenceView.{walked_expression, noted_sums, not
 abbrev noted : List AtDepth → Site → List Occurrence → List Occurrence
 noted ps p s = noted_tokens (tokens ps) p s
 
+-- an operator or a constant is no name
+past_additive : (o : Additive) (d : ℕ) (rest : List AtDepth) (p : Site) (s : List Occurrence) → noted ((t.additive o, d) ∷ rest) p s ≡ noted rest p s
+past_additive additives.Plus d rest p s = refl
+past_additive additives.Minus d rest p s = refl
+
+past_multiplicative : (o : Multiplicative) (d : ℕ) (rest : List AtDepth) (p : Site) (s : List Occurrence) → noted ((t.multiplicative o, d) ∷ rest) p s ≡ noted rest p s
+past_multiplicative multiplicatives.Times d rest p s = refl
+past_multiplicative multiplicatives.Over d rest p s = refl
+
+past_constant : (c : Constant) (d : ℕ) (rest : List AtDepth) (p : Site) (s : List Occurrence) → noted ((t.constant c, d) ∷ rest) p s ≡ noted rest p s
+past_constant constants.Cursor d rest p s = refl
+past_constant constants.Len d rest p s = refl
+past_constant constants.Limit d rest p s = refl
+past_constant constants.MaxInt d rest p s = refl
+past_constant constants.MinInt d rest p s = refl
+
 mutual
   in_expression : (e : Expression) (d : ℕ) (rest : List AtDepth) (p : Site) (s : List Occurrence) → noted (placed_expression e d rest) p s ≡ noted rest p (walked_expression e p s)
   in_expression (expression x ss) d rest p s = in_product x d (placed_sums ss d rest) p s ∙ in_sums ss d rest p (noted_product x p s)
 
   in_sums : (ss : Sums) (d : ℕ) (rest : List AtDepth) (p : Site) (s : List Occurrence) → noted (placed_sums ss d rest) p s ≡ noted rest p (noted_sums ss p s)
   in_sums no_sums d rest p s = refl
-  in_sums (sum o x ss) d rest p s = in_product x d (placed_sums ss d rest) p s ∙ in_sums ss d rest p (noted_product x p s)
+  in_sums (sum o x ss) d rest p s = past_additive o d (placed_product x d (placed_sums ss d rest)) p s ∙ in_product x d (placed_sums ss d rest) p s ∙ in_sums ss d rest p (noted_product x p s)
 
   in_product : (x : Product) (d : ℕ) (rest : List AtDepth) (p : Site) (s : List Occurrence) → noted (placed_product x d rest) p s ≡ noted rest p (noted_product x p s)
   in_product (product f ss) d rest p s = in_factor f d (placed_scales ss d rest) p s ∙ in_scales ss d rest p (noted_factor f p s)
 
   in_scales : (ss : Scales) (d : ℕ) (rest : List AtDepth) (p : Site) (s : List Occurrence) → noted (placed_scales ss d rest) p s ≡ noted rest p (noted_scales ss p s)
   in_scales no_scales d rest p s = refl
-  in_scales (scale o f ss) d rest p s = in_factor f d (placed_scales ss d rest) p s ∙ in_scales ss d rest p (noted_factor f p s)
+  in_scales (scale o f ss) d rest p s = past_multiplicative o d (placed_factor f d (placed_scales ss d rest)) p s ∙ in_factor f d (placed_scales ss d rest) p s ∙ in_scales ss d rest p (noted_factor f p s)
 
   in_factor : (f : Factor) (d : ℕ) (rest : List AtDepth) (p : Site) (s : List Occurrence) → noted (placed_factor f d rest) p s ≡ noted rest p (noted_factor f p s)
   in_factor (negated f) d rest p s = in_factor f (d + 1) rest p s
-  in_factor (bracketed e) d rest p s = in_expression e (d + 1) ((t.close_, d + 1) ∷ rest) p s
+  in_factor (bracketed e) d rest p s = in_expression e (d + 1) ((lex.sign signs.Close, d + 1) ∷ rest) p s
   in_factor (numeral n) d rest p s = refl
   in_factor (variable n) d rest p s = refl
-  in_factor (fixed c) d rest p s = refl
+  in_factor (fixed c) d rest p s = past_constant c d rest p s
   in_factor (length_of (written_out q)) d rest p s = refl
   in_factor (length_of (by_name n)) d rest p s = refl
 

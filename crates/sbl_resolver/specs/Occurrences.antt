@@ -7,8 +7,8 @@ use Rattle.sbl_ast.specs.declared.tree.Simple.TheVariants as simples
 use Rattle.sbl_ast.specs.declared.tree.Prefix.TheVariants as prefixes
 use Rattle.sbl_ast.specs.declared.tree.Naming.{Naming}
 use Rattle.sbl_ast.specs.declared.tree.Naming.TheVariants as namings
-use Rattle.sbl_ast.specs.Terminal.{Terminal}
-use Rattle.sbl_ast.specs.Terminal as t
+use Rattle.sbl_token.specs.Lexemes.{Lexeme, word, name}
+use Rattle.sbl_token.specs.declared.words.Word.TheVariants as words
 use Rattle.sbl_ast.specs.Places.{placed_expression, tokens}
 use Rattle.sbl_ast.specs.Tree.{Argument, written_out, by_name, Expression, Entry, entry, Command, bracket, simple_, literal_, name_, non_, prefixed, counted, move_, named, splice_, setlimit_, assign_, compare_, compare_values_, among_, Rows, no_rows, row, Others, no_others, joined, Starter, no_starter, starter, Groups, bare, group, Term, term, Plain, declaration, escapes, macro, routine, grouping, Item}
 use Rattle.sbl_ast.specs.Order.{ItemInMode, in_order}
@@ -57,10 +57,10 @@ noted_name u (written_out q) p sofar = sofar
 noted_name u (by_name n) p sofar = put (uses u n) p sofar
 
 -- the names among these tokens of an expression, in text order: an integer each, but a string after `lenof`
-abbrev pub noted_tokens : List Terminal → Site → List Occurrence → List Occurrence
+abbrev pub noted_tokens : List Lexeme → Site → List Occurrence → List Occurrence
 noted_tokens [] p sofar = sofar
-noted_tokens (t.len_of ∷ t.name n ∷ ts) p sofar = noted_tokens ts p (put (uses use_as.String n) p sofar)
-noted_tokens (t.name n ∷ ts) p sofar = noted_tokens ts p (put (uses use_as.Integer n) p sofar)
+noted_tokens (word words.LenOf ∷ name n ∷ ts) p sofar = noted_tokens ts p (put (uses use_as.String n) p sofar)
+noted_tokens (name n ∷ ts) p sofar = noted_tokens ts p (put (uses use_as.Integer n) p sofar)
 noted_tokens (_ ∷ ts) p sofar = noted_tokens ts p sofar
 
 abbrev pub noted_expression : Expression → Site → List Occurrence → List Occurrence

@@ -19,7 +19,7 @@ use Rattle.sbl_script.specs.declared.edit_fault.ScriptEditFault.TheVariants as e
 use Rattle.sbl_script.specs.declared.edits.DefinitionKind.TheVariants as kinds
 use Rattle.sbl_ast.specs.Source.{Source}
 use Rattle.sbl_resolver.specs.Checks.{WellDeclared}
-use Rattle.sbl_script.specs.Reading.{HasTokens, IsFaultIn, first_left_out, terminals}
+use Rattle.sbl_script.specs.Reading.{HasTokens, IsFaultIn, first_left_out, lexemes}
 use Rattle.sbl_script.specs.Edits.{ScriptEdit, body, among, terms, changes, defines, escapes_behind, plains_with, items_with}
 
 -- ---- the definition that changes
@@ -117,7 +117,7 @@ pub record IsSubstitutedAt (s : Source) (h : Home) (text : List ℕ) (as_many : 
   pub tree : TreeOf h.text
   pub tokens : HasTokens h.state text placed
   pub offered : first_left_out placed ≡ None
-  pub read : IsReadAs h.text (terminals placed) tree
+  pub read : IsReadAs h.text (lexemes placed) tree
   pub items_are : t.items ≡ h.around tree
   pub external_is : t.external ≡ s.external
   pub well_declared : WellDeclared t.items t.external
