@@ -3,6 +3,7 @@ ghost use Rattle.std.specs.Prelude.{◌≡◌, IfOk, MatchOption, None, OnErr, S
 ghost use Rattle.std.specs.Option.{is_some, option_map};
 ghost use Rattle.sbl_print.specs.Canonical.{plain_text};
 ghost use Rattle.sbl_script.specs.Edits as edits;
+ghost use Rattle.sbl_script.specs.Homes as homes;
 ghost use Rattle.sbl_script.specs.ParsedScript.{source_of};
 ghost use Rattle.sbl_ast.specs.View.{view_items, view_plain};
 ghost use Rattle.sbl_desk.specs.Definitions as spec;
@@ -125,7 +126,7 @@ fn defines(plain: &Plain, name: &str) -> bool
 
 /// Returns the item if it defines this name.
 fn plain_if<'a>(plain: &'a Plain, name: &str) -> Option<&'a Plain>
-    ensures { MatchOption result (edits.plain_if (spec.defines_name name.now) (view_plain plain.now) ≡ None) (λ x. edits.plain_if (spec.defines_name name.now) (view_plain plain.now) ≡ Some (view_plain x.now)) }
+    ensures { MatchOption result (homes.plain_if (spec.defines_name name.now) (view_plain plain.now) ≡ None) (λ x. homes.plain_if (spec.defines_name name.now) (view_plain plain.now) ≡ Some (view_plain x.now)) }
 {
     if defines(plain, name) {
         Some(plain)
@@ -136,7 +137,7 @@ fn plain_if<'a>(plain: &'a Plain, name: &str) -> Option<&'a Plain>
 
 /// Returns the first of these items that defines this name.
 fn first_in<'a>(plains: &'a [Plain], name: &str) -> Option<&'a Plain>
-    ensures { MatchOption result (edits.first_in (spec.defines_name name.now) (map view_plain plains.now) ≡ None) (λ x. edits.first_in (spec.defines_name name.now) (map view_plain plains.now) ≡ Some (view_plain x.now)) }
+    ensures { MatchOption result (homes.first_in (spec.defines_name name.now) (map view_plain plains.now) ≡ None) (λ x. homes.first_in (spec.defines_name name.now) (map view_plain plains.now) ≡ Some (view_plain x.now)) }
 {
     for plain in plains {
         if let Some(found) = plain_if(plain, name) {
