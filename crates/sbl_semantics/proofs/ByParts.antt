@@ -27,7 +27,7 @@ use Rattle.sbl_ast.specs.contracts.tree.Base as base
 use Rattle.sbl_ast.specs.declared.tree.Move.TheVariants as moves
 use Rattle.sbl_ast.specs.Counts.{count_in_among}
 use Rattle.sbl_ast.specs.Folds.{foldr}
-use Rattle.sbl_ast.specs.Places.{AtDepth, placed_command, placed_entries, placed_expression, placed_groups, placed_plain}
+use Rattle.sbl_ast.specs.Places.{AtDepth, placed_command, placed_entries, placed_expression, placed_groups, placed_plain, tokens}
 use Rattle.sbl_ast.specs.Source.{Source}
 use Rattle.sbl_ast.specs.Texts.{Text, TreeOf, tokens_of}
 use Rattle.sbl_ast.specs.Texts as texts
