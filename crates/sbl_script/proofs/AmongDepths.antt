@@ -190,24 +190,27 @@ N ps = length (D ps)
 mutual
   tree_n : (c : Command) (d : ℕ) (r : Ps) → N (placed_command c d r) ≡ count_amongs c + N r
   tree_n (bracket rs) d r = rows_n rs (d + 1) ((lex.sign signs.Close, d) ∷ r)
-  tree_n (simple_ x) d r = omega arith
+  tree_n (simple_ x) d r = let q = ap length (passed (t.simple x) d r (simple_other x)) in omega (arith, q)
   tree_n (literal_ x) d r = omega arith
   tree_n (name_ x) d r = omega arith
   tree_n (non_ true y) d r = omega arith
   tree_n (non_ false y) d r = omega arith
-  tree_n (prefixed p c) d r = tree_n c (d + 1) r
-  tree_n (counted n x c) d r = ap length (expression_q x d (placed_command c (d + 1) r)) ∙ tree_n c (d + 1) r
-  tree_n (move_ x y) d r = let q = ap length (expression_q y d r) in omega (arith, q)
-  tree_n (named x y) d r = omega arith
-  tree_n (splice_ x y) d r = let q = ap length (argument_q y d r) in omega (arith, q)
+  tree_n (prefixed p c) d r = ap length (passed (t.prefix p) d (placed_command c (d + 1) r) (prefix_other p)) ∙ tree_n c (d + 1) r
+  tree_n (counted n x c) d r =
+      let rest = placed_command c (d + 1) r in
+      ap length (passed (t.count n) d (placed_expression x d rest) (count_other n) ∙ expression_q x d rest) ∙ tree_n c (d + 1) r
+  tree_n (move_ x y) d r = let q = ap length (passed (t.move x) d (placed_expression y d r) (move_other x) ∙ expression_q y d r) in omega (arith, q)
+  tree_n (named x y) d r = let q = ap length (passed (t.naming x) d ((lex.name y, d) ∷ r) (naming_other x)) in omega (arith, q)
+  tree_n (splice_ x y) d r = let q = ap length (passed (t.splice x) d ((t.argument y, d) ∷ r) (splice_other x) ∙ argument_q y d r) in omega (arith, q)
   tree_n (setlimit_ b c) d r =
       let x = tree_n b (d + 1) ((lex.word words.For, d) ∷ placed_command c (d + 1) r) in
       let y = tree_n c (d + 1) r in
       omega (arith, x, y)
-  tree_n (assign_ x y z) d r = let q = ap length (expression_q z d r) in omega (arith, q)
-  tree_n (compare_ x y z) d r = let q = ap length (expression_q z d r) in omega (arith, q)
+  tree_n (assign_ x y z) d r = let q = ap length (passed (t.assigns y) d (placed_expression z d r) (assigns_other y) ∙ expression_q z d r) in omega (arith, q)
+  tree_n (compare_ x y z) d r = let q = ap length (passed (t.compares y) d (placed_expression z d r) (compares_other y) ∙ expression_q z d r) in omega (arith, q)
   tree_n (compare_values_ x y z) d r =
-      let q = ap length (expression_q x d ((t.compares y, d) ∷ placed_expression z d ((lex.sign signs.Close, d) ∷ r)) ∙ expression_q z d ((lex.sign signs.Close, d) ∷ r)) in
+      let rest = placed_expression z d ((lex.sign signs.Close, d) ∷ r) in
+      let q = ap length (expression_q x d ((t.compares y, d) ∷ rest) ∙ passed (t.compares y) d rest (compares_other y) ∙ expression_q z d ((lex.sign signs.Close, d) ∷ r)) in
       omega (arith, q)
   tree_n (among_ s gs) d r =
       let rest = (lex.sign signs.Close, d) ∷ r in
@@ -226,9 +229,10 @@ mutual
   others_n : (os : Others) (d : ℕ) (r : Ps) → N (placed_others os d r) ≡ count_in_others os + N r
   others_n no_others d r = omega arith
   others_n (joined j c os) d r =
+      let q = ap length (passed (t.joiner j) d (placed_command c d (placed_others os d r)) (joiner_other j)) in
       let x = tree_n c d (placed_others os d r) in
       let y = others_n os d r in
-      omega (arith, x, y)
+      omega (arith, q, x, y)
 
   starter_n : (s : Starter) (d : ℕ) (r : Ps) → N (placed_starter s d r) ≡ count_in_starter s + N r
   starter_n no_starter d r = omega arith
