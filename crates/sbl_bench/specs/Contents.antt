@@ -21,9 +21,6 @@ max_words = 100000
 abbrev pub max_runs : ℕ
 max_runs = 2 ^ 64 - 1
 
-abbrev pub is_full : List (List ℕ) → Bool
-is_full words = nat_le max_words (length words)
-
 -- ---- opening
 
 -- The fault of one word after the words before it: it is too long, or it is new and the vocabulary is full.
@@ -31,7 +28,7 @@ abbrev pub word_fault : List (List ℕ) → List ℕ → Option EditFault
 word_fault words w =
     if nat_lt max_word_length (length w) then Some fault.WordTooLong
     else (if is_skipped w words then None
-    else (if is_full words then Some fault.Full else None))
+    else (if nat_le max_words (length words) then Some fault.Full else None))
 
 -- the first fault of a list of words, taken in turn
 abbrev pub opening_fault : List (List ℕ) → List (List ℕ) → Option EditFault
@@ -51,3 +48,8 @@ IsFaultOrMemory verdict f = verdict ≡ Some f
 abbrev pub Opens : {B : Type 0} → Source → List (List ℕ) → (B → Contents) → Result B EditFault → Type 0
 Opens script words state (Ok bench) = (opening_fault [] words ≡ None) × (state bench ≡ opening_contents script words)
 Opens script words state (Err f) = IsFaultOrMemory (opening_fault [] words) f
+
+-- ---- names for proofs
+
+abbrev pub is_full : List (List ℕ) → Bool
+is_full words = nat_le max_words (length words)

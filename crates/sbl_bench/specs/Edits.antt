@@ -10,7 +10,7 @@ use Rattle.sbl_ast.specs.Source.{Source}
 use Rattle.sbl_script.specs.Reading.{IsScriptOf, IsFaultOf}
 use Rattle.sbl_text.specs.declared.fault.ScriptFault.{ScriptFault}
 use Rattle.sbl_semantics.specs.Limit.{max_word_length}
-use Rattle.sbl_bench.specs.Contents.{Contents, is_full, max_runs}
+use Rattle.sbl_bench.specs.Contents.{Contents, max_runs, max_words}
 use Rattle.sbl_bench.specs.Setting.{Setting}
 use Rattle.sbl_bench.specs.Vocabulary.{is_word, without}
 use Rattle.sbl_machine.specs.BuiltFrom.{meets_one}
@@ -50,7 +50,7 @@ refusal_of_add s [] = Some fault.EmptyWord
 refusal_of_add s word =
     if nat_lt max_word_length (length word) then Some fault.WordTooLong
     else (if is_word word s.words then Some fault.Present
-    else (if is_full s.words then Some fault.Full else None))
+    else (if nat_le max_words (length s.words) then Some fault.Full else None))
 
 -- the fault of an edit of a script, as a fault of the bench
 abbrev pub fault_of_script : declared.ScriptEditFault → EditFault
@@ -61,13 +61,9 @@ fault_of_script script.AmongCount = fault.AmongCount
 fault_of_script (script.Script f) = fault.Script f
 fault_of_script script.OutOfMemory = fault.OutOfMemory
 
--- the highest limit
-abbrev pub max_limit : ℕ
-max_limit = 10000000
-
 -- the limits that may be set
 abbrev pub is_limit : ℕ → Bool
-is_limit n = nat_le 1 n && nat_le n max_limit
+is_limit n = nat_le 1 n && nat_le n 10000000
 
 -- the edit is refused with this fault, whatever the count of runs is
 abbrev pub IsRefused : Contents → Edit → EditFault → Type 0
@@ -118,21 +114,14 @@ needs_run s e t w = option_map_or (λ items. meets_one items s.setting.script w 
 abbrev pub runs_needed : Contents → Edit → Setting → ℕ
 runs_needed s e t = length (filter (needs_run s e t) (words_after s e))
 
--- whether fewer counts are left than the edit has words to run
-abbrev pub lacks_counts : Contents → Edit → Setting → Bool
-lacks_counts s e t = nat_lt (max_runs - s.count) (runs_needed s e t)
-
--- the bench with n more runs counted
-abbrev pub count_runs : ℕ → Contents → Contents
-count_runs n s = record s { count = s.count + n }
-
 -- ---- the verdict
 
--- the edit is accepted, and this is the bench after it: each word that the edit has to run was run once
+-- the edit is accepted, since enough counts are left for the words that it has to run, and this is the bench after it: each of
+-- these words was run once
 pub record IsAccepted (s : Contents) (e : Edit) (t : Contents) : Type 0 where
   pub setting : Setting
   pub after : IsSettingAfter s e setting
-  pub counts : lacks_counts s e setting ≡ false
+  pub counts : nat_lt (max_runs - s.count) (runs_needed s e setting) ≡ false
   pub is : t ≡ record { setting = setting; words = words_after s e; count = s.count + runs_needed s e setting }
 
 -- The verdict on the edit, none if it is accepted, and the bench after it. An edit that is not refused otherwise is refused if too
@@ -140,20 +129,17 @@ pub record IsAccepted (s : Contents) (e : Edit) (t : Contents) : Type 0 where
 abbrev pub IsVerdict : Contents → Edit → Option EditFault → Contents → Type 0
 IsVerdict s e None t = IsAccepted s e t
 IsVerdict s e (Some f) t =
-    (IsRefused s e f ⊎ ((setting : Setting) × IsSettingAfter s e setting × (lacks_counts s e setting ≡ true) × (f ≡ fault.MeterFull))) × (t ≡ s)
+    (IsRefused s e f ⊎ ((next : Setting) × IsSettingAfter s e next × (nat_lt (max_runs - s.count) (runs_needed s e next) ≡ true) × (f ≡ fault.MeterFull))) × (t ≡ s)
 
 -- ---- memory
 
--- if the edit is refused, it is refused for its text; every other refusal is found without an allocation
-abbrev pub PassesTests : Contents → Edit → Type 0
-PassesTests s e = (f : EditFault) → IsRefused s e f → (f ≡ fault.AmongCount) ⊎ ((g : ScriptFault) × (f ≡ fault.Script g))
-
--- An allocation failed, instead of an acceptance, of a refusal for the text or of too few counts. Nothing is changed, except
+-- An allocation failed, instead of an acceptance, of a refusal for the text or of too few counts; every other refusal is found
+-- without an allocation. Nothing is changed, except
 -- that some of the runs that it needs may have been counted if the edit would have been accepted. A removal needs no memory.
 pub record IsOutOfMemory (s : Contents) (e : Edit) (t : Contents) : Type 0 where
   pub wanted : (word : List ℕ) → e ≢ Remove word
-  pub is : (PassesTests s e × (t ≡ s))
-      ⊎ ((made : Contents) × (accepted : IsAccepted s e made) × (n : ℕ) × (n ≤ runs_needed s e accepted.setting) × (t ≡ count_runs n s))
+  pub is : (((f : EditFault) → IsRefused s e f → (f ≡ fault.AmongCount) ⊎ ((g : ScriptFault) × (f ≡ fault.Script g))) × (t ≡ s))
+      ⊎ ((made : Contents) × (accepted : IsAccepted s e made) × (n : ℕ) × (n ≤ runs_needed s e accepted.setting) × (t ≡ record s { count = s.count + n }))
 
 -- ---- the result of an edit, and the bench after it
 
@@ -163,6 +149,22 @@ Edits (Err fault.OutOfMemory) s e t = IsOutOfMemory s e t
 Edits (Err f) s e t = IsVerdict s e (Some f) t
 
 -- ---- names for proofs
+
+-- the highest limit
+abbrev pub max_limit : ℕ
+max_limit = 10000000
+
+-- whether fewer counts are left than the edit has words to run
+abbrev pub lacks_counts : Contents → Edit → Setting → Bool
+lacks_counts s e t = nat_lt (max_runs - s.count) (runs_needed s e t)
+
+-- the bench with n more runs counted
+abbrev pub count_runs : ℕ → Contents → Contents
+count_runs n s = record s { count = s.count + n }
+
+-- if the edit is refused, it is refused for its text; every other refusal is found without an allocation
+abbrev pub PassesTests : Contents → Edit → Type 0
+PassesTests s e = (f : EditFault) → IsRefused s e f → (f ≡ fault.AmongCount) ⊎ ((g : ScriptFault) × (f ≡ fault.Script g))
 
 -- whether the run of a word meets one of the listed items, by what each of them affects; true if there is no list
 abbrev pub meets_listed : Option (List Item') → Source → List ℕ → ℕ → Bool

@@ -6,7 +6,7 @@ use Rattle.sbl_script.specs.ParsedScript.{ParsedScript, source_of}
 use Rattle.sbl_machine.specs.declared.outcome.RunTrace.{RunTrace}
 use Rattle.sbl_semantics.specs.Outcome.{outcome_of, run_of, touches_of, used_of}
 use Rattle.sbl_bench.specs.ChangedRows.{ChangedRow}
-use Rattle.sbl_bench.specs.Setting.{Setting, under}
+use Rattle.sbl_bench.specs.Setting.{Setting}
 use Rattle.sbl_semantics.specs.Limit.{max_word_length}
 use Rattle.sbl_bench.specs.Contents.{Contents, max_words}
 
@@ -18,12 +18,12 @@ pub record KeptRuns : Type 0 where
   -- the words whose outcome the last edit changed
   pub changes : List ChangedRow
 
-abbrev pub setting_of : KeptRuns → Setting
-setting_of k = under (source_of k.script) k.limit
-
 -- the bench without memory addresses
 abbrev pub contents_of : KeptRuns → Contents
-contents_of k = record { setting = setting_of k; words = k.words; count = k.count }
+contents_of k = record { setting = record { script = source_of k.script; limit = k.limit }; words = k.words; count = k.count }
+
+abbrev pub setting_of : KeptRuns → Setting
+setting_of k = (contents_of k).setting
 
 -- a word and its last run, as represented in memory
 abbrev pub KeptWord : Type 0

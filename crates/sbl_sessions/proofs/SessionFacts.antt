@@ -94,8 +94,8 @@ session_ends a b c h i s t so keeps end =
 pub session_at_line : (a b c h i : Option (List ℕ)) (s t : Contents) (k : Option LineFault) (part : List ℕ) (f : LineFault) → Served a b h i s t → k ≡ None
     → (f ≡ read.Read → TookWhole a b) → (f ≡ read.TooLong → BeginsLong b ⊎ (k ≡ Some f)) → (f ≡ read.Read → k ≡ None → BreaksOff b c part)
     → IsSession a c h i s t (Err (serve_fault_of f))
-session_at_line a b c h i s t k part read.Read so none whole long cut = (b, λ _. whole refl, so, broken IsBegun b b c k [] part read.Read (inl refl) (took-none b) none long cut)
-session_at_line a b c h i s t k part read.TooLong so none whole long cut = (b, λ is. cc is, so, broken IsBegun b b c k [] part read.TooLong (inl refl) (took-none b) none long cut)
+session_at_line a b c h i s t k part read.Read so none whole long cut = (b, λ _. whole refl, so, broken (IsBegun fault.Read) b b c k [] part read.Read (inl (refl, λ is. cc is)) (took-none b) none long cut)
+session_at_line a b c h i s t k part read.TooLong so none whole long cut = (b, λ is. cc is, so, broken (IsBegun fault.LineTooLong) b b c k [] part read.TooLong (inl (refl, λ is. cc is)) (took-none b) none long cut)
 
 -- where a block has no end
 pub session_open : (a b c d h i : Option (List ℕ)) (s t : Contents) (line : List ℕ) (f : ServeFault) → Served a b h i s t → GivesLine b c line → length line ≤ 65536
@@ -105,7 +105,7 @@ session_open a b c d h i s t line fault.Read so gives fits asks whole breaks =
 session_open a b c d h i s t line fault.LineTooLong so gives fits asks whole breaks =
     (b, whole, so, (line ∷ breaks.0, breaks.1, inr (asks, fits, breaks.2), took-trans b c breaks.1 (line ∷ []) breaks.0 gives breaks.3, breaks.4))
 session_open a b c d h i s t line fault.Cut so gives fits asks whole breaks =
-    (b, so, (line ∷ breaks.0, (asks, fits, breaks.1), took-trans b c d (line ∷ []) breaks.0 gives breaks.2, breaks.3))
+    (b, whole, so, (line ∷ breaks.0, inr (asks, fits, breaks.1), took-trans b c d (line ∷ []) breaks.0 gives breaks.2, breaks.3))
 session_open a b c d h i s t line fault.Write so gives fits asks whole breaks = absurd breaks
 session_open a b c d h i s t line fault.NotText so gives fits asks whole breaks = absurd breaks
 session_open a b c d h i s t line fault.OutOfMemory so gives fits asks whole breaks = absurd breaks

@@ -1,7 +1,7 @@
 -- The replies of a session to its requests.
-use Rattle.std.specs.Prelude.{◌≡◌, ℕ, List, [], ◌∷◌, ◌++◌, codes, Option, Some, None}
+use Rattle.std.specs.Prelude.{◌≡◌, ◌+◌, ℕ, List, [], ◌∷◌, ◌++◌, codes, Option, Some, None}
 use Rattle.sbl_bench.specs.Contents.{Contents}
-use Rattle.sbl_bench.specs.Edits.{Edit, Replace, IsOutOfMemory, IsVerdict, count_runs}
+use Rattle.sbl_bench.specs.Edits.{Edit, Replace, IsOutOfMemory, IsVerdict}
 use Rattle.sbl_bench.specs.Names.{script_name}
 use Rattle.sbl_bench.specs.declared.fault.EditFault.{EditFault}
 use Rattle.sbl_bench.specs.declared.fault.EditFault.TheVariants as fault
@@ -46,7 +46,7 @@ abbrev pub IsEdit : Contents → Memory → Edit → Option EditFault → Conten
 IsEdit s Enough e f t = IsVerdict s e f t
 IsEdit s BlockRefused (Replace what block) f t = (f ≡ Some fault.OutOfMemory) × (t ≡ s)
 IsEdit s BlockRefused e f t = ⊥
-IsEdit s (RefusedAfter n) e f t = (f ≡ Some fault.OutOfMemory) × (t ≡ count_runs n s) × IsOutOfMemory s e t
+IsEdit s (RefusedAfter n) e f t = (f ≡ Some fault.OutOfMemory) × (t ≡ record s { count = s.count + n }) × IsOutOfMemory s e t
 
 -- A report is written whole, or an allocation for it fails. There is no report of a word that is not in the vocabulary; that is
 -- said without an allocation.

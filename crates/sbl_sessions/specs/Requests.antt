@@ -1,11 +1,13 @@
 -- The requests of a session: a line, and the block after it if its command word asks for one.
-use Rattle.std.specs.Prelude.{◌≡◌, ◌⊎◌, ◌≤◌, ℕ, length, Bool, true, List, [], ◌∷◌, ◌++◌, Option, Some, None, codes, if◌then◌else◌}
+use Rattle.std.specs.Prelude.{◌≡◌, ◌≢◌, ◌⊎◌, ◌≤◌, ℕ, length, Bool, true, List, [], ◌∷◌, ◌++◌, Option, Some, None, codes, if◌then◌else◌}
 use Rattle.std.specs.List.{All, flat_map}
 use Rattle.std.specs.Option.{IfSome, is_some, option_map, option_map_or}
 use Rattle.std.specs.Str.{bytes_eq}
 use Rattle.sbl_formats.specs.Block.{BlockLines, NoPoint, point}
 use Rattle.sbl_io.specs.HeldInput.{AllFit, Took}
 use Rattle.sbl_io.specs.LinesOf.{max_line}
+use Rattle.sbl_io.specs.declared.faults.ServeFault.{ServeFault}
+use Rattle.sbl_io.specs.declared.faults.ServeFault.TheVariants as fault
 use Rattle.sbl_script.specs.Edits.{ScriptEdit, among, body, terms}
 use Rattle.sbl_sessions.specs.Numbers.{number_in}
 use Rattle.sbl_sessions.specs.Words.{argument, command_word}
@@ -26,20 +28,14 @@ block_word word =
 abbrev pub asks_block : List ℕ → Bool
 asks_block line = is_some (block_word (command_word line))
 
--- there is a block exactly if one is asked for, and none of its lines is `.`
-abbrev pub HasBlock : Bool → Option (List (List ℕ)) → Type 0
-HasBlock asked block = (asked ≡ is_some block) × IfSome block NoPoint
-
-abbrev pub IsRequest : Request → Type 0
-IsRequest r = HasBlock (asks_block r.line) r.block
-
 -- the lines of requests: of each, its line and, if it has a block, the lines of the block and a line `.`
 abbrev pub lines_in_all : List Request → List (List ℕ)
 lines_in_all requests = flat_map (λ r. r.line ∷ option_map_or (λ lines. lines ++ point ∷ []) r.block []) requests
 
--- These requests were taken from the input. They are whole, and no line of them is too long.
+-- These requests were taken from the input. They are whole: there is a block exactly if one is asked for, and none of its lines
+-- is `.`. No line of them is too long.
 pub record TookRequests (old new : Option (List ℕ)) (requests : List Request) : Type 0 where
-  pub each : All IsRequest requests
+  pub each : All (λ r. (asks_block r.line ≡ is_some r.block) × IfSome r.block NoPoint) requests
   pub fit : AllFit (lines_in_all requests)
   pub lines : Took old new (lines_in_all requests)
 
@@ -50,6 +46,9 @@ IsOpen (line ∷ lines) = (asks_block line ≡ true) × (length line ≤ max_lin
 
 -- ---- names for proofs
 
+abbrev pub IsRequest : Request → Type 0
+IsRequest r = (asks_block r.line ≡ is_some r.block) × IfSome r.block NoPoint
+
 -- the lines of a block, and its line `.`
 abbrev pub block_lines : Option (List (List ℕ)) → List (List ℕ)
 block_lines block = option_map_or (λ lines. lines ++ point ∷ []) block []
@@ -57,6 +56,6 @@ block_lines block = option_map_or (λ lines. lines ++ point ∷ []) block []
 abbrev pub lines_in : Request → List (List ℕ)
 lines_in r = r.line ∷ block_lines r.block
 
--- the lines of a request that is not whole: none yet, or these
-abbrev pub IsBegun : List (List ℕ) → Type 0
-IsBegun lines = (lines ≡ []) ⊎ IsOpen lines
+-- the lines of a request that is not whole: none yet, unless the input is cut off, or these
+abbrev pub IsBegun : ServeFault → List (List ℕ) → Type 0
+IsBegun f lines = ((lines ≡ []) × (f ≢ fault.Cut)) ⊎ IsOpen lines

@@ -1,5 +1,5 @@
 -- A session: what is written, and the bench after it, as a function of the bytes of the input.
-use Rattle.std.specs.Prelude.{◌≡◌, ◌⊎◌, ◌++◌, ℕ, List, [], ◌∷◌, Option, Some, Result, Ok, Err, ⊤, take}
+use Rattle.std.specs.Prelude.{◌≡◌, ◌≢◌, ◌⊎◌, ◌++◌, ℕ, List, [], ◌∷◌, Option, Some, Result, Ok, Err, ⊤, take}
 use Rattle.std.specs.Io.KnownBytes.{Appends, IsAtEnd}
 use Rattle.sbl_bench.specs.Contents.{Contents}
 use Rattle.sbl_sessions.specs.Answers.{Answers, IsReplyTo, Memory}
@@ -36,11 +36,9 @@ IsSession input new_input held new_held s t (Err fault.Write) =
     (requests : List Request) × (request : Request) × TookRequests input new_input (requests ++ request ∷ [])
     × (between : Contents) × (middle : Option (List ℕ)) × Answered s requests held middle between
     × (memory : Memory) × (reply : List ℕ) × IsReplyTo between (command_of request) memory reply t × (count : ℕ) × Appends middle new_held (take count reply)
-IsSession input new_input held new_held s t (Err fault.Cut) =
-    (between : Option (List ℕ)) × Served input between held new_held s t × Breaks IsOpen between new_input fault.Cut
 IsSession input new_input held new_held s t (Err f) =
     (between : Option (List ℕ)) × (f ≡ fault.Read → TookWhole input between) × Served input between held new_held s t
-    × Breaks (λ lines. (lines ≡ []) ⊎ IsOpen lines) between new_input f
+    × Breaks (λ lines. ((lines ≡ []) × (f ≢ fault.Cut)) ⊎ IsOpen lines) between new_input f
 
 -- Why a session may end. A fault of reading or writing is caused by the device or a bound, or the lines returned it before. A
 -- line that is too long, or a block that the end of input cuts off, is in the input, as defined above.

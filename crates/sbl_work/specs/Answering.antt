@@ -1,10 +1,11 @@
 -- The reply to the current line of work, with the block that it asks for.
 use Rattle.std.specs.Prelude.{◌≡◌, ℕ, true, List, Option}
+use Rattle.std.specs.Option.{IfSome, is_some}
 use Rattle.sbl_bench.specs.Contents.{Contents}
 use Rattle.sbl_io.specs.HeldInput.{AllFit, Took}
 use Rattle.sbl_io.specs.declared.faults.ServeFault.{ServeFault}
-use Rattle.sbl_formats.specs.Block.{BlockLines, Breaks}
-use Rattle.sbl_sessions.specs.Requests.{HasBlock, block_lines}
+use Rattle.sbl_formats.specs.Block.{BlockLines, Breaks, NoPoint}
+use Rattle.sbl_sessions.specs.Requests.{block_lines}
 use Rattle.sbl_sessions.specs.declared.replies.Reply.{Reply}
 use Rattle.sbl_work.specs.Commands.{asks_work_block, by_work_block}
 use Rattle.sbl_desk.specs.Desks.{State}
@@ -13,7 +14,7 @@ use Rattle.sbl_work.specs.ReplyViews.{IsWorkAnswer}
 -- the line with its block, if it asks for one, has this reply, for some bytes of its file; the block was taken from the input
 pub record IsWorkAnswered (input new_input : Option (List ℕ)) (line : List ℕ) (s : Contents) (d : State) (r : Reply) (t : Contents) (e : State) : Type 0 where
   pub block : Option (List (List ℕ))
-  pub formed : HasBlock (asks_work_block line) block
+  pub formed : (asks_work_block line ≡ is_some block) × IfSome block NoPoint
   pub fit : AllFit (block_lines block)
   pub took : Took input new_input (block_lines block)
   pub file : Option (List ℕ)

@@ -2,14 +2,15 @@
 use Rattle.std.specs.Prelude.{◌≡◌, ◌⊎◌, ◌++◌, ◌≤◌, ℕ, Bool, true, false, List, [], ◌∷◌, codes, if◌then◌else◌, length, take, Option, Some, None, Result, Ok, Err, ⊤}
 use Rattle.std.specs.Io.KnownBytes.{Appends, IsAtEnd}
 use Rattle.std.specs.List.{All, flat_map}
+use Rattle.std.specs.Option.{IfSome, is_some}
 use Rattle.std.specs.Str.{bytes_eq}
 use Rattle.sbl_bench.specs.Contents.{Contents}
 use Rattle.sbl_io.specs.HeldInput.{AllFit, GivesLine, Took, TookWhole}
 use Rattle.sbl_io.specs.LinesOf.{max_line}
 use Rattle.sbl_io.specs.declared.faults.ServeFault.{ServeFault}
 use Rattle.sbl_io.specs.declared.faults.ServeFault.TheVariants as fault
-use Rattle.sbl_formats.specs.Block.{BlockLines, Breaks}
-use Rattle.sbl_sessions.specs.Requests.{HasBlock, Request, lines_in_all}
+use Rattle.sbl_formats.specs.Block.{BlockLines, Breaks, NoPoint}
+use Rattle.sbl_sessions.specs.Requests.{Request, lines_in_all}
 use Rattle.sbl_work.specs.Commands.{asks_work_block, by_work_block, quit_line}
 use Rattle.sbl_desk.specs.Desks.{State}
 use Rattle.sbl_work.specs.Replies.{IsWorkReply}
@@ -18,7 +19,7 @@ use Rattle.sbl_work.specs.Replies.{IsWorkReply}
 
 -- a line that does not end the work, and its block if it asks for one
 abbrev pub IsWorkRequest : Request → Type 0
-IsWorkRequest r = (bytes_eq r.line quit_line ≡ false) × HasBlock (asks_work_block r.line) r.block
+IsWorkRequest r = (bytes_eq r.line quit_line ≡ false) × (asks_work_block r.line ≡ is_some r.block) × IfSome r.block NoPoint
 
 -- These requests were taken from the input. They are whole, and no line of them is too long.
 pub record TookWork (old new : Option (List ℕ)) (requests : List Request) : Type 0 where
