@@ -21,6 +21,7 @@ use Rattle.sbl_semantics.specs.Same.{same_argument, same_term}
 use Rattle.sbl_semantics.specs.TouchedItems.{Item', Routine, Among, Grouping}
 use Rattle.sbl_parser.proofs.OneTree.{trees_are_one}
 use Rattle.sbl_semantics.proofs.ByParts.{by_parts}
+use Rattle.sbl_semantics.proofs.NumberAfter.{behind_is}
 use Rattle.sbl_machine.proofs.EditsAgree.{unmet_by_one_stay}
 use Rattle.sbl_machine.proofs.HoledPuts.{hole_same}
 use Rattle.sbl_machine.proofs.Several.{all_affected, several_closed}
