@@ -4,10 +4,7 @@ ghost use Rattle.sbl_bench.specs.Edits.{Edits, Replace, Whole};
 ghost use Rattle.sbl_bench.specs.KeptRuns.{contents_of};
 ghost use Rattle.sbl_print.specs.Canonical.{canonical};
 ghost use Rattle.sbl_desk.specs.Desks.{Redoes, Undoes, rows_now, state_of, text_in, view_marked, view_text};
-ghost use Rattle.sbl_desk.specs.Editing.{NotesLimit, Replaces, ReplacesPart};
-ghost use Rattle.sbl_desk.specs.History.{ToText, remember_turn};
-ghost use Rattle.sbl_desk.specs.Parts.{view_part};
-ghost use Rattle.sbl_desk.specs.Splicing.{Reads};
+ghost use Rattle.sbl_desk.specs.{Editing.NotesLimit, Editing.Replaces, Editing.ReplacesPart, History.ToText, History.remember_turn, Parts.view_part, Splicing.Reads};
 
 use crate::history::{HistoryFault, text_of, turn};
 use crate::marks::{MarkedRow, copy_rows};

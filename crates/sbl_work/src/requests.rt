@@ -150,10 +150,7 @@ fn text_request(line: &str) -> Request<'_>
 fn word_request(line: &str) -> Request<'_>
     ensures { (file : Option (List ℕ)) → view_request file line.now result ≡ spec.word_command file line.now }
 {
-    let (word, argument) = match line.split_once(' ') {
-        Some((word, argument)) => (word, argument),
-        None => (line, ""),
-    };
+    let (word, argument) = line.split_once(' ').unwrap_or((line, ""));
     match word {
         "largest" => Request::Largest(argument),
         "families" => Request::Families(argument),

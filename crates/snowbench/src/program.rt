@@ -96,7 +96,7 @@ fn answer<R: Source + Drop, W: Sink>(
             Ok(0)
         }
         Verb::Stem => {
-            stem(lines, keys, external, writer)?;
+            stem(lines, external, keys, writer)?;
             Ok(0)
         }
         Verb::Filter => {
@@ -129,8 +129,8 @@ fn session<R: Source + Drop, W: Sink>(
 /// Loads a bench and writes its rows. The input after the vocabulary is not read.
 fn stem<R: Source + Drop, W: Sink>(
     lines: &mut Lines<R>,
-    keys: RandomState,
     external: &str,
+    keys: RandomState,
     writer: &mut W,
 ) -> Result<(), LoadFault>
     ensures stemmed { fault_of lines.old ≡ None → IsStemmed (input_of R.left lines.old) (input_of R.left lines.new) external.now (W.held writer.old) (W.held writer.new) result }
