@@ -15,7 +15,7 @@ use Rattle.sbl_io.specs.HeldInput.{AllFit, BeginsLong, BreaksOff, GivesLine, Too
 use Rattle.sbl_script.specs.Edits.{ScriptEdit}
 use Rattle.sbl_sessions.specs.Words.{command_word}
 use Rattle.sbl_sessions.specs.Requests.{IsBegun, IsRequest, Request, TookRequests, asks_block, block_lines, block_word, lines_in, lines_in_all}
-use Rattle.sbl_sessions.specs.Session.{Answered, HalfAnswered, IsSession, Served}
+use Rattle.sbl_sessions.specs.Session.{Answered, IsSession, Served}
 use Rattle.sbl_formats.specs.declared.block_text.BlockText.{BlockText}
 use Rattle.sbl_io.specs.Faults.{serve_fault_of}
 use Rattle.sbl_io.specs.declared.faults.LineFault.{LineFault}
@@ -49,11 +49,6 @@ answered-more s t u done r h i j q reply so writes is = record {
   answers = more_answers s t u done r so.m q so.text reply so.answers is;
   written = Appends-trans h i j so.text reply so.written writes;
 }
-
--- one more edit was made, and a front of its answer was written
-half-more : (s t u : Contents) (done : List Request) (r : Request) (h i j : Option (List ℕ)) (q : Memory) (reply : List ℕ) (n : ℕ)
-    → Answered s done h i t → Appends i j (take n reply) → IsReplyTo t (command_of r) q reply u → HalfAnswered s done r h j u
-half-more s t u done r h i j q reply n so writes is = (t, i, so, q, reply, is, n, writes)
 
 -- ---- requests
 

@@ -49,12 +49,3 @@ Ends reads writes lines new_lines writer new_writer (Err fault.Write) = HasStopp
 Ends reads writes lines new_lines writer new_writer (Err fault.LineTooLong) = ⊤
 Ends reads writes lines new_lines writer new_writer (Err fault.Cut) = ⊤
 Ends reads writes lines new_lines writer new_writer (Err f) = ⊥
-
--- ---- names for proofs
-
--- After the replies to these requests, the edit of one more was made, and a prefix of its reply was written.
-abbrev pub HalfAnswered : Contents → List Request → Request → Option (List ℕ) → Option (List ℕ) → Contents → Type 0
-HalfAnswered s requests request held new_held t =
-    (between : Contents) × (middle : Option (List ℕ)) × Answered s requests held middle between
-    × (memory : Memory) × (reply : List ℕ) × IsReplyTo between (command_of request) memory reply t
-    × (count : ℕ) × Appends middle new_held (take count reply)

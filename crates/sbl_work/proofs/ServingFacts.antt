@@ -106,7 +106,7 @@ pub work_goes_on : (prompt : List ℕ) (a b c d h i j : Option (List ℕ)) (s t 
     → ((text : List ℕ) → IsReply reply text → Appends i j (with_prompt prompt text)) → Worked prompt a d h j s x u z
 work_goes_on prompt a b c d h i j s t u x y z line reply so gives fits other is writes = (
   so.0 ++ record { line = line; block = is.block } ∷ [],
-  one_more a b c d so.0 line is.block so.1 gives fits (other, is.formed) is.fit is.took,
+  one_more a b c d so.0 line is.block so.1 gives fits (other, is.formed.0, is.formed.1) is.fit is.took,
   replied-more prompt s t u x y so.0 (record { file = is.file; desk = z }) (record { line = line; block = is.block }) h i j is.answer.0 so.2 (writes is.answer.0 is.answer.1) is.answer.2,
 )
 
@@ -156,7 +156,7 @@ work_at_write prompt a b c d h i j s t u x y z line reply so gives fits other is
     inr (
       so.0,
       record { line = line; block = is.block },
-      one_more a b c d so.0 line is.block so.1 gives fits (other, is.formed) is.fit is.took,
+      one_more a b c d so.0 line is.block so.1 gives fits (other, is.formed.0, is.formed.1) is.fit is.took,
       half-more prompt s t u x y so.0 (record { file = is.file; desk = z }) (record { line = line; block = is.block }) h i j is.answer.0 front.0 so.2 front.1 is.answer.2,
     )
 
