@@ -106,8 +106,8 @@ fn push_word(
     word: &[char],
 ) -> Result<(), AllocError>
     requires { partial_of csv_record.old ≡ [] }
-    ensures fields { OnOk result (fields_of csv_record.new ≡ fields_of csv_record.old ++ encode_utf8_all word.now ∷ []) }
     ensures partial { OnOk result (partial_of csv_record.new ≡ []) }
+    ensures fields { OnOk result (fields_of csv_record.new ≡ fields_of csv_record.old ++ encode_utf8_all word.now ∷ []) }
 {
     csv_record.push_field(text.encode(word)?)
 }
