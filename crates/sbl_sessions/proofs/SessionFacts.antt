@@ -110,9 +110,19 @@ session_open a b c d h i s t line fault.LengthsDiffer so gives fits asks whole b
 pub session_at_write : (a b c d h i j : Option (List ℕ)) (s t u : Contents) (line : List ℕ) (reply : Reply) (n : ℕ)
     → Served a b h i s t → GivesLine b c line → length line ≤ 65536 → IsAnswered c d line t reply u
     → ((text : List ℕ) → IsReply reply text → Appends i j (take n text)) → IsSession a d h j s u (Err fault.Write)
-session_at_write a b c d h i j s t u line reply n so gives fits is writes =
-    let half = half-more s t u so.0 (record { line = line; block = is.block }) h i j is.answer.0 is.answer.1 n so.2 (writes is.answer.1 is.answer.2) is.answer.3 in
-    (so.0, record { line = line; block = is.block }, one_more a b c d so.0 line is.block so.1 gives fits is.formed is.fit is.took, half.0, half.1, half.2, half.3, half.4, half.5, half.6, half.7)
+session_at_write a b c d h i j s t u line reply n so gives fits is writes = (
+  so.0,
+  record { line = line; block = is.block },
+  one_more a b c d so.0 line is.block so.1 gives fits is.formed is.fit is.took,
+  t,
+  i,
+  so.2,
+  is.answer.0,
+  is.answer.1,
+  is.answer.3,
+  n,
+  writes is.answer.1 is.answer.2,
+)
 
 -- ---- the answer to a request
 
