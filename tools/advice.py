@@ -44,7 +44,7 @@ class Advice:
 
     def nothing_changed(self, word):
         if word == "reload":
-            return "Nothing changed. Correct it in %s, save it there, and press Enter." % named(self.desk.script)
+            return "Nothing changed. " + correct_in(self.desk.script, self.desk.is_save_enough)
         return "Nothing changed. The up arrow brings the lines of the block back."
 
     def lines_41(self, word, argument, command):
@@ -185,6 +185,11 @@ class Advice:
             at = "beginning" if argument != argument.lstrip() else "end"
             return ['The word that was added is "%s", with a blank at its %s. "remove %s" takes it out.' % (named(argument), at, named(argument))]
         return []
+
+
+def correct_in(path, is_save_enough):
+    """Returns the sentence on a fault that its author can correct in a file."""
+    return "Correct it in %s%s." % (named(path), " and save it there" if is_save_enough else ", save it there, and press Enter")
 
 
 def command_meant(word):

@@ -46,6 +46,8 @@ class Desk:
         self.warned, self.status = [], None
         # What the program said last, before it ended.
         self.last_message = []
+        # Whether a save is read without Enter.
+        self.is_save_enough = False
         self.files, self.added = Files(script, words), Added(script, words)
         self.child = Child(program, options, script, words)
         self.advice = Advice(self)
@@ -202,7 +204,8 @@ class Desk:
         if not why and self.files.is_script(path) and self.files.has_refused() and self.doubted != "save":
             self.doubted = "save"
             name = named(path)
-            why = "%s has a text that was refused. Nothing was written: correct it there and press Enter, or save %s again overwrites it." % (name, name)
+            enter = "" if self.is_save_enough else " and press Enter"
+            why = "%s has a text that was refused. Nothing was written: correct it there%s, or save %s again overwrites it." % (name, enter, name)
         elif not why and self.files.is_script(path) and self.history.is_older() and self.doubted != "save":
             self.doubted = "save"
             name = named(path)
@@ -282,10 +285,12 @@ class Desk:
         if is_reload:
             now = {name: self.definition(name) for name in typed}
             gone = {name: now[name] for name in typed if now[name] != typed[name]}
+            had_fault = self.files.has_other_refused()
             is_new = self.files.note_read()
             aside = self.history.note_read(before == self.history.script, gone, is_new)
             say([aside_sentence(aside)] if aside else [])
-            say([] if is_new or before != self.history.script else ["%s has not changed since it was read." % named(self.script)])
+            if not is_new and before == self.history.script:
+                say([("The fault is gone: %s has the script in force again." if had_fault else "%s has not changed since it was read.") % named(self.script)])
             self.warn([self.script])
 
     def warn(self, paths):

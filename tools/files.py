@@ -53,6 +53,10 @@ class Files:
         """Returns whether the script's file has a text that was refused."""
         return self.refused is not None and self.refused == read(self.script)
 
+    def has_other_refused(self):
+        """Returns whether the text that was read last was refused, and is another one than the text before it."""
+        return self.refused not in (None, self.seen)
+
     def note_saved(self, path, former):
         """Notes that the script was written to a file, which had the text `former`. Returns the lines on what it lost."""
         if self.is_script(path):
