@@ -3,6 +3,7 @@ import os
 import re
 import unicodedata
 
+from faults import reason, replacing
 from near import listed, meant, near
 from plain import named
 from rows import rows_of
@@ -156,7 +157,8 @@ class Advice:
         return "%s cannot be written: you may not write there. Save to another file." % named(path)
 
     def lines_75(self, word, argument, command):
-        return ["%s is not UTF-8. If it is Latin-1: iconv -f latin1 -t utf-8 OLD > NEW" % named(argument or "The text")]
+        end = replacing(named(argument)) if argument else "OLD > NEW"
+        return ["%s is not UTF-8. If it is Latin-1: iconv -f latin1 -t utf-8 %s" % (named(argument or "The text"), end)]
 
     def early(self, line):
         """Returns the lines on the line before a block, if it has a mistake."""
@@ -242,7 +244,7 @@ def why_unreadable(path):
             file.read(1)
         return "but now it can be. Try again."
     except OSError as why:
-        return why.strerror
+        return reason(why.errno)
 
 
 SENTENCES = {
