@@ -3,6 +3,7 @@ import os
 import re
 import unicodedata
 
+from faults import reason, replacing
 from near import listed, meant, near
 from plain import named
 from rows import rows_of
@@ -44,7 +45,7 @@ class Advice:
 
     def nothing_changed(self, word):
         if word == "reload":
-            return "Nothing changed. Correct it in %s, save it there, and press Enter." % named(self.desk.script)
+            return "Nothing changed. " + correct_in(self.desk.script, self.desk.is_save_enough)
         return "Nothing changed. The up arrow brings the lines of the block back."
 
     def lines_41(self, word, argument, command):
@@ -156,7 +157,8 @@ class Advice:
         return "%s cannot be written: you may not write there. Save to another file." % named(path)
 
     def lines_75(self, word, argument, command):
-        return ["%s is not UTF-8. If it is Latin-1: iconv -f latin1 -t utf-8 OLD > NEW" % named(argument or "The text")]
+        end = replacing(named(argument)) if argument else "OLD > NEW"
+        return ["%s is not UTF-8. If it is Latin-1: iconv -f latin1 -t utf-8 %s" % (named(argument or "The text"), end)]
 
     def early(self, line):
         """Returns the lines on the line before a block, if it has a mistake."""
@@ -185,6 +187,11 @@ class Advice:
             at = "beginning" if argument != argument.lstrip() else "end"
             return ['The word that was added is "%s", with a blank at its %s. "remove %s" takes it out.' % (named(argument), at, named(argument))]
         return []
+
+
+def correct_in(path, is_save_enough):
+    """Returns the sentence on a fault that its author can correct in a file."""
+    return "Correct it in %s%s." % (named(path), " and save it there" if is_save_enough else ", save it there, and press Enter")
 
 
 def command_meant(word):
@@ -237,7 +244,7 @@ def why_unreadable(path):
             file.read(1)
         return "but now it can be. Try again."
     except OSError as why:
-        return why.strerror
+        return reason(why.errno)
 
 
 SENTENCES = {

@@ -10,7 +10,7 @@ import subprocess
 import sys
 import termios
 
-from faults import without_mark
+from faults import with_files, without_mark
 from warn import BOM, read
 
 # The accepted commands that change what the program has.
@@ -62,7 +62,7 @@ class Child:
         if self.copy is not None:
             # (a program that was started anew reads the script by another name)
             said = re.sub(r"^/dev/fd/\d+(?=:\d+:\d+: |: )", lambda name: self.script, said, flags=re.M)
-        lines = said.splitlines()
+        lines = with_files(said.splitlines(), self.script)
         return without_mark(lines, self.script, self.last_script) if (self.last_script or b"").startswith(BOM) else lines
 
     def query(self, lines):

@@ -5,8 +5,9 @@ usage: desk.py PROGRAM SCRIPT WORDS OPTION..   (WORDS may be empty; the options 
 It reads requests on standard input: a number N, the kind of request, and N lines, each ended by a zero byte. `start` begins, with a line
 `--watch` if a save is enough to begin again. `ask` is a command with its block, `edit` the same with the changes that it makes, `peek` the
 first line of a block that comes later, and `quit` asks whether to end. `saved` asks whether a file that is to be read again was saved since
-it was read, and `watch` has the parent get SIGWINCH each time that one is.
-For each request it writes `ok`, `refused` or `ended` as a line on descriptor 3; for `start` also `waits`, if a file has a fault.
+it was read, and `watch` has the parent get SIGWINCH each time that one is. `words` has it say that the file of words has changed.
+For each request it writes `ok`, `refused` or `ended` as a line on descriptor 3; for `start` also `waits`, if a file has a fault; for `saved`
+also `words`, if only the file of words was saved, which is not read again.
 """
 import os
 import re
@@ -46,6 +47,8 @@ class Desk:
         self.warned, self.status = [], None
         # What the program said last, before it ended.
         self.last_message = []
+        # Whether a save is read without Enter.
+        self.is_save_enough = False
         self.files, self.added = Files(script, words), Added(script, words)
         self.child = Child(program, options, script, words)
         self.advice = Advice(self)
@@ -90,7 +93,10 @@ class Desk:
             return self.append(argument)
         if word == "save" and self.files.is_script(argument):
             lines = ["save " + self.script]
-        return self.run(word, argument, lines, is_edit)
+        verdict = self.run(word, argument, lines, is_edit)
+        if word == "reload" and verdict != "ended":
+            say(self.files.note_words())
+        return verdict
 
     def run(self, word, argument, lines, is_edit):
         former = read(argument) if word == "save" else None
@@ -202,7 +208,8 @@ class Desk:
         if not why and self.files.is_script(path) and self.files.has_refused() and self.doubted != "save":
             self.doubted = "save"
             name = named(path)
-            why = "%s has a text that was refused. Nothing was written: correct it there and press Enter, or save %s again overwrites it." % (name, name)
+            enter = "" if self.is_save_enough else " and press Enter"
+            why = "%s has a text that was refused. Nothing was written: correct it there%s, or save %s again overwrites it." % (name, enter, name)
         elif not why and self.files.is_script(path) and self.history.is_older() and self.doubted != "save":
             self.doubted = "save"
             name = named(path)
@@ -229,7 +236,10 @@ class Desk:
 
     def append(self, path):
         """Puts the added words into a file."""
+        is_new = self.files.has_new_words()
         is_done, sentence = self.added.append(path)
+        if not is_new:
+            self.files.note_words()
         write(["ok"] if is_done else [])
         say([sentence])
         return "ok" if is_done else "refused"
@@ -282,10 +292,12 @@ class Desk:
         if is_reload:
             now = {name: self.definition(name) for name in typed}
             gone = {name: now[name] for name in typed if now[name] != typed[name]}
+            had_fault = self.files.has_other_refused()
             is_new = self.files.note_read()
             aside = self.history.note_read(before == self.history.script, gone, is_new)
             say([aside_sentence(aside)] if aside else [])
-            say([] if is_new or before != self.history.script else ["%s has not changed since it was read." % named(self.script)])
+            if not is_new and before == self.history.script:
+                say([("The fault is gone: %s has the script in force again." if had_fault else "%s has not changed since it was read.") % named(self.script)])
             self.warn([self.script])
 
     def warn(self, paths):
@@ -330,7 +342,10 @@ def reply(desk, kind, lines):
     if kind == "quit":
         return desk.quit()
     if kind == "saved":
-        return "ok" if desk.is_saved() else "refused"
+        return "ok" if desk.is_saved() else "words" if desk.files.has_new_words() else "refused"
+    if kind == "words":
+        say(desk.files.note_words())
+        return "ok"
     if kind == "watch":
         watch(desk.child.paths, os.getppid(), desk.files.states())
         return "ok"

@@ -1,6 +1,9 @@
-"""The places in what the program says about a fault of a script that begins with a byte order mark. The program counts the mark as the first
-character of the first line; an editor does not."""
+"""What the program says about a fault, in the words of people who work with files. The program counts a byte order mark as the first character
+of the first line; an editor does not. It does not name the file that has to be converted, nor say in words why a file cannot be read."""
+import errno
+import os
 import re
+import shlex
 
 from plain import is_hidden
 from source import decoded
@@ -8,7 +11,33 @@ from source import decoded
 INDENT = 4
 # How many characters after the mark tell that a line is shown from its beginning.
 LONG_ENOUGH = 8
+CANNOT_BE_READ = re.compile(r"snowbench: (.+): [^:]+ \(os error (\d+)\)")
+# Why a file cannot be read, by the number of the system's error.
+REASONS = {errno.ENOENT: "there is no such file", errno.EISDIR: "it is a folder", errno.EACCES: "you may not read it"}
 IN_FIRST_LINE = re.compile(r"(?<=the \( of 1:)\d+")
+
+
+def reason(number):
+    """Returns why a file cannot be read."""
+    return REASONS.get(number) or os.strerror(number)
+
+
+def replacing(name):
+    """Returns the end of a command that converts a file to another one, which then takes its place."""
+    return "%s > NEW && mv NEW %s" % (shlex.quote(name), shlex.quote(name))
+
+
+def with_files(lines, path):
+    """Returns the lines on a fault with the name of the script's file, and with reasons in words."""
+    shown = []
+    for line in lines:
+        fault = CANNOT_BE_READ.fullmatch(line)
+        if fault and int(fault[2]) in REASONS:
+            line = "snowbench: %s cannot be read: %s" % (fault[1], reason(int(fault[2])))
+        elif line.startswith(path + ":") and line.endswith(" OLD > NEW"):
+            line = line.removesuffix("OLD > NEW") + replacing(path)
+        shown.append(line)
+    return shown
 
 
 def without_mark(lines, path, text):

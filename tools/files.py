@@ -15,6 +15,8 @@ class Files:
         # What `reload` read last, if it was refused.
         self.refused = None
         self.state_of_words = state_of(words) if words else None
+        # What the file of words had at the start, and when it was looked at last.
+        self.first_words = self.last_words = read(words) if words else None
         self.look()
 
     def look(self):
@@ -28,6 +30,16 @@ class Files:
     def has_other_words(self):
         """Returns whether the file of words is another one than at the start."""
         return bool(self.words) and state_of(self.words) not in (None, self.state_of_words)
+
+    def has_new_words(self):
+        """Returns whether the file of words has another text than at the start and when it was looked at last."""
+        return self.has_other_words() and read(self.words) not in (None, self.first_words, self.last_words)
+
+    def note_words(self):
+        """Looks at the file of words. Returns the line on it if it has changed since the last look."""
+        is_new = self.has_new_words()
+        self.last_words = read(self.words) if self.words else None
+        return ["%s has changed, but it is read only at the start. Quit and start again, or type add WORD." % named(self.words)] if is_new else []
 
     def states(self):
         """Returns the states of the script's file and, if there is one, of the file of words when they were read."""
@@ -52,6 +64,10 @@ class Files:
     def has_refused(self):
         """Returns whether the script's file has a text that was refused."""
         return self.refused is not None and self.refused == read(self.script)
+
+    def has_other_refused(self):
+        """Returns whether the text that was read last was refused, and is another one than the text before it."""
+        return self.refused not in (None, self.seen)
 
     def note_saved(self, path, former):
         """Notes that the script was written to a file, which had the text `former`. Returns the lines on what it lost."""

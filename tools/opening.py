@@ -3,6 +3,7 @@ import csv
 import os
 import re
 
+from advice import correct_in
 from changes import counted
 from child import BREAKS_OFF
 from history import History
@@ -35,7 +36,7 @@ class Opening:
         """Writes how many words and classes there are, and warnings. Returns `ok`; or `waits` if a file has a fault; or `ended`. Then the
         start can be asked for again: `is_save_enough` says that a save does so."""
         desk, is_new = self.desk, True
-        desk.status = None
+        desk.status, desk.is_save_enough = None, is_save_enough
         if self.is_waiting:
             is_new = desk.read_anew()
         if not looks_swapped(desk.script, desk.words):
@@ -97,9 +98,8 @@ def how_to_go_on(path, is_save_enough, may_be_option=False):
     """Returns the sentence on what the author can do while the desk waits. Without `path` a file cannot be read."""
     if path is None:
         return "Enter reads the files again. quit or Ctrl-D ends."
-    keys = " and save it there" if is_save_enough else ", save it there, and press Enter"
     ends = "quit or Ctrl-D ends, for a start with --external." if may_be_option else "quit or Ctrl-D ends."
-    return "Correct it in %s%s. %s" % (named(path), keys, ends)
+    return correct_in(path, is_save_enough) + " " + ends
 
 
 def unchanged(paths):

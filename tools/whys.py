@@ -1,5 +1,10 @@
 """Lays out the rows of `why` for people: the strings that were taken, what other routines were asked, and the changes of the text."""
+from itertools import groupby
+
 from plain import named
+
+# How many rows are shown at most, before those that are left out and after them; and how many characters of a text.
+FIRST, LAST, LONGEST = 40, 19, 60
 
 
 class Call:
@@ -33,15 +38,31 @@ def lay_out_why(rows, word, figures, notes):
         elif kind == "put":
             calls[-1].asks_only, calls[-1].acts = False, True
             start, end = int(row[3]), int(row[4])
-            lines.append((row[2], "%s -> %s   %s -> %s" % (quoted(text[start:end]), quoted(row[5]), named(text), named(row[6]))))
+            lines.append((row[2], "%s -> %s   %s -> %s" % (quoted(text[start:end]), quoted(row[5]), shortened(text), shortened(row[6]))))
             text = row[6]
         elif kind == "more":
             lines.append(("..", "%s more events" % row[1]))
         else:
             lines.append((kind, "%s   %s" % (named(row[1]) or "''", lay_out_figures(figures))))
+    is_one = len(lines) == 1
+    lines = most_of(folded(lines), word)
     column = max(len(name) for name, _ in lines)
     more = "  nothing took a string or changed the text: \"events %s\" shows the searches, \"tests %s\" the tests" % (named(word), named(word))
-    return [more] * (len(lines) == 1) + [("  %-*s  %s" % (column, name, what)).rstrip() for name, what in lines]
+    return [more] * is_one + [("  %-*s  %s" % (column, name, what)).rstrip() for name, what in lines]
+
+
+def folded(lines):
+    """Returns lines with equal ones, one after another, as one that has their number."""
+    counts = [(line, len(list(equal))) for line, equal in groupby(lines)]
+    return [(name, what if count == 1 else "%s   .. %s times" % (what, "{:,}".format(count))) for (name, what), count in counts]
+
+
+def most_of(lines, word):
+    """Returns the first and the last lines if there are many, and between them how many are left out."""
+    if len(lines) <= FIRST + 1 + LAST:
+        return lines
+    left_out = "{:,}".format(len(lines) - FIRST - LAST)
+    return [*lines[:FIRST], ("..", '%s rows are left out: "events %s" shows the events' % (left_out, named(word))), *lines[-LAST:]]
 
 
 def lay_out_figures(figures):
@@ -52,4 +73,10 @@ def lay_out_figures(figures):
 
 
 def quoted(text):
-    return "'%s'" % named(text) if text else "''"
+    return "'%s'" % shortened(text)
+
+
+def shortened(text):
+    """Returns a text, without its middle if it is long."""
+    half = (LONGEST - 2) // 2
+    return named(text) if len(text) <= LONGEST else named(text[:half]) + ".." + named(text[-half:])
