@@ -12,7 +12,7 @@ use snowbench::{CommandLine, Device, Lines, Verb};
 use std::alloc::{AllocError, Global};
 
 /// The line of an input that is cut inside a block.
-const CUT: &[u8] = b"snowbench: 73 Excerpt\n";
+const CUT: &[u8] = b"snowbench: 73 Cut\n";
 
 /// The line of a word, or a line of a check, that is not UTF-8.
 const NOT_TEXT: &[u8] = b"snowbench: 75 NotText\n";
