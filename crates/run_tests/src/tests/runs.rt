@@ -13,7 +13,7 @@ use sbl_script::Script;
 use std::alloc::{AllocError, Global};
 use std::process::Abort;
 use std::test::Fail;
-use test_scripts::{PLURALS, field, with_line_feeds, with_scripts};
+use test_scripts::{PLURALS, field, letters, text_of, with_line_feeds, with_scripts};
 
 /// The machine of a script, with a search.
 pub(crate) fn machine_of<S: AmongSearch>(
@@ -37,7 +37,7 @@ fn machine_named<S: AmongSearch>(alloc: Global, text: &str) -> Result<Machine<S>
 pub(crate) fn word_in(rt: &impl Abort, alloc: Global, row: &str) -> Result<Vec<char>, AllocError>
     ensures { IfOk result (λ word. length word.items ≤ max_word_length) }
 {
-    let word: Vec<char> = field(row, 0).chars().collect(alloc)?;
+    let word = letters(alloc, field(row, 0))?;
     assert!(rt; word.len() <= 255);
     Ok(word)
 }
@@ -50,7 +50,7 @@ pub(crate) fn limit_in(row: &str) -> u32 {
 /// A stem, or a fault after `!`.
 pub(crate) fn outcome_text(alloc: Global, outcome: &Outcome) -> Result<String, AllocError> {
     match outcome {
-        Outcome::Stem(stem) => stem.iter().collect(alloc),
+        Outcome::Stem(stem) => text_of(alloc, stem.as_slice()),
         Outcome::Refused(fault) => format!(in alloc; "!{fault}"),
     }
 }

@@ -6,12 +6,12 @@ use sbl_machine::{AmongSearch, LinkedTable, PlainTable, RunStop};
 use std::alloc::{AllocError, Global};
 use std::process::Abort;
 use std::test::Fail;
-use test_scripts::print_values;
+use test_scripts::{letters, print_values};
 
 fn table_of<S: AmongSearch>(alloc: Global, mode: Mode, strings: &[&str]) -> Result<S, AllocError> {
     let mut all = Vec::new(alloc);
     for string in strings {
-        all.push(string.chars().collect(alloc)?)?;
+        all.push(letters(alloc, string)?)?;
     }
     S::build(alloc, &all, mode)
 }
