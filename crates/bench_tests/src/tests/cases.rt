@@ -60,8 +60,8 @@ script||( [ u ] delete )>( u )||xyb xyb;ab a;xb b;q ;ad ad;|?|7
 script||( [ u ] delete )>( u );'b' ()>'b' ( attach 'e' )||xyb xyb;ab ae;xb b;q ;ad ad;|?|8
 script||( [ u ] delete )>( u );'b' ()>'b' ( attach 'e' );v 'a'>v 'aq'||xyb xyb;ab ae;xb b;q q;ad ad;|?|11
 script||v 'a'>v 'aq'||xyb xb;ab a;xb b;q q;ad ad;|?|14
-script||v 'a'>v 'aq';define u v + 'y'¶>;define w>define u v + 'y'¶define w||xyb xb;ab a;xb b;q q;ad ad;|?|19
-script||v 'a'>v 'aq';define u v + 'y'¶>;define w>define u v + 'y'¶define w;define v>integers ( n )¶define v||xyb xb;ab a;xb b;q q;ad ad;|?|24
+script||v 'a'>v 'aq';define u v + 'y'>;define w>define u v + 'y' define w||xyb xb;ab a;xb b;q q;ad ad;|?|19
+script||v 'a'>v 'aq';define u v + 'y'>;define w>define u v + 'y' define w;define v>integers ( n ) define v||xyb xb;ab a;xb b;q q;ad ad;|?|24
 script||>define|48 Syntax|xyb xb;ab a;xb b;q q;ad ad;|?|24
 script||>externals ( other ) define other as next|48 NoExternal|xyb xb;ab a;xb b;q q;ad ad;|?|24
 script||>|48 NoExternal|xyb xb;ab a;xb b;q q;ad ad;|?|24

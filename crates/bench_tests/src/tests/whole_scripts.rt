@@ -61,9 +61,9 @@ fn installs_and_takes_back(
     bench: &mut Bench,
     external: &str,
     changes: &str,
-    want: [&str; 2],
+    want: (&str, &str),
 ) -> Result<(), Fail> {
-    let [after, back] = want;
+    let (after, back) = want;
     let text = script_of(alloc, changes)?;
     let mut script = Script::parse(alloc, text.as_bytes(), external)?;
     let installed = installs(rt, alloc, bench, &mut script, after);
@@ -78,16 +78,16 @@ fn installs_and_takes_back(
 fn installing_the_script_before_takes_an_edit_back(rt: HostRuntime) -> Result<(), Fail> {
     let alloc = rt.alloc();
     let mut bench = bench_of(alloc, FIRST, "xyb ab xb q ad")?;
-    let want = [
+    let want = (
         "xyb xyb;ab a;xb b;q ;ad ad; 7",
         "xyb xb;ab a;xb b;q ;ad ad; 9",
-    ];
+    );
     let changes = "( [ u ] delete )>( u )";
     let first = installs_and_takes_back(&rt, alloc, &mut bench, "stem", changes, want);
-    let want = [
+    let want = (
         "xyb xyb;ab ab;xb xb;q q;ad ad; 14",
         "xyb xb;ab a;xb b;q ;ad ad; 19",
-    ];
+    );
     let other = ">externals ( other ) define other as next";
     let second = installs_and_takes_back(&rt, alloc, &mut bench, "other", other, want);
     bench.leak();
