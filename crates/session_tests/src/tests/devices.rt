@@ -37,11 +37,11 @@ fn session(alloc: Global, most: u64, read: u64, write: u64) -> Result<Vec<u8>, F
     served(alloc, lines, Device::new(writer))
 }
 
-// The input has 106 bytes, and one more read finds its end.
+// The input has 103 bytes, and one more read finds its end.
 #[test]
 fn a_reader_may_fail_or_be_at_its_limit_at_each_read(rt: HostRuntime) -> Result<(), Fail> {
     let alloc = rt.alloc();
-    for bytes in 0..107u64 {
+    for bytes in 0..104u64 {
         let mut text = replies_to(alloc, bytes)?;
         text.extend_from_slice(b"!70 Read")?;
         assert!(rt; session(alloc, u64::MAX, bytes + 1, 0)? == text, "{bytes}");
@@ -53,7 +53,7 @@ fn a_reader_may_fail_or_be_at_its_limit_at_each_read(rt: HostRuntime) -> Result<
 #[test]
 fn a_writer_may_fail_after_each_of_its_bytes(rt: HostRuntime) -> Result<(), Fail> {
     let alloc = rt.alloc();
-    let replies = replies_to(alloc, 106)?;
+    let replies = replies_to(alloc, 103)?;
     for bytes in 0..replies.len() {
         let mut text = Vec::from_slice(alloc, &replies[..bytes])?;
         text.extend_from_slice(b"!71 Write")?;
@@ -62,6 +62,6 @@ fn a_writer_may_fail_after_each_of_its_bytes(rt: HostRuntime) -> Result<(), Fail
             "{bytes}"
         );
     }
-    assert!(rt; session(alloc, 107, 0, 0)? == replies);
+    assert!(rt; session(alloc, 104, 0, 0)? == replies);
     Ok(())
 }
