@@ -8,11 +8,17 @@ use std::process::Abort;
 use std::test::Fail;
 use test_scripts::{letters, print_values};
 
-fn table_of<S: AmongSearch>(alloc: Global, mode: Mode, strings: &[&str]) -> Result<S, AllocError> {
+/// The letters of each of these strings.
+fn letters_of(alloc: Global, strings: &[&str]) -> Result<Vec<Vec<char>>, AllocError> {
     let mut all = Vec::new(alloc);
     for string in strings {
         all.push(letters(alloc, string)?)?;
     }
+    Ok(all)
+}
+
+fn table_of<S: AmongSearch>(alloc: Global, mode: Mode, strings: &[&str]) -> Result<S, AllocError> {
+    let all = letters_of(alloc, strings)?;
     S::build(alloc, &all, mode)
 }
 
