@@ -1,9 +1,6 @@
 //! Public calls, each file by what it tries.
 
 mod bench;
-mod changes;
-mod characters;
+mod cases;
 mod edits;
-mod groupings;
-mod limits;
 mod whole_scripts;

@@ -124,6 +124,26 @@ pub fn outputs_within(
     Ok(text)
 }
 
+/// Returns the bytes of a text: one for each letter below 256, so `ÿ` is no UTF-8. A `¶` is a line feed, `ⅰ` is 255 times `a`, `ⅱ` 256 times,
+/// `ⅲ` 65,536 times, `ⅳ` 65,537 times, and `ⅴ` is 1,048,577 line feeds. Returns `AllocError` if an allocation fails.
+pub fn bytes_of(alloc: Global, text: &str) -> Result<Vec<u8>, AllocError> {
+    let mut bytes = Vec::new(alloc);
+    for letter in text.chars() {
+        let (count, byte) = match letter {
+            '¶' => (1, b'\n'),
+            'ⅰ' => (255, b'a'),
+            'ⅱ' => (256, b'a'),
+            'ⅲ' => (65_536, b'a'),
+            'ⅳ' => (65_537, b'a'),
+            'ⅴ' => (1_048_577, b'\n'),
+            _ => (1, u8::try_from(letter).unwrap_or(b'?')),
+        };
+        let length = bytes.len().saturating_add(count);
+        bytes.resize(length, byte)?;
+    }
+    Ok(bytes)
+}
+
 /// A source that gives the same bytes again and again, so that tests take the same keys in each run.
 pub struct SameBytes;
 

@@ -19,6 +19,16 @@ pub fn field(row: &str, number: usize) -> &str {
     ""
 }
 
+/// Returns the number in the field of a row with this number; 0 if there is none.
+pub fn number(row: &str, at: usize) -> u64 {
+    field(row, at).parse().unwrap_or(0)
+}
+
+/// Returns whether the field of a row with this number is this text, or `?`.
+pub fn fits(row: &str, at: usize, text: &str) -> bool {
+    field(row, at) == "?" || field(row, at) == text
+}
+
 /// Returns the rows of a text, each with its script. A line with `=` has the script of the rows after it. Returns `AllocError` if an
 /// allocation fails.
 pub fn with_scripts<'a>(
@@ -34,6 +44,24 @@ pub fn with_scripts<'a>(
         }
     }
     Ok(rows)
+}
+
+/// Returns the letters of a text. Returns `AllocError` if an allocation fails.
+pub fn letters(alloc: Global, text: &str) -> Result<Vec<char>, AllocError> {
+    let mut letters = Vec::new(alloc);
+    for letter in text.chars() {
+        letters.push(letter)?;
+    }
+    Ok(letters)
+}
+
+/// Returns the text of these letters. Returns `AllocError` if an allocation fails.
+pub fn text_of(alloc: Global, letters: &[char]) -> Result<String, AllocError> {
+    let mut text = String::new(alloc);
+    for letter in letters {
+        text.push(*letter)?;
+    }
+    Ok(text)
 }
 
 /// Returns the text with a line feed for each `¶`. Returns `AllocError` if an allocation fails.

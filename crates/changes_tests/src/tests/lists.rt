@@ -2,6 +2,7 @@
 
 use sbl_changes::{ChangeRow, FamilyRow, PairCounts, StemClass, WordOutcome, WordRow};
 use std::alloc::{AllocError, Global};
+use test_scripts::letters;
 
 /// A row with its own characters.
 #[derive(Drop)]
@@ -16,15 +17,15 @@ pub(crate) struct OwnRow {
 fn row_in(alloc: Global, text: &str) -> Result<OwnRow, AllocError> {
     if let Some((word, name)) = text.split_once('!') {
         return Ok(OwnRow {
-            word: word.chars().collect(alloc)?,
+            word: letters(alloc, word)?,
             stem: Vec::new(alloc),
             refusal: Some(String::from_str(alloc, name)?),
         });
     }
     let (word, stem) = text.split_once('=').unwrap_or((text, ""));
     Ok(OwnRow {
-        word: word.chars().collect(alloc)?,
-        stem: stem.chars().collect(alloc)?,
+        word: letters(alloc, word)?,
+        stem: letters(alloc, stem)?,
         refusal: None,
     })
 }
@@ -63,7 +64,7 @@ pub(crate) fn lists_in(alloc: Global, text: &str) -> Result<Vec<Vec<Vec<char>>>,
             lists.push(list)?;
             list = Vec::new(alloc);
         } else {
-            list.push(part.chars().collect(alloc)?)?;
+            list.push(letters(alloc, part)?)?;
         }
     }
     if !text.is_empty() {

@@ -13,7 +13,7 @@ use sbl_script::Script;
 use std::alloc::{AllocError, Global};
 use std::process::Abort;
 use std::test::Fail;
-use test_scripts::{PLURALS, field, with_line_feeds, with_scripts};
+use test_scripts::{PLURALS, field, letters, text_of, with_line_feeds, with_scripts};
 
 /// The machine of a script, with a search.
 pub(crate) fn machine_of<S: AmongSearch>(
@@ -34,65 +34,37 @@ fn machine_named<S: AmongSearch>(alloc: Global, text: &str) -> Result<Machine<S>
 }
 
 /// The word of a row, which is its first field.
-pub(crate) fn word_in(rt: &impl Abort, alloc: Global, row: &str) -> Result<Vec<char>, AllocError>
+fn word_in(rt: &impl Abort, alloc: Global, row: &str) -> Result<Vec<char>, AllocError>
     ensures { IfOk result (λ word. length word.items ≤ max_word_length) }
 {
-    let word: Vec<char> = field(row, 0).chars().collect(alloc)?;
+    let word = letters(alloc, field(row, 0))?;
     assert!(rt; word.len() <= 255);
     Ok(word)
-}
-
-/// The steps that the run of a row is given, which are its second field; 100,000 if the row is not about them.
-pub(crate) fn limit_in(row: &str) -> u32 {
-    field(row, 1).parse().unwrap_or(100_000)
 }
 
 /// A stem, or a fault after `!`.
 pub(crate) fn outcome_text(alloc: Global, outcome: &Outcome) -> Result<String, AllocError> {
     match outcome {
-        Outcome::Stem(stem) => stem.iter().collect(alloc),
+        Outcome::Stem(stem) => text_of(alloc, stem.as_slice()),
         Outcome::Refused(fault) => format!(in alloc; "!{fault}"),
     }
 }
 
-/// Asserts that a number is the last field of a row, if that is not empty.
-pub(crate) fn has_used(rt: &impl Abort, alloc: Global, used: u64, row: &str) -> Result<(), Fail> {
-    let used = format!(in alloc; "{used}")?;
-    assert!(rt;
-        field(row, 3).is_empty() || field(row, 3) == used.as_str(),
-        "{row}: {used}"
-    );
-    Ok(())
-}
-
-/// A row that is tried, and the machine of its script.
-#[derive(Drop)]
-pub(crate) struct Trial<'a, S> {
-    pub(crate) alloc: Global,
-    pub(crate) machine: &'a Machine<S>,
-    pub(crate) row: &'a str,
-}
-
-impl<'a, S> Trial<'a, S> {
-    /// The parts of the trial.
-    pub(crate) fn parts(&self) -> (Global, &'a Machine<S>, &'a str) {
-        (self.alloc, self.machine, self.row)
-    }
-}
-
-/// Makes the run of a row: the word, the limit of steps, what the run gives, and the steps that it uses.
-fn run_row<S: AmongSearch>(rt: &impl Abort, trial: Trial<'_, S>) -> Result<(), Fail> {
-    let (alloc, machine, row) = trial.parts();
-    let word = word_in(rt, alloc, row)?;
+/// Makes one run. Returns what it gives, and the steps that it uses.
+fn runs<S: AmongSearch>(
+    rt: &impl Abort,
+    alloc: Global,
+    machine: &Machine<S>,
+    word: &[char],
+    limit: u32,
+) -> Result<String, Fail>
+    requires { length word.now ≤ max_word_length }
+{
     let mut meter = Meter::new();
-    let ran = machine.run(alloc, &mut meter, &word, limit_in(row))?;
-    assert_eq!(rt;
-        outcome_text(alloc, &ran.outcome)?.as_str(),
-        field(row, 2),
-        "{row}"
-    );
-    assert_eq!(rt; meter.count(), 1);
-    has_used(rt, alloc, ran.used, row)
+    let ran = machine.run(alloc, &mut meter, word, limit)?;
+    assert!(rt; meter.count() == 1);
+    let (outcome, used) = (outcome_text(alloc, &ran.outcome)?, ran.used);
+    Ok(format!(in alloc; "{outcome}|{used};")?)
 }
 
 /// What is asked of a machine about each row.
@@ -101,6 +73,26 @@ pub(crate) enum Asked {
     Outcome,
     Items,
     Events,
+}
+
+/// Asks a machine about a row: the word, the limit of steps (empty: 100,000), and how the answer begins.
+fn ask_row<S: AmongSearch>(
+    rt: &impl Abort,
+    alloc: Global,
+    asked: Asked,
+    machine: &Machine<S>,
+    row: &str,
+) -> Result<(), Fail> {
+    let word = word_in(rt, alloc, row)?;
+    let limit = field(row, 1).parse().unwrap_or(100_000);
+    let answer = match asked {
+        Asked::Outcome => runs(rt, alloc, machine, &word, limit)?,
+        Asked::Items => touches(rt, alloc, machine, &word, limit)?,
+        Asked::Events => does(rt, alloc, machine, &word, limit)?,
+    };
+    let shown = format!(in alloc; "{}|{}|{answer}", field(row, 0), field(row, 1))?;
+    assert!(rt; shown.as_str().starts_with(row), "{row}: {shown}");
+    Ok(())
 }
 
 /// Asks machines, with a search, about rows. On no path is a machine dropped, whose destructors would be proved here again.
@@ -112,16 +104,7 @@ pub(crate) fn ask<S: AmongSearch>(
 ) -> Result<(), Fail> {
     for (script, row) in with_scripts(alloc, rows)? {
         let machine: Machine<S> = machine_named(alloc, script)?;
-        let trial = Trial {
-            alloc,
-            machine: &machine,
-            row,
-        };
-        let done = match asked {
-            Asked::Outcome => run_row(rt, trial),
-            Asked::Items => touches(rt, trial),
-            Asked::Events => does(rt, trial),
-        };
+        let done = ask_row(rt, alloc, asked, &machine, row);
         machine.discard();
         done?;
     }

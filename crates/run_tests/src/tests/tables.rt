@@ -6,13 +6,19 @@ use sbl_machine::{AmongSearch, LinkedTable, PlainTable, RunStop};
 use std::alloc::{AllocError, Global};
 use std::process::Abort;
 use std::test::Fail;
-use test_scripts::print_values;
+use test_scripts::{letters, print_values};
 
-fn table_of<S: AmongSearch>(alloc: Global, mode: Mode, strings: &[&str]) -> Result<S, AllocError> {
+/// The letters of each of these strings.
+fn letters_of(alloc: Global, strings: &[&str]) -> Result<Vec<Vec<char>>, AllocError> {
     let mut all = Vec::new(alloc);
     for string in strings {
-        all.push(string.chars().collect(alloc)?)?;
+        all.push(letters(alloc, string)?)?;
     }
+    Ok(all)
+}
+
+fn table_of<S: AmongSearch>(alloc: Global, mode: Mode, strings: &[&str]) -> Result<S, AllocError> {
+    let all = letters_of(alloc, strings)?;
     S::build(alloc, &all, mode)
 }
 

@@ -1,104 +1,59 @@
 //! What a run does, event by event, and what it leaves in the integer variables.
 
-use crate::tests::runs::{Asked, Trial, ask, limit_in, machine_of, outcome_text, word_in};
-use sbl_ast::Mode;
-use sbl_machine::{AmongSearch, Event, Machine, Meter, Outcome, Table};
+ghost use Rattle.std.specs.Prelude.{◌≤◌, length};
+ghost use Rattle.sbl_semantics.specs.Limit.{max_word_length};
+
+use crate::tests::runs::{Asked, ask, machine_of, outcome_text};
+use sbl_machine::{AmongSearch, Machine, Meter, Table};
 use sbl_script::Script;
-use std::alloc::{AllocError, Global};
+use std::alloc::Global;
 use std::process::Abort;
 use std::test::Fail;
-use test_scripts::field;
+use test_scripts::print_values;
 
-/// The events in order, a semicolon after each.
-fn text_of(alloc: Global, events: &[Event]) -> Result<String, AllocError> {
-    let mut text = String::new(alloc);
-    for event in events {
-        let part = match event {
-            Event::Enters(routine) => format!(in alloc; "in {routine};")?,
-            Event::Leaves(signal) => format!(in alloc; "out {signal};")?,
-            Event::Searches {
-                routine,
-                among,
-                mode: Mode::Forward,
-                cursor,
-            } => format!(in alloc; "{routine}.{among} from {cursor} on;")?,
-            Event::Searches {
-                routine,
-                among,
-                mode: Mode::Backward,
-                cursor,
-            } => format!(in alloc; "{routine}.{among} from {cursor} back;")?,
-            Event::Finds(among, Some(length)) => format!(in alloc; "{among} takes {length};")?,
-            Event::Finds(among, None) => format!(in alloc; "{among} takes none;")?,
-            Event::Puts(from, to, put) => format!(in alloc; "{from} to {to} {};", put.len())?,
-        };
-        text.push_str(part.as_str())?;
-    }
-    Ok(text)
+/// Returns what a run gives, the integers at its end or at its refusal, and its events. Asserts that the run without events is the same.
+pub(crate) fn does<S: AmongSearch>(
+    rt: &impl Abort,
+    alloc: Global,
+    machine: &Machine<S>,
+    word: &[char],
+    limit: u32,
+) -> Result<String, Fail>
+    requires { length word.now ≤ max_word_length }
+{
+    let why = machine.why(alloc, word, limit)?;
+    let ran = machine.run(alloc, &mut Meter::new(), word, limit)?;
+    assert!(rt; why.outcome == ran.outcome && why.used == ran.used);
+    let outcome = outcome_text(alloc, &ran.outcome)?;
+    let integers = print_values(alloc, &why.integers)?;
+    let events = &why.events;
+    Ok(format!(in alloc; "{outcome}|{integers}|{events:?}")?)
 }
 
-/// The integers with a blank between them.
-fn integers_text(alloc: Global, integers: &[i32]) -> Result<String, AllocError> {
-    let mut text = String::new(alloc);
-    for integer in integers {
-        if !text.is_empty() {
-            text.push(' ')?;
-        }
-        text.push_str(format!(in alloc; "{integer}")?.as_str())?;
-    }
-    Ok(text)
-}
-
-/// Holds what a run does, and that the run without events is the same. A row has the word, the limit of steps, the fault that refuses
-/// the run if one does, the integers at the end or at the refusal, and the events (empty: not asked).
-pub(crate) fn does<S: AmongSearch>(rt: &impl Abort, trial: Trial<'_, S>) -> Result<(), Fail> {
-    let (alloc, machine, row) = trial.parts();
-    let (word, limit) = (word_in(rt, alloc, row)?, limit_in(row));
-    let why = machine.why(alloc, &word, limit)?;
-    let fault = match &why.outcome {
-        Outcome::Stem(_) => String::new(alloc),
-        refused => outcome_text(alloc, refused)?,
-    };
-    assert_eq!(rt; fault.as_str(), field(row, 2), "{row}");
-    assert_eq!(rt;
-        integers_text(alloc, &why.integers)?.as_str(),
-        field(row, 3),
-        "{row}"
-    );
-    let events = text_of(alloc, &why.events)?;
-    assert!(rt;
-        field(row, 4).is_empty() || events.as_str() == field(row, 4),
-        "{row}: {events}"
-    );
-    let ran = machine.run(alloc, &mut Meter::new(), &word, limit)?;
-    assert_eq!(rt; &why.outcome, &ran.outcome, "{row}");
-    assert_eq!(rt; why.used, ran.used, "{row}");
-    Ok(())
-}
-
-/// Events are calls, searches and changes; a refused run leaves in the integers what it has set.
+/// A word, the limit of steps, the stem or the fault, the integers, and the events (empty: not asked). Events are calls, searches and
+/// changes; a refused run leaves in the integers what it has set.
 const ROWS: &str =
     "= externals ( stem ) routines ( c ) define c as 'x' define stem as ( [ among ( 'a' () 'ab' c () ) ] delete )
-abx|100|||in 1;1.0 from 0 on;in 0;out true;0 takes 2;0 to 2 0;out true;
-aby|100|||in 1;1.0 from 0 on;in 0;out false;0 takes 1;0 to 1 0;out true;
-b|100|||in 1;1.0 from 0 on;0 takes none;out false;
+abx|100|x||[Enters(1), Searches { routine: 1, among: 0, mode: Forward, cursor: 0 }, Enters(0), Leaves(true), Finds(0, Some(2)), Puts(0, 2, []), Leaves(true)]
+aby|100|by||[Enters(1), Searches { routine: 1, among: 0, mode: Forward, cursor: 0 }, Enters(0), Leaves(false), Finds(0, Some(1)), Puts(0, 1, []), Leaves(true)]
+b|100|b||[Enters(1), Searches { routine: 1, among: 0, mode: Forward, cursor: 0 }, Finds(0, None), Leaves(false)]
 = externals ( stem ) define stem as backwards ( [ substring ] among ( 's' ( delete ) 'ies' ( <- 'y' ) ) )
-cats|100|||in 0;0.0 from 4 back;0 takes 1;3 to 4 0;out true;
-parties|100|||in 0;0.0 from 7 back;0 takes 3;4 to 7 1;out true;
+cats|100|cat||[Enters(0), Searches { routine: 0, among: 0, mode: Backward, cursor: 4 }, Finds(0, Some(1)), Puts(3, 4, []), Leaves(true)]
+parties|100|party||[Enters(0), Searches { routine: 0, among: 0, mode: Backward, cursor: 7 }, Finds(0, Some(3)), Puts(4, 7, ['y']), Leaves(true)]
 = integers ( n m ) externals ( stem ) define stem as ( $n += 1 stem $m = 1 )
-ab|1000|!61 Depth|32 0|
+ab|1000|!61 Depth|32;0;|
 = integers ( n m ) externals ( stem ) define stem as ( $n = 7 $m = maxint $m += 1 $n = 9 )
-ab|1000|!64 Integer|7 2147483647|
+ab|1000|!64 Integer|7;2147483647;|
 = integers ( n m ) externals ( stem ) define stem as ( $n = -3 next ] setmark m tolimit [ delete $n = 9 )
-ab|1000|!62 Slice|-3 1|
+ab|1000|!62 Slice|-3;1;|
 = integers ( n m ) externals ( stem ) define stem as ( $m = 5 $n = m / 0 $m = 9 )
-ab|1000|!65 Divide|0 5|
+ab|1000|!65 Divide|0;5;|
 = integers ( n m ) externals ( stem ) define stem as repeat $n += 1
-ab|1000|!60 Steps|999 0|
+ab|1000|!60 Steps|999;0;|
 = integers ( n m ) externals ( stem ) define stem as ( $n = 4 next setmark m )
-ab|1000||4 1|
+ab|1000|ab|4;1;|
 = integers ( n m k ) externals ( stem ) define stem as ( $k = 2 $n = 1 )
-ab|1000||1 0 2|";
+ab|1000|ab|1;0;2;|";
 
 #[test]
 fn runs_do(rt: HostRuntime) -> Result<(), Fail> {
@@ -113,12 +68,8 @@ fn after_an_edit_the_integers_are_those_of_the_new_body(rt: HostRuntime) -> Resu
     let edited = script.with_routine(alloc, "stem", "( $m = 3 $n -= 1 )");
     script.discard();
     let machine: Machine<Table> = machine_of(alloc, edited?)?;
-    let trial = Trial {
-        alloc,
-        machine: &machine,
-        row: "ab|1000||-1 3 0|",
-    };
-    let done = does(&rt, trial);
+    let text = does(&rt, alloc, &machine, &['a', 'b'], 1_000);
     machine.discard();
-    done
+    assert!(rt; text?.as_str().starts_with("ab|-1;3;0;|"));
+    Ok(())
 }

@@ -6,7 +6,7 @@ use sbl_text::{
 };
 use std::alloc::{AllocError, Global};
 use std::test::Fail;
-use test_scripts::print_values;
+use test_scripts::{letters, print_values, text_of};
 
 /// A token as its kind, its first byte, the byte after it, and its value if it has one.
 fn token_text(alloc: Global, token: &Token<'_>) -> Result<String, AllocError> {
@@ -15,7 +15,7 @@ fn token_text(alloc: Global, token: &Token<'_>) -> Result<String, AllocError> {
         Value::None | Value::Inserts(..) => format!(in alloc; "{kind:?} {start} {end};"),
         Value::Number(n) => format!(in alloc; "{kind:?} {start} {end} {n};"),
         Value::Literal { spelling, value } => {
-            let value: String = value.iter().collect(alloc)?;
+            let value = text_of(alloc, value)?;
             format!(in alloc; "{kind:?} {start} {end} {spelling} {value};")
         }
     }
@@ -43,7 +43,7 @@ fn shown(alloc: Global, text: &str, asked: Asked) -> Result<String, AllocError> 
                 shown.push(' ')?;
             }
             (Asked::Tokens, _) => shown.push_str(token_text(alloc, token)?.as_str())?,
-            (Asked::Value, Value::Literal { value, .. }) => shown = value.iter().collect(alloc)?,
+            (Asked::Value, Value::Literal { value, .. }) => shown = text_of(alloc, value)?,
             (Asked::Value, _) => {}
         }
     }
@@ -209,9 +209,9 @@ fn words_and_signs_know_how_they_are_written(rt: HostRuntime) {
 }
 
 /// Returns these characters, or the fault.
-fn text_of(alloc: Global, made: Result<Vec<char>, ScriptFault>) -> Result<String, AllocError> {
+fn read_text(alloc: Global, made: Result<Vec<char>, ScriptFault>) -> Result<String, AllocError> {
     match made {
-        Ok(value) => value.iter().collect(alloc),
+        Ok(value) => text_of(alloc, &value),
         Err(fault) => format!(in alloc; "{fault}"),
     }
 }
@@ -242,7 +242,7 @@ fn a_literal_is_read_under_the_escapes_in_force(rt: HostRuntime) -> Result<(), F
     escapes.define("ss", &['\u{df}'])?;
     for (spelling, want) in LITERALS {
         let value = read_literal(alloc, &escapes, spelling);
-        assert_eq!(rt; text_of(alloc, value)?.as_str(), *want, "in {spelling:?}");
+        assert_eq!(rt; read_text(alloc, value)?.as_str(), *want, "in {spelling:?}");
     }
     let mut lexer = Lexer::with_escapes(alloc, "'{ss}'", &escapes)?;
     let want = "Literal 0 6 {ss} \u{df};none;";
@@ -262,9 +262,9 @@ const CODES: &[(bool, &str, &str)] = &[
 fn codes_are_read_in_their_base(rt: HostRuntime) -> Result<(), Fail> {
     let alloc = rt.alloc();
     for (is_hex, codes, want) in CODES {
-        let codes: Vec<char> = codes.chars().collect(alloc)?;
+        let codes = letters(alloc, codes)?;
         let value = read_codes(alloc, *is_hex, &codes);
-        assert_eq!(rt; text_of(alloc, value)?.as_str(), *want);
+        assert_eq!(rt; read_text(alloc, value)?.as_str(), *want);
     }
     Ok(())
 }

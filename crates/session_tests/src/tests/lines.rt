@@ -1,62 +1,64 @@
 //! Tests of the lines of a reader, and of its faults.
 
 use sbl_io::{Device, LineFault, Lines};
+use std::alloc::Global;
+use std::process::Abort;
 use std::test::Fail;
-use test_devices::in_pieces;
+use test_devices::{Pieces, bytes_of, in_pieces};
+use test_scripts::{field, number};
 
-#[test]
-fn lines_are_the_same_in_pieces_of_every_size(rt: HostRuntime) -> Result<(), Fail> {
-    for piece in 1..8usize {
-        let mut lines = Lines::new(
-            rt.alloc(),
-            Device::new(in_pieces(b"ab\r\n\ncd".as_slice(), piece, 0, 1)),
-        )?;
-        assert!(rt; lines.next_line() == Ok(true));
-        assert!(rt; lines.line() == b"ab".as_slice());
-        assert!(rt; lines.next_line() == Ok(true));
-        assert!(rt; lines.line() == b"".as_slice());
-        assert!(rt; lines.next_line() == Ok(true));
-        assert!(rt; lines.line() == b"cd".as_slice());
-        assert!(rt; lines.next_line() == Ok(false));
+/// An input in the letters of `bytes_of`; the bytes of a read, the read that fails, counted from 1 (empty: none), and the interruptions before
+/// each read; and the first four answers: a line and `;`, `.` at the end, `!` for a fault of the reader, `?` for a line that is too long. Lines
+/// are the same in pieces of every size; a fault is answered again; a thousand interruptions in a row are allowed, and no more; a line
+/// has at most 65,536 bytes.
+const ROWS: &str = "ab\r¶¶cd|1||1|ab;;cd;.
+ab\r¶¶cd|2||1|ab;;cd;.
+ab\r¶¶cd|3||1|ab;;cd;.
+ab\r¶¶cd|4||1|ab;;cd;.
+ab\r¶¶cd|5||1|ab;;cd;.
+ab\r¶¶cd|6||1|ab;;cd;.
+ab\r¶¶cd|7||1|ab;;cd;.
+ab¶cd¶|1|5||ab;!!!
+ab|2||1000|ab;...
+ab|2||1001|!!!!
+ⅲ\r¶|65536|||ⅲ;...
+ⅳ|65536|||????";
+
+/// Returns the first four answers of a reader's lines.
+fn answers(alloc: Global, reader: Device<Pieces<&[u8]>>) -> Result<Vec<u8>, Fail> {
+    let mut lines = Lines::new(alloc, reader)?;
+    let mut text = Vec::new(alloc);
+    for _ in 0..4 {
+        let answer = lines.next_line();
+        if answer == Ok(true) {
+            text.extend_from_slice(lines.line())?;
+        }
+        text.push(match answer {
+            Ok(true) => b';',
+            Ok(false) => b'.',
+            Err(LineFault::Read) => b'!',
+            Err(LineFault::TooLong) => b'?',
+        })?;
     }
+    Ok(text)
+}
+
+/// Asserts the answers of a row.
+fn gives_lines(rt: &impl Abort, alloc: Global, row: &str) -> Result<(), Fail> {
+    let input = bytes_of(alloc, field(row, 0))?;
+    let piece = number(row, 1) as usize;
+    assert!(rt; 0 < piece);
+    let reader = in_pieces(input.as_slice(), piece, number(row, 2), number(row, 3));
+    let text = answers(alloc, Device::new(reader))?;
+    let want = bytes_of(alloc, field(row, 4))?;
+    assert!(rt; text == want, "{row}");
     Ok(())
 }
 
 #[test]
-fn a_read_fault_is_answered_again(rt: HostRuntime) -> Result<(), Fail> {
-    // Reads 1 to 3 return `a`, `b` and the line feed; read 5 fails.
-    let mut lines = Lines::new(
-        rt.alloc(),
-        Device::new(in_pieces(b"ab\ncd\n".as_slice(), 1, 5, 0)),
-    )?;
-    assert!(rt; lines.next_line() == Ok(true));
-    assert!(rt; lines.next_line() == Err(LineFault::Read));
-    assert!(rt; lines.next_line() == Err(LineFault::Read));
-    // A thousand interruptions in a row are allowed, and no more.
-    let mut patient = Lines::new(
-        rt.alloc(),
-        Device::new(in_pieces(b"ab".as_slice(), 2, 0, 1000)),
-    )?;
-    assert!(rt; patient.next_line() == Ok(true));
-    let mut weary = Lines::new(
-        rt.alloc(),
-        Device::new(in_pieces(b"ab".as_slice(), 2, 0, 1001)),
-    )?;
-    assert!(rt; weary.next_line() == Err(LineFault::Read));
-    Ok(())
-}
-
-#[test]
-fn a_line_has_at_most_65536_bytes(rt: HostRuntime) -> Result<(), Fail> {
-    let mut text = vec![in rt.alloc(); b'a'; 65_536]?;
-    text.push(b'\r')?;
-    text.push(b'\n')?;
-    let mut longest = Lines::new(rt.alloc(), Device::new(text.as_slice()))?;
-    assert!(rt; longest.next_line() == Ok(true));
-    assert!(rt; longest.line().len() == 65_536);
-    let beyond = vec![in rt.alloc(); b'a'; 65_537]?;
-    let mut lines = Lines::new(rt.alloc(), Device::new(beyond.as_slice()))?;
-    assert!(rt; lines.next_line() == Err(LineFault::TooLong));
-    assert!(rt; lines.next_line() == Err(LineFault::TooLong));
+fn lines_end_or_have_a_fault(rt: HostRuntime) -> Result<(), Fail> {
+    for row in ROWS.split('\n') {
+        gives_lines(&rt, rt.alloc(), row)?;
+    }
     Ok(())
 }

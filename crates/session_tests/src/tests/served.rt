@@ -6,20 +6,14 @@ use sbl_sessions::serve;
 use std::alloc::Global;
 use std::hash::RandomState;
 use std::test::Fail;
-use test_devices::{Pieces, SameBytes, WriteLog};
+use test_devices::{Pieces, SameBytes};
 
-/// A script that deletes a first `un` or `re`.
-pub(crate) const UN: &[u8] =
-    b"externals ( stem )\ndefine stem as ( [ among ( 'un' () 're' () ) ] delete )\n.\n";
-
-/// What a session wrote, and how it ended.
-pub(crate) type Ended = WriteLog<Result<(), LoadFault>>;
-
-/// Runs the session of these lines.
+/// Runs a session. Returns what it writes, and after it `!` and the fault that ends it, if there is one.
 pub(crate) fn served(
+    alloc: Global,
     mut lines: Lines<Device<Pieces<&[u8]>>>,
     mut writer: Device<Pieces<Vec<u8>>>,
-) -> Result<Ended, Fail> {
+) -> Result<Vec<u8>, Fail> {
     let keys = RandomState::new(&SameBytes)?;
     let ending = match load(&mut lines, keys, "stem") {
         Ok(mut bench) => {
@@ -29,17 +23,9 @@ pub(crate) fn served(
         }
         Err(fault) => Err(fault),
     };
-    Ok(WriteLog {
-        text: writer.into_inner().inner,
-        ending,
-    })
-}
-
-/// Returns the parts one after another.
-pub(crate) fn joined(alloc: Global, parts: &[&[u8]]) -> Result<Vec<u8>, Fail> {
-    let mut text = Vec::new(alloc);
-    for part in parts {
-        text.extend_from_slice(part)?;
+    let mut text = writer.into_inner().inner;
+    if let Err(fault) = ending {
+        text.extend_from_slice(format!(in alloc; "!{fault}")?.as_bytes())?;
     }
     Ok(text)
 }
