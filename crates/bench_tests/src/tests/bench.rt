@@ -1,5 +1,6 @@
 //! The words of a bench: refusals, and refused growths. What else is answered stands in tests/cases.
 
+use crate::tests::characters::{text_of, word_of};
 use sbl_bench::EditFault::{
     Absent, AmongCount, BadLimit, EmptyWord, Full, MeterFull, NoAmong, NoGrouping, NoRoutine,
     OutOfMemory, Present, WordTooLong,
@@ -12,13 +13,13 @@ use std::hash::RandomState;
 use std::process::Abort;
 use std::test::Fail;
 use test_devices::SameBytes;
-use test_scripts::{PREFIXES, letters, print_values, text_of};
+use test_scripts::{PREFIXES, print_values};
 
-/// A bench over this script and these words, which have a blank between them.
-pub(crate) fn bench_of(alloc: Global, script: &str, words: &str) -> Result<Bench, Fail> {
+/// A bench over this script and these words.
+pub(crate) fn bench_of(alloc: Global, script: &str, words: &[&str]) -> Result<Bench, Fail> {
     let mut list = Vec::new(alloc);
-    for word in words.split(' ') {
-        list.push(letters(alloc, word)?)?;
+    for &word in words {
+        list.push(word_of(alloc, word)?)?;
     }
     let keys = RandomState::new(&SameBytes)?;
     // The script comes last: on no path is a script or a bench dropped, whose destructors would be proved here again.
@@ -51,28 +52,32 @@ pub(crate) fn rows_shown(alloc: Global, bench: &Bench) -> Result<String, Fail> {
 
 #[test]
 fn words_that_are_refused_change_nothing(rt: HostRuntime) -> Result<(), Fail> {
-    let mut bench = bench_of(rt.alloc(), PREFIXES, "undo")?;
-    assert!(rt; bench.add(&[]) == Err(EmptyWord));
-    assert!(rt; bench.add(&['a'; 256]) == Err(WordTooLong));
-    assert!(rt; bench.add(&['u', 'n', 'd', 'o']) == Err(Present));
-    assert!(rt; bench.len() == 1 && bench.runs() == 1);
-    assert!(rt; bench.add(&['a'; 255]) == Ok(()));
-    assert!(rt; bench.runs() == 2);
+    let mut bench = bench_of(rt.alloc(), PREFIXES, &["undo"])?;
+    assert_eq!(rt; bench.add(&[]), Err(EditFault::EmptyWord));
+    assert_eq!(rt; bench.add(&['a'; 256]), Err(EditFault::WordTooLong));
+    assert_eq!(rt; bench.add(&['u', 'n', 'd', 'o']), Err(EditFault::Present));
+    assert_eq!(rt; bench.len(), 1);
+    assert_eq!(rt; bench.runs(), 1);
+    assert_eq!(rt; bench.add(&['a'; 255]), Ok(()));
+    assert_eq!(rt; bench.runs(), 2);
     bench.leak();
     Ok(())
 }
 
 #[test]
 fn why_takes_any_word_that_fits(rt: HostRuntime) -> Result<(), Fail> {
-    let bench = bench_of(rt.alloc(), PREFIXES, "undo")?;
-    assert!(rt; bench.why(&[]) == Err(EmptyWord));
-    assert!(rt; bench.why(&['a'; 256]) == Err(WordTooLong));
+    let bench = bench_of(rt.alloc(), PREFIXES, &["undo"])?;
+    assert_eq!(rt; bench.why(&[]), Err(EditFault::EmptyWord));
+    assert_eq!(rt; bench.why(&['a'; 256]), Err(EditFault::WordTooLong));
     let why = bench.why(&['a'; 255]);
-    assert!(rt; bench.routine_name(0) == "stem" && bench.routine_name(1) == "");
-    assert!(rt; bench.runs() == 1);
+    assert_eq!(rt; bench.routine_name(0), "stem");
+    assert_eq!(rt; bench.routine_name(1), "");
+    assert_eq!(rt; bench.runs(), 1);
     bench.leak();
-    let stem = Vec::from_slice(rt.alloc(), &['a'; 255])?;
-    assert!(rt; why?.outcome == Outcome::Stem(stem));
+    assert_eq!(rt;
+        why?.outcome,
+        Outcome::Stem(Vec::from_slice(rt.alloc(), &['a'; 255])?)
+    );
     Ok(())
 }
 
@@ -80,12 +85,12 @@ fn why_takes_any_word_that_fits(rt: HostRuntime) -> Result<(), Fail> {
 fn takes_a_word(rt: &(impl Abort + Print), bench: &mut Bench) -> Result<(), Fail> {
     if let Err(fault) = bench.add(&['r', 'e', 'd', 'o']) {
         println!(rt; "redo was refused")?;
-        assert!(rt; fault == OutOfMemory);
-        assert!(rt; bench.len() == 0);
+        assert_eq!(rt; fault, EditFault::OutOfMemory);
+        assert_eq!(rt; bench.len(), 0);
         assert!(rt; bench.runs() <= 1);
-        assert!(rt; bench.add(&['r', 'e', 'd', 'o']) == Ok(()));
+        assert_eq!(rt; bench.add(&['r', 'e', 'd', 'o']), Ok(()));
     }
-    assert!(rt; bench.len() == 1);
+    assert_eq!(rt; bench.len(), 1);
     assert!(rt; bench.runs() <= 2);
     Ok(())
 }
@@ -109,24 +114,16 @@ fn a_refused_growth_changes_nothing(rt: HostRuntime) -> Result<(), Fail> {
 
 #[test]
 fn faults_are_printed_with_their_numbers(rt: HostRuntime) -> Result<(), Fail> {
-    let faults = [
-        Present,
-        Absent,
-        EmptyWord,
-        WordTooLong,
-        Full,
-        NoRoutine,
-        NoAmong,
-        AmongCount,
-        NoGrouping,
-        BadLimit,
-        EditFault::Script(ScriptFault::Undeclared { item: 2 }),
-        EditFault::Script(ScriptFault::NoExternal),
-        OutOfMemory,
-        MeterFull,
-    ];
-    let want =
-        "40 Present;41 Absent;42 EmptyWord;43 WordTooLong;44 Full;45 NoRoutine;46 NoAmong;47 AmongCount;53 NoGrouping;51 BadLimit;48 Undeclared;48 NoExternal;49 OutOfMemory;50 MeterFull;";
-    assert!(rt; print_values(rt.alloc(), &faults)?.as_str() == want);
+    let words = [Present, Absent, EmptyWord, WordTooLong, Full];
+    let want = "40 Present;41 Absent;42 EmptyWord;43 WordTooLong;44 Full;";
+    assert_eq!(rt; print_values(rt.alloc(), &words)?.as_str(), want);
+    let edits = [NoRoutine, NoAmong, AmongCount, NoGrouping, BadLimit];
+    let want = "45 NoRoutine;46 NoAmong;47 AmongCount;53 NoGrouping;51 BadLimit;";
+    assert_eq!(rt; print_values(rt.alloc(), &edits)?.as_str(), want);
+    let undeclared = EditFault::Script(ScriptFault::Undeclared { item: 2 });
+    let no_external = EditFault::Script(ScriptFault::NoExternal);
+    let others = [undeclared, no_external, OutOfMemory, MeterFull];
+    let want = "48 Undeclared;48 NoExternal;49 OutOfMemory;50 MeterFull;";
+    assert_eq!(rt; print_values(rt.alloc(), &others)?.as_str(), want);
     Ok(())
 }

@@ -1,29 +1,46 @@
 //! Edits of a bench, with the rows, the changes and the count of runs after each. Sessions of edits are in tests/cases.
 
 use crate::tests::bench::{bench_of, rows_shown, shown};
-use crate::tests::cases::CASES;
-use crate::tests::whole_scripts::{FIRST, script_of};
-use sbl_bench::{Bench, EditFault, Row};
+use crate::tests::changes::CHANGES;
+use crate::tests::characters::word_of;
+use crate::tests::groupings::GROUPINGS;
+use crate::tests::limits::LIMITS;
+use sbl_bench::{Bench, EditFault, Row as BenchRow};
 use std::alloc::Global;
 use std::process::Abort;
 use std::test::Fail;
-use test_devices::bytes_of;
-use test_scripts::{PLURALS, field, fits, letters, number};
 
-/// Makes the edit of a row: what is edited, its word, name or number, and the new text.
-fn edit(alloc: Global, bench: &mut Bench, row: &str) -> Result<Result<(), EditFault>, Fail> {
-    let (name, text) = (field(row, 1), field(row, 2));
-    Ok(match field(row, 0) {
-        "add" => bench.add(letters(alloc, name)?.as_slice()),
-        "remove" => bench.remove(letters(alloc, name)?.as_slice()),
-        "routine" => bench.replace_routine(name, text),
-        "first among" => bench.replace_among(name, 1, text),
-        "grouping" => bench.replace_grouping(name, text),
-        "limit" => bench.set_limit(number(row, 1)),
-        _ => {
-            let script = script_of(alloc, text)?;
-            bench.replace_script(bytes_of(alloc, script.as_str())?.as_slice())
-        }
+/// An edit of a bench.
+#[derive(Clone, Copy, Debug)]
+pub(crate) enum Edit<'a> {
+    Add(&'a str),
+    Remove(&'a str),
+    Body(&'a str, &'a str),
+    Among(&'a str, u64, &'a str),
+    Terms(&'a str, &'a str),
+    Whole(&'a str),
+    Limit(u64),
+}
+
+/// What no row has: it is not asked.
+pub(crate) const ANY: &str = "?";
+
+/// An edit, why it is refused (empty if it is accepted), the rows and the changes after it, and the count of runs (0: not asked).
+pub(crate) type Row<'a> = (Edit<'a>, &'a str, &'a str, &'a str, u64);
+
+/// A script, words, and edits one after another.
+pub(crate) type Case<'a> = (&'a str, &'a [&'a str], &'a [Row<'a>]);
+
+/// Makes an edit.
+fn made(alloc: Global, bench: &mut Bench, edit: &Edit) -> Result<Result<(), EditFault>, Fail> {
+    Ok(match edit {
+        Edit::Add(word) => bench.add(word_of(alloc, word)?.as_slice()),
+        Edit::Remove(word) => bench.remove(word_of(alloc, word)?.as_slice()),
+        Edit::Body(name, text) => bench.replace_routine(name, text),
+        Edit::Among(name, k, text) => bench.replace_among(name, *k, text),
+        Edit::Terms(name, text) => bench.replace_grouping(name, text),
+        Edit::Whole(text) => bench.replace_script(text.as_bytes()),
+        Edit::Limit(limit) => bench.set_limit(*limit),
     })
 }
 
@@ -33,7 +50,7 @@ fn changes_shown(alloc: Global, bench: &Bench) -> Result<String, Fail> {
     let changes = bench.changes()?;
     for change in &changes {
         for outcome in [change.before, change.after] {
-            let row = Row {
+            let row = BenchRow {
                 word: change.word,
                 outcome,
             };
@@ -44,54 +61,53 @@ fn changes_shown(alloc: Global, bench: &Bench) -> Result<String, Fail> {
     Ok(text)
 }
 
-/// Makes the edit of a row, and asserts what it gives.
-fn edits_one(rt: &impl Abort, alloc: Global, bench: &mut Bench, row: &str) -> Result<(), Fail> {
-    let fault = match edit(alloc, bench, row)? {
+/// Makes one edit, and asserts what it gives.
+fn edits_one(rt: &impl Abort, alloc: Global, bench: &mut Bench, row: &Row) -> Result<(), Fail> {
+    let (edit, want, rows, changes, runs) = row;
+    let answer = match made(alloc, bench, edit)? {
         Ok(()) => String::new(alloc),
         Err(fault) => format!(in alloc; "{fault}")?,
     };
-    assert!(rt; fits(row, 3, &fault), "{row}: {fault}");
-    let rows = rows_shown(alloc, bench)?;
-    assert!(rt; fits(row, 4, &rows), "{row}: {rows}");
-    let changes = changes_shown(alloc, bench)?;
-    assert!(rt; fits(row, 5, &changes), "{row}: {changes}");
+    assert_eq!(rt; answer.as_str(), *want, "{edit:?}");
+    let shown = rows_shown(alloc, bench)?;
     assert!(rt;
-        number(row, 6) == 0 || number(row, 6) == bench.runs(),
-        "{row}"
+        *rows == ANY || shown.as_str() == *rows,
+        "{edit:?}: {shown}"
     );
-    let limit = u64::from(bench.limit());
-    assert!(rt; number(row, 7) == 0 || number(row, 7) == limit, "{row}");
+    let shown = changes_shown(alloc, bench)?;
+    assert!(rt;
+        *changes == ANY || shown.as_str() == *changes,
+        "{edit:?}: {shown}"
+    );
+    assert!(rt; *runs == 0 || bench.runs() == *runs, "{edit:?}");
     Ok(())
 }
 
 /// Makes one edit after another, in a bench that was just opened: it has no changes.
-fn edits(rt: &impl Abort, alloc: Global, bench: &mut Bench, rows: &str) -> Result<(), Fail> {
-    assert!(rt; bench.changes()?.is_empty());
-    for row in rows.split('\n') {
+fn edits(rt: &impl Abort, alloc: Global, bench: &mut Bench, rows: &[Row]) -> Result<(), Fail> {
+    assert_eq!(rt; changes_shown(alloc, bench)?.as_str(), "");
+    for row in rows {
         edits_one(rt, alloc, bench, row)?;
     }
     Ok(())
 }
 
-/// Tries the edits of a case: a line with its script, one with its words, and the rows.
-fn tries(rt: &impl Abort, alloc: Global, case: &str) -> Result<(), Fail> {
-    let (script, case) = case.split_once('\n').unwrap_or((case, ""));
-    let (words, rows) = case.split_once('\n').unwrap_or((case, ""));
-    let script = match script {
-        "PLURALS" => PLURALS,
-        "FIRST" => FIRST,
-        text => text,
-    };
-    let mut bench = bench_of(alloc, script, words)?;
-    let done = edits(rt, alloc, &mut bench, rows);
+/// Tries edits on a bench over a script and words, and returns the limit at their end.
+pub(crate) fn tries(rt: &impl Abort, alloc: Global, case: &Case) -> Result<u32, Fail> {
+    let mut bench = bench_of(alloc, case.0, case.1)?;
+    let done = edits(rt, alloc, &mut bench, case.2);
+    let limit = bench.limit();
     bench.leak();
-    done
+    done?;
+    Ok(limit)
 }
 
 #[test]
 fn edits_give_their_rows_changes_and_runs(rt: HostRuntime) -> Result<(), Fail> {
-    for case in CASES.split('~') {
-        tries(&rt, rt.alloc(), case)?;
+    for cases in [CHANGES, GROUPINGS, LIMITS] {
+        for case in cases {
+            tries(&rt, rt.alloc(), case)?;
+        }
     }
     Ok(())
 }

@@ -1,15 +1,21 @@
-//! Whole scripts, told by their differences, and scripts that are installed and taken back.
+//! Whole scripts as edits, with the rows and the count of runs after each.
 
 use crate::tests::bench::{bench_of, rows_shown};
+use crate::tests::edits::{ANY, Edit, tries};
 use sbl_bench::Bench;
 use sbl_script::Script;
 use std::alloc::{AllocError, Global};
 use std::process::Abort;
 use std::test::Fail;
 
+const WORDS: &[&str] = &["xyb", "ab", "xb", "q", "ad"];
+
+/// The rows of these words under `FIRST`.
+const ROWS: &str = "xyb xb;ab a;xb b;q ;ad ad;";
+
 /// Two groupings are built from `v`. `xyb` tests `u`, `xb` tests `u` and `w`, `q` tests `w`, and `ab` and `ad` test none of them.
 /// `ab` and `ad` enter `tail`, and only `ab` searches its among.
-pub(crate) const FIRST: &str = "groupings ( v w u )
+const FIRST: &str = "groupings ( v w u )
 routines ( head tail )
 externals ( stem )
 define v 'a'
@@ -20,77 +26,124 @@ define tail as ( 'd' or ( [ among ( 'b' () 'c' () ) ] delete ) )
 define stem as ( 'x' head ) or ( 'a' tail ) or ( [ non w ] delete )
 ";
 
-/// Returns the text with `new` in place of the first `old`; all of the text is replaced if `old` is empty.
+/// The first script in another layout, with comments.
+const LAID_OUT: &str = "// the groupings
+groupings(v w u)routines(head tail)externals(stem)
+define v'a' /* and */ define w v+'b'
+define u v+'y' define head as([u]delete)
+define tail as('d'or([among('b'()'c'())]delete))
+define stem as('x'head)or('a'tail)or([non w]delete)";
+
+const OTHER_EXTERNAL: &str = "externals ( other ) define other as next";
+
+/// Returns the text with `new` in place of the first `old`.
 fn changed(alloc: Global, text: &str, old: &str, new: &str) -> Result<String, AllocError> {
-    if old.is_empty() {
-        return String::from_str(alloc, new);
-    }
     let (front, back) = text.split_once(old).unwrap_or(("", ""));
     format!(in alloc; "{front}{new}{back}")
 }
 
-/// Returns the first script with these changes, `OLD>NEW` with a `;` between them.
-pub(crate) fn script_of(alloc: Global, changes: &str) -> Result<String, AllocError> {
-    let mut text = String::from_str(alloc, FIRST)?;
-    for change in changes.split(';') {
-        let (old, new) = change.split_once('>').unwrap_or(("", FIRST));
-        text = changed(alloc, text.as_str(), old, new)?;
-    }
-    Ok(text)
+/// Returns the first script with a `head` that takes nothing off.
+fn other_routine(alloc: Global) -> Result<String, AllocError> {
+    changed(alloc, FIRST, "( [ u ] delete )", "( u )")
 }
 
-/// Installs a script, with the rows and the count of runs after it.
+// The first two scripts run nothing, the next four what met the items that differ, then two run all, and three are refused.
+#[test]
+fn a_whole_script_runs_what_met_the_items_that_differ(rt: HostRuntime) -> Result<(), Fail> {
+    let alloc = rt.alloc();
+    // Each script but the last is the one before with one more difference: in a routine, in the among of `tail`, in a grouping; the
+    // first two are taken back; two groupings are exchanged; an integer is declared.
+    let routine = other_routine(alloc)?;
+    let among = changed(alloc, &routine, "'b' ()", "'b' ( attach 'e' )")?;
+    let grouping = changed(alloc, &among, "v 'a'", "v 'aq'")?;
+    let two_items = changed(alloc, FIRST, "v 'a'", "v 'aq'")?;
+    let moved = changed(alloc, &two_items, "define u v + 'y'\n", "")?;
+    let moved = changed(alloc, &moved, "define w", "define u v + 'y'\ndefine w")?;
+    let declared = changed(alloc, &moved, "define v", "integers ( n )\ndefine v")?;
+    let after = "xyb xb;ab a;xb b;q q;ad ad;";
+    let rows: [(&str, &str, &str, u64); 12] = [
+        (FIRST, "", ROWS, 5),
+        (LAID_OUT, "", ROWS, 5),
+        (&routine, "", "xyb xyb;ab a;xb b;q ;ad ad;", 7),
+        (&among, "", "xyb xyb;ab ae;xb b;q ;ad ad;", 8),
+        (&grouping, "", "xyb xyb;ab ae;xb b;q q;ad ad;", 11),
+        (&two_items, "", after, 14),
+        (&moved, "", after, 19),
+        (&declared, "", after, 24),
+        ("define", "48 Syntax", after, 24),
+        (OTHER_EXTERNAL, "48 NoExternal", after, 24),
+        ("", "48 NoExternal", after, 24),
+        (FIRST, "", ROWS, 29),
+    ];
+    let mut edits = Vec::new(alloc);
+    for (text, want, rows, runs) in rows {
+        edits.push((Edit::Whole(text), want, rows, ANY, runs))?;
+    }
+    tries(&rt, alloc, &(FIRST, WORDS, &edits))?;
+    Ok(())
+}
+
+// The longest script has 1,048,576 bytes.
+#[test]
+fn a_script_that_is_too_long_changes_nothing(rt: HostRuntime) -> Result<(), Fail> {
+    let alloc = rt.alloc();
+    let mut text = String::new(alloc);
+    for _ in 0..1_048_577 {
+        text.push(' ')?;
+    }
+    let edit = Edit::Whole(text.as_str());
+    let row = (edit, "48 ScriptTooLong", ROWS, ANY, 5);
+    tries(&rt, alloc, &(FIRST, WORDS, &[row]))?;
+    Ok(())
+}
+
+/// Installs a script, and then the one that was in force, with the rows and the count of runs after each.
 fn installs(
     rt: &impl Abort,
     alloc: Global,
     bench: &mut Bench,
     script: &mut Script,
-    want: &str,
+    rows: [(&str, u64); 2],
 ) -> Result<(), Fail> {
-    assert!(rt; bench.install(script) == Ok(()));
-    let (rows, runs) = (rows_shown(alloc, bench)?, bench.runs());
-    let shown = format!(in alloc; "{rows} {runs}")?;
-    assert!(rt; shown.as_str() == want, "{shown}");
+    for (want, runs) in rows {
+        assert_eq!(rt; bench.install(script), Ok(()));
+        let shown = rows_shown(alloc, bench)?;
+        assert_eq!(rt; shown.as_str(), want);
+        assert_eq!(rt; bench.runs(), runs);
+    }
     Ok(())
 }
 
-/// Installs a script, and then the one that was in force.
-fn installs_and_takes_back(
-    rt: &impl Abort,
-    alloc: Global,
-    bench: &mut Bench,
-    external: &str,
-    changes: &str,
-    want: (&str, &str),
-) -> Result<(), Fail> {
-    let (after, back) = want;
-    let text = script_of(alloc, changes)?;
-    let mut script = Script::parse(alloc, text.as_bytes(), external)?;
-    let installed = installs(rt, alloc, bench, &mut script, after);
-    let taken_back = installs(rt, alloc, bench, &mut script, back);
+/// Installs an edited script and takes it back. The two words run that enter the routine which differs.
+fn installs_an_edited_one(rt: &impl Abort, alloc: Global, bench: &mut Bench) -> Result<(), Fail> {
+    let rows = [("xyb xyb;ab a;xb b;q ;ad ad;", 7), (ROWS, 9)];
+    let text = other_routine(alloc)?;
+    let mut script = Script::parse(alloc, text.as_bytes(), "stem")?;
+    let done = installs(rt, alloc, bench, &mut script, rows);
     script.discard();
-    installed?;
-    taken_back
+    done
 }
 
-// The two words run that enter the routine which differs; with another external all words run.
+/// Installs a script with another external and takes it back. All words run.
+fn installs_another(rt: &impl Abort, alloc: Global, bench: &mut Bench) -> Result<(), Fail> {
+    let rows = [("xyb xyb;ab ab;xb xb;q q;ad ad;", 14), (ROWS, 19)];
+    let mut script = Script::parse(alloc, OTHER_EXTERNAL.as_bytes(), "other")?;
+    let done = installs(rt, alloc, bench, &mut script, rows);
+    script.discard();
+    done
+}
+
+/// Does both in turn.
+fn installs_both(rt: &impl Abort, alloc: Global, bench: &mut Bench) -> Result<(), Fail> {
+    installs_an_edited_one(rt, alloc, bench)?;
+    installs_another(rt, alloc, bench)
+}
+
 #[test]
 fn installing_the_script_before_takes_an_edit_back(rt: HostRuntime) -> Result<(), Fail> {
     let alloc = rt.alloc();
-    let mut bench = bench_of(alloc, FIRST, "xyb ab xb q ad")?;
-    let want = (
-        "xyb xyb;ab a;xb b;q ;ad ad; 7",
-        "xyb xb;ab a;xb b;q ;ad ad; 9",
-    );
-    let changes = "( [ u ] delete )>( u )";
-    let first = installs_and_takes_back(&rt, alloc, &mut bench, "stem", changes, want);
-    let want = (
-        "xyb xyb;ab ab;xb xb;q q;ad ad; 14",
-        "xyb xb;ab a;xb b;q ;ad ad; 19",
-    );
-    let other = ">externals ( other ) define other as next";
-    let second = installs_and_takes_back(&rt, alloc, &mut bench, "other", other, want);
+    let mut bench = bench_of(alloc, FIRST, WORDS)?;
+    let done = installs_both(&rt, alloc, &mut bench);
     bench.leak();
-    first?;
-    second
+    done
 }
