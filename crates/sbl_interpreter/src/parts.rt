@@ -2,10 +2,12 @@
 
 ghost use Rattle.std.specs.Prelude.{◌≡◌, IfSome, Some, slice_get};
 ghost use Rattle.sbl_interpreter.specs.Rows.{is_settled};
+ghost use Rattle.sbl_program.specs.declared.action.Action.TheVariants.{Match};
+ghost use Rattle.sbl_program.specs.declared.action.StringTerm.TheVariants.{Literal};
 ghost use Rattle.sbl_program.specs.declared.node.Node.TheVariants.{Act};
 
 use sbl_ast::Joiner;
-use sbl_program::{Action, Node};
+use sbl_program::{Action, Node, StringTerm};
 
 /// Returns whether the signal decides the row so far, whatever the next command does.
 #[inline(always)]
@@ -26,5 +28,27 @@ pub fn first_action(commands: &[Node]) -> Option<&Action>
     match commands.first() {
         Some(Node::Act(action)) => Some(action),
         _ => None,
+    }
+}
+
+/// Returns the literal with which some commands begin, if they do.
+#[inline(always)]
+pub fn first_literal(commands: &[Node]) -> Option<&Vec<char>>
+    ensures { IfSome result (λ string. slice_get commands.now 0 ≡ Some (Act (Match (Literal string.now)))) }
+{
+    match first_action(commands)? {
+        Action::Match(term) => literal_of(term),
+        _ => None,
+    }
+}
+
+// Returns the string of a literal.
+#[inline(always)]
+fn literal_of(term: &StringTerm) -> Option<&Vec<char>>
+    ensures { IfSome result (λ string. term.now ≡ Literal string.now) }
+{
+    match term {
+        StringTerm::Literal(string) => Some(string),
+        StringTerm::Variable(_) => None,
     }
 }
