@@ -1,6 +1,6 @@
 //! Runs commands on a state.
 
-ghost use Rattle.std.specs.Prelude.{◌≡◌, ◌+◌, ◌<◌, ◌≤◌, true, false, suc, map, Err, IfOk, IfErr};
+ghost use Rattle.std.specs.Prelude.{◌≡◌, ◌+◌, ◌<◌, ◌≤◌, true, false, suc, map, IfOk};
 ghost use Rattle.sbl_interpreter.specs.Endings.{Follows, IsSaved};
 ghost use Rattle.sbl_interpreter.specs.Arithmetic.{value};
 ghost use Rattle.sbl_semantics.specs.Numbers.{continue_with};
@@ -12,10 +12,11 @@ ghost use Rattle.sbl_interpreter.specs.Rows.{joined_runs, row_runs};
 ghost use Rattle.sbl_semantics.specs.Choices.{choice};
 ghost use Rattle.sbl_semantics.specs.State.{Signals, after, then_on, saved_cursor, put_back};
 
+mod failing;
 mod searching;
 
 use crate::halt::Halt;
-use crate::parts::{first_action, first_literal, is_settled};
+use crate::parts::{first_action, is_settled};
 use crate::state::State;
 use crate::state::numbers::count_of;
 use crate::table::Tables;
@@ -230,28 +231,6 @@ impl<'a, T: Tables> Runner<'a, T> {
             return Ok(false);
         }
         self.run_command(&joined.command, state)
-    }
-
-    /// Returns whether a command is a sequence that the next character shows to fail at its first command, a literal. Then
-    /// its steps are used, and otherwise nothing changes.
-    #[inline(always)]
-    fn fails_at_once(&self, command: &Node, state: &mut State) -> Result<bool, Halt>
-        ensures failed { IfOk result (λ b. b ≡ true → runs (program_of (T.listed self.now.tables.now) self.now.program.now) self.now.levels (view_node (T.listed self.now.tables.now) command.now) self.now.mode state.old ≡ Signals false state.new) }
-        ensures same { IfOk result (λ b. b ≡ false → state.new ≡ state.old) }
-        ensures halts { IfErr result (λ halt. Follows (Err halt) state.new (runs (program_of (T.listed self.now.tables.now) self.now.program.now) self.now.levels (view_node (T.listed self.now.tables.now) command.now) self.now.mode state.old)) }
-        ensures no_more { IfOk result (λ _. state.new.steps ≤ state.old.steps) }
-    {
-        let Node::Sequence(commands) = command else {
-            return Ok(false);
-        };
-        let Some(string) = first_literal(commands) else {
-            return Ok(false);
-        };
-        if !state.begins_otherwise(self.mode, string) {
-            return Ok(false);
-        }
-        state.pay_for(2)?;
-        Ok(true)
     }
 
     /// Runs commands one after another, up to the first f. If the first one holds no command and signals f, no function is

@@ -1,45 +1,26 @@
-use Rattle.std.proofs.Common.{◌≡◌, true, false, Some, Err, ap, ◌∙◌, rules}
-use Rattle.std.specs.Prelude.{nat_eq, slice_get}
-use Rattle.std.specs.List.{starts_with}
-use Rattle.sbl_program.specs.ProgramOf.{program_of, view_node}
-use Rattle.sbl_program.specs.declared.action.Action.TheVariants.{Match}
-use Rattle.sbl_program.specs.declared.action.StringTerm.TheVariants.{Literal}
-use Rattle.sbl_program.specs.declared.node.Node.TheVariants.{Act}
-use Rattle.sbl_interpreter.specs.Rows.{pays}
+use Rattle.std.proofs.Common.{◌≡◌, true, false, Bool, Err, subst, sym, ap, ◌∙◌}
+use Rattle.std.specs.Prelude.{IfOk, IfErr}
+use Rattle.sbl_program.specs.Program as programs
+use Rattle.sbl_program.specs.ProgramOf.{program_of, view_node, view_nodes}
+use Rattle.sbl_interpreter.specs.Endings.{Follows}
 use Rattle.sbl_interpreter.specs.Run.{runs}
-use Rattle.sbl_interpreter.proofs.Arms.{by_fault, stops_at}
-use Rattle.sbl_interpreter.proofs.Failing.{sequence_fails}
-use Rattle.sbl_semantics.specs.Fitting.{read_as}
-use Rattle.sbl_semantics.specs.State.{Signals, ahead, then_on}
+use Rattle.sbl_interpreter.specs.declared.halt.Halt.{Halt}
+use Rattle.sbl_interpreter.proofs.Arms.{view_sequence}
+use Rattle.sbl_semantics.specs.State.{Signals}
 use Rattle.sbl_interpreter.proofs.run.Runner.fails_at_once.Goals as goal
 
-pub returns-in_err-pay_for-clause-halts : goal.returns-in_err-pay_for-clause-halts
-returns-in_err-pay_for-clause-halts g c =
+pub returns-in-Sequence-clause-failed : goal.returns-in-Sequence-clause-failed
+returns-in-Sequence-clause-failed g c =
     let T = g.T.Tables.listed c.args.self.now.tables.now in
     let P = program_of T c.args.self.now.program.now in
-    let levels = c.args.self.now.levels in
-    let m = c.args.self.now.mode in
-    let s = c.args.state.now in
     let a = c.in-Sequence in
-    let l = c.in-Some.string.now in
-    let u = c.pay_for.new.self in
-    let is : slice_get a.commands.items 0 ≡ Some (Act (Match (Literal l))) = search rules in
-    let e : starts_with nat_eq (ahead m s) (read_as m l.items) ≡ false = search rules in
-    let whole = ap (λ n. runs P levels (view_node T n) m s) a.is ∙ sequence_fails T P levels a.commands l m is s e in
-    let halt = c.in_err-pay_for.field-0.0 in
-    let r : c.from_residual.result ≡ Err halt = search rules in
-    rw r (by_fault halt u _ (λ fault is. whole ∙ ap (λ x. then_on x (Signals false)) (stops_at halt u (pays 2 s) fault is c.in_err-pay_for.ensures.leads)))
+    let p = ap (view_node T) a.is ∙ view_sequence T a.commands ∙ ap (λ ns. programs.sequence (view_nodes T ns)) (sym c.deref.ensures.value) in
+    subst (λ n. IfOk c.sequence_fails.result (λ (b : Bool). b ≡ true → runs P c.args.self.now.levels n c.args.self.now.mode c.args.state.now ≡ Signals false c.sequence_fails.new.state)) (sym p) c.sequence_fails.ensures.failed
 
-pub returns-clause-failed : goal.returns-clause-failed
-returns-clause-failed g c = λ _.
+pub returns-in-Sequence-clause-halts : goal.returns-in-Sequence-clause-halts
+returns-in-Sequence-clause-halts g c =
     let T = g.T.Tables.listed c.args.self.now.tables.now in
     let P = program_of T c.args.self.now.program.now in
-    let levels = c.args.self.now.levels in
-    let m = c.args.self.now.mode in
-    let s = c.args.state.now in
     let a = c.in-Sequence in
-    let l = c.in-Some.string.now in
-    let is : slice_get a.commands.items 0 ≡ Some (Act (Match (Literal l))) = search rules in
-    let e : starts_with nat_eq (ahead m s) (read_as m l.items) ≡ false = search rules in
-    let paid : pays 2 s ≡ Signals true c.pay_for.new.self = search rules in
-    ap (λ n. runs P levels (view_node T n) m s) a.is ∙ sequence_fails T P levels a.commands l m is s e ∙ ap (λ x. then_on x (Signals false)) paid
+    let p = ap (view_node T) a.is ∙ view_sequence T a.commands ∙ ap (λ ns. programs.sequence (view_nodes T ns)) (sym c.deref.ensures.value) in
+    subst (λ n. IfErr c.sequence_fails.result (λ (halt : Halt). Follows (Err halt) c.sequence_fails.new.state (runs P c.args.self.now.levels n c.args.self.now.mode c.args.state.now))) (sym p) c.sequence_fails.ensures.halts
