@@ -4,7 +4,7 @@ ghost use Rattle.std.specs.Prelude.{◌≡◌, ℕ, false, List, [], ◌∷◌, 
 ghost use Rattle.std.specs.List.{list_any};
 ghost use Rattle.sbl_semantics.specs.Meaning.{Offer, calls, search};
 ghost use Rattle.sbl_semantics.specs.Outcome.{events_at, events_of};
-ghost use Rattle.sbl_semantics.specs.Items.{Body, Known, body_named, class_of, classes_behind, known_in};
+ghost use Rattle.sbl_semantics.specs.Items.{Body, DeclaredNames, body_named, class_of, classes_behind, known_in};
 ghost use Rattle.sbl_semantics.specs.Regions.{Among};
 ghost use Rattle.sbl_semantics.specs.Events.{Event', Searches};
 ghost use Rattle.sbl_semantics.specs.State.{State, bound_of};
@@ -32,8 +32,8 @@ pub fn needs_each_search_takes_first()
 
 /// Needs the whole of the law `plain_searches_take_longest`.
 pub fn needs_plain_searches_take_longest()
-    ensures longest { (ns : Known) (bodies : List ℕ → Option Body) (os : List Offer) (calls_made : List Call) (n : ℕ) → list_any (λ o. is_conditional o.condition) os ≡ false → OneTaken ns bodies os n calls_made → first_length os ≡ Some n }
-    ensures one { (ns : Known) (bodies : List ℕ → Option Body) (os : List Offer) (calls_made : List Call) → list_any (λ o. is_conditional o.condition) os ≡ false → AllRefused ns bodies os calls_made → first_length os ≡ None }
+    ensures longest { (ns : DeclaredNames) (bodies : List ℕ → Option Body) (os : List Offer) (calls_made : List Call) (n : ℕ) → list_any (λ o. is_conditional o.condition) os ≡ false → OneTaken ns bodies os n calls_made → first_length os ≡ Some n }
+    ensures one { (ns : DeclaredNames) (bodies : List ℕ → Option Body) (os : List Offer) (calls_made : List Call) → list_any (λ o. is_conditional o.condition) os ≡ false → AllRefused ns bodies os calls_made → first_length os ≡ None }
 {
     plain_searches_take_longest();
 }

@@ -80,7 +80,7 @@ pub(crate) fn is_affected(affected: &AffectedWords, last: &LastRun) -> bool
 {
     match affected {
         AffectedWords::Touching(marks) => has_one(marks, last.touches()),
-        AffectedWords::Above(steps) => *steps < last.used(),
+        AffectedWords::Above(steps) => *steps < last.steps(),
         AffectedWords::Every => true,
     }
 }

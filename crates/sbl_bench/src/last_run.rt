@@ -79,7 +79,7 @@ impl LastRun {
     }
 
     /// Returns the number of steps. Does not allocate.
-    pub(crate) fn used(&self) -> u64
+    pub(crate) fn steps(&self) -> u64
         ensures { result ≡ self.now.used }
     {
         self.used

@@ -29,18 +29,18 @@ each P Q f (x ∷ xs) a = (f x a.0, each P Q f xs a.1)
 
 -- ---- each word is found in its own row
 
-abbrev pub Known : (List ℕ → Option Outcome) → Row → Type 0
-Known f r = f r.word ≡ Some r.outcome
+abbrev pub HasOutcome : (List ℕ → Option Outcome) → Row → Type 0
+HasOutcome f r = f r.word ≡ Some r.outcome
 
-pub found : (rows : List Row) → HasOneRowEach rows → AllByRecursion (Known (outcome_in rows)) rows
+pub found : (rows : List Row) → HasOneRowEach rows → AllByRecursion (HasOutcome (outcome_in rows)) rows
 unfolding IsDistinct
 found [] one = tt
 found (r ∷ rows) one = ((λ i. option_map (λ (q : Row). q.outcome) (cond (bytes_eq-self r.word i) (Some r) (find (λ q. bytes_eq r.word q.word) rows))), later rows one.0 (found rows one.1))
   where
-    other : (q : Row) → bytes_eq r.word q.word ≡ false → Known (outcome_in rows) q → Known (outcome_in (r ∷ rows)) q
+    other : (q : Row) → bytes_eq r.word q.word ≡ false → HasOutcome (outcome_in rows) q → HasOutcome (outcome_in (r ∷ rows)) q
     other q apart known = (λ i. option_map (λ (p : Row). p.outcome) (cond ((bytes_eq-back q.word r.word ∙ apart) i) (Some r) (find (λ p. bytes_eq q.word p.word) rows))) ∙ known
 
-    later : (qs : List Row) → AllByRecursion (λ w. bytes_eq r.word w ≡ false) (map (λ q. q.word) qs) → AllByRecursion (Known (outcome_in rows)) qs → AllByRecursion (Known (outcome_in (r ∷ rows))) qs
+    later : (qs : List Row) → AllByRecursion (λ w. bytes_eq r.word w ≡ false) (map (λ q. q.word) qs) → AllByRecursion (HasOutcome (outcome_in rows)) qs → AllByRecursion (HasOutcome (outcome_in (r ∷ rows))) qs
     later [] apart known = tt
     later (q ∷ qs) apart known = (other q apart.0 known.0, later qs apart.1 known.1)
 
@@ -53,7 +53,7 @@ same_self (Refused n) = bytes_eq-self n
 abbrev Stays : Pair → Type 0
 Stays m = m.0 ≡ m.1
 
-stays : (f : List ℕ → Option Outcome) (rows : List Row) → AllByRecursion (Known f) rows → AllByRecursion Stays (moves_of f rows)
+stays : (f : List ℕ → Option Outcome) (rows : List Row) → AllByRecursion (HasOutcome f) rows → AllByRecursion Stays (moves_of f rows)
 stays f [] a = tt
 stays f (r ∷ rows) a = at (f r.word) r.outcome a.0 (stays f rows a.1)
   where
@@ -104,14 +104,14 @@ module _ (moves : List Pair) (a : AllByRecursion Stays moves) where
 
 pub no_changes : EqualListsHaveNoChanges
 no_changes rows one =
-    let known : AllByRecursion (Known (outcome_in rows)) rows = found rows one in
+    let known : AllByRecursion (HasOutcome (outcome_in rows)) rows = found rows one in
     let still : AllByRecursion Stays (moves_of (outcome_in rows) rows) = stays (outcome_in rows) rows known in
     let no_added : filter_map (λ r. word_addition (outcome_in rows r.word) r) rows ≡ [] =
-    none_made (λ r. word_addition (outcome_in rows r.word) r) rows (each (Known (outcome_in rows)) (λ r. word_addition (outcome_in rows r.word) r ≡ None) (λ r h. ap (λ o. word_addition o r) h) rows known) in
+    none_made (λ r. word_addition (outcome_in rows r.word) r) rows (each (HasOutcome (outcome_in rows)) (λ r. word_addition (outcome_in rows r.word) r ≡ None) (λ r h. ap (λ o. word_addition o r) h) rows known) in
     let no_removed : filter_map (λ r. word_removal (outcome_in rows r.word) r) rows ≡ [] =
-    none_made (λ r. word_removal (outcome_in rows r.word) r) rows (each (Known (outcome_in rows)) (λ r. word_removal (outcome_in rows r.word) r ≡ None) (λ r h. ap (λ o. word_removal o r) h) rows known) in
+    none_made (λ r. word_removal (outcome_in rows r.word) r) rows (each (HasOutcome (outcome_in rows)) (λ r. word_removal (outcome_in rows r.word) r ≡ None) (λ r h. ap (λ o. word_removal o r) h) rows known) in
     let no_changed : filter_map (λ r. outcome_change (outcome_in rows r.word) r) rows ≡ [] =
-    none_made (λ r. outcome_change (outcome_in rows r.word) r) rows (each (Known (outcome_in rows)) (λ r. outcome_change (outcome_in rows r.word) r ≡ None)
+    none_made (λ r. outcome_change (outcome_in rows r.word) r) rows (each (HasOutcome (outcome_in rows)) (λ r. outcome_change (outcome_in rows r.word) r ≡ None)
     (λ r h. ap (λ o. outcome_change o r) h ∙ unchanged r) rows known) in
     λ i. ((no_added i ++ no_removed i) ++ no_changed i)
     ++ ((none_split (moves_of (outcome_in rows) rows) still i ++ none_merged (moves_of (outcome_in rows) rows) still i)

@@ -10,7 +10,7 @@ use Rattle.sbl_changes.specs.ChangesAreSound.{ExchangedListsTurnChanges, HasOneR
 use Rattle.sbl_changes.specs.Classes.{Class, Pair, class_with, classes_of, in_order, members_of}
 use Rattle.sbl_changes.specs.Moves.{move_of, moves_of, moves_back}
 use Rattle.sbl_changes.specs.Rows.{Outcome, Refused, Row, Stem, outcome_in, same_outcome}
-use Rattle.sbl_changes.proofs.ChangeLaws.{Known, each, found}
+use Rattle.sbl_changes.proofs.ChangeLaws.{HasOutcome, each, found}
 use Rattle.sbl_changes.proofs.ClassLaws.{any-class, any-given, any-map, any-same, some_stem}
 use Rattle.sbl_changes.proofs.OrderFacts.{any-in_order, any-members, any-stems, bytes_eq-back, one_order, text_cmp}
 
@@ -69,7 +69,7 @@ some_row t w o f (q ∷ rows) e = by (bytes_eq w q.word) refl e (some_row t w o 
     by true g e rest = let same : q.outcome ≡ o = cc e in ap (λ (b : Bool). b || list_any t rows) (f q (sym ((bytes_eq-Decides w q.word).0 g)) same)
     by false g e rest = ap (λ (b : Bool). t q || b) (rest e) ∙ or_true (t q)
 
-half : (before after : List Row) (g : Of) (rs : List Row) → AllByRecursion (Known (outcome_in after)) rs
+half : (before after : List Row) (g : Of) (rs : List Row) → AllByRecursion (HasOutcome (outcome_in after)) rs
     → list_any (λ r. with_other g (outcome_in before r.word) r) rs ≡ true → list_any (λ r. with_other (swapped g) (outcome_in after r.word) r) before ≡ true
 half before after g [] a e = cc e
 half before after g (r ∷ rs) a e = by (outcome_in before r.word) refl e (half before after g rs a.1)

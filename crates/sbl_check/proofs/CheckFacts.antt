@@ -11,7 +11,7 @@ use Rattle.std.specs.declared.alloc.Global.{Global}
 use Rattle.sbl_ast.specs.Source.{Source}
 use Rattle.sbl_semantics.specs.Limit.{default_limit}
 use Rattle.sbl_semantics.specs.Outcome.{Outcome', run_of}
-use Rattle.sbl_check.specs.Checking.{Compared, ComparesPair, IsRow, count}
+use Rattle.sbl_check.specs.Checking.{Progress, ComparesPair, IsRow, count}
 use Rattle.sbl_check.specs.Differences.{Got, Refused, IsChecked, all_differences, difference, differences, ending, line_fault, made_of, of_outcome, pair_fault, row_of}
 use Rattle.sbl_io.specs.LinesOf.{lines_of}
 use Rattle.sbl_io.specs.Records.{record_line, records_text}
@@ -101,11 +101,11 @@ stems_end w ws = refl
 texts : (xs ys : List (List (List ℕ))) → records_text (xs ++ ys) ≡ records_text xs ++ records_text ys
 texts xs ys = flat_map-append record_line xs ys
 
-pub compared_first : (script : Source) (words expected : List ℕ) (held : Option (List ℕ)) → Compared script words expected words expected 1 0 held held
+pub compared_first : (script : Source) (words expected : List ℕ) (held : Option (List ℕ)) → Progress script words expected words expected 1 0 held held
 compared_first script words expected held = record { done = []; rows = refl; ends = refl; found_is = refl; text = Appends-nil held }
 
 module _ {script : Source} {words expected words_left expected_left : List ℕ} {n found : ℕ} {held h : Option (List ℕ)}
-    (so : Compared script words expected words_left expected_left n found held h) where
+    (so : Progress script words expected words_left expected_left n found held h) where
   -- the rows of the lines that are left end here, with this ending
   ends_here : (o : Option ServeFault) → differences script n (lines_of words_left) (lines_of expected_left) ≡ [] → ending (lines_of words_left) (lines_of expected_left) ≡ o
       → (ending (lines_of words) (lines_of expected) ≡ o) × (found ≡ length (all_differences script words expected))
@@ -131,7 +131,7 @@ module _ {script : Source} {words expected words_left expected_left : List ℕ} 
 
   pub compared_more : (w e words_after expected_after : List ℕ) (k : ℕ) (new : Option (List ℕ)) → lines_of words_left ≡ w ∷ lines_of words_after → lines_of expected_left ≡ e ∷ lines_of expected_after
       → pair_fault w e ≡ None → length (difference script n w e) ≡ k → Appends h new (records_text (difference script n w e))
-      → Compared script words expected words_after expected_after (n + 1) (found + k) held new
+      → Progress script words expected words_after expected_after (n + 1) (found + k) held new
   compared_more w e words_after expected_after k new word stem none count writes = record {
     done = so.done ++ difference script n w e;
     rows =
@@ -160,7 +160,7 @@ front_after [] t b front = front
 front_after (x ∷ a) t b front = let r = front_after a t b front in (suc r.0, ap (λ (t : List ℕ). x ∷ t) r.1)
 
 module _ {script : Source} {words expected words_left expected_left : List ℕ} {n found : ℕ} {held h : Option (List ℕ)}
-    (so : Compared script words expected words_left expected_left n found held h) (w e : List ℕ) (ws es : List (List ℕ))
+    (so : Progress script words expected words_left expected_left n found held h) (w e : List ℕ) (ws es : List (List ℕ))
     (word : lines_of words_left ≡ w ∷ ws) (stem : lines_of expected_left ≡ e ∷ es) (new : Option (List ℕ)) where
   -- a front of the row in hand was written
   breaks_off : (k : ℕ) → pair_fault w e ≡ None → Appends h new (take k (records_text (difference script n w e)))

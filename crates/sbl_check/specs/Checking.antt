@@ -41,7 +41,7 @@ ComparesPair script n word expected held new_held (Err f) = (pair_fault word exp
 
 -- The comparison so far: the rows of these lines were written, so many, and the others are those of the lines that are left,
 -- the first of which has this number.
-pub record Compared (script : Source) (words expected words_left expected_left : List ℕ) (n found : ℕ) (held new_held : Option (List ℕ)) : Type 0 where
+pub record Progress (script : Source) (words expected words_left expected_left : List ℕ) (n found : ℕ) (held new_held : Option (List ℕ)) : Type 0 where
   pub done : List (List (List ℕ))
   pub rows : spec.all_differences script words expected ≡ done ++ differences script n (lines_of words_left) (lines_of expected_left)
   pub ends : ending (lines_of words) (lines_of expected) ≡ ending (lines_of words_left) (lines_of expected_left)

@@ -5,7 +5,7 @@ use Rattle.sbl_program.specs.declared.node.Node.TheVariants.{Search}
 use Rattle.sbl_program.specs.declared.node.Node.TheFolds.{fold_out-Node}
 use Rattle.sbl_program.specs.declared.node.Node.TheViews.{the_lemmas}
 use Rattle.sbl_program.specs.declared.among.AmongStrings.{AmongStrings}
-use Rattle.sbl_program.specs.AmongStrings.{Listed}
+use Rattle.sbl_program.specs.AmongStrings.{Listing}
 use Rattle.sbl_compiler.specs.NumberedItems.{next_of}
 use Rattle.sbl_program.specs.FoundView.{strings_at}
 use Rattle.sbl_compiler.specs.NumberedView.{view_found}
@@ -29,5 +29,5 @@ strings_next [] (suc n) = refl
 strings_next (f ∷ fs) zero = refl
 strings_next (f ∷ fs) (suc n) = strings_next fs n
 
-pub search_view : (T : ℕ → Listed) (k table : ℕ) (entries : Vec Candidate Global) → view_node T (Search k table entries) ≡ programs.search k (T table) entries.items
+pub search_view : (T : ℕ → Listing) (k table : ℕ) (entries : Vec Candidate Global) → view_node T (Search k table entries) ≡ programs.search k (T table) entries.items
 search_view T k table entries = first_of (search (rules, the_lemmas), search (rules, the_lemmas, fold_out-Node))

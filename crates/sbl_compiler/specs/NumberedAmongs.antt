@@ -6,13 +6,13 @@ use Rattle.sbl_ast.specs.Tree as trees
 use Rattle.sbl_ast.specs.Tree.{bracket, simple_, literal_, name_, non_, prefixed, counted, move_, named, splice_, setlimit_, assign_, compare_, compare_values_, among_, no_rows, row, no_others, joined, no_starter, starter, bare, group, declaration, escapes, macro, routine, grouping}
 use Rattle.sbl_ast.specs.declared.mode.Mode.{Mode}
 use Rattle.sbl_program.specs.declared.node.Candidate.{Candidate}
-use Rattle.sbl_program.specs.AmongStrings.{Listed, listing}
+use Rattle.sbl_program.specs.AmongStrings.{Listing, listing}
 use Rattle.sbl_compiler.specs.NumberedNames.{Names, number_of}
 use Rattle.sbl_semantics.specs.Regions.{mode_under}
 
 pub record AmongStrings : Type 0 where
   pub number : ℕ
-  pub strings : Listed
+  pub strings : Listing
   pub entries : List Candidate
 
 -- Each of the following takes the list so far and returns it with its own part added at the end.

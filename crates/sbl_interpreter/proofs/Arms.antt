@@ -16,8 +16,8 @@ use Rattle.sbl_semantics.specs.declared.limits.Limits.{Limits}
 use Rattle.sbl_program.specs.declared.node.Node.TheFolds.{fold_out-Node}
 use Rattle.sbl_program.specs.declared.node.Node.TheViews.{the_lemmas}
 use Rattle.sbl_interpreter.specs.Halts.{fault_of}
-use Rattle.sbl_interpreter.specs.Endings.{Follows, Halts, Tried}
-use Rattle.sbl_program.specs.AmongStrings.{Listed}
+use Rattle.sbl_interpreter.specs.Endings.{Follows, Halts, Tries}
+use Rattle.sbl_program.specs.AmongStrings.{Listing}
 use Rattle.sbl_semantics.specs.Fitting.{first}
 use Rattle.sbl_semantics.specs.Moves.{next}
 use Rattle.sbl_interpreter.specs.Arithmetic.{value}
@@ -55,40 +55,40 @@ stops_at halt new e fault is h = stops_of (fault_of halt) new e fault is h
 pub follows_at : (r : Result Bool Halt) (new : State) (e w : Ending) → e ≡ w → Follows r new w → Follows r new e
 follows_at r new e w p h = rw p h
 
-view_repeat : (T : ℕ → Listed) (inner : Box Node Global) → view_node T (Repeat inner) ≡ programs.repeat (view_node T inner.value)
+view_repeat : (T : ℕ → Listing) (inner : Box Node Global) → view_node T (Repeat inner) ≡ programs.repeat (view_node T inner.value)
 view_repeat T inner = first_of (search (rules, the_lemmas), search (rules, the_lemmas, fold_out-Node))
 
-view_loop : (T : ℕ → Listed) (n : Arithmetic) (inner : Box Node Global) → view_node T (Loop n inner) ≡ programs.loop (view_number n) (view_node T inner.value)
+view_loop : (T : ℕ → Listing) (n : Arithmetic) (inner : Box Node Global) → view_node T (Loop n inner) ≡ programs.loop (view_number n) (view_node T inner.value)
 view_loop T n inner = first_of (search (rules, the_lemmas), search (rules, the_lemmas, fold_out-Node))
 
-view_atleast : (T : ℕ → Listed) (n : Arithmetic) (inner : Box Node Global) → view_node T (AtLeast n inner) ≡ programs.atleast (view_number n) (view_node T inner.value)
+view_atleast : (T : ℕ → Listing) (n : Arithmetic) (inner : Box Node Global) → view_node T (AtLeast n inner) ≡ programs.atleast (view_number n) (view_node T inner.value)
 view_atleast T n inner = first_of (search (rules, the_lemmas), search (rules, the_lemmas, fold_out-Node))
 
-view_search : (T : ℕ → Listed) (k table : ℕ) (entries : Vec Candidate Global) → view_node T (Search k table entries) ≡ programs.search k (T table) entries.items
+view_search : (T : ℕ → Listing) (k table : ℕ) (entries : Vec Candidate Global) → view_node T (Search k table entries) ≡ programs.search k (T table) entries.items
 view_search T k table entries = first_of (search (rules, the_lemmas), search (rules, the_lemmas, fold_out-Node))
 
-view_among : (T : ℕ → Listed) (k : ℕ) (before bodies : Vec Node Global) → view_node T (Among k before bodies) ≡ programs.among k (view_nodes T before.items) (view_nodes T bodies.items)
+view_among : (T : ℕ → Listing) (k : ℕ) (before bodies : Vec Node Global) → view_node T (Among k before bodies) ≡ programs.among k (view_nodes T before.items) (view_nodes T bodies.items)
 view_among T k before bodies = first_of (search (rules, the_lemmas), search (rules, the_lemmas, fold_out-Node))
 
-pub view_sequence : (T : ℕ → Listed) (cs : Vec Node Global) → view_node T (Sequence cs) ≡ programs.sequence (view_nodes T cs.items)
+pub view_sequence : (T : ℕ → Listing) (cs : Vec Node Global) → view_node T (Sequence cs) ≡ programs.sequence (view_nodes T cs.items)
 view_sequence T cs = first_of (search (rules, the_lemmas), search (rules, the_lemmas, fold_out-Node))
 
-view_goto : (T : ℕ → Listed) (inner : Box Node Global) → view_node T (Goto inner) ≡ programs.goto (view_node T inner.value)
+view_goto : (T : ℕ → Listing) (inner : Box Node Global) → view_node T (Goto inner) ≡ programs.goto (view_node T inner.value)
 view_goto T inner = first_of (search (rules, the_lemmas), search (rules, the_lemmas, fold_out-Node))
 
-view_gopast : (T : ℕ → Listed) (inner : Box Node Global) → view_node T (GoPast inner) ≡ programs.gopast (view_node T inner.value)
+view_gopast : (T : ℕ → Listing) (inner : Box Node Global) → view_node T (GoPast inner) ≡ programs.gopast (view_node T inner.value)
 view_gopast T inner = first_of (search (rules, the_lemmas), search (rules, the_lemmas, fold_out-Node))
 
-view_setlimit : (T : ℕ → Listed) (a b : Box Node Global) → view_node T (SetLimit a b) ≡ programs.setlimit (view_node T a.value) (view_node T b.value)
+view_setlimit : (T : ℕ → Listing) (a b : Box Node Global) → view_node T (SetLimit a b) ≡ programs.setlimit (view_node T a.value) (view_node T b.value)
 view_setlimit T a b = first_of (search (rules, the_lemmas), search (rules, the_lemmas, fold_out-Node))
 
-pub goto_does : (T : ℕ → Listed) (p : programs.Program) (levels : ℕ) (inner : Box Node Global) (m : Mode) (s : State) → runs_paid p levels (view_node T (Goto inner)) m s ≡ seeks (suc s.steps) false (runs p levels (view_node T inner.value)) m s
+pub goto_does : (T : ℕ → Listing) (p : programs.Program) (levels : ℕ) (inner : Box Node Global) (m : Mode) (s : State) → runs_paid p levels (view_node T (Goto inner)) m s ≡ seeks (suc s.steps) false (runs p levels (view_node T inner.value)) m s
 goto_does T p levels inner m s = ap (λ c. runs_paid p levels c m s) (view_goto T inner)
 
-pub gopast_does : (T : ℕ → Listed) (p : programs.Program) (levels : ℕ) (inner : Box Node Global) (m : Mode) (s : State) → runs_paid p levels (view_node T (GoPast inner)) m s ≡ seeks (suc s.steps) true (runs p levels (view_node T inner.value)) m s
+pub gopast_does : (T : ℕ → Listing) (p : programs.Program) (levels : ℕ) (inner : Box Node Global) (m : Mode) (s : State) → runs_paid p levels (view_node T (GoPast inner)) m s ≡ seeks (suc s.steps) true (runs p levels (view_node T inner.value)) m s
 gopast_does T p levels inner m s = ap (λ c. runs_paid p levels c m s) (view_gopast T inner)
 
-pub setlimit_does : (T : ℕ → Listed) (p : programs.Program) (levels : ℕ) (a b : Box Node Global) (m : Mode) (s : State) → runs_paid p levels (view_node T (SetLimit a b)) m s ≡ after (runs p levels (view_node T a.value) m s) (λ t. then_on (put_back m (saved_cursor s) (limit_here m t)) (λ u. restore_limit m (limits s) (runs p levels (view_node T b.value) m u))) (Signals false)
+pub setlimit_does : (T : ℕ → Listing) (p : programs.Program) (levels : ℕ) (a b : Box Node Global) (m : Mode) (s : State) → runs_paid p levels (view_node T (SetLimit a b)) m s ≡ after (runs p levels (view_node T a.value) m s) (λ t. then_on (put_back m (saved_cursor s) (limit_here m t)) (λ u. restore_limit m (limits s) (runs p levels (view_node T b.value) m u))) (Signals false)
 setlimit_does T p levels a b m s = ap (λ c. runs_paid p levels c m s) (view_setlimit T a b)
 
 pub limited_signals : (m : Mode) (from : Limits) (e : Ending) (b : Bool) (t : State) → e ≡ Signals b t → restore_limit m from e ≡ Signals b (limit_back m from t)
@@ -104,31 +104,31 @@ one_time (suc k) c m s new w l e h =
     let j : suc k - 1 ≡ k = omega arith in
     ap (λ n. times n c m new) j ∙ sym (ap (λ r. after r (times k c m) (Signals false)) e) ∙ h
 
-pub repeat_does : (T : ℕ → Listed) (p : programs.Program) (levels : ℕ) (inner : Box Node Global) (m : Mode) (s : State) → runs_paid p levels (view_node T (Repeat inner)) m s ≡ turns (suc s.steps) (runs p levels (view_node T inner.value)) m s
+pub repeat_does : (T : ℕ → Listing) (p : programs.Program) (levels : ℕ) (inner : Box Node Global) (m : Mode) (s : State) → runs_paid p levels (view_node T (Repeat inner)) m s ≡ turns (suc s.steps) (runs p levels (view_node T inner.value)) m s
 repeat_does T p levels inner m s = ap (λ c. runs_paid p levels c m s) (view_repeat T inner)
 
-pub loop_does : (T : ℕ → Listed) (p : programs.Program) (levels : ℕ) (n : Arithmetic) (inner : Box Node Global) (m : Mode) (s : State) → runs_paid p levels (view_node T (Loop n inner)) m s ≡ continue_with (value (view_number n) m s) s (λ z. times (count_of z) (runs p levels (view_node T inner.value)) m s)
+pub loop_does : (T : ℕ → Listing) (p : programs.Program) (levels : ℕ) (n : Arithmetic) (inner : Box Node Global) (m : Mode) (s : State) → runs_paid p levels (view_node T (Loop n inner)) m s ≡ continue_with (value (view_number n) m s) s (λ z. times (count_of z) (runs p levels (view_node T inner.value)) m s)
 loop_does T p levels n inner m s = ap (λ c. runs_paid p levels c m s) (view_loop T n inner)
 
-pub atleast_does : (T : ℕ → Listed) (p : programs.Program) (levels : ℕ) (n : Arithmetic) (inner : Box Node Global) (m : Mode) (s : State) → runs_paid p levels (view_node T (AtLeast n inner)) m s ≡ after (continue_with (value (view_number n) m s) s (λ z. times (count_of z) (runs p levels (view_node T inner.value)) m s)) (λ t. turns (suc t.steps) (runs p levels (view_node T inner.value)) m t) (Signals false)
+pub atleast_does : (T : ℕ → Listing) (p : programs.Program) (levels : ℕ) (n : Arithmetic) (inner : Box Node Global) (m : Mode) (s : State) → runs_paid p levels (view_node T (AtLeast n inner)) m s ≡ after (continue_with (value (view_number n) m s) s (λ z. times (count_of z) (runs p levels (view_node T inner.value)) m s)) (λ t. turns (suc t.steps) (runs p levels (view_node T inner.value)) m t) (Signals false)
 atleast_does T p levels n inner m s = ap (λ c. runs_paid p levels c m s) (view_atleast T n inner)
 
-pub search_does : (T : ℕ → Listed) (p : programs.Program) (levels k table : ℕ) (entries : Vec Candidate Global) (m : Mode) (s : State) → runs_paid p levels (view_node T (Search k table entries)) m s ≡ search_all (calls p levels) k entries.items (T table) m s
+pub search_does : (T : ℕ → Listing) (p : programs.Program) (levels k table : ℕ) (entries : Vec Candidate Global) (m : Mode) (s : State) → runs_paid p levels (view_node T (Search k table entries)) m s ≡ search_all (calls p levels) k entries.items (T table) m s
 search_does T p levels k table entries m s = ap (λ c. runs_paid p levels c m s) (view_search T k table entries)
 
-pub among_does : (T : ℕ → Listed) (p : programs.Program) (levels k : ℕ) (before bodies : Vec Node Global) (m : Mode) (s : State) → runs_paid p levels (view_node T (Among k before bodies)) m s ≡ after (all_run p levels (view_nodes T before.items) m s) (λ t. group_runs p levels (view_nodes T bodies.items) (choice k t) m t) (Signals false)
+pub among_does : (T : ℕ → Listing) (p : programs.Program) (levels k : ℕ) (before bodies : Vec Node Global) (m : Mode) (s : State) → runs_paid p levels (view_node T (Among k before bodies)) m s ≡ after (all_run p levels (view_nodes T before.items) m s) (λ t. group_runs p levels (view_nodes T bodies.items) (choice k t) m t) (Signals false)
 among_does T p levels k before bodies m s = ap (λ c. runs_paid p levels c m s) (view_among T k before bodies)
 
-pub sequence_does : (T : ℕ → Listed) (p : programs.Program) (levels : ℕ) (cs : Vec Node Global) (m : Mode) (s : State) → runs_paid p levels (view_node T (Sequence cs)) m s ≡ all_run p levels (view_nodes T cs.items) m s
+pub sequence_does : (T : ℕ → Listing) (p : programs.Program) (levels : ℕ) (cs : Vec Node Global) (m : Mode) (s : State) → runs_paid p levels (view_node T (Sequence cs)) m s ≡ all_run p levels (view_nodes T cs.items) m s
 sequence_does T p levels cs m s = ap (λ c. runs_paid p levels c m s) (view_sequence T cs)
 
 -- the g-th of some commands
-pub nth_is : (T : ℕ → Listed) (p : programs.Program) (levels : ℕ) (ns : List Node) (g : ℕ) (n : Node) (m : Mode) (s : State) → g < length ns → n ≡ get_or ns g n → nth_runs p levels (view_nodes T ns) g m s ≡ runs p levels (view_node T n) m s
+pub nth_is : (T : ℕ → Listing) (p : programs.Program) (levels : ℕ) (ns : List Node) (g : ℕ) (n : Node) (m : Mode) (s : State) → g < length ns → n ≡ get_or ns g n → nth_runs p levels (view_nodes T ns) g m s ≡ runs p levels (view_node T n) m s
 nth_is T p levels [] g n m s l e = absurd (omega arith)
 nth_is T p levels (x ∷ ns) zero n m s l e = ap (λ c. runs p levels (view_node T c) m s) (sym e)
 nth_is T p levels (x ∷ ns) (suc g) n m s l e = nth_is T p levels ns g n m s (omega arith) e
 
-pub nth_past : (T : ℕ → Listed) (p : programs.Program) (levels : ℕ) (ns : List Node) (g : ℕ) (m : Mode) (s : State) → length ns ≤ g → nth_runs p levels (view_nodes T ns) g m s ≡ Signals true s
+pub nth_past : (T : ℕ → Listing) (p : programs.Program) (levels : ℕ) (ns : List Node) (g : ℕ) (m : Mode) (s : State) → length ns ≤ g → nth_runs p levels (view_nodes T ns) g m s ≡ Signals true s
 nth_past T p levels [] g m s l = refl
 nth_past T p levels (x ∷ ns) zero m s l = absurd (omega arith)
 nth_past T p levels (x ∷ ns) (suc g) m s l = nth_past T p levels ns g m s (omega arith)
@@ -150,7 +150,7 @@ one_more call a es m from (j ∷ js) i s place p q =
     let same : i ≡ j = cc in
     (js, ap (λ k. k ∷ js) (sym same), ap (λ k. try_one call a (slice_get es k) m from s (tries call a es m from js)) (sym same))
 
-pub halted : (halt : Halt) (new : State) (e f w : Ending) → Tried (Err halt) new e f → e ≡ w → Follows (Err halt) new w
+pub halted : (halt : Halt) (new : State) (e f w : Ending) → Tries (Err halt) new e f → e ≡ w → Follows (Err halt) new w
 halted halt new e f w h p = follows_at (Err halt) new w e (sym p) h
 
 -- a call with a level left
@@ -176,7 +176,7 @@ either_way true u go = refl
 either_way false u go = refl
 
 -- the i-th of some commands, and then those that follow it
-pub turn_is : (T : ℕ → Listed) (p : programs.Program) (levels : ℕ) (cs : List Node) (i : ℕ) (x : Node) (m : Mode) (s : State) → i < length cs → x ≡ get_or cs i x → all_run p levels (view_nodes T (drop i cs)) m s ≡ after (runs p levels (view_node T x) m s) (all_run p levels (view_nodes T (drop (i + 1) cs)) m) (Signals false)
+pub turn_is : (T : ℕ → Listing) (p : programs.Program) (levels : ℕ) (cs : List Node) (i : ℕ) (x : Node) (m : Mode) (s : State) → i < length cs → x ≡ get_or cs i x → all_run p levels (view_nodes T (drop i cs)) m s ≡ after (runs p levels (view_node T x) m s) (all_run p levels (view_nodes T (drop (i + 1) cs)) m) (Signals false)
 turn_is T p levels cs i x m s l e = ap (λ ns. all_run p levels (view_nodes T ns) m s) (drop_more cs i x l ∙ ap (λ y. y ∷ drop (i + 1) cs) (sym e))
 
 -- a turn that is refused
@@ -184,11 +184,11 @@ pub time_stops : (l : ℕ) (c : Doing) (m : Mode) (s new : State) (fault : RunFa
 time_stops zero c m s new fault l e = absurd (omega arith)
 time_stops (suc k) c m s new fault l e = ap (λ r. after r (times k c m) (Signals false)) e
 
-pub view_act : (T : ℕ → Listed) (a : Action) → view_node T (Act a) ≡ programs.act (view_action a)
+pub view_act : (T : ℕ → Listing) (a : Action) → view_node T (Act a) ≡ programs.act (view_action a)
 view_act T a = first_of (search (rules, the_lemmas), search (rules, the_lemmas, fold_out-Node))
 
 -- commands of which the first holds no command
-pub act_first : (T : ℕ → Listed) (p : programs.Program) (levels : ℕ) (cs : List Node) (a : Action) (m : Mode) (s : State) → slice_get cs 0 ≡ Some (Act a) → all_run p levels (view_nodes T cs) m s ≡ after (pay_first (acts p.groupings (view_action a)) m s) (all_run p levels (view_nodes T (drop 1 cs)) m) (Signals false)
+pub act_first : (T : ℕ → Listing) (p : programs.Program) (levels : ℕ) (cs : List Node) (a : Action) (m : Mode) (s : State) → slice_get cs 0 ≡ Some (Act a) → all_run p levels (view_nodes T cs) m s ≡ after (pay_first (acts p.groupings (view_action a)) m s) (all_run p levels (view_nodes T (drop 1 cs)) m) (Signals false)
 act_first T p levels [] a m s e = let no : ⊥ = cc in absurd no
 act_first T p levels (x ∷ cs) a m s e =
     let same : x ≡ Act a = cc in
@@ -200,44 +200,44 @@ but_first [] = refl
 but_first (c ∷ cs) = take_all (length (c ∷ cs) - 1) cs (omega arith)
 
 -- a command that is the test of a grouping
-pub grouping_does : (T : ℕ → Listed) (p : programs.Program) (levels g : ℕ) → runs p levels (view_node T (Act (Grouping g))) ≡ pay_first (test_grouping true (class_at p.groupings g) g)
+pub grouping_does : (T : ℕ → Listing) (p : programs.Program) (levels g : ℕ) → runs p levels (view_node T (Act (Grouping g))) ≡ pay_first (test_grouping true (class_at p.groupings g) g)
 grouping_does T p levels g = ap (runs p levels) (view_act T (Grouping g))
 
-pub non_does : (T : ℕ → Listed) (p : programs.Program) (levels g : ℕ) → runs p levels (view_node T (Act (NonGrouping g))) ≡ pay_first (test_grouping false (class_at p.groupings g) g)
+pub non_does : (T : ℕ → Listing) (p : programs.Program) (levels g : ℕ) → runs p levels (view_node T (Act (NonGrouping g))) ≡ pay_first (test_grouping false (class_at p.groupings g) g)
 non_does T p levels g = ap (runs p levels) (view_act T (NonGrouping g))
 
-view_not : (T : ℕ → Listed) (inner : Box Node Global) → view_node T (Not inner) ≡ programs.not (view_node T inner.value)
+view_not : (T : ℕ → Listing) (inner : Box Node Global) → view_node T (Not inner) ≡ programs.not (view_node T inner.value)
 view_not T inner = first_of (search (rules, the_lemmas), search (rules, the_lemmas, fold_out-Node))
 
-pub not_does : (T : ℕ → Listed) (p : programs.Program) (levels : ℕ) (inner : Box Node Global) (m : Mode) (s : State) → runs_paid p levels (view_node T (Not inner)) m s ≡ after (runs p levels (view_node T inner.value) m s) (Signals false) (put_back m (saved_cursor s))
+pub not_does : (T : ℕ → Listing) (p : programs.Program) (levels : ℕ) (inner : Box Node Global) (m : Mode) (s : State) → runs_paid p levels (view_node T (Not inner)) m s ≡ after (runs p levels (view_node T inner.value) m s) (Signals false) (put_back m (saved_cursor s))
 not_does T p levels inner m s = ap (λ c. runs_paid p levels c m s) (view_not T inner)
 
-view_test : (T : ℕ → Listed) (inner : Box Node Global) → view_node T (Test inner) ≡ programs.test (view_node T inner.value)
+view_test : (T : ℕ → Listing) (inner : Box Node Global) → view_node T (Test inner) ≡ programs.test (view_node T inner.value)
 view_test T inner = first_of (search (rules, the_lemmas), search (rules, the_lemmas, fold_out-Node))
 
-pub test_does : (T : ℕ → Listed) (p : programs.Program) (levels : ℕ) (inner : Box Node Global) (m : Mode) (s : State) → runs_paid p levels (view_node T (Test inner)) m s ≡ after (runs p levels (view_node T inner.value) m s) (put_back m (saved_cursor s)) (Signals false)
+pub test_does : (T : ℕ → Listing) (p : programs.Program) (levels : ℕ) (inner : Box Node Global) (m : Mode) (s : State) → runs_paid p levels (view_node T (Test inner)) m s ≡ after (runs p levels (view_node T inner.value) m s) (put_back m (saved_cursor s)) (Signals false)
 test_does T p levels inner m s = ap (λ c. runs_paid p levels c m s) (view_test T inner)
 
-view_try : (T : ℕ → Listed) (inner : Box Node Global) → view_node T (Try inner) ≡ programs.try (view_node T inner.value)
+view_try : (T : ℕ → Listing) (inner : Box Node Global) → view_node T (Try inner) ≡ programs.try (view_node T inner.value)
 view_try T inner = first_of (search (rules, the_lemmas), search (rules, the_lemmas, fold_out-Node))
 
-pub try_does : (T : ℕ → Listed) (p : programs.Program) (levels : ℕ) (inner : Box Node Global) (m : Mode) (s : State) → runs_paid p levels (view_node T (Try inner)) m s ≡ after (runs p levels (view_node T inner.value) m s) (Signals true) (put_back m (saved_cursor s))
+pub try_does : (T : ℕ → Listing) (p : programs.Program) (levels : ℕ) (inner : Box Node Global) (m : Mode) (s : State) → runs_paid p levels (view_node T (Try inner)) m s ≡ after (runs p levels (view_node T inner.value) m s) (Signals true) (put_back m (saved_cursor s))
 try_does T p levels inner m s = ap (λ c. runs_paid p levels c m s) (view_try T inner)
 
-view_do : (T : ℕ → Listed) (inner : Box Node Global) → view_node T (Do inner) ≡ programs.do_ (view_node T inner.value)
+view_do : (T : ℕ → Listing) (inner : Box Node Global) → view_node T (Do inner) ≡ programs.do_ (view_node T inner.value)
 view_do T inner = first_of (search (rules, the_lemmas), search (rules, the_lemmas, fold_out-Node))
 
-pub do_does : (T : ℕ → Listed) (p : programs.Program) (levels : ℕ) (inner : Box Node Global) (m : Mode) (s : State) → runs_paid p levels (view_node T (Do inner)) m s ≡ after (runs p levels (view_node T inner.value) m s) (put_back m (saved_cursor s)) (put_back m (saved_cursor s))
+pub do_does : (T : ℕ → Listing) (p : programs.Program) (levels : ℕ) (inner : Box Node Global) (m : Mode) (s : State) → runs_paid p levels (view_node T (Do inner)) m s ≡ after (runs p levels (view_node T inner.value) m s) (put_back m (saved_cursor s)) (put_back m (saved_cursor s))
 do_does T p levels inner m s = ap (λ c. runs_paid p levels c m s) (view_do T inner)
 
-view_fail : (T : ℕ → Listed) (inner : Box Node Global) → view_node T (Fail inner) ≡ programs.fail (view_node T inner.value)
+view_fail : (T : ℕ → Listing) (inner : Box Node Global) → view_node T (Fail inner) ≡ programs.fail (view_node T inner.value)
 view_fail T inner = first_of (search (rules, the_lemmas), search (rules, the_lemmas, fold_out-Node))
 
-pub fail_does : (T : ℕ → Listed) (p : programs.Program) (levels : ℕ) (inner : Box Node Global) (m : Mode) (s : State) → runs_paid p levels (view_node T (Fail inner)) m s ≡ after (runs p levels (view_node T inner.value) m s) (Signals false) (Signals false)
+pub fail_does : (T : ℕ → Listing) (p : programs.Program) (levels : ℕ) (inner : Box Node Global) (m : Mode) (s : State) → runs_paid p levels (view_node T (Fail inner)) m s ≡ after (runs p levels (view_node T inner.value) m s) (Signals false) (Signals false)
 fail_does T p levels inner m s = ap (λ c. runs_paid p levels c m s) (view_fail T inner)
 
-view_backwards : (T : ℕ → Listed) (inner : Box Node Global) → view_node T (Backwards inner) ≡ programs.backwards (view_node T inner.value)
+view_backwards : (T : ℕ → Listing) (inner : Box Node Global) → view_node T (Backwards inner) ≡ programs.backwards (view_node T inner.value)
 view_backwards T inner = first_of (search (rules, the_lemmas), search (rules, the_lemmas, fold_out-Node))
 
-pub backwards_does : (T : ℕ → Listed) (p : programs.Program) (levels : ℕ) (inner : Box Node Global) (m : Mode) (s : State) → runs_paid p levels (view_node T (Backwards inner)) m s ≡ then_on (backwards_from s) (λ b. after (runs p levels (view_node T inner.value) Backward b) backwards_end (Signals false))
+pub backwards_does : (T : ℕ → Listing) (p : programs.Program) (levels : ℕ) (inner : Box Node Global) (m : Mode) (s : State) → runs_paid p levels (view_node T (Backwards inner)) m s ≡ then_on (backwards_from s) (λ b. after (runs p levels (view_node T inner.value) Backward b) backwards_end (Signals false))
 backwards_does T p levels inner m s = ap (λ c. runs_paid p levels c m s) (view_backwards T inner)

@@ -4,7 +4,7 @@ use Rattle.std.specs.Prelude.{nat_eq, drop, if◌then◌else◌, slice_get, leng
 use Rattle.std.specs.List.{starts_with}
 use Rattle.sbl_ast.specs.declared.mode.Mode.{Mode}
 use Rattle.sbl_ast.specs.declared.mode.Mode.TheVariants.{Forward, Backward}
-use Rattle.sbl_program.specs.AmongStrings.{Listed}
+use Rattle.sbl_program.specs.AmongStrings.{Listing}
 use Rattle.sbl_program.specs.Program as programs
 use Rattle.sbl_program.specs.ProgramOf.{view_action, view_nodes}
 use Rattle.sbl_program.specs.declared.action.Action.TheVariants.{LeftBracket, Match}
@@ -58,7 +58,7 @@ second : (cs : List Node) → slice_get (drop 1 cs) 0 ≡ slice_get cs 1
 second [] = refl
 second (c ∷ cs) = refl
 
-module _ (T : ℕ → Listed) (p : programs.Program) (levels : ℕ) (l : Vec ℕ Global) (m : Mode) where
+module _ (T : ℕ → Listing) (p : programs.Program) (levels : ℕ) (l : Vec ℕ Global) (m : Mode) where
   -- commands of which the first is a literal
   literal_first : (cs : List Node) (s : State) → slice_get cs 0 ≡ Some (Act (Match (Literal l))) → starts_with nat_eq (ahead m s) (read_as m l.items) ≡ false → all_run p levels (view_nodes T cs) m s ≡ then_on (pay s.steps s) (Signals false)
   literal_first cs s is e =

@@ -7,7 +7,7 @@ use Rattle.std.proofs.lemmas.Option.{slice_get-map}
 use Rattle.sbl_ast.specs.declared.mode.Mode.{Mode}
 use Rattle.sbl_ast.specs.declared.mode.Mode.TheVariants.{Forward}
 use Rattle.sbl_program.specs.declared.among.AmongStrings.{AmongStrings}
-use Rattle.sbl_program.specs.AmongStrings.{Listed, listing}
+use Rattle.sbl_program.specs.AmongStrings.{Listing, listing}
 use Rattle.sbl_interpreter.specs.Listing.{listed_by, listed_of}
 use Rattle.sbl_program.specs.FoundView.{listing_found, strings_at, strings_or}
 
@@ -23,7 +23,7 @@ table_more f xs i x y l e h =
 pub table_all : {X Y : Type 0} (f : X → Y) (xs : List X) (i : ℕ) → length xs ≤ i → take i (map f xs) ≡ map f xs
 table_all f xs i l = take_all i (map f xs) (omega (arith, l, length-map xs f))
 
-or_nothing : Option Listed → Listed
+or_nothing : Option Listing → Listing
 or_nothing None = listing Forward []
 or_nothing (Some l) = l
 

@@ -20,7 +20,7 @@ use Rattle.sbl_program.specs.declared.node.Node.TheVariants.{Row}
 use Rattle.sbl_program.specs.declared.node.Node.TheFolds.{fold_out-Node}
 use Rattle.sbl_program.specs.declared.node.Node.TheViews.{the_lemmas}
 use Rattle.sbl_program.specs.Chains.{AddedView, JoinedView, ScaledView, sum_or_difference, all_sums, row_node, join, join_all, product_or_quotient, all_products}
-use Rattle.sbl_program.specs.AmongStrings.{Listed}
+use Rattle.sbl_program.specs.AmongStrings.{Listing}
 use Rattle.sbl_program.specs.Program as programs
 use Rattle.sbl_program.specs.ProgramOf.{view_next_product, view_next_command, view_node, view_number, view_next_factor}
 use Rattle.sbl_semantics.specs.declared.fault.RunFault.{RunFault}
@@ -143,10 +143,10 @@ module _ (p : programs.Program) (levels : ℕ) (m : Mode) where
       let k : length os ≡ length (o ∷ os) - 1 = omega arith in
       row_acts os o c s ∙ ap (λ n. then_on (pays n s) (λ u. others_run p levels m (saved_cursor u) (o ∷ os) (runs p levels c m u))) k
 
-view_row : (T : ℕ → Listed) (first : Box Node Global) (others : Vec JoinedNode Global) → view_node T (Row first others) ≡ row_node (view_node T first.value) (map (view_next_command T) others.items)
+view_row : (T : ℕ → Listing) (first : Box Node Global) (others : Vec JoinedNode Global) → view_node T (Row first others) ≡ row_node (view_node T first.value) (map (view_next_command T) others.items)
 view_row T first others = first_of (search (rules, the_lemmas), search (rules, the_lemmas, fold_out-Node))
 
-pub row_does : (T : ℕ → Listed) (p : programs.Program) (levels : ℕ) (first : Box Node Global) (others : Vec JoinedNode Global) (m : Mode) (s : State) → runs_paid p levels (view_node T (Row first others)) m s ≡ row_runs p levels (view_node T first.value) (map (view_next_command T) others.items) m s
+pub row_does : (T : ℕ → Listing) (p : programs.Program) (levels : ℕ) (first : Box Node Global) (others : Vec JoinedNode Global) (m : Mode) (s : State) → runs_paid p levels (view_node T (Row first others)) m s ≡ row_runs p levels (view_node T first.value) (map (view_next_command T) others.items) m s
 row_does T p levels first others m s =
     ap (λ c. runs_paid p levels c m s) (view_row T first others)
     ∙ grouped_acts p levels m (view_node T first.value) (map (view_next_command T) others.items) s

@@ -22,10 +22,10 @@ Leads (Ok u) new e = e ≡ Signals true new
 Leads (Err halt) new e = Halts (fault_of halt) new e
 
 -- One string of a search: it is taken, or the next one follows.
-abbrev pub Tried : Result Bool Halt → State → Ending → Ending → Type 0
-Tried (Ok true) new e follow = e ≡ Signals true new
-Tried (Ok false) new e follow = e ≡ follow
-Tried (Err halt) new e follow = Halts (fault_of halt) new e
+abbrev pub Tries : Result Bool Halt → State → Ending → Ending → Type 0
+Tries (Ok true) new e follow = e ≡ Signals true new
+Tries (Ok false) new e follow = e ≡ follow
+Tries (Err halt) new e follow = Halts (fault_of halt) new e
 
 -- the offsets lie in the text, which is short
 pub record IsWithin (text : List ℕ) (cursor left beyond bra ket : ℕ) : Type 0 where

@@ -1,7 +1,7 @@
 -- The search of an among.
 use Rattle.std.specs.Prelude.{ℕ, true, false, List, [], ◌∷◌, length, nat_lt, if◌then◌else◌, Option, Some, None, slice_get}
 use Rattle.sbl_program.specs.declared.node.Candidate.{Candidate}
-use Rattle.sbl_program.specs.AmongStrings.{Listed}
+use Rattle.sbl_program.specs.AmongStrings.{Listing}
 use Rattle.sbl_interpreter.specs.Listing.{fits_at}
 use Rattle.sbl_semantics.specs.State.{State, Ending, Signals, Doing, after, then_on, pay, saved_cursor, limit_of, place_after}
 use Rattle.sbl_ast.specs.declared.mode.Mode.{Mode}
@@ -35,9 +35,9 @@ tries call k entries m from (i ∷ is) s =
     try_one call k (slice_get entries i) m from s (tries call k entries m from is)
 
 -- the strings that match where the search begins, the longest first
-abbrev pub search_strings : (ℕ → Doing) → ℕ → List Candidate → Listed → Mode → State → Ending
+abbrev pub search_strings : (ℕ → Doing) → ℕ → List Candidate → Listing → Mode → State → Ending
 search_strings call k entries strings m s = tries call k entries m s (fits_at strings s.text s.cursor (bound_in m s)) s
 
 -- a search touches its among, whatever its result
-abbrev pub search_all : (ℕ → Doing) → ℕ → List Candidate → Listed → Mode → State → Ending
+abbrev pub search_all : (ℕ → Doing) → ℕ → List Candidate → Listing → Mode → State → Ending
 search_all call k entries strings m s = search_strings call k entries strings m (touch_among k m s)

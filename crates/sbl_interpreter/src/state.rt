@@ -3,7 +3,7 @@
 ghost use Rattle.std.specs.Prelude.{◌≡◌, ℕ, ◌+◌, ◌-◌, ◌<◌, ◌≤◌, [], length, IfOk, Some, None, false};
 ghost use Rattle.sbl_semantics.specs.Fitting.{read_as};
 ghost use Rattle.sbl_semantics.specs.State.{State as RunState, pay, at_place, at_difference, to_limit, saved_cursor, put_back, step_over, place_after, ahead, room, note_event};
-ghost use Rattle.sbl_program.specs.AmongStrings.{Listed};
+ghost use Rattle.sbl_program.specs.AmongStrings.{Listing};
 ghost use Rattle.sbl_program.specs.ProgramOf.{program_of, view_text};
 ghost use Rattle.sbl_interpreter.specs.Arithmetic.{characters};
 ghost use Rattle.sbl_semantics.specs.Events.{Event' as RunEvent, event_of, view_events, Puts};
@@ -110,7 +110,7 @@ impl State {
         steps: u32,
     ) -> Result<(), AllocError>
         requires { length word.now ≤ max_word_length }
-        ensures { (tables : ℕ → Listed) → IfOk result (λ _. self.new ≡ start (program_of tables program.now) word.now steps) }
+        ensures { (tables : ℕ → Listing) → IfOk result (λ _. self.new ≡ start (program_of tables program.now) word.now steps) }
     {
         self.cursor = 0;
         self.left = 0;

@@ -2,7 +2,7 @@
 
 ghost use Rattle.std.specs.Prelude.{◌≡◌, ◌≤◌, ◌++◌, ◌∷◌, List, ℕ, length, map, slice_get, IfOk};
 ghost use Rattle.sbl_semantics.specs.Fitting.{first};
-ghost use Rattle.sbl_program.specs.AmongStrings.{Listed};
+ghost use Rattle.sbl_program.specs.AmongStrings.{Listing};
 ghost use Rattle.sbl_program.specs.FoundView.{listing_found};
 ghost use Rattle.sbl_interpreter.specs.Listing.{fits_at, listed_by, listed_of};
 
@@ -13,7 +13,7 @@ use std::alloc::{AllocError, Global};
 /// The searches of all amongs of a script.
 pub trait Tables {
     /// The strings of an among, and the mode in which they are read.
-    ghost listed: { Self → ℕ → Listed };
+    ghost listed: { Self → ℕ → Listing };
 
     /// Returns the longest string of an among that matches at an offset, up to a bound.
     fn longest(&self, table: usize, text: &[char], at: usize, bound: usize) -> Option<usize>

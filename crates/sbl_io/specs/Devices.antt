@@ -92,15 +92,15 @@ abbrev pub stop_of : ℕ → ErrorKind → Stop
 stop_of failures k = if failures == 2 ^ 64 - 1 then Interrupted else stop_of_kind k
 
 -- the result of a read or a write of std, with its error converted
-abbrev pub Judged : ℕ → Result ℕ Error → Result ℕ Stop → Type 0
-Judged failures (Ok n) judged = judged ≡ Ok n
-Judged failures (Err e) judged = judged ≡ Err (stop_of failures (error_kind e))
+abbrev pub IsConverted : ℕ → Result ℕ Error → Result ℕ Stop → Type 0
+IsConverted failures (Ok n) judged = judged ≡ Ok n
+IsConverted failures (Err e) judged = judged ≡ Err (stop_of failures (error_kind e))
 
 -- the same for a write of these bytes; it failed if it took none of some bytes
-abbrev pub JudgedWrite : ℕ → List ℕ → Result ℕ Error → Result ℕ Stop → Type 0
-JudgedWrite failures bytes (Ok n) judged =
+abbrev pub IsConvertedWrite : ℕ → List ℕ → Result ℕ Error → Result ℕ Stop → Type 0
+IsConvertedWrite failures bytes (Ok n) judged =
     judged ≡ (if nat_lt 0 (length bytes) && (n == 0) then Err (stop_of failures kind.WriteZero) else Ok n)
-JudgedWrite failures bytes (Err e) judged = Judged failures (Err e) judged
+IsConvertedWrite failures bytes (Err e) judged = IsConverted failures (Err e) judged
 
 -- the writer has failed since, or it was interrupted more than 1,000 times in a row
 abbrev pub HasStopped : {W : Type 0} → (W → Tally) → W → W → Type 0

@@ -1,7 +1,7 @@
 //! Readers and writers that may fail or be interrupted. Failures, interruptions and reads are counted.
 ghost use Rattle.std.specs.Prelude.{◌≡◌, ◌≤◌, ◌<◌, ◌^◌, ◌-◌, ◌||◌, ℕ, Bool, false, List, Option, length, IfOk, Err};
 ghost use Rattle.std.specs.Io.KnownBytes.{Keeps};
-ghost use Rattle.sbl_io.specs.Devices.{Tally, Reads, Writes, Counts, CountsRead, CountsRow, Judged, JudgedWrite, is_late_read, is_late_write, max_reads, max_tries, tells_end};
+ghost use Rattle.sbl_io.specs.Devices.{Tally, Reads, Writes, Counts, CountsRead, CountsRow, IsConverted, IsConvertedWrite, is_late_read, is_late_write, max_reads, max_tries, tells_end};
 
 use std::io;
 use std::io::{ErrorKind, Read, Write};
@@ -153,7 +153,7 @@ impl Stops {
 /// `Interrupted` is an interruption, every other error is a failure; but if `failures` is the greatest `u64`, each
 /// error is an interruption.
 pub fn judge_read(failures: u64, answer: io::Result<usize>) -> Result<usize, Stop>
-    ensures judged { Judged failures answer result }
+    ensures judged { IsConverted failures answer result }
     ensures counted { result ≡ Err Stop.Failed → failures < 2 ^ 64 - 1 }
 {
     match answer {
@@ -167,7 +167,7 @@ pub fn judge_read(failures: u64, answer: io::Result<usize>) -> Result<usize, Sto
 /// Converts the result of a write of these bytes in the same way. A write that takes none of some bytes is an error of
 /// kind `WriteZero`.
 pub fn judge_write(failures: u64, bytes: &[u8], answer: io::Result<usize>) -> Result<usize, Stop>
-    ensures judged { JudgedWrite failures bytes.now answer result }
+    ensures judged { IsConvertedWrite failures bytes.now answer result }
     ensures counted { result ≡ Err Stop.Failed → failures < 2 ^ 64 - 1 }
 {
     match answer {

@@ -9,7 +9,7 @@ use Rattle.sbl_ast.specs.declared.tree.DeclarationKind.TheVariants as kinds
 use Rattle.sbl_ast.specs.Tree.{bracket, no_rows, no_others}
 use Rattle.sbl_ast.specs.declared.mode.Mode.{Mode}
 use Rattle.sbl_ast.specs.declared.mode.Mode.TheVariants.{Forward}
-use Rattle.sbl_semantics.specs.Items.{Known, known_in, class_of, classes_behind, is_among, place_of, Body, body_named}
+use Rattle.sbl_semantics.specs.Items.{DeclaredNames, known_in, class_of, classes_behind, is_among, place_of, Body, body_named}
 use Rattle.sbl_semantics.specs.Regions.{number_after, number_after_others}
 use Rattle.sbl_semantics.specs.declared.fault.RunFault.TheVariants.{Depth}
 use Rattle.sbl_semantics.specs.declared.touch.Touch.{Touch}
@@ -91,7 +91,7 @@ abbrev pub marked_by : (Item' → Bool) → Names' → Touch → Bool
 marked_by picked names x = picked (item_of_touch names x)
 
 module _ (picked : Item' → Bool) (items : List ItemInMode) (closed : AllByRecursion (λ x. IsClosedAt picked x.plain) items) where
-  abbrev ns : Known
+  abbrev ns : DeclaredNames
   ns = known_in items
 
   abbrev class : List ℕ → ℕ → Bool

@@ -5,7 +5,7 @@ use Rattle.sbl_ast.specs.declared.tree.DeclarationKind.TheVariants as kinds
 use Rattle.sbl_ast.specs.Tree as trees
 use Rattle.sbl_ast.specs.Tree.{bracket, simple_, literal_, name_, non_, prefixed, counted, move_, named, splice_, setlimit_, assign_, compare_, compare_values_, among_, no_rows, row, no_others, joined, no_starter, starter, bare, group, entry}
 use Rattle.sbl_ast.specs.declared.mode.Mode.{Mode}
-use Rattle.sbl_semantics.specs.Items.{Known, place_of, is_among}
+use Rattle.sbl_semantics.specs.Items.{DeclaredNames, place_of, is_among}
 use Rattle.sbl_semantics.specs.Regions.{Among, among_at, number_after, number_after_rows, number_after_others, number_after_starter, first, first_rows, first_others, mode_under, waits, waits_others}
 use Rattle.sbl_semantics.specs.declared.touch.Touch.{Touch}
 use Rattle.sbl_semantics.specs.declared.touch.Touch.TheVariants.{Searched, Tested}
@@ -23,7 +23,7 @@ use Rattle.sbl_machine.proofs.HoledTrees.{behind_same, behind_rows_same, behind_
 
 -- ---- what stands in a hole, alone
 
-module _ (picked : Touch → Bool) (ns : Known) (class : List ℕ → ℕ → Bool) (call : List ℕ → Doing) (calls_grown : (n : List ℕ) (m : Mode) (s : State) → Grown picked s (call n m s)) where
+module _ (picked : Touch → Bool) (ns : DeclaredNames) (class : List ℕ → ℕ → Bool) (call : List ℕ → Doing) (calls_grown : (n : List ℕ) (m : Mode) (s : State) → Grown picked s (call n m s)) where
   record RowsGrown (rs : trees.Rows) : Type 0 where
     grown : (r : Mode) (k : ℕ) (w : Bool) (n : Option Among) (m : Mode) (s : State) → Grown picked s (meaning.rows_do ns class call r k w n rs m s)
 
@@ -92,7 +92,7 @@ module _ (picked : Touch → Bool) (ns : Known) (class : List ℕ → ℕ → Bo
 
 -- ---- a command and the same with holes, in the i-th routine
 
-module _ (picked : Touch → Bool) (ns : Known) (class class' : List ℕ → ℕ → Bool) (classes_alike : (n : List ℕ) → picked (Tested (place_of (ns kinds.Groupings) n)) ≡ false → class' n ≡ class n)
+module _ (picked : Touch → Bool) (ns : DeclaredNames) (class class' : List ℕ → ℕ → Bool) (classes_alike : (n : List ℕ) → picked (Tested (place_of (ns kinds.Groupings) n)) ≡ false → class' n ≡ class n)
     (call call' : List ℕ → Doing) (i : ℕ) (calls_alike : (n : List ℕ) → Alike picked i (call n) (call' n)) (holes : ℕ → Bool) (spot : (k : ℕ) → picked (Searched i k) ≡ holes (suc k)) where
   -- what a `substring` finds ahead is alike
   pub record Like (n n' : Option Among) : Type 0 where

@@ -12,7 +12,7 @@ use Rattle.sbl_ast.specs.declared.tree.DeclarationKind.TheVariants as kinds
 use Rattle.sbl_ast.specs.Tree.{Command, Others, Argument, written_out, Term, Plain, Item, bracket, no_rows, no_others, declaration, escapes, macro, routine, grouping, plain, backward}
 use Rattle.sbl_ast.specs.declared.mode.Mode.{Mode}
 use Rattle.sbl_ast.specs.declared.mode.Mode.TheVariants.{Forward, Backward}
-use Rattle.sbl_semantics.specs.Items.{Known, is_among, place_of, names_by, known_in, Body, body_or, body_named}
+use Rattle.sbl_semantics.specs.Items.{DeclaredNames, is_among, place_of, names_by, known_in, Body, body_or, body_named}
 use Rattle.sbl_semantics.specs.Regions.{number_after}
 use Rattle.sbl_machine.specs.BuiltFrom.{IsClosed, IsClosedAt}
 use Rattle.sbl_machine.specs.Holes.{nothing, with_holes, others_with_holes, holed_plain, holed_item, holed_script}
@@ -73,7 +73,7 @@ module _ (picked : Item' → Bool) where
 
   pub names_same : (s : Source) → names_of (holed_script picked s) ≡ names_of s
   names_same s =
-      ap (λ (known : Known). record { routines = known kinds.Routines; groupings = known kinds.Groupings })
+      ap (λ (known : DeclaredNames). record { routines = known kinds.Routines; groupings = known kinds.Groupings })
       (ap known_in (order_holed s.items) ∙ known_same (in_order s.items))
 
   -- ---- what is closed

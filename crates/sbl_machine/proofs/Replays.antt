@@ -28,7 +28,7 @@ use Rattle.sbl_ast.specs.Tree.{bracket, simple_, literal_, name_, non_, prefixed
 use Rattle.sbl_ast.specs.declared.mode.Mode.{Mode}
 use Rattle.sbl_ast.specs.declared.mode.Mode.TheVariants.{Forward, Backward}
 use Rattle.sbl_semantics.specs.Fitting.{read_as, ahead_at}
-use Rattle.sbl_semantics.specs.Items.{Known, Body, place_of, is_among, known_in, class_of, classes_behind, body_named}
+use Rattle.sbl_semantics.specs.Items.{DeclaredNames, Body, place_of, is_among, known_in, class_of, classes_behind, body_named}
 use Rattle.sbl_semantics.specs.Regions.{Among, among_at, number_after, number_after_rows, number_after_others, number_after_starter, first, first_rows, first_others, mode_under, waits, waits_others}
 use Rattle.sbl_semantics.specs.declared.cursor.SavedCursor.{SavedCursor}
 use Rattle.sbl_semantics.specs.declared.limits.Limits.{Limits}
@@ -82,23 +82,23 @@ test_step false g ts = sym (filter-append is_no_test ts (Tested g ∷ []) ∙ ap
 
 module _ (word : List ℕ) where
   -- the events so far give the text, and the touches but for tests
-  abbrev Told : State → Type 0
-  Told s = (xs : List Event') × (s.events ≡ Some xs) × (text_after word xs ≡ s.text) × (touches_after [] xs ≡ filter is_no_test s.touched)
+  abbrev IsRecorded : State → Type 0
+  IsRecorded s = (xs : List Event') × (s.events ≡ Some xs) × (text_after word xs ≡ s.text) × (touches_after [] xs ≡ filter is_no_test s.touched)
 
-  abbrev ToldAt : Ending → Type 0
-  ToldAt (Signals b s) = Told s
-  ToldAt (Stops fault s) = Told s
+  abbrev RecordedAt : Ending → Type 0
+  RecordedAt (Signals b s) = IsRecorded s
+  RecordedAt (Stops fault s) = IsRecorded s
 
   abbrev Keeps : (State → Ending) → Type 0
-  Keeps f = (s : State) → Told s → ToldAt (f s)
+  Keeps f = (s : State) → IsRecorded s → RecordedAt (f s)
 
   abbrev KeepsIn : Doing → Type 0
   KeepsIn d = (m : Mode) → Keeps (d m)
 
-  tell_keeps : (x : Event') (s : State) → ((t : List ℕ) → text_after_one t x ≡ t) → ((ts : List Touch) → touches_after_one ts x ≡ ts) → Told s → Told (note_event x s)
+  tell_keeps : (x : Event') (s : State) → ((t : List ℕ) → text_after_one t x ≡ t) → ((ts : List Touch) → touches_after_one ts x ≡ ts) → IsRecorded s → IsRecorded (note_event x s)
   tell_keeps x s same none h = (h.0 ++ (x ∷ []), ap (with_event x) h.1, text_last word h.0 x ∙ same (text_after word h.0) ∙ h.2, touches_last [] h.0 x ∙ none (touches_after [] h.0) ∙ h.3)
 
-  touch_keeps : (x : Event') (y : Touch) (s : State) → ((t : List ℕ) → text_after_one t x ≡ t) → ((ts : List Touch) → touches_after_one ts x ≡ with_touch y ts) → is_no_test y ≡ true → Told s → Told (note_event x (record s { touched = with_touch y s.touched }))
+  touch_keeps : (x : Event') (y : Touch) (s : State) → ((t : List ℕ) → text_after_one t x ≡ t) → ((ts : List Touch) → touches_after_one ts x ≡ with_touch y ts) → is_no_test y ≡ true → IsRecorded s → IsRecorded (note_event x (record s { touched = with_touch y s.touched }))
   touch_keeps x y s same one e h = (
     h.0 ++ (x ∷ []),
     ap (with_event x) h.1,
@@ -106,15 +106,15 @@ module _ (word : List ℕ) where
     touches_last [] h.0 x ∙ one (touches_after [] h.0) ∙ ap (with_touch y) h.3 ∙ with_kept y e s.touched,
   )
 
-  test_keeps : (g : ℕ) (s : State) → Told s → Told (touch_grouping g s)
+  test_keeps : (g : ℕ) (s : State) → IsRecorded s → IsRecorded (touch_grouping g s)
   test_keeps g s h = (h.0, h.1, h.2, h.3 ∙ test_step (list_any (same_touch (Tested g)) s.touched) g s.touched)
 
-  put_keeps : (from to : ℕ) (cs : List ℕ) (s : State) → Told s → Told (note_event (Puts from to cs) (record s { text = splice s.text from to cs }))
+  put_keeps : (from to : ℕ) (cs : List ℕ) (s : State) → IsRecorded s → IsRecorded (note_event (Puts from to cs) (record s { text = splice s.text from to cs }))
   put_keeps from to cs s h = (h.0 ++ (Puts from to cs ∷ []), ap (with_event (Puts from to cs)) h.1, text_last word h.0 (Puts from to cs) ∙ ap (λ t. splice t from to cs) h.2, touches_last [] h.0 (Puts from to cs) ∙ h.3)
 
   -- ---- one after another
 
-  after_keeps : (e : Ending) (f g : State → Ending) → ToldAt e → Keeps f → Keeps g → ToldAt (after e f g)
+  after_keeps : (e : Ending) (f g : State → Ending) → RecordedAt e → Keeps f → Keeps g → RecordedAt (after e f g)
   after_keeps (Signals true s) f g h i j = i s h
   after_keeps (Signals false s) f g h i j = j s h
   after_keeps (Stops fault s) f g h i j = h
@@ -122,14 +122,14 @@ module _ (word : List ℕ) where
   signals_keep : (b : Bool) → Keeps (Signals b)
   signals_keep b s h = h
 
-  then_keeps : (e : Ending) (f : State → Ending) → ToldAt e → Keeps f → ToldAt (then_on e f)
+  then_keeps : (e : Ending) (f : State → Ending) → RecordedAt e → Keeps f → RecordedAt (then_on e f)
   then_keeps e f h i = after_keeps e f (Signals false) h i (signals_keep false)
 
-  if_keeps : (b : Bool) (x y : Ending) → ToldAt x → ToldAt y → ToldAt (if b then x else y)
+  if_keeps : (b : Bool) (x y : Ending) → RecordedAt x → RecordedAt y → RecordedAt (if b then x else y)
   if_keeps true x y h i = h
   if_keeps false x y h i = i
 
-  given_keeps : (v : Value) (s : State) (go : ℤ → Ending) → Told s → ((z : ℤ) → ToldAt (go z)) → ToldAt (continue_with v s go)
+  given_keeps : (v : Value) (s : State) (go : ℤ → Ending) → IsRecorded s → ((z : ℤ) → RecordedAt (go z)) → RecordedAt (continue_with v s go)
   given_keeps (Ok z) s go h i = i z
   given_keeps (Err fault) s go h i = h
 
@@ -187,7 +187,7 @@ module _ (word : List ℕ) where
   edited_keeps edits.Attach cs Forward s h = put_in_keeps false cs s h
   edited_keeps edits.Attach cs Backward s h = put_in_keeps true cs s h
 
-  named_keeps : (ns : Known) (x : Naming) (y : List ℕ) (m : Mode) → Keeps (named_does ns x y m)
+  named_keeps : (ns : DeclaredNames) (x : Naming) (y : List ℕ) (m : Mode) → Keeps (named_does ns x y m)
   named_keeps ns namings.SetMark y m s h = h
   named_keeps ns namings.Set y m s h = h
   named_keeps ns namings.Unset y m s h = h
@@ -222,10 +222,10 @@ module _ (word : List ℕ) where
   moved_keeps moves.AtMark v m s h = given_keeps v s _ h (λ z. at_mark_keeps (natural z) s h)
   moved_keeps moves.ToMark v m s h = given_keeps v s _ h (λ z. to_mark_keeps (natural z) m s h)
 
-  assigned_keeps : (x : ℕ) (o : Assignment) (v : Value) (s : State) → Told s → ToldAt (assigned_does x o v s)
+  assigned_keeps : (x : ℕ) (o : Assignment) (v : Value) (s : State) → IsRecorded s → RecordedAt (assigned_does x o v s)
   assigned_keeps x o v s h = given_keeps (with_value v (meaning.assigned_value o (integer_at x s))) s (λ z. Signals true (record s { integers = slice_set s.integers x z })) h (λ z. h)
 
-  compared_keeps : (o : Comparison) (v w : Value) (s : State) → Told s → ToldAt (compared_does v o w s)
+  compared_keeps : (o : Comparison) (v w : Value) (s : State) → IsRecorded s → RecordedAt (compared_does v o w s)
   compared_keeps o v w s h = given_keeps v s (λ x. continue_with w s (λ y. Signals (meaning.is_so o x y) s)) h (λ x. given_keeps w s (λ y. Signals (meaning.is_so o x y) s) h (λ y. h))
 
   simple_keeps : (d : Doing) → KeepsIn d → (x : Simple) → KeepsIn (simple_does d x)
@@ -308,7 +308,7 @@ module _ (word : List ℕ) where
   begins_keep true d b i j m s h = h
   begins_keep false d b i j m s h = after_keeps (pay_first d m s) (b m) (Signals false) (paid_keeps d i m s h) (j m) (signals_keep false)
 
-  chosen_keeps : (o : Option ℕ) (s : State) (go : ℕ → Ending) → Told s → ((g : ℕ) → ToldAt (go g)) → ToldAt (with_group o s go)
+  chosen_keeps : (o : Option ℕ) (s : State) (go : ℕ → Ending) → IsRecorded s → ((g : ℕ) → RecordedAt (go g)) → RecordedAt (with_group o s go)
   chosen_keeps None s go h i = h
   chosen_keeps (Some g) s go h i = i g
 
@@ -342,7 +342,7 @@ module _ (word : List ℕ) where
 
   -- ---- the commands of a script
 
-  module _ (ns : Known) (class : List ℕ → ℕ → Bool) (call : List ℕ → Doing) (go : (x : List ℕ) → KeepsIn (call x)) where
+  module _ (ns : DeclaredNames) (class : List ℕ → ℕ → Bool) (call : List ℕ → Doing) (go : (x : List ℕ) → KeepsIn (call x)) where
     ahead_keeps : (n : Option Among) → KeepsIn (meaning.search_ahead ns class call n)
     ahead_keeps None m s h = h
     ahead_keeps (Some a) m s h = search_keeps call go a m s h
@@ -419,15 +419,15 @@ module _ (word : List ℕ) where
         (λ t j. tell_keeps (Leaves true) (record t { choices = s.choices; routine = s.routine }) (λ t. refl) (λ t. refl) j)
         (λ t j. tell_keeps (Leaves false) (record t { choices = s.choices; routine = s.routine }) (λ t. refl) (λ t. refl) j)
 
-  calls_keep : (ns : Known) (class : List ℕ → ℕ → Bool) (bodies : List ℕ → Option Body) (levels : ℕ) (x : List ℕ) → KeepsIn (meaning.calls ns class bodies levels x)
+  calls_keep : (ns : DeclaredNames) (class : List ℕ → ℕ → Bool) (bodies : List ℕ → Option Body) (levels : ℕ) (x : List ℕ) → KeepsIn (meaning.calls ns class bodies levels x)
   calls_keep ns class bodies zero x m s h = h
   calls_keep ns class bodies (suc levels) x m s h = body_keeps ns class (meaning.calls ns class bodies levels) (calls_keep ns class bodies levels) x (bodies x) m s h
 
-  stem_of : (e : Ending) (stem : List ℕ) → ToldAt e → outcome_at e ≡ Stem stem → text_after word (events_at e) ≡ stem
+  stem_of : (e : Ending) (stem : List ℕ) → RecordedAt e → outcome_at e ≡ Stem stem → text_after word (events_at e) ≡ stem
   stem_of (Signals b s) stem h p = let same : s.text ≡ stem = cc in ap (λ o. text_after word (events_in o)) h.1 ∙ h.2 ∙ same
   stem_of (Stops fault s) stem h p = let no : ⊥ = cc in absurd no
 
-  touches_at : (e : Ending) → ToldAt e → touches_after [] (events_at e) ≡ filter is_no_test (touched_at e)
+  touches_at : (e : Ending) → RecordedAt e → touches_after [] (events_at e) ≡ filter is_no_test (touched_at e)
   touches_at (Signals b s) h = ap (λ o. touches_after [] (events_in o)) h.1 ∙ h.3
   touches_at (Stops fault s) h = ap (λ o. touches_after [] (events_in o)) h.1 ∙ h.3
 

@@ -22,7 +22,7 @@ use Rattle.sbl_ast.specs.declared.tree.DeclarationKind.TheVariants as kinds
 use Rattle.sbl_ast.specs.Tree as trees
 use Rattle.sbl_ast.specs.Tree.{bracket, simple_, literal_, name_, non_, prefixed, counted, move_, named, splice_, setlimit_, assign_, compare_, compare_values_, among_, no_rows, row, no_others, joined, no_starter, starter, bare, group}
 use Rattle.sbl_compiler.specs.Ahead.{search_next, search_of, found_as, search_then, simple_by, made_command, made_rows, made_others, made_starter, made_groups}
-use Rattle.sbl_semantics.specs.Items.{Known, place_of, is_among}
+use Rattle.sbl_semantics.specs.Items.{DeclaredNames, place_of, is_among}
 use Rattle.sbl_semantics.specs.Meaning.{prefixed_does, counted_does, joined_does, limited_does, simple_does, moved_does, named_does, edited_does, assigned_does, compared_does, begins, worth}
 use Rattle.sbl_semantics.specs.Meaning as meaning
 use Rattle.sbl_interpreter.specs.Arithmetic.{characters, value, changed_value, holds}
@@ -54,7 +54,7 @@ after_same (Stops fault s) = refl
 if_same : (a b : Bool) (x x' y y' : Ending) → a ≡ b → x ≡ x' → y ≡ y' → (if a then x else y) ≡ (if b then x' else y')
 if_same a b x x' y y' h k l = ap (λ c. if c then x else y) h ∙ ap (λ z. if b then z else y) k ∙ ap (λ z. if b then x' else z) l
 
-module _ (ns : Names) (known : Known) (agree : Agree ns known) (classes : List (ℕ → Bool)) (class : List ℕ → ℕ → Bool) (call : ℕ → Doing) (call' : List ℕ → Doing)
+module _ (ns : Names) (known : DeclaredNames) (agree : Agree ns known) (classes : List (ℕ → Bool)) (class : List ℕ → ℕ → Bool) (call : ℕ → Doing) (call' : List ℕ → Doing)
     (same_class : (n : List ℕ) (c : ℕ) → class_at classes (number_of ns.groupings n) c ≡ class n c) (same_call : (n : List ℕ) → call (number_of ns.routines n) ≡ call' n) where
   abbrev does_as : programs.Node → Doing → Type 0
   does_as x d = (m : Mode) (s : State) → run.act classes call x m s ≡ d m s

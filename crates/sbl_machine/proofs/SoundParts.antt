@@ -26,7 +26,7 @@ use Rattle.sbl_ast.specs.Tree.{bare, group}
 use Rattle.sbl_program.specs.declared.node.Candidate as code
 use Rattle.sbl_compiler.specs.Ahead.{found_as}
 use Rattle.sbl_semantics.specs.Fitting.{below, fitting, onto, read_as, read_all, ahead_at}
-use Rattle.sbl_semantics.specs.Items.{Known}
+use Rattle.sbl_semantics.specs.Items.{DeclaredNames}
 use Rattle.sbl_semantics.specs.Meaning as meaning
 use Rattle.sbl_semantics.specs.Meaning.{Offer, offer, offers}
 use Rattle.sbl_interpreter.specs.Arithmetic.{characters, value, changed_value, holds}
@@ -61,14 +61,14 @@ holds_same comparisons.Greater = refl
 holds_same comparisons.AtLeast = refl
 
 -- the names of a script, in both
-pub record Agree (ns : Names) (known : Known) : Type 0 where
+pub record Agree (ns : Names) (known : DeclaredNames) : Type 0 where
   pub strings : ns.strings ≡ known kinds.Strings
   pub integers : ns.integers ≡ known kinds.Integers
   pub booleans : ns.booleans ≡ known kinds.Booleans
   pub groupings : ns.groupings ≡ known kinds.Groupings
   pub routines : ns.routines ≡ known kinds.Routines
 
-module _ (ns : Names) (known : Known) (agree : Agree ns known) where
+module _ (ns : Names) (known : DeclaredNames) (agree : Agree ns known) where
   pub text_same : (a : trees.Argument) (s : State) → characters (text ns a) s ≡ meaning.text known a s
   text_same (trees.written_out q) s = refl
   text_same (trees.by_name n) s = ap (λ i. slice_index_or s.strings i []) (placed_by _ _ n agree.strings)

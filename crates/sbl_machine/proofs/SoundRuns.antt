@@ -3,7 +3,7 @@ use Rattle.std.proofs.Common.{◌≡◌, ℕ, zero, suc, Bool, List, [], Option,
 use Rattle.std.proofs.Math.Path.{fun_ext}
 use Rattle.sbl_ast.specs.Order.{ItemInMode, in_order}
 use Rattle.sbl_ast.specs.declared.tree.DeclarationKind.TheVariants as kinds
-use Rattle.sbl_semantics.specs.Items.{Known, Body, known_in, class_of, classes_behind, body_named}
+use Rattle.sbl_semantics.specs.Items.{DeclaredNames, Body, known_in, class_of, classes_behind, body_named}
 use Rattle.sbl_semantics.specs.Meaning as meaning
 use Rattle.sbl_machine.specs.NumberedScript.{numbered_script}
 use Rattle.sbl_compiler.specs.NumberedItems.{numbered_items, plan_with}
@@ -31,7 +31,7 @@ module _ (items : List ItemInMode) (external : List ℕ) where
   abbrev ns : Names
   ns = names_behind items no_names
 
-  abbrev known : Known
+  abbrev known : DeclaredNames
   known = known_in items
 
   abbrev class : List ℕ → ℕ → Bool
@@ -40,7 +40,7 @@ module _ (items : List ItemInMode) (external : List ℕ) where
   abbrev program : programs.Program
   program = plan_with ns items external
 
-  abbrev variables : List (List ℕ) → List (List ℕ) → List (List ℕ) → Known
+  abbrev variables : List (List ℕ) → List (List ℕ) → List (List ℕ) → DeclaredNames
   variables integers booleans strings kinds.Integers = integers
   variables integers booleans strings kinds.Booleans = booleans
   variables integers booleans strings kinds.Strings = strings

@@ -14,7 +14,7 @@ use Rattle.sbl_ast.specs.declared.tree.Splice.TheVariants as edits
 use Rattle.sbl_ast.specs.declared.tree.DeclarationKind.TheVariants as kinds
 use Rattle.sbl_ast.specs.declared.mode.Mode.{Mode}
 use Rattle.sbl_ast.specs.declared.mode.Mode.TheVariants.{Forward, Backward}
-use Rattle.sbl_semantics.specs.Items.{Known, place_of}
+use Rattle.sbl_semantics.specs.Items.{DeclaredNames, place_of}
 use Rattle.sbl_semantics.specs.declared.cursor.SavedCursor.{SavedCursor}
 use Rattle.sbl_semantics.specs.declared.limits.Limits.{Limits}
 use Rattle.sbl_semantics.specs.declared.touch.Touch.{Touch}
@@ -151,7 +151,7 @@ assigned_same x o v s = given_same (with_value v (assigned_value o (integer_at x
 pub compared_same : (o : Comparison) (v w : Value) (s : State) → Same s (compared_does v o w s)
 compared_same o v w s = given_same v s _ (λ x. given_same w s _ (λ y. refl))
 
-pub named_same : (ns : Known) (x : Naming) (n : List ℕ) (m : Mode) (s : State) → Same s (named_does ns x n m s)
+pub named_same : (ns : DeclaredNames) (x : Naming) (n : List ℕ) (m : Mode) (s : State) → Same s (named_does ns x n m s)
 named_same ns namings.SetMark n m s = refl
 named_same ns namings.Set n m s = refl
 named_same ns namings.Unset n m s = refl

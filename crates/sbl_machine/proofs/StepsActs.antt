@@ -22,7 +22,7 @@ use Rattle.sbl_ast.specs.declared.tree.Splice.{Splice}
 use Rattle.sbl_ast.specs.declared.tree.Splice.TheVariants as edits
 use Rattle.sbl_ast.specs.Tree as trees
 use Rattle.sbl_semantics.specs.Fitting.{read_as, ahead_at}
-use Rattle.sbl_semantics.specs.Items.{Known, place_of}
+use Rattle.sbl_semantics.specs.Items.{DeclaredNames, place_of}
 use Rattle.sbl_semantics.specs.Regions.{Among}
 use Rattle.sbl_semantics.specs.declared.fault.RunFault.TheVariants as faults
 use Rattle.sbl_semantics.specs.declared.limits.Limits.{Limits}
@@ -60,7 +60,7 @@ edited_go edits.Insert cs Backward k n s l = put_in_go false cs k n s l
 edited_go edits.Attach cs Forward k n s l = put_in_go false cs k n s l
 edited_go edits.Attach cs Backward k n s l = put_in_go true cs k n s l
 
-pub named_go : (ns : Known) (x : Naming) (y : List ℕ) (m : Mode) → Steady (named_does ns x y m)
+pub named_go : (ns : DeclaredNames) (x : Naming) (y : List ℕ) (m : Mode) → Steady (named_does ns x y m)
 named_go ns namings.SetMark y m k n s l = (l, refl)
 named_go ns namings.Set y m k n s l = (l, refl)
 named_go ns namings.Unset y m k n s l = (l, refl)
@@ -119,11 +119,11 @@ assigned_goes x o k n s v v' e l =
 pub compared_goes : (o : Comparison) (k n : ℕ) (s : State) (v v' w w' : Value) → v' ≡ v → w' ≡ w → s.steps < n → Goes k n (compared_does v o w s) (compared_does v' o w' (more k s))
 compared_goes o k n s v v' w w' e f l = given_goes k n v v' s _ _ e l (λ x. given_goes k n w w' s _ _ f l (λ y. (l, refl)))
 
-pub text_more : (ns : Known) (a : trees.Argument) (k : ℕ) (s : State) → meaning.text ns a (more k s) ≡ meaning.text ns a s
+pub text_more : (ns : DeclaredNames) (a : trees.Argument) (k : ℕ) (s : State) → meaning.text ns a (more k s) ≡ meaning.text ns a s
 text_more ns (trees.written_out q) k s = refl
 text_more ns (trees.by_name x) k s = refl
 
-constant_more : (ns : Known) (c : Constant) (m : Mode) (k : ℕ) (s : State) → meaning.constant_worth ns c m (more k s) ≡ meaning.constant_worth ns c m s
+constant_more : (ns : DeclaredNames) (c : Constant) (m : Mode) (k : ℕ) (s : State) → meaning.constant_worth ns c m (more k s) ≡ meaning.constant_worth ns c m s
 constant_more ns constants.MaxInt m k s = refl
 constant_more ns constants.MinInt m k s = refl
 constant_more ns constants.Cursor m k s = refl
@@ -131,7 +131,7 @@ constant_more ns constants.Limit Forward k s = refl
 constant_more ns constants.Limit Backward k s = refl
 constant_more ns constants.Len m k s = refl
 
-module _ (ns : Known) (m : Mode) (k : ℕ) (s : State) where
+module _ (ns : DeclaredNames) (m : Mode) (k : ℕ) (s : State) where
   mutual
     pub worth_more : (e : trees.Expression) → meaning.worth ns e m (more k s) ≡ meaning.worth ns e m s
     worth_more (trees.expression p ss) = ap (λ v. meaning.value_of_sums ns ss v m (more k s)) (product_more p) ∙ sums_more ss (meaning.product_worth ns p m s)

@@ -4,7 +4,7 @@ use Rattle.std.specs.Prelude.{slice_index_or}
 use Rattle.sbl_ast.specs.declared.tree.DeclarationKind.TheVariants as kinds
 use Rattle.sbl_ast.specs.Tree as trees
 use Rattle.sbl_ast.specs.Tree.{bracket, simple_, literal_, name_, non_, prefixed, counted, move_, named, splice_, setlimit_, assign_, compare_, compare_values_, among_, no_rows, row, no_others, joined, no_starter, starter, bare, group}
-use Rattle.sbl_semantics.specs.Items.{Known, Body, place_of, is_among}
+use Rattle.sbl_semantics.specs.Items.{DeclaredNames, Body, place_of, is_among}
 use Rattle.sbl_semantics.specs.Regions.{Among, among_at, number_after, number_after_rows, number_after_others, number_after_starter, first, first_rows, first_others, mode_under, waits, waits_others}
 use Rattle.sbl_semantics.specs.Meaning as meaning
 use Rattle.sbl_semantics.specs.Meaning.{begins, joined_does, search}
@@ -17,7 +17,7 @@ use Rattle.sbl_machine.proofs.Steps.{more, Goes, Steady, signals_go, steady_goes
 use Rattle.sbl_machine.proofs.StepsActs.{edited_go, named_go, match_go, class_go, moved_goes, simple_go, assigned_goes, compared_goes, text_more, worth_more, prefixed_go, counted_goes, joined_go, limited_go, begins_go, chosen_goes, search_go}
 use Rattle.sbl_ast.specs.declared.mode.Mode.{Mode}
 
-module _ (ns : Known) (class : List ℕ → ℕ → Bool) (call : List ℕ → Doing) (go : (x : List ℕ) (m : Mode) → Steady (call x m)) where
+module _ (ns : DeclaredNames) (class : List ℕ → ℕ → Bool) (call : List ℕ → Doing) (go : (x : List ℕ) (m : Mode) → Steady (call x m)) where
   ahead_go : (n : Option Among) (m : Mode) → Steady (meaning.search_ahead ns class call n m)
   ahead_go None m = signals_go false
   ahead_go (Some a) m = search_go call go a m
@@ -99,6 +99,6 @@ module _ (ns : Known) (class : List ℕ → ℕ → Bool) (call : List ℕ → D
       (pays_go (pay_first (meaning.row_does ns class call b.mode b.first b.others)) (paid_pays (meaning.row_does ns class call b.mode b.first b.others) (row_go b.mode b.first b.others)) m k n begun l)
       (λ k n t j. (j, refl)) (λ k n t j. (j, refl))
 
-pub calls_go : (ns : Known) (class : List ℕ → ℕ → Bool) (bodies : List ℕ → Option Body) (levels : ℕ) (x : List ℕ) (m : Mode) → Steady (meaning.calls ns class bodies levels x m)
+pub calls_go : (ns : DeclaredNames) (class : List ℕ → ℕ → Bool) (bodies : List ℕ → Option Body) (levels : ℕ) (x : List ℕ) (m : Mode) → Steady (meaning.calls ns class bodies levels x m)
 calls_go ns class bodies zero x m k n s l = (l, refl)
 calls_go ns class bodies (suc levels) x m k n s l = body_go ns class (meaning.calls ns class bodies levels) (calls_go ns class bodies levels) x (bodies x) m k n s l

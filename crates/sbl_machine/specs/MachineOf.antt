@@ -3,7 +3,7 @@ use Rattle.std.specs.Prelude.{◌≡◌, ℕ, List, slice_get}
 use Rattle.sbl_ast.specs.declared.mode.Mode.{Mode}
 use Rattle.sbl_machine.specs.declared.machine.Machine.{Machine}
 use Rattle.sbl_semantics.specs.TouchedItems.{names_of}
-use Rattle.sbl_program.specs.AmongStrings.{Listed}
+use Rattle.sbl_program.specs.AmongStrings.{Listing}
 use Rattle.sbl_interpreter.specs.Listing.{listed_by}
 use Rattle.sbl_among_search.specs.declared.linked.LinkedTable.{LinkedTable}
 use Rattle.sbl_machine.specs.NumberedScript.{numbered_script}
@@ -13,7 +13,7 @@ use Rattle.sbl_among_search.specs.LinkedStrings.{entries_of, mode_of}
 use Rattle.sbl_ast.specs.Source.{Source}
 
 -- the strings of an among of the machine, by its number
-abbrev pub listed_in : (S : Type 0) → (S → List (List ℕ)) → (S → Mode) → Machine S → ℕ → Listed
+abbrev pub listed_in : (S : Type 0) → (S → List (List ℕ)) → (S → Mode) → Machine S → ℕ → Listing
 listed_in S entries mode m k = listed_by S entries mode (slice_get m.tables.tables.items k)
 
 -- the program of a machine

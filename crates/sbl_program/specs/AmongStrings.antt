@@ -2,9 +2,9 @@
 use Rattle.std.specs.Prelude.{ℕ, List}
 use Rattle.sbl_ast.specs.declared.mode.Mode.{Mode}
 
-pub record Listed : Type 0 where
+pub record Listing : Type 0 where
   pub mode : Mode
   pub entries : List (List ℕ)
 
-abbrev pub listing : Mode → List (List ℕ) → Listed
+abbrev pub listing : Mode → List (List ℕ) → Listing
 listing m es = record { mode = m; entries = es }

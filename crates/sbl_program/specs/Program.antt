@@ -3,7 +3,7 @@ use Rattle.std.specs.Prelude.{ℕ, Bool, List}
 use Rattle.sbl_program.specs.declared.action.Change.{Change}
 use Rattle.sbl_program.specs.declared.action.Relation.{Relation}
 use Rattle.sbl_program.specs.declared.node.Candidate.{Candidate}
-use Rattle.sbl_program.specs.AmongStrings.{Listed}
+use Rattle.sbl_program.specs.AmongStrings.{Listing}
 
 -- a string: a literal, or a string variable
 pub data StringTerm : Type 0 where
@@ -73,7 +73,7 @@ mutual
     setlimit : Node → Node → Node
     call : ℕ → Node
     -- the search of an among: the number of the among in its routine, its strings, and the candidate of each string
-    search : ℕ → Listed → List Candidate → Node
+    search : ℕ → Listing → List Candidate → Node
     -- an among: its number, what runs before the command of the chosen group, and the commands of the groups
     among : ℕ → Nodes → Nodes → Node
 

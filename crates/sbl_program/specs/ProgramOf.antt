@@ -19,7 +19,7 @@ use Rattle.sbl_program.specs.declared.node.Program.{Program}
 use Rattle.sbl_program.specs.declared.node.Routine.{Routine}
 use Rattle.sbl_char_class.specs.CharacterClasses.{members}
 use Rattle.sbl_program.specs.Chains.{AddedView, JoinedView, ScaledView, all_sums, row_node, all_products}
-use Rattle.sbl_program.specs.AmongStrings.{Listed}
+use Rattle.sbl_program.specs.AmongStrings.{Listing}
 use Rattle.sbl_program.specs.Program as programs
 
 abbrev pub view_text : StringTerm → programs.StringTerm
@@ -86,7 +86,7 @@ commands_of [] = programs.no_commands
 commands_of (c ∷ cs) = programs.command c (commands_of cs)
 
 -- `tables` has the strings of each table
-abbrev pub node_step : (ℕ → Listed) → Node-F programs.Node JoinedView → programs.Node
+abbrev pub node_step : (ℕ → Listing) → Node-F programs.Node JoinedView → programs.Node
 node_step tables (nodes.Act a) = programs.act (view_action a)
 node_step tables (nodes.Sequence cs) = programs.sequence (commands_of cs.items)
 node_step tables (nodes.Row a others) = row_node a.value others.items
@@ -109,19 +109,19 @@ node_step tables (nodes.Among k before bodies) = programs.among k (commands_of b
 abbrev pub joined_step : JoinedNode-F programs.Node JoinedView → JoinedView
 joined_step o = (o.joiner, o.command)
 
-abbrev pub view_node : (ℕ → Listed) → Node → programs.Node
+abbrev pub view_node : (ℕ → Listing) → Node → programs.Node
 view_node tables = fold-Node programs.Node JoinedView (node_step tables) joined_step
 
-abbrev pub view_next_command : (ℕ → Listed) → JoinedNode → JoinedView
+abbrev pub view_next_command : (ℕ → Listing) → JoinedNode → JoinedView
 view_next_command tables = fold-JoinedNode programs.Node JoinedView (node_step tables) joined_step
 
-abbrev pub view_nodes : (ℕ → Listed) → List Node → programs.Nodes
+abbrev pub view_nodes : (ℕ → Listing) → List Node → programs.Nodes
 view_nodes tables ns = commands_of (map (view_node tables) ns)
 
-abbrev pub view_routine : (ℕ → Listed) → Routine → programs.Routine
+abbrev pub view_routine : (ℕ → Listing) → Routine → programs.Routine
 view_routine tables r = record { body = view_node tables r.body; amongs = r.amongs }
 
-abbrev pub program_of : (ℕ → Listed) → Program → programs.Program
+abbrev pub program_of : (ℕ → Listing) → Program → programs.Program
 program_of tables p = record {
   integers = p.integers;
   booleans = p.booleans;

@@ -3,7 +3,7 @@
 
 ghost use Rattle.std.specs.Prelude.{◌≡◌, ℕ, slice_get};
 ghost use Rattle.std.specs.Option.{option_map};
-ghost use Rattle.sbl_program.specs.AmongStrings.{Listed};
+ghost use Rattle.sbl_program.specs.AmongStrings.{Listing};
 ghost use Rattle.sbl_program.specs.ProgramOf.{program_of, view_routine};
 
 use crate::action::{Action, Arithmetic};
@@ -123,7 +123,7 @@ pub struct Program {
 impl Program {
     /// Returns the routine with this number, or `None` if there is none.
     pub fn routine(&self, number: usize) -> Option<&Routine>
-        ensures { (tables : ℕ → Listed) → slice_get (program_of tables self.now).routines number ≡ option_map (λ r. view_routine tables r.now) result }
+        ensures { (tables : ℕ → Listing) → slice_get (program_of tables self.now).routines number ≡ option_map (λ r. view_routine tables r.now) result }
     {
         self.routines.get(number)
     }

@@ -27,7 +27,7 @@ use Rattle.sbl_script.specs.declared.edit_fault.ScriptEditFault.TheVariants as e
 use Rattle.sbl_script.specs.declared.edits.DefinitionKind.TheVariants as kinds
 use Rattle.sbl_script.specs.Reading.{HasTokens, IsFaultIn}
 use Rattle.sbl_script.specs.Edits.{ScriptEdit, body, among, terms, changes, defines, escapes_behind, first_of, keeps_count, items_with, plains_of, plains_with, state_before, text_for, text_in, IsAmongReplaced, IsEdited, IsEditFault, IsMade, IsSubstituted}
-use Rattle.sbl_script.specs.Homes.{Home, Reached, first_in, first_passing, home, home_in, home_of_among, home_of_body, home_of_held, home_of_terms, plain_if, state_reached, walk_in, walk_to, IsEditedAt, IsEditFaultAt, IsFaultAt, IsSubstitutedAt}
+use Rattle.sbl_script.specs.Homes.{Home, Walk, first_in, first_passing, home, home_in, home_of_among, home_of_body, home_of_held, home_of_terms, plain_if, state_reached, walk_in, walk_to, IsEditedAt, IsEditFaultAt, IsFaultAt, IsSubstitutedAt}
 use Rattle.sbl_script.proofs.AmongEnds.{behind_same, inside}
 use Rattle.sbl_script.proofs.AmongDepths.{N, both_n, same_test, text_same, words_with}
 use Rattle.sbl_script.proofs.Found.{grouping_found, routine_found, some_plain}
@@ -82,10 +82,10 @@ module _ (p : Plain → Bool) where
 
   walk_items : (is : List Item) (e : InForce) → walk_in p (plains_of is) e ≡ walk_to p is e
   walk_items [] e = refl
-  walk_items (plain x ∷ is) e = ap (λ (r : Reached). if p x then (e, true) else r) (walk_items is (escapes_behind e x))
+  walk_items (plain x ∷ is) e = ap (λ (r : Walk). if p x then (e, true) else r) (walk_items is (escapes_behind e x))
   walk_items (backward xs ∷ is) e =
       ap (λ (l : List Plain). walk_in p l e) (back_plains xs (in_order is)) ∙ walk_both xs (plains_of is) e
-      ∙ ap (λ (r : Reached). if (walk_in p xs e).1 then walk_in p xs e else r) (walk_items is (walk_in p xs e).0)
+      ∙ ap (λ (r : Walk). if (walk_in p xs e).1 then walk_in p xs e else r) (walk_items is (walk_in p xs e).0)
 
   more : (n : ℕ) (x : Plain) (xs : List Plain) → take (1 + n) (x ∷ xs) ≡ x ∷ take n xs
   more n x xs = let is : 1 + n ≡ suc n = omega arith in ap (λ (k : ℕ). take k (x ∷ xs)) is
@@ -99,7 +99,7 @@ module _ (p : Plain → Bool) where
     go false h = ap (λ (l : List Plain). fold escapes_behind e l) (more (prefix_len (λ y. not (p y)) xs) x xs) ∙ h
 
   pub state_same : (is : List Item) → state_before p is ≡ state_reached p is
-  state_same is = ap start_under (walk_before (plains_of is) nothing_set ∙ ap (λ (r : Reached). r.0) (walk_items is nothing_set))
+  state_same is = ap start_under (walk_before (plains_of is) nothing_set ∙ ap (λ (r : Walk). r.0) (walk_items is nothing_set))
 
 -- ---- the text that is read
 

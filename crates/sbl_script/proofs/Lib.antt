@@ -15,7 +15,7 @@ pub mod TextFaults
 pub mod OnlyTheItem
 pub mod Offered
 pub mod Printed
-pub mod Compared
+pub mod SameSources
 pub mod ItemSteps
 pub mod AmongEnds
 pub mod AmongDepths

@@ -12,19 +12,19 @@ use Rattle.sbl_resolver.specs.Checks.{fault_of}
 use Rattle.sbl_script.specs.Reading.{IsUnread, lexemes}
 use Rattle.sbl_script.specs.Edits.{ScriptEdit}
 use Rattle.sbl_script.specs.Homes.{Home, IsEditedAt, IsSubstitutedAt, IsEditFaultAt, home, IsFaultAt}
-use Rattle.sbl_script.proofs.OneReading.{Known, tree_one, fault_is_one, placed_one, text_is_one, no_text_fault, unread_is_one, no_unread, some_one, some_none, same_source}
+use Rattle.sbl_script.proofs.OneReading.{Facts, tree_one, fault_is_one, placed_one, text_is_one, no_text_fault, unread_is_one, no_unread, some_one, some_none, same_source}
 
 -- the tree and the script are one
-substituted_tree : Known → (s : Source) (h : Home) (text : List ℕ) (m n : Bool) (t u : Source) (a : IsSubstitutedAt s h text m t) (b : IsSubstitutedAt s h text n u) → a.tree ≡ b.tree
+substituted_tree : Facts → (s : Source) (h : Home) (text : List ℕ) (m n : Bool) (t u : Source) (a : IsSubstitutedAt s h text m t) (b : IsSubstitutedAt s h text n u) → a.tree ≡ b.tree
 substituted_tree k s h text m n t u a b =
     let same = placed_one k h.state text a.placed b.placed a.tokens b.tokens in
     tree_one k h.text b.placed a.tree b.tree (subst (λ (ts : List PlacedToken). IsReadAs h.text (lexemes ts) a.tree) same a.read) b.read
 
-substituted_is_one : Known → (s : Source) (h : Home) (text : List ℕ) (m n : Bool) (t u : Source) → IsSubstitutedAt s h text m t → IsSubstitutedAt s h text n u → t ≡ u
+substituted_is_one : Facts → (s : Source) (h : Home) (text : List ℕ) (m n : Bool) (t u : Source) → IsSubstitutedAt s h text m t → IsSubstitutedAt s h text n u → t ≡ u
 substituted_is_one k s h text m n t u a b =
     same_source t u (a.items_are ∙ ap (λ (z : TreeOf h.text). h.around z) (substituted_tree k s h text m n t u a b) ∙ sym b.items_are) (a.external_is ∙ sym b.external_is)
 
-substituted_or_fault : Known → (s : Source) (h : Home) (text : List ℕ) (m : Bool) (t : Source) (f : ScriptFault) → IsSubstitutedAt s h text m t → IsFaultAt s h text f → ⊥
+substituted_or_fault : Facts → (s : Source) (h : Home) (text : List ℕ) (m : Bool) (t : Source) (f : ScriptFault) → IsSubstitutedAt s h text m t → IsFaultAt s h text f → ⊥
 substituted_or_fault k s h text m t f a (inl b) = no_text_fault k h.state text a.placed f a.tokens b
 substituted_or_fault k s h text m t f a (inr (inl b)) =
     let same = placed_one k h.state text b.0 a.placed b.1 a.tokens in
@@ -37,7 +37,7 @@ substituted_or_fault k s h text m t f a (inr (inr b)) =
     some_none f (fault_of t.items t.external) a.well_declared (named ∙ b.3.is)
 
 -- there are as many amongs, or not
-kept_or_not : Known → (s : Source) (h : Home) (text : List ℕ) (t u : Source) → IsSubstitutedAt s h text true t → IsSubstitutedAt s h text false u → ⊥
+kept_or_not : Facts → (s : Source) (h : Home) (text : List ℕ) (t u : Source) → IsSubstitutedAt s h text true t → IsSubstitutedAt s h text false u → ⊥
 kept_or_not k s h text t u a b =
     let clash : true ≡ false = sym a.counted ∙ ap h.keeps_count (substituted_tree k s h text true false t u a b) ∙ b.counted in
     absurd cc
@@ -53,18 +53,18 @@ ok_or_err r h f a b = cc
 err_one : (r : Result Home ScriptEditFault) (f g : ScriptEditFault) → r ≡ Err f → r ≡ Err g → f ≡ g
 err_one r f g a b = cc
 
-pub edit_is_one : Known → (s : Source) (e : ScriptEdit) (text : List ℕ) (t u : Source) → IsEditedAt s e text t → IsEditedAt s e text u → t ≡ u
+pub edit_is_one : Facts → (s : Source) (e : ScriptEdit) (text : List ℕ) (t u : Source) → IsEditedAt s e text t → IsEditedAt s e text u → t ≡ u
 edit_is_one k s e text t u a b =
     let same = ok_one (home s.items e) a.0 b.0 a.1 b.1 in
     substituted_is_one k s a.0 text true true t u a.2 (subst (λ (z : Home). IsSubstitutedAt s z text true u) same b.2)
 
 -- two faults at one home, of which one is the number of amongs
-count_or_fault : Known → (s : Source) (e : ScriptEdit) (text : List ℕ) (f : ScriptFault) → IsEditFaultAt s e text edits.AmongCount → IsEditFaultAt s e text (edits.Script f) → ⊥
+count_or_fault : Facts → (s : Source) (e : ScriptEdit) (text : List ℕ) (f : ScriptFault) → IsEditFaultAt s e text edits.AmongCount → IsEditFaultAt s e text (edits.Script f) → ⊥
 count_or_fault k s e text f a b =
     let same = ok_one (home s.items e) a.0 b.0 a.1 b.1 in
     substituted_or_fault k s a.0 text false a.2 f a.3 (subst (λ (z : Home). IsFaultAt s z text f) same b.2)
 
-pub edit_fault_is_one : Known → (s : Source) (e : ScriptEdit) (text : List ℕ) (f g : ScriptEditFault) → IsEditFaultAt s e text f → IsEditFaultAt s e text g → f ≡ g
+pub edit_fault_is_one : Facts → (s : Source) (e : ScriptEdit) (text : List ℕ) (f g : ScriptEditFault) → IsEditFaultAt s e text f → IsEditFaultAt s e text g → f ≡ g
 edit_fault_is_one k s e text edits.NoRoutine edits.NoRoutine a b = refl
 edit_fault_is_one k s e text edits.NoRoutine edits.NoGrouping a b = err_one (home s.items e) edits.NoRoutine edits.NoGrouping a b
 edit_fault_is_one k s e text edits.NoRoutine edits.NoAmong a b = err_one (home s.items e) edits.NoRoutine edits.NoAmong a b
@@ -99,7 +99,7 @@ edit_fault_is_one k s e text edits.NoAmong edits.OutOfMemory a b = absurd b
 edit_fault_is_one k s e text edits.AmongCount edits.OutOfMemory a b = absurd b
 edit_fault_is_one k s e text (edits.Script f) edits.OutOfMemory a b = absurd b
 
-pub edit_or_fault : Known → (s : Source) (e : ScriptEdit) (text : List ℕ) (t : Source) (f : ScriptEditFault) → IsEditedAt s e text t → IsEditFaultAt s e text f → ⊥
+pub edit_or_fault : Facts → (s : Source) (e : ScriptEdit) (text : List ℕ) (t : Source) (f : ScriptEditFault) → IsEditedAt s e text t → IsEditFaultAt s e text f → ⊥
 edit_or_fault k s e text t edits.NoRoutine a b = ok_or_err (home s.items e) a.0 edits.NoRoutine a.1 b
 edit_or_fault k s e text t edits.NoGrouping a b = ok_or_err (home s.items e) a.0 edits.NoGrouping a.1 b
 edit_or_fault k s e text t edits.NoAmong a b = ok_or_err (home s.items e) a.0 edits.NoAmong a.1 b

@@ -18,7 +18,7 @@ use Rattle.sbl_resolver.specs.Checks.{fault_of}
 use Rattle.sbl_script.specs.Reading.{HasTokens, IsScriptOf, IsTextFault, IsGrammarFault, IsCheckFault, IsUnread, IsFaultIn, IsFaultOf, first_left_out, place_of, lexemes}
 
 -- what is known of tokens and of trees
-pub record Known : Type 0 where
+pub record Facts : Type 0 where
   pub places : PlacesAreOne
   pub first : FirstFaultIsOne
   pub either : TokensOrFault
@@ -41,7 +41,7 @@ are_tokens s text ts h = (h.0, h.1, h.2, h.3, ap (map (λ (p : PlacedToken). p.l
 
 -- ---- the text
 
-pub text_is_one : Known → (s : Directives) (bytes : List ℕ) (f g : ScriptFault) → IsTextFault s bytes f → IsTextFault s bytes g → f ≡ g
+pub text_is_one : Facts → (s : Directives) (bytes : List ℕ) (f g : ScriptFault) → IsTextFault s bytes f → IsTextFault s bytes g → f ≡ g
 text_is_one k s bytes f g (inl a) (inl b) = a.1 ∙ sym b.1
 text_is_one k s bytes f g (inl a) (inr (inl b)) = absurd (omega (arith, a.0, b.0))
 text_is_one k s bytes f g (inl a) (inr (inr b)) = absurd (omega (arith, a.0, b.0))
@@ -53,12 +53,12 @@ text_is_one k s bytes f g (inr (inr a)) (inr (inl b)) = absurd (b.1 a.1)
 text_is_one k s bytes f g (inr (inr a)) (inr (inr b)) = k.first s (chars bytes) f g a.2 b.2
 
 -- a text with tokens has no fault
-pub no_text_fault : Known → (s : Directives) (bytes : List ℕ) (ts : List PlacedToken) (f : ScriptFault) → HasTokens s bytes ts → IsTextFault s bytes f → ⊥
+pub no_text_fault : Facts → (s : Directives) (bytes : List ℕ) (ts : List PlacedToken) (f : ScriptFault) → HasTokens s bytes ts → IsTextFault s bytes f → ⊥
 no_text_fault k s bytes ts f h (inl a) = omega (arith, a.0, h.short)
 no_text_fault k s bytes ts f h (inr (inl a)) = a.1 h.text
 no_text_fault k s bytes ts f h (inr (inr a)) = k.either s (chars bytes) (map (λ (p : PlacedToken). p.lexeme) ts) f (are_tokens s (chars bytes) ts h.cut) a.2
 
-pub placed_one : Known → (s : Directives) (bytes : List ℕ) (ts us : List PlacedToken) → HasTokens s bytes ts → HasTokens s bytes us → ts ≡ us
+pub placed_one : Facts → (s : Directives) (bytes : List ℕ) (ts us : List PlacedToken) → HasTokens s bytes ts → HasTokens s bytes us → ts ≡ us
 placed_one k s bytes ts us h g = k.places s (chars bytes) ts us h.cut g.cut
 
 -- ---- the grammar
@@ -85,7 +85,7 @@ same_rest [] (y ∷ q) r s e l = absurd (omega (arith, ap length e, length-appen
 same_rest (x ∷ p) [] r s e l = absurd (omega (arith, ap length e, length-append p r, l))
 same_rest (x ∷ p) (y ∷ q) r s e l = let below : p ++ r ≡ q ++ s = cc in same_rest p q r s below l
 
-grammar_is_one : Known → (w : Text) (ts : List PlacedToken) (end : ℕ) (f g : ScriptFault) → IsGrammarFault w ts end f → IsGrammarFault w ts end g → f ≡ g
+grammar_is_one : Facts → (w : Text) (ts : List PlacedToken) (end : ℕ) (f g : ScriptFault) → IsGrammarFault w ts end f → IsGrammarFault w ts end g → f ≡ g
 grammar_is_one k w ts end f g h j =
     let a = found w ts end f h in
     let b = found w ts end g j in
@@ -95,7 +95,7 @@ grammar_is_one k w ts end f g h j =
     a.2 ∙ ap (λ (x : grammar.Wrong). told x (place_of end h.rest)) same.0 ∙ ap (λ (r : List PlacedToken). told b.0 (place_of end r)) rest ∙ sym b.2
 
 -- a tree has none
-no_grammar_fault : Known → (w : Text) (ts : List PlacedToken) (end : ℕ) (f : ScriptFault) (tree : TreeOf w) → IsReadAs w (lexemes ts) tree → IsGrammarFault w ts end f → ⊥
+no_grammar_fault : Facts → (w : Text) (ts : List PlacedToken) (end : ℕ) (f : ScriptFault) (tree : TreeOf w) → IsReadAs w (lexemes ts) tree → IsGrammarFault w ts end f → ⊥
 no_grammar_fault k w ts end f tree h j = let a = found w ts end f j in k.none w (lexemes ts) (lexemes j.rest) tree a.0 h a.1
 
 pub some_one : {X : Type 0} (x y : X) → Some x ≡ Some y → x ≡ y
@@ -104,25 +104,25 @@ some_one x y e = cc
 pub some_none : {X : Type 0} (x : X) (o : Option X) → o ≡ None → o ≡ Some x → ⊥
 some_none x o a b = cc
 
-pub unread_is_one : Known → (w : Text) (ts : List PlacedToken) (end : ℕ) (f g : ScriptFault) → IsUnread w ts end f → IsUnread w ts end g → f ≡ g
+pub unread_is_one : Facts → (w : Text) (ts : List PlacedToken) (end : ℕ) (f g : ScriptFault) → IsUnread w ts end f → IsUnread w ts end g → f ≡ g
 unread_is_one k w ts end f g (inl a) (inl b) = a.2 ∙ ap fault.OutOfProfile (some_one a.0 b.0 (sym a.1 ∙ b.1)) ∙ sym b.2
 unread_is_one k w ts end f g (inl a) (inr b) = absurd (some_none a.0 (first_left_out ts) b.0 a.1)
 unread_is_one k w ts end f g (inr a) (inl b) = absurd (some_none b.0 (first_left_out ts) a.0 b.1)
 unread_is_one k w ts end f g (inr a) (inr b) = grammar_is_one k w ts end f g a.1 b.1
 
-pub no_unread : Known → (w : Text) (ts : List PlacedToken) (end : ℕ) (f : ScriptFault) (tree : TreeOf w) → first_left_out ts ≡ None → IsReadAs w (lexemes ts) tree → IsUnread w ts end f → ⊥
+pub no_unread : Facts → (w : Text) (ts : List PlacedToken) (end : ℕ) (f : ScriptFault) (tree : TreeOf w) → first_left_out ts ≡ None → IsReadAs w (lexemes ts) tree → IsUnread w ts end f → ⊥
 no_unread k w ts end f tree offered h (inl a) = some_none a.0 (first_left_out ts) offered a.1
 no_unread k w ts end f tree offered h (inr a) = no_grammar_fault k w ts end f tree h a.1
 
 -- ---- the checks
 
-pub tree_one : Known → (w : Text) (ts : List PlacedToken) (x y : TreeOf w) → IsReadAs w (lexemes ts) x → IsReadAs w (lexemes ts) y → x ≡ y
+pub tree_one : Facts → (w : Text) (ts : List PlacedToken) (x y : TreeOf w) → IsReadAs w (lexemes ts) x → IsReadAs w (lexemes ts) y → x ≡ y
 tree_one k w ts x y h g = k.tree w x y (h.0 ∙ sym g.0)
 
 -- ---- the laws
 
 -- a text has one fault
-module _ (k : Known) (w : Text) (s : Directives) (around : TreeOf w → List Item) (external text : List ℕ) (f g : ScriptFault) where
+module _ (k : Facts) (w : Text) (s : Directives) (around : TreeOf w → List Item) (external text : List ℕ) (f g : ScriptFault) where
   check_is_one : (ts : List PlacedToken) → IsCheckFault w around external ts f → IsCheckFault w around external ts g → f ≡ g
   check_is_one ts a b = some_one f g (sym a.is ∙ ap (λ (x : TreeOf w). fault_of (around x) external) (tree_one k w ts a.tree b.tree a.read b.read) ∙ b.is)
 
@@ -150,13 +150,13 @@ same_source s t a b = ap (λ (i : List Item). with_external i s.external) a ∙ 
   with_external : List Item → List ℕ → Source
   with_external i e = record { items = i; external = e }
 
-pub script_is_one : Known → (bytes external : List ℕ) (s t : Source) → IsScriptOf bytes external s → IsScriptOf bytes external t → s ≡ t
+pub script_is_one : Facts → (bytes external : List ℕ) (s t : Source) → IsScriptOf bytes external s → IsScriptOf bytes external t → s ≡ t
 script_is_one k bytes external s t h g =
     let same = placed_one k start bytes h.placed g.placed h.tokens g.tokens in
     let tree = subst (λ (ts : List PlacedToken). IsReadAs script (lexemes ts) s.items) same h.tree in
     same_source s t (tree_one k script g.placed s.items t.items tree g.tree) (h.external_is ∙ sym g.external_is)
 
-pub script_or_fault : Known → (bytes external : List ℕ) (s : Source) (f : ScriptFault) → IsScriptOf bytes external s → IsFaultOf bytes external f → ⊥
+pub script_or_fault : Facts → (bytes external : List ℕ) (s : Source) (f : ScriptFault) → IsScriptOf bytes external s → IsFaultOf bytes external f → ⊥
 script_or_fault k bytes external s f h (inl a) = no_text_fault k start bytes h.placed f h.tokens a
 script_or_fault k bytes external s f h (inr (inl a)) =
     let same = placed_one k start bytes a.0 h.placed a.1 h.tokens in

@@ -22,7 +22,7 @@ use Rattle.sbl_script.proofs.Offered.{none_left_out}
 use Rattle.sbl_script.proofs.OneReading.{said_so}
 
 -- what is known of tokens, of trees and of the canonical text
-pub record Known : Type 0 where
+pub record Facts : Type 0 where
   pub read : SpacedAreRead
   pub spaced : CanonicalIsSpaced
 
@@ -46,13 +46,13 @@ none_offered (t ∷ ts) h = at (is_left_out t.lexeme) refl (none_offered ts)
 -- ---- the canonical text
 
 -- the canonical text has the tokens of the items
-pub tokens_back : Known → (items : List Item) → AreSaid start (lexemes_of items) → MayEnd (after_all start (lexemes_of items)) → AreTokensFrom start (chars (canonical items)) (lexemes_of items)
+pub tokens_back : Facts → (items : List Item) → AreSaid start (lexemes_of items) → MayEnd (after_all start (lexemes_of items)) → AreTokensFrom start (chars (canonical items)) (lexemes_of items)
 tokens_back k items said end =
     let p = k.spaced items in
     let t = k.read start p.spaced p.white (subst (AreSaid start) (sym p.tokens) said) (subst (λ (ls : List Lexeme). MayEnd (after_all start ls)) (sym p.tokens) end) in
     subst (λ (b : List ℕ). AreTokensFrom start (chars b) (lexemes_of items)) p.text_is (subst (AreTokensFrom start (chars (spaced_text p.spaced))) p.tokens t)
 
-pub read_back : Known → (text : List ℕ) → IsUtf8 text → (s : Source) → Kept s → CanonicalIsRead s text
+pub read_back : Facts → (text : List ℕ) → IsUtf8 text → (s : Source) → Kept s → CanonicalIsRead s text
 read_back k text utf8 s kept is short =
     let t = subst (λ (b : List ℕ). AreTokensFrom start (chars b) (lexemes_of s.items)) (sym is) (tokens_back k s.items kept.spelled kept.ends) in
     let found = placed_from 0 t.0 in

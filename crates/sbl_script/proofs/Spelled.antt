@@ -28,7 +28,7 @@ use Rattle.sbl_parser.proofs.Faults.{tree_tokens}
 use Rattle.sbl_script.specs.declared.edits.DefinitionKind.{DefinitionKind}
 use Rattle.sbl_script.specs.declared.edits.DefinitionKind.TheVariants as kinds
 use Rattle.sbl_script.specs.Edits.{defines, escapes_behind, items_with, plains_with}
-use Rattle.sbl_script.specs.Homes.{Reached, escapes_before, first_in, first_passing, plain_if, walk_to, walk_in, state_reached}
+use Rattle.sbl_script.specs.Homes.{Walk, escapes_before, first_in, first_passing, plain_if, walk_to, walk_in, state_reached}
 use Rattle.sbl_script.specs.Reading.{HasTokens, lexemes}
 use Rattle.sbl_script.specs.SpelledScript.{AreSpelled, IsSpelled}
 use Rattle.sbl_script.proofs.Putting.{Each, body_put}
@@ -228,24 +228,24 @@ or_either : (a b o : Option Plain) → option_or (option_or a b) o ≡ option_or
 or_either None b o = refl
 or_either (Some x) b o = refl
 
-first_said : (p : Plain → Bool) (x : Plain) (e : InForce) (y : Plain) (o : Option Plain) (later : Reached) (F : Reached → Reached) → (Say (no_directive e) (placed_plain y []) → Say (no_directive (F (e, true)).0) (placed_plain y [])) → option_or (plain_if p x) o ≡ Some y
+first_said : (p : Plain → Bool) (x : Plain) (e : InForce) (y : Plain) (o : Option Plain) (later : Walk) (F : Walk → Walk) → (Say (no_directive e) (placed_plain y []) → Say (no_directive (F (e, true)).0) (placed_plain y [])) → option_or (plain_if p x) o ≡ Some y
     → Say (no_directive e) (placed_plain x []) → (o ≡ Some y → Say (no_directive (F later).0) (placed_plain y [])) → Say (no_directive (F (if p x then (e, true) else later)).0) (placed_plain y [])
 first_said p x e y o later F f is h more = go (p x) is where
   go : (here : Bool) → option_or (if here then Some x else None) o ≡ Some y → Say (no_directive (F (if here then (e, true) else later)).0) (placed_plain y [])
   go true g = f (subst (λ (z : Plain). Say (no_directive e) (placed_plain z [])) (some_plain x y g) h)
   go false g = more g
 
-in_said : (p : Plain → Bool) (xs : List Plain) (e : InForce) (y : Plain) (o : Option Plain) (r : Ps) (later : InForce → Reached) → option_or (first_in p xs) o ≡ Some y → Say (no_directive e) (placed_plains xs r)
+in_said : (p : Plain → Bool) (xs : List Plain) (e : InForce) (y : Plain) (o : Option Plain) (r : Ps) (later : InForce → Walk) → option_or (first_in p xs) o ≡ Some y → Say (no_directive e) (placed_plains xs r)
     → (o ≡ Some y → Say (no_directive (all_behind e xs)) r → Say (no_directive (later (all_behind e xs)).0) (placed_plain y [])) → Say (no_directive (if (walk_in p xs e).1 then walk_in p xs e else later (walk_in p xs e).0).0) (placed_plain y [])
 in_said p [] e y o r later is h more = more is h
 in_said p (x ∷ xs) e y o r later is h more =
-    first_said p x e y (option_or (first_in p xs) o) (walk_in p xs (escapes_behind e x)) (λ (z : Reached). if z.1 then z else later z.0) (λ l. l) (sym (or_either (plain_if p x) (first_in p xs) o) ∙ is) (part_front (placed_plain x) (plain_before x) (no_directive e) (placed_plains xs r) h)
+    first_said p x e y (option_or (first_in p xs) o) (walk_in p xs (escapes_behind e x)) (λ (z : Walk). if z.1 then z else later z.0) (λ l. l) (sym (or_either (plain_if p x) (first_in p xs) o) ∙ is) (part_front (placed_plain x) (plain_before x) (no_directive e) (placed_plains xs r) h)
     (λ i. in_said p xs (escapes_behind e x) y o r later i (behind_plain e x (placed_plains xs r) h) more)
 
 found_said : (p : Plain → Bool) (is : List Item) (e : InForce) (y : Plain) → first_passing p is ≡ Some y → Say (no_directive e) (placed_items is []) → Say (no_directive (walk_to p is e).0) (placed_plain y [])
 found_said p [] e y i h = absurd cc
 found_said p (plain x ∷ is) e y i h =
-    first_said p x e y (first_passing p is) (walk_to p is (escapes_behind e x)) (λ (z : Reached). z) (λ l. l) i (part_front (placed_plain x) (plain_before x) (no_directive e) (placed_items is []) h)
+    first_said p x e y (first_passing p is) (walk_to p is (escapes_behind e x)) (λ (z : Walk). z) (λ l. l) i (part_front (placed_plain x) (plain_before x) (no_directive e) (placed_items is []) h)
     (λ j. found_said p is (escapes_behind e x) y j (behind_plain e x (placed_items is []) h))
 found_said p (backward xs ∷ is) e y i h = in_said p xs e y (first_passing p is) ((lex.sign signs.Close, 0) ∷ placed_items is []) (λ (f : InForce). walk_to p is f) i h.1.1 (λ j z. found_said p is (all_behind e xs) y j z.1)
 

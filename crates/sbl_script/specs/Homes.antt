@@ -49,14 +49,14 @@ item_with p y (backward xs) = backward (plains_with p y xs)
 -- ---- what is in force where it begins
 
 -- what is in force before the first item that passes, and whether one passes
-abbrev pub Reached : Type 0
-Reached = InForce × Bool
+abbrev pub Walk : Type 0
+Walk = InForce × Bool
 
-abbrev pub walk_in : (Plain → Bool) → List Plain → InForce → Reached
+abbrev pub walk_in : (Plain → Bool) → List Plain → InForce → Walk
 walk_in p [] e = (e, false)
 walk_in p (x ∷ xs) e = if p x then (e, true) else walk_in p xs (escapes_behind e x)
 
-abbrev pub walk_to : (Plain → Bool) → List Item → InForce → Reached
+abbrev pub walk_to : (Plain → Bool) → List Item → InForce → Walk
 walk_to p [] e = (e, false)
 walk_to p (plain x ∷ is) e = if p x then (e, true) else walk_to p is (escapes_behind e x)
 walk_to p (backward xs ∷ is) e = if (walk_in p xs e).1 then walk_in p xs e else walk_to p is (walk_in p xs e).0

@@ -12,7 +12,7 @@ impl Script {
     /// canonical texts, which it allocates.
     ///
     /// Returns `AllocError` if an allocation fails.
-    #[tactic(auto, using(crate::proofs::Compared::sources_same))]
+    #[tactic(auto, using(crate::proofs::SameSources::sources_same))]
     pub fn is_same(&self, alloc: Global, other: &Script) -> Result<bool, AllocError>
         ensures { IfOk result (λ same. IsTrue same ↔ (source_of self.now ≡ source_of other.now)) }
     {

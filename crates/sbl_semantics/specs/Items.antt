@@ -23,8 +23,8 @@ place_of (x ∷ xs) n = if bytes_eq x n then 0 else suc (place_of xs n)
 
 -- the names of each kind: variables in the order of their declarations, groupings and routines in the order of their
 -- definitions
-abbrev pub Known : Type 0
-Known = DeclarationKind → List (List ℕ)
+abbrev pub DeclaredNames : Type 0
+DeclaredNames = DeclarationKind → List (List ℕ)
 
 -- the names of a kind that an item adds
 abbrev pub names_by : DeclarationKind → Plain → List (List ℕ)
@@ -35,7 +35,7 @@ names_by kinds.Groupings (grouping n a ts) = n ∷ []
 names_by kinds.Routines (routine n c os) = n ∷ []
 names_by k x = []
 
-abbrev pub known_in : List ItemInMode → Known
+abbrev pub known_in : List ItemInMode → DeclaredNames
 known_in xs k = flat_map (λ x. names_by k x.plain) xs
 
 -- ---- groupings

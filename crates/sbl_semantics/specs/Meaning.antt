@@ -34,7 +34,7 @@ use Rattle.sbl_ast.specs.Tree.{bracket, simple_, literal_, name_, non_, prefixed
 use Rattle.std.specs.Cmp.Lexicographic.{pointwise}
 use Rattle.sbl_ast.specs.declared.tree.DeclarationKind.TheVariants as kinds
 use Rattle.sbl_semantics.specs.Fitting.{read_as, ahead_at}
-use Rattle.sbl_semantics.specs.Items.{Known, Body, is_among, place_of, body_named, class_of, classes_behind, known_in}
+use Rattle.sbl_semantics.specs.Items.{DeclaredNames, Body, is_among, place_of, body_named, class_of, classes_behind, known_in}
 use Rattle.sbl_semantics.specs.Moves.{match, one_of, hop, at_mark, to_mark}
 use Rattle.sbl_semantics.specs.Numbers.{Value, natural, continue_with, value_in_range, rounded_quotient, with_value, with_both, limit_value, integer_at}
 use Rattle.sbl_semantics.specs.Regions.{Among, number_after, number_after_rows, number_after_others, number_after_starter, first, first_rows, first_others, mode_under, waits, waits_others}
@@ -125,7 +125,7 @@ is_so comparisons.AtLeast x y = not (int_lt x y)
 abbrev pub compared_does : Value → Comparison → Value → State → Ending
 compared_does v o w s = continue_with v s (λ x. continue_with w s (λ y. Signals (is_so o x y) s))
 
-abbrev pub named_does : Known → Naming → List ℕ → Doing
+abbrev pub named_does : DeclaredNames → Naming → List ℕ → Doing
 named_does ns namings.SetMark n m s = Signals true (record s { integers = slice_set s.integers (place_of (ns kinds.Integers) n) (pos s.cursor) })
 named_does ns namings.Set n m s = Signals true (record s { booleans = slice_set s.booleans (place_of (ns kinds.Booleans) n) true })
 named_does ns namings.Unset n m s = Signals true (record s { booleans = slice_set s.booleans (place_of (ns kinds.Booleans) n) false })
@@ -140,7 +140,7 @@ edited_does edits.Attach cs m s = put_in (not (is_forward m)) cs s
 
 -- ---- strings and numbers, given the names of the variables
 
-module _ (ns : Known) where
+module _ (ns : DeclaredNames) where
   abbrev pub text : trees.Argument → State → List ℕ
   text (trees.written_out q) s = q.value
   text (trees.by_name n) s = slice_index_or s.strings (place_of (ns kinds.Strings) n) []
@@ -234,11 +234,11 @@ module _ (call : List ℕ → Doing) where
 -- ---- what a command does, given the names of the script, its groupings, and what a call of each routine does
 
 -- a test of a grouping touches it, whatever the result
-abbrev pub tests : Known → (List ℕ → ℕ → Bool) → Bool → List ℕ → Doing
+abbrev pub tests : DeclaredNames → (List ℕ → ℕ → Bool) → Bool → List ℕ → Doing
 tests ns class wanted n m s =
     one_of wanted (class n) m (record s { touched = with_touch (Tested (place_of (ns kinds.Groupings) n)) s.touched })
 
-module _ (ns : Known) (class : List ℕ → ℕ → Bool) (call : List ℕ → Doing) where
+module _ (ns : DeclaredNames) (class : List ℕ → ℕ → Bool) (call : List ℕ → Doing) where
   -- a name alone: a string variable, a boolean, a grouping, or else a routine to call
   abbrev pub name_does : List ℕ → Doing
   name_does n m s =
@@ -312,12 +312,12 @@ module _ (ns : Known) (class : List ℕ → ℕ → Bool) (call : List ℕ → D
 -- ---- runs
 
 -- what a call does if at most this many levels of calls are left
-abbrev pub calls : Known → (List ℕ → ℕ → Bool) → (List ℕ → Option Body) → ℕ → List ℕ → Doing
+abbrev pub calls : DeclaredNames → (List ℕ → ℕ → Bool) → (List ℕ → Option Body) → ℕ → List ℕ → Doing
 calls ns class bodies zero n m s = Stops Depth s
 calls ns class bodies (suc l) n m s = body_does ns class (calls ns class bodies l) n (bodies n) m s
 
 -- the state in which a run begins: all integers are 0, all booleans false, all strings empty, and nothing is touched
-abbrev pub start : Known → List ℕ → ℕ → State
+abbrev pub start : DeclaredNames → List ℕ → ℕ → State
 start ns word steps = record {
   text = word;
   cursor = 0;
@@ -366,7 +366,7 @@ module _ (call : List ℕ → Doing) where
       let x = ahead_at a.mode s.text s.cursor (bound_of m s) in
       try_each call a.number (offers 0 a.groups) a.mode m s x (suc (length x)) s
 
-module _ (ns : Known) (class : List ℕ → ℕ → Bool) (call : List ℕ → Doing) where
+module _ (ns : DeclaredNames) (class : List ℕ → ℕ → Bool) (call : List ℕ → Doing) where
   abbrev pub search_ahead : Option Among → Doing
   search_ahead n m s = option_map_or (λ a. search call a m s) n (Signals false s)
 

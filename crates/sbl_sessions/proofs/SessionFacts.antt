@@ -15,7 +15,7 @@ use Rattle.sbl_io.specs.HeldInput.{AllFit, BeginsLong, BreaksOff, GivesLine, Too
 use Rattle.sbl_script.specs.Edits.{ScriptEdit}
 use Rattle.sbl_sessions.specs.Words.{command_word}
 use Rattle.sbl_sessions.specs.Requests.{IsBegun, IsRequest, Request, TookRequests, asks_block, block_lines, block_word, lines_in, lines_in_all}
-use Rattle.sbl_sessions.specs.Session.{Answered, IsSession, Served}
+use Rattle.sbl_sessions.specs.Session.{HasReplies, IsSession, RepliesToInput}
 use Rattle.sbl_formats.specs.declared.block_text.BlockText.{BlockText}
 use Rattle.sbl_io.specs.Faults.{serve_fault_of}
 use Rattle.sbl_io.specs.declared.faults.LineFault.{LineFault}
@@ -37,12 +37,12 @@ more_answers s t u (d ∷ done) r [] q text reply so is = absurd so
 more_answers s t u (d ∷ done) r (p ∷ m) q text reply so is =
     (so.0, so.1, so.2 ++ reply, so.3, more_answers so.1 t u done r m q so.2 reply so.4 is, ap (λ (x : List ℕ). x ++ reply) so.5 ∙ append_assoc so.0 so.2 reply)
 
-nothing_yet : (s : Contents) (h : Option (List ℕ)) → Answered s [] h h s
+nothing_yet : (s : Contents) (h : Option (List ℕ)) → HasReplies s [] h h s
 nothing_yet s h = record { m = []; text = []; answers = (refl, refl); written = Appends-nil h }
 
 -- one more request was answered
 answered-more : (s t u : Contents) (done : List Request) (r : Request) (h i j : Option (List ℕ)) (q : Memory) (reply : List ℕ)
-    → Answered s done h i t → Appends i j reply → IsReplyTo t (command_of r) q reply u → Answered s (done ++ r ∷ []) h j u
+    → HasReplies s done h i t → Appends i j reply → IsReplyTo t (command_of r) q reply u → HasReplies s (done ++ r ∷ []) h j u
 answered-more s t u done r h i j q reply so writes is = record {
   m = so.m ++ q ∷ [];
   text = so.text ++ reply;
@@ -69,31 +69,31 @@ one_more a b c d done line block so gives fits formed fit took =
 
 -- ---- the session
 
-pub session_starts : (a h : Option (List ℕ)) (s : Contents) → Served a a h h s s
+pub session_starts : (a h : Option (List ℕ)) (s : Contents) → RepliesToInput a a h h s s
 session_starts a h s = ([], none_taken a, nothing_yet s h)
 
 pub session_goes_on : (a b c d h i j : Option (List ℕ)) (s t u : Contents) (line : List ℕ) (reply : Reply)
-    → Served a b h i s t → GivesLine b c line → length line ≤ 65536 → IsAnswered c d line t reply u
-    → ((text : List ℕ) → IsReply reply text → Appends i j text) → Served a d h j s u
+    → RepliesToInput a b h i s t → GivesLine b c line → length line ≤ 65536 → IsAnswered c d line t reply u
+    → ((text : List ℕ) → IsReply reply text → Appends i j text) → RepliesToInput a d h j s u
 session_goes_on a b c d h i j s t u line reply so gives fits is writes = (
   so.0 ++ record { line = line; block = is.block } ∷ [],
   one_more a b c d so.0 line is.block so.1 gives fits is.formed is.fit is.took,
   answered-more s t u so.0 (record { line = line; block = is.block }) h i j is.answer.0 is.answer.1 so.2 (writes is.answer.1 is.answer.2) is.answer.3,
 )
 
-pub session_ends : (a b c h i : Option (List ℕ)) (s t : Contents) → Served a b h i s t → Keeps b c → IsAtEnd c → IsSession a c h i s t (Ok tt)
+pub session_ends : (a b c h i : Option (List ℕ)) (s t : Contents) → RepliesToInput a b h i s t → Keeps b c → IsAtEnd c → IsSession a c h i s t (Ok tt)
 session_ends a b c h i s t so keeps end =
     ((so.0, record { each = so.1.each; fit = so.1.fit; lines = took-kept a b c (lines_in_all so.0) so.1.lines keeps }, so.2), end)
 
 -- where the lines have no further one
-pub session_at_line : (a b c h i : Option (List ℕ)) (s t : Contents) (k : Option LineFault) (part : List ℕ) (f : LineFault) → Served a b h i s t → k ≡ None
+pub session_at_line : (a b c h i : Option (List ℕ)) (s t : Contents) (k : Option LineFault) (part : List ℕ) (f : LineFault) → RepliesToInput a b h i s t → k ≡ None
     → (f ≡ read.Read → TookWhole a b) → (f ≡ read.TooLong → BeginsLong b ⊎ (k ≡ Some f)) → (f ≡ read.Read → k ≡ None → BreaksOff b c part)
     → IsSession a c h i s t (Err (serve_fault_of f))
 session_at_line a b c h i s t k part read.Read so none whole long cut = (b, λ _. whole refl, so, broken (IsBegun fault.Read) b b c k [] part read.Read (inl (refl, λ is. cc is)) (took-none b) none long cut)
 session_at_line a b c h i s t k part read.TooLong so none whole long cut = (b, λ is. cc is, so, broken (IsBegun fault.LineTooLong) b b c k [] part read.TooLong (inl (refl, λ is. cc is)) (took-none b) none long cut)
 
 -- where a block has no end
-pub session_open : (a b c d h i : Option (List ℕ)) (s t : Contents) (line : List ℕ) (f : ServeFault) → Served a b h i s t → GivesLine b c line → length line ≤ 65536
+pub session_open : (a b c d h i : Option (List ℕ)) (s t : Contents) (line : List ℕ) (f : ServeFault) → RepliesToInput a b h i s t → GivesLine b c line → length line ≤ 65536
     → asks_block line ≡ true → (f ≡ fault.Read → TookWhole a b) → Breaks BlockLines c d f → IsSession a d h i s t (Err f)
 session_open a b c d h i s t line fault.Read so gives fits asks whole breaks =
     (b, whole, so, (line ∷ breaks.0, breaks.1, breaks.2, inr (asks, fits, breaks.3), took-trans b c breaks.1 (line ∷ []) breaks.0 gives breaks.4, breaks.5))
@@ -108,7 +108,7 @@ session_open a b c d h i s t line fault.LengthsDiffer so gives fits asks whole b
 
 -- where an answer was broken off by the writer
 pub session_at_write : (a b c d h i j : Option (List ℕ)) (s t u : Contents) (line : List ℕ) (reply : Reply) (n : ℕ)
-    → Served a b h i s t → GivesLine b c line → length line ≤ 65536 → IsAnswered c d line t reply u
+    → RepliesToInput a b h i s t → GivesLine b c line → length line ≤ 65536 → IsAnswered c d line t reply u
     → ((text : List ℕ) → IsReply reply text → Appends i j (take n text)) → IsSession a d h j s u (Err fault.Write)
 session_at_write a b c d h i j s t u line reply n so gives fits is writes = (
   so.0,

@@ -15,15 +15,15 @@ use Rattle.sbl_io.specs.declared.faults.ServeFault.TheVariants as fault
 
 -- Exactly these requests have their replies: for some list m of the memory of each, the replies were written, and the bench is
 -- the one after them.
-pub record Answered (s : Contents) (requests : List Request) (held new_held : Option (List ℕ)) (t : Contents) : Type 0 where
+pub record HasReplies (s : Contents) (requests : List Request) (held new_held : Option (List ℕ)) (t : Contents) : Type 0 where
   pub m : List Memory
   pub text : List ℕ
   pub answers : Answers s requests m text t
   pub written : Appends held new_held text
 
 -- Requests were taken from the input, and exactly these have their replies.
-abbrev pub Served : Option (List ℕ) → Option (List ℕ) → Option (List ℕ) → Option (List ℕ) → Contents → Contents → Type 0
-Served input new_input held new_held s t = (requests : List Request) × TookRequests input new_input requests × Answered s requests held new_held t
+abbrev pub RepliesToInput : Option (List ℕ) → Option (List ℕ) → Option (List ℕ) → Option (List ℕ) → Contents → Contents → Type 0
+RepliesToInput input new_input held new_held s t = (requests : List Request) × TookRequests input new_input requests × HasReplies s requests held new_held t
 
 -- What a session of this input writes, the bench after it, and the input that is left, by the result of the session. At the end
 -- of input, all requests have their replies. If the input ends inside a block, a line is too long, or the reader stops, all
@@ -31,13 +31,13 @@ Served input new_input held new_held s t = (requests : List Request) × TookRequ
 -- ends the last request with a reply. If the writer stops, the edit of the current request is made, and a prefix of its reply
 -- is written.
 abbrev pub IsSession : Option (List ℕ) → Option (List ℕ) → Option (List ℕ) → Option (List ℕ) → Contents → Contents → Result (Unit {0}) ServeFault → Type 0
-IsSession input new_input held new_held s t (Ok u) = Served input new_input held new_held s t × IsAtEnd new_input
+IsSession input new_input held new_held s t (Ok u) = RepliesToInput input new_input held new_held s t × IsAtEnd new_input
 IsSession input new_input held new_held s t (Err fault.Write) =
     (requests : List Request) × (request : Request) × TookRequests input new_input (requests ++ request ∷ [])
-    × (between : Contents) × (middle : Option (List ℕ)) × Answered s requests held middle between
+    × (between : Contents) × (middle : Option (List ℕ)) × HasReplies s requests held middle between
     × (memory : Memory) × (reply : List ℕ) × IsReplyTo between (command_of request) memory reply t × (count : ℕ) × Appends middle new_held (take count reply)
 IsSession input new_input held new_held s t (Err f) =
-    (between : Option (List ℕ)) × (f ≡ fault.Read → TookWhole input between) × Served input between held new_held s t
+    (between : Option (List ℕ)) × (f ≡ fault.Read → TookWhole input between) × RepliesToInput input between held new_held s t
     × Breaks (λ lines. ((lines ≡ []) × (f ≢ fault.Cut)) ⊎ IsOpen lines) between new_input f
 
 -- Why a session may end. A fault of reading or writing is caused by the device or a bound, or the lines returned it before. A

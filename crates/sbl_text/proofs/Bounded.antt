@@ -16,7 +16,7 @@ use Rattle.sbl_text.specs.Classes.{is_white, quote}
 use Rattle.sbl_text.specs.Escapes.{InForce, Definition, find}
 use Rattle.sbl_text.specs.Literals.{Refusal, character_named, alone, value_or_character, insertion_value, IsPart, Part, AreParts, values}
 use Rattle.sbl_text.specs.Directives.{Directives, Defining, max_macro, if_short, literal_characters, value_for_macro, defined_as, defined_by, after_word, after}
-use Rattle.sbl_text.specs.Tokens.{word_or_name, Told, MaySay, Piece, after_piece, AreCut, and_more, piece_lexemes, AreTokensFrom}
+use Rattle.sbl_text.specs.Tokens.{word_or_name, IsLexeme, MaySay, Piece, after_piece, AreCut, and_more, piece_lexemes, AreTokensFrom}
 use Rattle.sbl_text.specs.Laws.{AreShort, literal_length, all_literals}
 
 -- ---- macros
@@ -178,7 +178,7 @@ no_literal : (o : Option Word) (text : List ℕ) → literal_length (word_or_nam
 no_literal None text = refl
 no_literal (Some w) text = refl
 
-told_few : (s : Directives) (k : Shape) (x : List ℕ) (l : Lexeme) → AreShort s.escapes.macros → Told s k x l → literal_length l * 3 ≤ length x * 64
+told_few : (s : Directives) (k : Shape) (x : List ℕ) (l : Lexeme) → AreShort s.escapes.macros → IsLexeme s k x l → literal_length l * 3 ≤ length x * 64
 told_few s shape.Word x l h t = let z : literal_length l ≡ 0 = ap literal_length t ∙ no_literal (word_of (encode_utf8_all x)) (encode_utf8_all x) in omega (arith, z)
 told_few s shape.Number x l h t = let z : literal_length l ≡ 0 = ap literal_length t.1 in omega (arith, z)
 told_few s shape.Sign x l h t = let z : literal_length l ≡ 0 = ap literal_length t.2 in omega (arith, z)

@@ -20,7 +20,7 @@ use Rattle.sbl_text.specs.Pieces.{is_inner, Setting, setting, NoPiece, Gap, AreG
 use Rattle.sbl_text.specs.Scan.{Piece_at}
 use Rattle.sbl_token.specs.Lexemes.{Lexeme, word, sign, name, number, literal, inserts, macro_name, lexeme_of, SaysFitting}
 use Rattle.sbl_text.specs.Directives.{Directives, Defining, setting_of, no_directive, value_for, defined_by}
-use Rattle.sbl_text.specs.Tokens.{digits_value, word_or_name, Told, LacksValue, MayEnd, IsRefused, fault_at, pair_fault, Stops, Comes}
+use Rattle.sbl_text.specs.Tokens.{digits_value, word_or_name, IsLexeme, LacksValue, MayEnd, IsRefused, fault_at, pair_fault, Stops, Comes}
 
 -- ---- numbers
 
@@ -75,7 +75,7 @@ comes_end s source from at g e m = (subst (AfterGaps (setting_of s) from) e g, m
 pub comes : (s : Directives) (source from at rest text : List ℕ) (k : Shape) (t : Token) → (before : List ℕ) × (source ≡ before ++ at) → ((x : List ℕ) → source ≡ x ++ at → t.start ≡ byte_length x)
     → ((x : List ℕ) → source ≡ x ++ rest → t.end ≡ byte_length x)
     → AfterGaps (setting_of s) from at → Piece_at (setting_of s) k at rest → ((x : List ℕ) → at ≡ x ++ rest → text ≡ x) → ((x : List ℕ) → at ≡ x ++ rest → t.text.now ≡ encode_utf8_all x)
-    → Told s k text (lexeme_of t) → SaysFitting t → Comes source s from rest (Some t)
+    → IsLexeme s k text (lexeme_of t) → SaysFitting t → Comes source s from rest (Some t)
 comes s source from at rest text k t b p q g c same bytes told fitting = record {
   before = b.0;
   own = c.0;
@@ -83,7 +83,7 @@ comes s source from at rest text k t b p q g c same bytes told fitting = record 
   stands = b.1 ∙ ap (λ (y : List ℕ). b.0 ++ y) c.1;
   gaps = subst (AfterGaps (setting_of s) from) c.1 g;
   piece = c.2;
-  told = subst (λ (y : List ℕ). Told s k y (lexeme_of t)) (same c.0 c.1) told;
+  told = subst (λ (y : List ℕ). IsLexeme s k y (lexeme_of t)) (same c.0 c.1) told;
   place = (
     bytes c.0 c.1,
     p b.0 b.1,
@@ -102,9 +102,9 @@ pub lacking : (s : Directives) (source from rest : List ℕ) (t : Token) (l : Le
     → (f ≡ fault.OutOfMemory) ⊎ Stops source s from f
 lacking s source from rest t l f is c (inl h) = inl h
 lacking s source from rest t (literal spelling v) f is c (inr h) =
-    inr (c.before, c.own ++ rest, c.stands, c.gaps, inr (c.kind, c.own, rest, refl, c.piece, refused_as c.kind c.own spelling v (byte_length c.before) f (subst (Told s c.kind c.own) is c.told) h.0 (h.1 ∙ ap fault.BadCode c.place.1)))
+    inr (c.before, c.own ++ rest, c.stands, c.gaps, inr (c.kind, c.own, rest, refl, c.piece, refused_as c.kind c.own spelling v (byte_length c.before) f (subst (IsLexeme s c.kind c.own) is c.told) h.0 (h.1 ∙ ap fault.BadCode c.place.1)))
   where
-    refused_as : (k : Shape) (x spelling v : List ℕ) (n : ℕ) (f : ScriptFault) → Told s k x (literal spelling v) → value_for s.defining v ≡ None → f ≡ fault.BadCode n → IsRefused s k x n f
+    refused_as : (k : Shape) (x spelling v : List ℕ) (n : ℕ) (f : ScriptFault) → IsLexeme s k x (literal spelling v) → value_for s.defining v ≡ None → f ≡ fault.BadCode n → IsRefused s k x n f
     refused_as shape.Literal x spelling v n f told none eq =
         let same : v ≡ told.1 = (let e = told.4 in cc) in
         (told.0, told.2, inr (told.1, told.3, ap (value_for s.defining) (sym same) ∙ none, eq))
@@ -149,7 +149,7 @@ inner_room text letters inner place u is same h =
     let c = ap byte_length same in omega (arith, a, b, c, d, h, q)
 
 pub told_literal : (s : Directives) (f : InForce) (text spelling letters inner v : List ℕ) → f ≡ s.escapes → text ≡ 39 ∷ (inner ++ 39 ∷ []) → spelling ≡ encode_utf8_all inner → letters ≡ inner → Means f letters v
-    → Told s shape.Literal text (literal spelling v)
+    → IsLexeme s shape.Literal text (literal spelling v)
 told_literal s f text spelling letters inner v same is bytes l m =
     (inner, v, is, subst (λ (t : List ℕ). Means s.escapes t v) l (subst (λ (g : InForce). Means g letters v) same m), ap (λ (t : List ℕ). literal t v) bytes)
 

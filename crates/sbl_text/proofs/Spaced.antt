@@ -23,10 +23,10 @@ use Rattle.sbl_token.specs.Words.{word_text, words, word_of}
 use Rattle.sbl_token.specs.Signs.{sign_text}
 use Rattle.sbl_token.specs.SignCuts.{two, sign_of}
 use Rattle.sbl_text.specs.Pieces.{Has, may_come, setting, Stands, IsPiece, BeginsComment, is_gap}
-use Rattle.sbl_text.specs.Scan.{IsCutFrom, Cut, cut_in, past_literal}
+use Rattle.sbl_text.specs.Scan.{IsCutFrom, FirstPiece, cut_in, past_literal}
 use Rattle.sbl_token.specs.Lexemes.{Lexeme, number}
 use Rattle.sbl_text.specs.Directives.{Directives, after}
-use Rattle.sbl_text.specs.Tokens.{digits_value, number_of, word_or_name, Told, Says, Piece, MaySay, after_piece, AreCut, and_more, piece_lexemes, MayEnd, AreTokensFrom}
+use Rattle.sbl_text.specs.Tokens.{digits_value, number_of, word_or_name, IsLexeme, Says, Piece, MaySay, after_piece, AreCut, and_more, piece_lexemes, MayEnd, AreTokensFrom}
 use Rattle.sbl_text.specs.SpacedTokens.{lexeme_text, IsSaidBy, IsSaid, after_all, AreSaid, SpacedToken, lexemes_of, are_white, spaced_text}
 use Rattle.sbl_text.proofs.Written.{sign_found_as}
 use Rattle.sbl_text.proofs.Cuts.{and_left, and_right, literal_ends}
@@ -86,7 +86,7 @@ quoted inner =
     ∙ ap (λ (t : List ℕ). 39 ∷ t) (encodes-append inner (39 ∷ []) ∙ ap (λ (t : List ℕ). encode_utf8_all inner ++ t) (one_byte 39 (omega arith)))
 
 -- but for numbers, whose zeros in front are not kept
-same_text : (s : Directives) (k : Shape) (t : List ℕ) (l : Lexeme) → IsUtf8 t → (k ≡ shape.Number → ⊥) → Told s k (chars t) l → t ≡ lexeme_text l
+same_text : (s : Directives) (k : Shape) (t : List ℕ) (l : Lexeme) → IsUtf8 t → (k ≡ shape.Number → ⊥) → IsLexeme s k (chars t) l → t ≡ lexeme_text l
 same_text s shape.Word t l u n told = word_case (word_of (encode_utf8_all (chars t))) refl
   where
     word_case : (o : Option Word) → word_of (encode_utf8_all (chars t)) ≡ o → t ≡ lexeme_text l
@@ -140,12 +140,12 @@ number_written s n small may =
       IsUtf8-from_ascii (decimal n) (IsAscii-decimal n big),
       subst (Has s.escapes.inserts shape.Number) (sym is) d.0,
       may,
-      (subst (λ (x : List ℕ). Told s shape.Number x (number n)) (sym is) (subst (λ (m : ℕ). m ≤ 2147483647) (sym d.1) small, ap number (sym d.1)), tt),
+      (subst (λ (x : List ℕ). IsLexeme s shape.Number x (number n)) (sym is) (subst (λ (m : ℕ). m ≤ 2147483647) (sym d.1) small, ap number (sym d.1)), tt),
     )
 
 -- ---- how a lexeme is written says it
 
-no_gap : (s : Directives) (k : Shape) (x : List ℕ) (l : Lexeme) → Told s k x l → is_gap k ≡ false
+no_gap : (s : Directives) (k : Shape) (x : List ℕ) (l : Lexeme) → IsLexeme s k x l → is_gap k ≡ false
 no_gap s shape.Blank x l h = absurd h
 no_gap s shape.LineComment x l h = absurd h
 no_gap s shape.BlockComment x l h = absurd h
@@ -266,7 +266,7 @@ alone i w k x rest st never = at (cut_in i w (x ++ rest)) (longest (setting i w)
         (subst (λ (t : List ℕ). IsPiece (setting i w) k t r) (b ∙ nothing_more x) (subst (λ (m : Shape). IsPiece (setting i w) m y r) a p))
     same j y (d ∷ z) r a b c p = absurd (never d z r c (subst (λ (t : List ℕ). Has i k t) b (subst (λ (m : Shape). Has i m y) a p.stands.has)))
 
-    at : (o : Cut) → LeavesCut k (length rest) o → IsCutFrom (setting i w) (x ++ rest) o → IsPiece (setting i w) k x rest
+    at : (o : FirstPiece) → LeavesCut k (length rest) o → IsCutFrom (setting i w) (x ++ rest) o → IsPiece (setting i w) k x rest
     at None l c = absurd l
     at (Some p) l c = let f = further x c.0 rest p.1 c.1 l.1 in same p.0 c.0 f.0 p.1 l.0 f.1 f.2 c.2
 

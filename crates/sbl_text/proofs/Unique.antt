@@ -12,10 +12,10 @@ use Rattle.sbl_token.specs.declared.token.Token.{Token}
 use Rattle.sbl_text.specs.Escapes.{InForce, opens, closes}
 use Rattle.sbl_text.specs.Literals.{Refusal, byte_length, insertion_value, IsInsertion, IsPlain, Part, IsPart, AreParts, values, Means, IsWrong, FirstWrong, IsLiteral}
 use Rattle.sbl_text.specs.Pieces.{Setting, IsPiece, is_gap}
-use Rattle.sbl_text.specs.Scan.{Cut, cut_in}
+use Rattle.sbl_text.specs.Scan.{FirstPiece, cut_in}
 use Rattle.sbl_token.specs.Lexemes.{Lexeme, lexeme_of, sign, literal, inserts}
 use Rattle.sbl_text.specs.Directives.{Directives, setting_of, value_for, after}
-use Rattle.sbl_text.specs.Tokens.{Told, HasValue, Piece, MaySay, after_piece, AreCut, piece_lexemes, MayEnd, AreTokensFrom, PlacedToken, placed_from, ArePlacedFrom, IsRefused, IsFault, IsFirstFaultFrom, Advances, Reading, IsAnswer, IsNext}
+use Rattle.sbl_text.specs.Tokens.{IsLexeme, HasValue, Piece, MaySay, after_piece, AreCut, piece_lexemes, MayEnd, AreTokensFrom, PlacedToken, placed_from, ArePlacedFrom, IsRefused, IsFault, IsFirstFaultFrom, Advances, Reading, IsAnswer, IsNext}
 use Rattle.sbl_text.proofs.Written.{signs_differ}
 use Rattle.sbl_text.proofs.Cuts.{and_left, and_right}
 use Rattle.sbl_text.proofs.Whole.{LeavesCut, longest}
@@ -31,7 +31,7 @@ same_front (c ∷ x) (d ∷ y) r s l h =
     let i : x ++ r ≡ y ++ s = cc in let d_is : c ≡ d = cc in
     let t = same_front x y r s (omega (arith, l)) i in (cc, t.1)
 
-same_shape : (j k : Shape) (n m : ℕ) (o : Cut) → LeavesCut j n o → LeavesCut k m o → j ≡ k
+same_shape : (j k : Shape) (n m : ℕ) (o : FirstPiece) → LeavesCut j n o → LeavesCut k m o → j ≡ k
 same_shape j k n m None a b = absurd a
 same_shape j k n m (Some p) a b = sym a.0 ∙ b.0
 
@@ -177,7 +177,7 @@ first_wrong_one e text n f g a b =
 
 -- ---- what pieces say
 
-told_gap : (s : Directives) (k : Shape) (x : List ℕ) (l : Lexeme) → is_gap k ≡ true → Told s k x l → ⊥
+told_gap : (s : Directives) (k : Shape) (x : List ℕ) (l : Lexeme) → is_gap k ≡ true → IsLexeme s k x l → ⊥
 told_gap s shape.Blank x l g h = h
 told_gap s shape.LineComment x l g h = h
 told_gap s shape.BlockComment x l g h = h
@@ -191,7 +191,7 @@ told_gap s shape.MacroName x l g h = cc
 same_inner : (x inner other : List ℕ) → x ≡ 39 ∷ (inner ++ 39 ∷ []) → x ≡ 39 ∷ (other ++ 39 ∷ []) → inner ≡ other
 same_inner x inner other a b = append_cancel_right inner other (39 ∷ []) (let h = sym a ∙ b in cc)
 
-told_one : (s : Directives) (k : Shape) (x : List ℕ) (l m : Lexeme) → Told s k x l → Told s k x m → l ≡ m
+told_one : (s : Directives) (k : Shape) (x : List ℕ) (l m : Lexeme) → IsLexeme s k x l → IsLexeme s k x m → l ≡ m
 told_one s shape.Blank x l m a b = absurd a
 told_one s shape.LineComment x l m a b = absurd a
 told_one s shape.BlockComment x l m a b = absurd a

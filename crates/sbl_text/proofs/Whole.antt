@@ -15,7 +15,7 @@ use Rattle.sbl_text.specs.Classes.{is_white, is_letter, is_digit, is_word}
 use Rattle.sbl_text.specs.Skip.{past}
 use Rattle.sbl_token.specs.SignCuts.{sign_of, sign_front, one, two}
 use Rattle.sbl_text.specs.Pieces.{Has, may_come, Setting, setting, Stands, IsPiece, NoPiece, BeginsComment, Gap, AreGaps, AfterGaps, is_gap}
-use Rattle.sbl_text.specs.Scan.{IsCutFrom, Piece_at, past_literal, past_block, start_of, Cut, cut, cut_at, cut_as, sign_cut, slash_cut, pair_from, pair_cut, name_cut, cut_in}
+use Rattle.sbl_text.specs.Scan.{IsCutFrom, Piece_at, past_literal, past_block, start_of, FirstPiece, cut, cut_at, cut_as, sign_cut, slash_cut, pair_from, pair_cut, name_cut, cut_in}
 use Rattle.sbl_text.proofs.Written.{sign_is, sign_found_as}
 use Rattle.sbl_text.proofs.Cuts.{or_left, or_right, run, run_longest, sign_found, sign_longest, literal_parts, literal_ends, block_parts, block_ends, no_end, has_no_end, same_number}
 
@@ -77,7 +77,7 @@ digit_start c h = rw (digit_not_white c h, digit_not_letter c h, h) refl
 
 -- ---- no longer piece
 
-abbrev pub LeavesCut : Shape → ℕ → Cut → Type 0
+abbrev pub LeavesCut : Shape → ℕ → FirstPiece → Type 0
 LeavesCut k n o = MatchOption o ⊥ (λ p. (p.0 ≡ k) × (length p.1 ≤ n))
 
 along : (e : Option Inserts) (k : Shape) (n c : ℕ) (cs : List ℕ) (st : Start) → start_of c ≡ st → LeavesCut k n (cut_at e st c cs) → LeavesCut k n (cut e (c ∷ cs))
@@ -137,7 +137,7 @@ longest_token e shape.MacroName y more h may free = absurd (cc)
 abbrev Stood : Option Inserts → Shape → List ℕ → List ℕ → Type 0
 Stood e k x rest = Has e k x × (may_come wanted.Token k ≡ true) × (k ≡ shape.Sign → BeginsComment (x ++ rest) → ⊥)
 
-abbrev FoundCut : Option Inserts → List ℕ → Cut → Type 0
+abbrev FoundCut : Option Inserts → List ℕ → FirstPiece → Type 0
 FoundCut e text o = IfSome o (λ p. (x : List ℕ) × (text ≡ x ++ p.1) × Stood e p.0 x p.1)
 
 sign_stands : (e : Option Inserts) (text : List ℕ) (o : Option (Sign × List ℕ)) → (BeginsComment text → ⊥)
@@ -241,10 +241,10 @@ longest_in e wanted.MacroName k y more h may free = longest_name e k y more h ma
 pub longest : (e : Setting) (k : Shape) (y more : List ℕ) → Stands e k y more → LeavesCut k (length more) (cut_in e.inserts e.wanted (y ++ more))
 longest e k y more st = longest_in e.inserts e.wanted k y more st.has st.comes st.no_comment
 
-abbrev FoundIn : Setting → List ℕ → Cut → Type 0
+abbrev FoundIn : Setting → List ℕ → FirstPiece → Type 0
 FoundIn e text o = IfSome o (λ p. (x : List ℕ) × (text ≡ x ++ p.1) × Stands e p.0 x p.1)
 
-found_token : (e : Option Inserts) (text : List ℕ) (o : Cut) → FoundCut e text o → FoundIn (setting e wanted.Token) text o
+found_token : (e : Option Inserts) (text : List ℕ) (o : FirstPiece) → FoundCut e text o → FoundIn (setting e wanted.Token) text o
 found_token e text None f = tt
 found_token e text (Some p) f = (f.0, f.1, record { has = f.2.0; comes = f.2.1; no_comment = f.2.2 })
 
@@ -283,15 +283,15 @@ found_in e wanted.Token text = found_token e text (cut e text) (found e text)
 found_in e wanted.Inserts text = found_pair e text
 found_in e wanted.MacroName text = found_name e text
 
-cut_is_at : (e : Setting) (text : List ℕ) (o : Cut) → cut_in e.inserts e.wanted text ≡ o → FoundIn e text o → IsCutFrom e text o
-cut_is_at e text None h f = λ j y more is st. subst (λ (o : Cut). LeavesCut j (length more) o) (ap (cut_in e.inserts e.wanted) (sym is) ∙ h) (longest e j y more st)
+cut_is_at : (e : Setting) (text : List ℕ) (o : FirstPiece) → cut_in e.inserts e.wanted text ≡ o → FoundIn e text o → IsCutFrom e text o
+cut_is_at e text None h f = λ j y more is st. subst (λ (o : FirstPiece). LeavesCut j (length more) o) (ap (cut_in e.inserts e.wanted) (sym is) ∙ h) (longest e j y more st)
 cut_is_at e text (Some p) h f = (
   f.0,
   f.1,
   record {
     stands = f.2;
     longest = λ j y more is st. shorter f.0 y p.1 more is
-        (subst (λ (o : Cut). LeavesCut j (length more) o) (ap (cut_in e.inserts e.wanted) (sym is ∙ sym f.1) ∙ h) (longest e j y more st)).1;
+        (subst (λ (o : FirstPiece). LeavesCut j (length more) o) (ap (cut_in e.inserts e.wanted) (sym is ∙ sym f.1) ∙ h) (longest e j y more st)).1;
   },
 )
   where

@@ -39,23 +39,23 @@ has_end [] = false
 has_end (c ∷ cs) = (c == star && begins_with slash cs) || has_end cs
 
 -- the shape of a piece, and the text after it
-abbrev pub Cut : Type 0
-Cut = Option (Shape × List ℕ)
+abbrev pub FirstPiece : Type 0
+FirstPiece = Option (Shape × List ℕ)
 
-abbrev pub cut_as : Shape → Option (List ℕ) → Cut
+abbrev pub cut_as : Shape → Option (List ℕ) → FirstPiece
 cut_as k rest = option_map (λ r. (k, r)) rest
 
-abbrev pub sign_cut : List ℕ → Cut
+abbrev pub sign_cut : List ℕ → FirstPiece
 sign_cut text = option_map (λ p. (shape.Sign, p.1)) (sign_front text)
 
 -- the first piece of a text that begins with a slash; the second argument is the text after the slash
-abbrev pub slash_cut : List ℕ → List ℕ → Cut
+abbrev pub slash_cut : List ℕ → List ℕ → FirstPiece
 slash_cut text [] = sign_cut text
 slash_cut text (c ∷ cs) =
     if c == slash then Some (shape.LineComment, past (λ d. not (d == line_feed)) cs)
     else (if c == star then cut_as shape.BlockComment (past_block cs) else sign_cut text)
 
-abbrev pub cut_at : Option Inserts → Start → ℕ → List ℕ → Cut
+abbrev pub cut_at : Option Inserts → Start → ℕ → List ℕ → FirstPiece
 cut_at e start.White c cs = Some (shape.Blank, cs)
 cut_at e start.Letter c cs = Some (shape.Word, past is_word cs)
 cut_at e start.Digit c cs = Some (shape.Number, past is_digit cs)
@@ -63,30 +63,30 @@ cut_at e start.Quote c cs = cut_as shape.Literal (past_literal e false cs)
 cut_at e start.Slash c cs = slash_cut (c ∷ cs) cs
 cut_at e start.Other c cs = sign_cut (c ∷ cs)
 
-unfoldable pub cut : Option Inserts → List ℕ → Cut
+unfoldable pub cut : Option Inserts → List ℕ → FirstPiece
 cut e [] = None
 cut e (c ∷ cs) = cut_at e (start_of c) c cs
 
 -- two characters that are not white space, the first not a quote
-abbrev pub pair_from : ℕ → List ℕ → Cut
+abbrev pub pair_from : ℕ → List ℕ → FirstPiece
 pair_from a [] = None
 pair_from a (b ∷ cs) = if a == quote || is_white b then None else Some (shape.Inserts, cs)
 
-unfoldable pub pair_cut : List ℕ → Cut
+unfoldable pub pair_cut : List ℕ → FirstPiece
 pair_cut [] = None
 pair_cut (c ∷ cs) = if is_white c then Some (shape.Blank, cs) else pair_from c cs
 
-unfoldable pub name_cut : List ℕ → Cut
+unfoldable pub name_cut : List ℕ → FirstPiece
 name_cut [] = None
 name_cut (c ∷ cs) = if is_white c then Some (shape.Blank, cs) else Some (shape.MacroName, past (λ d. not (is_white d)) cs)
 
-abbrev pub cut_in : Option Inserts → Expectation → List ℕ → Cut
+abbrev pub cut_in : Option Inserts → Expectation → List ℕ → FirstPiece
 cut_in e wanted.Token text = cut e text
 cut_in e wanted.Inserts text = pair_cut text
 cut_in e wanted.MacroName text = name_cut text
 
 -- the cut of a text of these bytes, which leaves less of it
-abbrev pub IsCut : List ℕ → Cut → Option (Shape × Bor (List ℕ)) → Type 0
+abbrev pub IsCut : List ℕ → FirstPiece → Option (Shape × Bor (List ℕ)) → Type 0
 IsCut bytes o result = MatchOption result (o ≡ None) (λ p. (o ≡ Some (p.0, chars p.1.now)) × (length p.1.now < length bytes))
 
 -- the result of cutting the text is its longest first piece

@@ -24,14 +24,14 @@ abbrev pub number_of : List ℕ → ℕ
 number_of text = fold (λ n c. n * 10 + (c - 48)) 0 text
 
 -- the lexeme that a text of this shape means; white space and comments mean none
-abbrev pub Told : Directives → Shape → List ℕ → Lexeme → Type 0
-Told s shape.Word x l = l ≡ option_map_or word (word_of (encode_utf8_all x)) (name (encode_utf8_all x))
-Told s shape.Number x l = (number_of x ≤ 2147483647) × (l ≡ number (number_of x))
-Told s shape.Sign x l = (g : Sign) × (x ≡ sign_text g) × (l ≡ sign g)
-Told s shape.Literal x l = (inner : List ℕ) × (v : List ℕ) × (x ≡ quote ∷ (inner ++ quote ∷ [])) × Means s.escapes inner v × (l ≡ literal (encode_utf8_all inner) v)
-Told s shape.Inserts x l = (a : ℕ) × (b : ℕ) × (x ≡ a ∷ b ∷ []) × (l ≡ inserts a b)
-Told s shape.MacroName x l = l ≡ macro_name (encode_utf8_all x)
-Told s _ x l = ⊥
+abbrev pub IsLexeme : Directives → Shape → List ℕ → Lexeme → Type 0
+IsLexeme s shape.Word x l = l ≡ option_map_or word (word_of (encode_utf8_all x)) (name (encode_utf8_all x))
+IsLexeme s shape.Number x l = (number_of x ≤ 2147483647) × (l ≡ number (number_of x))
+IsLexeme s shape.Sign x l = (g : Sign) × (x ≡ sign_text g) × (l ≡ sign g)
+IsLexeme s shape.Literal x l = (inner : List ℕ) × (v : List ℕ) × (x ≡ quote ∷ (inner ++ quote ∷ [])) × Means s.escapes inner v × (l ≡ literal (encode_utf8_all inner) v)
+IsLexeme s shape.Inserts x l = (a : ℕ) × (b : ℕ) × (x ≡ a ∷ b ∷ []) × (l ≡ inserts a b)
+IsLexeme s shape.MacroName x l = l ≡ macro_name (encode_utf8_all x)
+IsLexeme s _ x l = ⊥
 
 -- a literal after `stringdef` has a value for the macro
 abbrev pub HasValue : Directives → Lexeme → Type 0
@@ -46,7 +46,7 @@ LacksValue s _ = ⊥
 -- The meaning of a token: a reserved word is not a name, a number is at most 2147483647, a literal means its
 -- characters.
 abbrev pub Says : Directives → Shape → List ℕ → Lexeme → Type 0
-Says s k x l = Told s k x l × HasValue s l
+Says s k x l = IsLexeme s k x l × HasValue s l
 
 -- a piece, and its lexeme unless it is white space or a comment
 pub record Piece : Type 0 where
@@ -155,7 +155,7 @@ pub record IsToken (text : List ℕ) (s : Directives) (from rest : List ℕ) (to
   pub stands : text ≡ before ++ (own ++ rest)
   pub gaps : AfterGaps (setting_of s) from (own ++ rest)
   pub piece : IsPiece (setting_of s) kind own rest
-  pub told : Told s kind own (lexeme_of token)
+  pub told : IsLexeme s kind own (lexeme_of token)
   pub place : IsAt before own token
   pub fitting : SaysFitting token
 

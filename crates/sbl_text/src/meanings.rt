@@ -42,7 +42,7 @@ fn literal<'a>(
 ) -> Result<Value<'a>, ScriptFault>
     requires has { pieces.Has state.now.escapes.inserts Shape.Literal (chars text.now) }
     requires room { place + length text.now < 2 ^ 64 }
-    ensures { MatchResult result (λ v. spec.Told state.now Shape.Literal (chars text.now) (lexeme_by Kind.Literal text.now v) × (fits Kind.Literal v ≡ true)) (λ f. (f ≡ ScriptFault.OutOfMemory) ⊎ spec.IsRefused state.now Shape.Literal (chars text.now) place f) }
+    ensures { MatchResult result (λ v. spec.IsLexeme state.now Shape.Literal (chars text.now) (lexeme_by Kind.Literal text.now v) × (fits Kind.Literal v ≡ true)) (λ f. (f ≡ ScriptFault.OutOfMemory) ⊎ spec.IsRefused state.now Shape.Literal (chars text.now) place f) }
 {
     let spelling = between_quotes(text);
     let letters: Vec<char> = spelling.chars().collect(alloc)?;
@@ -53,7 +53,7 @@ fn literal<'a>(
 }
 
 fn word(state: &Directives<'_>, text: &str) -> Kind
-    ensures told { (v : Value) → spec.Told state.now Shape.Word (chars text.now) (lexeme_by result text.now v) }
+    ensures told { (v : Value) → spec.IsLexeme state.now Shape.Word (chars text.now) (lexeme_by result text.now v) }
     ensures fits { fits result Value.None ≡ true }
 {
     match word_of(text) {
@@ -64,7 +64,7 @@ fn word(state: &Directives<'_>, text: &str) -> Kind
 
 fn sign(state: &Directives<'_>, text: &str) -> Kind
     requires { pieces.Has None Shape.Sign (chars text.now) }
-    ensures told { (v : Value) → spec.Told state.now Shape.Sign (chars text.now) (lexeme_by result text.now v) }
+    ensures told { (v : Value) → spec.IsLexeme state.now Shape.Sign (chars text.now) (lexeme_by result text.now v) }
     ensures fits { fits result Value.None ≡ true }
 {
     match sign_of(text) {
@@ -75,7 +75,7 @@ fn sign(state: &Directives<'_>, text: &str) -> Kind
 
 /// Returns the kind of a macro's name; such a token has no value beyond its text.
 fn macro_name(text: &str) -> Kind
-    ensures told { (s : states.Directives) (v : Value) → spec.Told s Shape.MacroName (chars text.now) (lexeme_by result text.now v) }
+    ensures told { (s : states.Directives) (v : Value) → spec.IsLexeme s Shape.MacroName (chars text.now) (lexeme_by result text.now v) }
     ensures fits { fits result Value.None ≡ true }
 {
     Kind::MacroName
@@ -84,7 +84,7 @@ fn macro_name(text: &str) -> Kind
 /// Returns the two insert characters.
 fn pair<'a>(text: &str) -> Value<'a>
     requires { pieces.Has None Shape.Inserts (chars text.now) }
-    ensures told { (s : states.Directives) → spec.Told s Shape.Inserts (chars text.now) (lexeme_by Kind.Inserts text.now result) }
+    ensures told { (s : states.Directives) → spec.IsLexeme s Shape.Inserts (chars text.now) (lexeme_by Kind.Inserts text.now result) }
     ensures fits { fits Kind.Inserts result ≡ true }
 {
     if let Some((a, rest)) = split_first(text) {
@@ -107,7 +107,7 @@ pub fn meaning<'a>(
     requires token { pieces.is_gap shape ≡ false }
     requires has { pieces.Has state.now.escapes.inserts shape (chars text.now) }
     requires room { place + length text.now < 2 ^ 64 }
-    ensures { MatchResult result (λ p. spec.Told state.now shape (chars text.now) (lexeme_by p.0 text.now p.1) × (fits p.0 p.1 ≡ true)) (λ f. (f ≡ ScriptFault.OutOfMemory) ⊎ spec.IsRefused state.now shape (chars text.now) place f) }
+    ensures { MatchResult result (λ p. spec.IsLexeme state.now shape (chars text.now) (lexeme_by p.0 text.now p.1) × (fits p.0 p.1 ≡ true)) (λ f. (f ≡ ScriptFault.OutOfMemory) ⊎ spec.IsRefused state.now shape (chars text.now) place f) }
 {
     match shape {
         Shape::Number => match number(text) {

@@ -9,7 +9,7 @@ use Rattle.sbl_ast.specs.Tree as trees
 use Rattle.sbl_ast.specs.Tree.{bracket, simple_, literal_, name_, non_, prefixed, counted, move_, named, splice_, setlimit_, assign_, compare_, compare_values_, among_, no_rows, row, no_others, joined, no_starter, starter, bare, group}
 use Rattle.sbl_ast.specs.declared.mode.Mode.{Mode}
 use Rattle.sbl_ast.specs.declared.mode.Mode.TheVariants.{Forward, Backward}
-use Rattle.sbl_semantics.specs.Items.{Known, Body, place_of, is_among}
+use Rattle.sbl_semantics.specs.Items.{DeclaredNames, Body, place_of, is_among}
 use Rattle.sbl_semantics.specs.Regions.{Among, among_at, number_after, number_after_rows, number_after_others, number_after_starter, first, first_rows, first_others, mode_under, waits, waits_others}
 use Rattle.sbl_semantics.specs.Moves.{touch_grouping}
 use Rattle.sbl_semantics.specs.Numbers.{Value, with_value, integer_at, value_in_range}
@@ -30,11 +30,11 @@ use Rattle.sbl_why.proofs.SearchesEnd.{Called, CallsAre, search_paid}
 
 -- ---- values do not depend on the steps
 
-pub text_at : (ns : Known) (a : trees.Argument) (k : ℕ) (s : State) → meaning.text ns a (at k s) ≡ meaning.text ns a s
+pub text_at : (ns : DeclaredNames) (a : trees.Argument) (k : ℕ) (s : State) → meaning.text ns a (at k s) ≡ meaning.text ns a s
 text_at ns (trees.written_out q) k s = refl
 text_at ns (trees.by_name x) k s = refl
 
-constant_at : (ns : Known) (c : Constant) (m : Mode) (k : ℕ) (s : State) → meaning.constant_worth ns c m (at k s) ≡ meaning.constant_worth ns c m s
+constant_at : (ns : DeclaredNames) (c : Constant) (m : Mode) (k : ℕ) (s : State) → meaning.constant_worth ns c m (at k s) ≡ meaning.constant_worth ns c m s
 constant_at ns constants.MaxInt m k s = refl
 constant_at ns constants.MinInt m k s = refl
 constant_at ns constants.Cursor m k s = refl
@@ -42,7 +42,7 @@ constant_at ns constants.Limit Forward k s = refl
 constant_at ns constants.Limit Backward k s = refl
 constant_at ns constants.Len m k s = refl
 
-module _ (ns : Known) (m : Mode) (k : ℕ) (s : State) where
+module _ (ns : DeclaredNames) (m : Mode) (k : ℕ) (s : State) where
   mutual
     pub worth_at : (e : trees.Expression) → meaning.worth ns e m (at k s) ≡ meaning.worth ns e m s
     worth_at (trees.expression p ss) = ap (λ v. meaning.value_of_sums ns ss v m (at k s)) (product_at p) ∙ sums_at ss (meaning.product_worth ns p m s)
@@ -66,7 +66,7 @@ module _ (ns : Known) (m : Mode) (k : ℕ) (s : State) where
     factor_at (trees.fixed c) = constant_at ns c m k s
     factor_at (trees.length_of a) = ap (λ cs. value_in_range (ℤ.pos (length cs))) (text_at ns a k s)
 
-module _ (ns : Known) (class : List ℕ → ℕ → Bool) (bodies : List ℕ → Option Body) where
+module _ (ns : DeclaredNames) (class : List ℕ → ℕ → Bool) (bodies : List ℕ → Option Body) where
   module _ (call : List ℕ → Doing) (r : ℕ) (calls : CallsAre ns bodies r call) where
     abbrev GoodDoing : Doing → Type 0
     GoodDoing = GoodIn ns bodies r

@@ -17,7 +17,7 @@ use Rattle.sbl_ast.specs.declared.tree.Splice.TheVariants as edits
 use Rattle.sbl_ast.specs.declared.mode.Mode.{Mode}
 use Rattle.sbl_ast.specs.declared.mode.Mode.TheVariants.{Forward, Backward}
 use Rattle.sbl_semantics.specs.Fitting.{read_as}
-use Rattle.sbl_semantics.specs.Items.{Known, Body, place_of}
+use Rattle.sbl_semantics.specs.Items.{DeclaredNames, Body, place_of}
 use Rattle.sbl_semantics.specs.declared.cursor.SavedCursor.{SavedCursor}
 use Rattle.sbl_semantics.specs.Events.{Event', Puts, with_event}
 use Rattle.sbl_semantics.specs.Moves.{match, next_is, one_of, next, hop, at_mark, to_mark, set_mark, set_boolean}
@@ -32,7 +32,7 @@ use Rattle.sbl_why.specs.Searches.{course}
 use Rattle.sbl_why.proofs.Parts.{Any_refusal, Ends, Family, Good, GoodIn, Part, PartX, Refused, Some_end, at, forget, given_part, here, here_with, if_part, noted_with, signals_good, stop, stop_with}
 use Rattle.sbl_why.proofs.Onward.{after_x, good_grows, grows_by}
 
-module _ (ns : Known) (bodies : List ℕ → Option Body) (r : ℕ) where
+module _ (ns : DeclaredNames) (bodies : List ℕ → Option Body) (r : ℕ) where
   pub conv : (A A' : Ends ns bodies r) (B B' : Refused ns bodies r) (s : State) (run : Family) (most : ℕ) → ((b : Bool) (t : State) (ys : List Event') → A b t ys → A' b t ys) → ((ys : List Event') → B ys → B' ys)
       → PartX ns bodies r A B s run most → PartX ns bodies r A' B' s run most
   conv A A' B B' s run most f g (Signals b t, e, h) = (Signals b t, e, (h.0, h.1, h.2, h.3, h.4, h.5, h.6, h.7, h.8, f b t h.0 h.9))

@@ -8,7 +8,7 @@ use Rattle.sbl_ast.specs.declared.tree.Prefix.{Prefix}
 use Rattle.sbl_ast.specs.declared.tree.Prefix.TheVariants as prefixes
 use Rattle.sbl_ast.specs.declared.mode.Mode.{Mode}
 use Rattle.sbl_ast.specs.declared.mode.Mode.TheVariants.{Forward, Backward}
-use Rattle.sbl_semantics.specs.Items.{Known, Body}
+use Rattle.sbl_semantics.specs.Items.{DeclaredNames, Body}
 use Rattle.sbl_semantics.specs.declared.cursor.SavedCursor.{SavedCursor}
 use Rattle.sbl_semantics.specs.declared.limits.Limits.{Limits}
 use Rattle.sbl_semantics.specs.Moves.{next}
@@ -30,7 +30,7 @@ steps_in (Stops fault t) = t.steps
 abbrev pub Pays : Doing → Type 0
 Pays c = (m : Mode) (s : State) (b : Bool) (t : State) → c m s ≡ Signals b t → t.steps < s.steps
 
-module _ (ns : Known) (bodies : List ℕ → Option Body) (r : ℕ) where
+module _ (ns : DeclaredNames) (bodies : List ℕ → Option Body) (r : ℕ) where
   falls_by : (s : State) (run : Family) (most : ℕ) (e : Ending) (i : Ending) (b : Bool) (t : State) → i ≡ e → PartBy ns bodies r (Some_end ns bodies r) (Any_refusal ns bodies r) s.events s.text s.routine run most e → i ≡ Signals b t → t.steps ≤ most
   falls_by s run most (Signals c u) i b t e h f = let same : t.steps ≡ u.steps = ap steps_in (sym f ∙ e) in omega (arith, h.7, same)
   falls_by s run most (Stops fault u) i b t e h f = let both : Stops fault u ≡ Signals b t = sym e ∙ f in let none : ⊥ = cc in absurd none

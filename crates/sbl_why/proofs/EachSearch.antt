@@ -7,7 +7,7 @@ use Rattle.sbl_ast.specs.Order.{in_order}
 use Rattle.sbl_ast.specs.declared.mode.Mode.{Mode}
 use Rattle.sbl_ast.specs.declared.mode.Mode.TheVariants.{Forward}
 use Rattle.sbl_semantics.specs.Fitting.{ahead_at}
-use Rattle.sbl_semantics.specs.Items.{Known, Body, place_of, known_in, class_of, classes_behind, body_named}
+use Rattle.sbl_semantics.specs.Items.{DeclaredNames, Body, place_of, known_in, class_of, classes_behind, body_named}
 use Rattle.sbl_semantics.specs.Regions.{Among, number_after, number_after_others, first_others, waits}
 use Rattle.sbl_semantics.specs.Events.{Event', Enters, Leaves, Searches, Finds, Puts, with_event}
 use Rattle.sbl_semantics.specs.Control.{end_search, back_in, enter, leave, pay_first}
@@ -25,7 +25,7 @@ use Rattle.sbl_why.proofs.Commands.{Unended}
 use Rattle.sbl_why.proofs.SearchesEnd.{Called, CallsAre, first_in, search_found}
 use Rattle.sbl_why.proofs.Bodies.{act_paid, others_paid}
 
-module _ (ns : Known) (class : List ℕ → ℕ → Bool) (bodies : List ℕ → Option Body) where
+module _ (ns : DeclaredNames) (class : List ℕ → ℕ → Bool) (bodies : List ℕ → Option Body) where
   module _ (call : List ℕ → Doing) (calls : (r : ℕ) → CallsAre ns bodies r call) (x : List ℕ) (s : State) (m : Mode) (r : ℕ) where
     module _ (b : Body) (e : bodies x ≡ Some b) where
       abbrev p : ℕ
@@ -155,7 +155,7 @@ searches_take_first script levels a m s before e =
     )
 
 -- the searches of a run that recorded its events from the start
-module _ (ns : Known) (bodies : List ℕ → Option Body) (s : State) (none : s.events ≡ Some []) (run : Family) (x : List ℕ) where
+module _ (ns : DeclaredNames) (bodies : List ℕ → Option Body) (s : State) (none : s.events ≡ Some []) (run : Family) (x : List ℕ) where
   each_in : (most : ℕ) → PartX ns bodies 0 (Called ns bodies 0 x s) (Unended ns bodies 0) s run most → Each ns bodies 0 (IsWhole (run most)) s.events s.text s.routine run most [] (events_at (run most)) []
   each_in most (Signals b t, e, h) =
       let same : events_at (run most) ≡ h.0 = ap events_at e ∙ ap events_in (h.1 ∙ ap (add h.0) none) in

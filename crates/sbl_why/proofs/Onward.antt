@@ -2,7 +2,7 @@
 use Rattle.std.proofs.Common.{◌≡◌, ◌≤◌, ℕ, zero, suc, ◌+◌, Bool, true, false, List, [], ◌∷◌, ◌++◌, Option, refl, sym, ap, subst, ◌∙◌, append_assoc, append-nil, arith}
 use Rattle.std.specs.Prelude.{⊤}
 use Rattle.sbl_machine.specs.Why.{text_after}
-use Rattle.sbl_semantics.specs.Items.{Body, Known}
+use Rattle.sbl_semantics.specs.Items.{Body, DeclaredNames}
 use Rattle.sbl_semantics.specs.declared.fault.RunFault.{RunFault}
 use Rattle.sbl_semantics.specs.declared.fault.RunFault.TheVariants as faults
 use Rattle.sbl_semantics.specs.Events.{Event', Searches}
@@ -12,7 +12,7 @@ use Rattle.sbl_ast.specs.declared.mode.Mode.{Mode}
 use Rattle.sbl_why.specs.Searches.{within}
 use Rattle.sbl_why.proofs.Parts.{Any_refusal, Each, Ends, Family, Good, GoodIn, Moment, Part, PartBy, PartX, Refused, Some_end, add, add_add, add_none, at, each_append, each_go, recorded, signals_good, text_append}
 
-module _ (ns : Known) (bodies : List ℕ → Option Body) (r : ℕ) where
+module _ (ns : DeclaredNames) (bodies : List ℕ → Option Body) (r : ℕ) where
   -- ---- the moments of a later part
 
   module _ (E : Type 0) (events events' : Option (List Event')) (text text' : List ℕ) (routine routine' : ℕ) (ys : List Event') (of_events : events' ≡ add ys events) (of_text : text' ≡ text_after text ys) (of_routine : routine' ≡ routine) (run next : Family) (most least d : ℕ) (sum : most ≡ d + least)

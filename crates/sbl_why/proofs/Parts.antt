@@ -3,7 +3,7 @@ use Rattle.std.proofs.Common.{◌≡◌, ◌≤◌, ℕ, suc, ◌+◌, Bool, tru
 use Rattle.std.specs.Prelude.{ℤ, ⊤, if◌then◌else◌}
 use Rattle.sbl_ast.specs.declared.mode.Mode.{Mode}
 use Rattle.sbl_machine.specs.Why.{text_after, text_after_one}
-use Rattle.sbl_semantics.specs.Items.{Body, Known}
+use Rattle.sbl_semantics.specs.Items.{Body, DeclaredNames}
 use Rattle.sbl_semantics.specs.declared.fault.RunFault.{RunFault}
 use Rattle.sbl_semantics.specs.declared.fault.RunFault.TheVariants as faults
 use Rattle.sbl_semantics.specs.Events.{Event', Enters, Leaves, Searches, Finds, Puts, with_event}
@@ -52,7 +52,7 @@ abbrev pub recorded : Ending → Option (List Event')
 recorded (Signals b t) = t.events
 recorded (Stops fault t) = t.events
 
-module _ (ns : Known) (bodies : List ℕ → Option Body) (r : ℕ) where
+module _ (ns : DeclaredNames) (bodies : List ℕ → Option Body) (r : ℕ) where
   -- What is told of a search that begins in a state, in a part that the routine with number r begins. If E holds, the search
   -- ends.
   abbrev pub Begins : Type 0 → ℕ → State → ℕ → ℕ → Mode → ℕ → List Event' → Type 0

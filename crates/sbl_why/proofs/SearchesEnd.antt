@@ -8,7 +8,7 @@ use Rattle.std.proofs.lemmas.Grind.{flat_map-append}
 use Rattle.std.proofs.lemmas.List.Recursion.{is_position_or_len}
 use Rattle.sbl_semantics.specs.Meaning as meaning
 use Rattle.sbl_semantics.specs.Meaning.{Offer, offering, offers, search, takes, try_each}
-use Rattle.sbl_semantics.specs.Items.{Body, Known}
+use Rattle.sbl_semantics.specs.Items.{Body, DeclaredNames}
 use Rattle.sbl_semantics.specs.Regions.{Among}
 use Rattle.sbl_compiler.proofs.SoundItems.{less_suc}
 use Rattle.sbl_semantics.specs.Events.{Event', Searches, Finds}
@@ -94,7 +94,7 @@ and_both : (a b c : Bool) → (a && b) ≡ true → (b ≡ true → c ≡ true) 
 and_both true b c h f = f h
 and_both false b c h f = h
 
-module _ (ns : Known) (bodies : List ℕ → Option Body) (r : ℕ) where
+module _ (ns : DeclaredNames) (bodies : List ℕ → Option Body) (r : ℕ) where
   all_both : (os : List Offer) (o : Offer) → list_all (λ x. is_conditional x.condition) os ≡ true → is_conditional o.condition ≡ true → list_all (λ x. is_conditional x.condition) (os ++ (o ∷ [])) ≡ true
   all_both [] o h k = ap (λ b. b && true) k
   all_both (x ∷ os) o h k = and_both (is_conditional x.condition) _ _ h (λ i. all_both os o i k)

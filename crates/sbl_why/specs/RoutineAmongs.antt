@@ -1,6 +1,6 @@
 -- The amongs of a routine.
 use Rattle.std.specs.Prelude.{◌≡◌, ◌⊎◌, ℕ, suc, List, Option, Some}
-use Rattle.sbl_semantics.specs.Items.{Body, Known, place_of}
+use Rattle.sbl_semantics.specs.Items.{Body, DeclaredNames, place_of}
 use Rattle.sbl_semantics.specs.Regions.{Among, among_at, number_after, number_after_others, number_after_rows, number_after_starter, mode_under}
 use Rattle.sbl_ast.specs.Tree as trees
 use Rattle.sbl_ast.specs.Tree.{bracket, simple_, literal_, name_, non_, prefixed, counted, move_, named, splice_, setlimit_, assign_, compare_, compare_values_, among_, no_rows, row, no_others, joined, no_starter, starter, bare, group}
@@ -47,5 +47,5 @@ abbrev pub IsInBody : Among → Body → Type 0
 IsInBody a b = IsIn a b.mode 0 b.first ⊎ IsInOthers a b.mode (number_after b.first 0) b.others
 
 -- the routine with this number has this among, given the names of the script and the bodies of its routines
-abbrev pub HasAmong : Known → (List ℕ → Option Body) → ℕ → Among → Type 0
+abbrev pub HasAmong : DeclaredNames → (List ℕ → Option Body) → ℕ → Among → Type 0
 HasAmong ns bodies i a = (n : List ℕ) × (b : Body) × (place_of (ns kinds.Routines) n ≡ i) × (bodies n ≡ Some b) × IsInBody a b

@@ -5,7 +5,7 @@ use Rattle.std.specs.List.{flat_map, list_all, list_any}
 use Rattle.sbl_semantics.specs.Meaning.{Offer, calls, ending_with_events, offers, search}
 use Rattle.sbl_semantics.specs.Outcome.{events_at, events_of}
 use Rattle.sbl_machine.specs.Why.{text_after}
-use Rattle.sbl_semantics.specs.Items.{Body, Known, body_named, class_of, classes_behind, known_in, place_of}
+use Rattle.sbl_semantics.specs.Items.{Body, DeclaredNames, body_named, class_of, classes_behind, known_in, place_of}
 use Rattle.sbl_semantics.specs.Regions.{Among}
 use Rattle.sbl_semantics.specs.Events.{Event', Enters, Leaves, Searches, Finds, Puts}
 use Rattle.sbl_semantics.specs.declared.fault.RunFault.TheVariants as faults
@@ -73,7 +73,7 @@ is_conditional None = false
 is_conditional (Some n) = true
 
 -- the names of the script, and the bodies of its routines
-module _ (ns : Known) (bodies : List ℕ → Option Body) where
+module _ (ns : DeclaredNames) (bodies : List ℕ → Option Body) where
   -- A call of a routine that returns with this signal. A name that no routine has signals f without a call; the checks of
   -- a script refuse such a name.
   abbrev pub call_of : List ℕ → Bool → Option Body → List Call
@@ -179,10 +179,10 @@ first_length (o ∷ os) = Some (length o.string)
 -- if none of the entries that fit has a condition, the first of them is taken, and none only if none fits
 abbrev pub PlainTakesLongest : Type 0
 PlainTakesLongest =
-    (ns : Known) (bodies : List ℕ → Option Body) (os : List Offer) (calls_made : List Call) (n : ℕ) →
+    (ns : DeclaredNames) (bodies : List ℕ → Option Body) (os : List Offer) (calls_made : List Call) (n : ℕ) →
     list_any (λ o. is_conditional o.condition) os ≡ false → OneTaken ns bodies os n calls_made → first_length os ≡ Some n
 
 abbrev pub PlainTakesOne : Type 0
 PlainTakesOne =
-    (ns : Known) (bodies : List ℕ → Option Body) (os : List Offer) (calls_made : List Call) →
+    (ns : DeclaredNames) (bodies : List ℕ → Option Body) (os : List Offer) (calls_made : List Call) →
     list_any (λ o. is_conditional o.condition) os ≡ false → AllRefused ns bodies os calls_made → first_length os ≡ None

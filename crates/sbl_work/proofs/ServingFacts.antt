@@ -27,7 +27,7 @@ use Rattle.sbl_work.specs.Answering.{IsWorkAnswered}
 use Rattle.sbl_work.specs.Commands.{asks_work_block, block_command, quit_line}
 use Rattle.sbl_desk.specs.Desks.{State}
 use Rattle.sbl_work.specs.ReplyViews.{FindsBlock, IsFileAnswer, IsWorkAnswer}
-use Rattle.sbl_work.specs.Serving.{AreReplies, Choice, HalfReplied, IsReplyBy, IsWork, IsWorkRequest, IsOpenWork, IsBegunWork, Replied, TookWork, Worked, dialogue, with_prompt}
+use Rattle.sbl_work.specs.Serving.{AreReplies, Choice, HasPartOfReply, IsReplyBy, IsWork, IsWorkRequest, IsOpenWork, IsBegunWork, HasWorkReplies, TookWork, WorkRepliesToInput, dialogue, with_prompt}
 use Rattle.sbl_work.specs.declared.requests.BlockRequest.{BlockRequest}
 use Rattle.sbl_work.specs.declared.requests.BlockRequest.TheVariants as blocks
 
@@ -52,7 +52,7 @@ more_written prompt texts reply =
     ap (λ (x : List ℕ). prompt ++ x) all ∙ sym (append_assoc prompt (flat_map (with_prompt prompt) texts) (with_prompt prompt reply))
 
 replied-more : (prompt : List ℕ) (s t u : Contents) (d e : State) (done : List Request) (c : Choice) (r : Request) (h i j : Option (List ℕ)) (reply : List ℕ)
-    → Replied prompt s d done h i t e → Appends i j (with_prompt prompt reply) → IsReplyBy c t e r reply u → Replied prompt s d (done ++ r ∷ []) h j u c.desk
+    → HasWorkReplies prompt s d done h i t e → Appends i j (with_prompt prompt reply) → IsReplyBy c t e r reply u → HasWorkReplies prompt s d (done ++ r ∷ []) h j u c.desk
 replied-more prompt s t u d e done c r h i j reply so writes is = record {
   choices = so.choices ++ c ∷ [];
   replies = so.replies ++ reply ∷ [];
@@ -62,7 +62,7 @@ replied-more prompt s t u d e done c r h i j reply so writes is = record {
 
 -- one more request was carried out, and a prefix of its reply and of the prompt was written
 half-more : (prompt : List ℕ) (s t u : Contents) (d e : State) (done : List Request) (c : Choice) (r : Request) (h i j : Option (List ℕ)) (reply : List ℕ) (n : ℕ)
-    → Replied prompt s d done h i t e → Appends i j (take n (with_prompt prompt reply)) → IsReplyBy c t e r reply u → HalfReplied prompt s d done r h j u c.desk
+    → HasWorkReplies prompt s d done h i t e → Appends i j (take n (with_prompt prompt reply)) → IsReplyBy c t e r reply u → HasPartOfReply prompt s d done r h j u c.desk
 half-more prompt s t u d e done c r h i j reply n so writes is = record {
   choices = so.choices;
   replies = so.replies;
@@ -97,13 +97,13 @@ one_more a b c d done line block so gives fits formed fit took =
 -- ---- work
 
 -- the first prompt
-pub work_starts : (prompt : List ℕ) (a h i : Option (List ℕ)) (s : Contents) (d : State) → Appends h i prompt → Worked prompt a a h i s d s d
+pub work_starts : (prompt : List ℕ) (a h i : Option (List ℕ)) (s : Contents) (d : State) → Appends h i prompt → WorkRepliesToInput prompt a a h i s d s d
 work_starts prompt a h i s d writes =
     ([], none_taken a, record { choices = []; replies = []; are = (refl, refl); written = subst (Appends h i) (sym (append-nil prompt)) writes })
 
 pub work_goes_on : (prompt : List ℕ) (a b c d h i j : Option (List ℕ)) (s t u : Contents) (x y z : State) (line : List ℕ) (reply : Reply)
-    → Worked prompt a b h i s x t y → GivesLine b c line → length line ≤ 65536 → bytes_eq line quit_line ≡ false → IsWorkAnswered c d line t y reply u z
-    → ((text : List ℕ) → IsReply reply text → Appends i j (with_prompt prompt text)) → Worked prompt a d h j s x u z
+    → WorkRepliesToInput prompt a b h i s x t y → GivesLine b c line → length line ≤ 65536 → bytes_eq line quit_line ≡ false → IsWorkAnswered c d line t y reply u z
+    → ((text : List ℕ) → IsReply reply text → Appends i j (with_prompt prompt text)) → WorkRepliesToInput prompt a d h j s x u z
 work_goes_on prompt a b c d h i j s t u x y z line reply so gives fits other is writes = (
   so.0 ++ record { line = line; block = is.block } ∷ [],
   one_more a b c d so.0 line is.block so.1 gives fits (other, is.formed.0, is.formed.1) is.fit is.took,
@@ -111,18 +111,18 @@ work_goes_on prompt a b c d h i j s t u x y z line reply so gives fits other is 
 )
 
 -- the end of input
-pub work_ends : (prompt : List ℕ) (a b c h i : Option (List ℕ)) (s t : Contents) (x y : State) → Worked prompt a b h i s x t y → Keeps b c → IsAtEnd c → IsWork prompt a c h i s x t y (Ok tt)
+pub work_ends : (prompt : List ℕ) (a b c h i : Option (List ℕ)) (s t : Contents) (x y : State) → WorkRepliesToInput prompt a b h i s x t y → Keeps b c → IsAtEnd c → IsWork prompt a c h i s x t y (Ok tt)
 work_ends prompt a b c h i s t x y so keeps end =
     inl ((so.0, record { each = so.1.each; fit = so.1.fit; lines = took-kept a b c (lines_in_all so.0) so.1.lines keeps }, so.2), end)
 
 -- a line `quit`
-pub work_quits : (prompt : List ℕ) (a b c h i : Option (List ℕ)) (s t : Contents) (x y : State) (line : List ℕ) → Worked prompt a b h i s x t y → GivesLine b c line → line ≡ quit_line
+pub work_quits : (prompt : List ℕ) (a b c h i : Option (List ℕ)) (s t : Contents) (x y : State) (line : List ℕ) → WorkRepliesToInput prompt a b h i s x t y → GivesLine b c line → line ≡ quit_line
     → IsWork prompt a c h i s x t y (Ok tt)
 work_quits prompt a b c h i s t x y line so gives is = inr (b, so, subst (GivesLine b c) is gives)
 
 -- the lines have no further one
 pub work_at_line : (prompt : List ℕ) (a b c h i : Option (List ℕ)) (s t : Contents) (x y : State) (k : Option LineFault) (part : List ℕ) (f : LineFault)
-    → Worked prompt a b h i s x t y → k ≡ None → (f ≡ read.Read → TookWhole a b) → (f ≡ read.TooLong → BeginsLong b ⊎ (k ≡ Some f))
+    → WorkRepliesToInput prompt a b h i s x t y → k ≡ None → (f ≡ read.Read → TookWhole a b) → (f ≡ read.TooLong → BeginsLong b ⊎ (k ≡ Some f))
     → (f ≡ read.Read → k ≡ None → BreaksOff b c part) → IsWork prompt a c h i s x t y (Err (serve_fault_of f))
 work_at_line prompt a b c h i s t x y k part read.Read so none whole long cut =
     (b, whole refl, so, broken IsBegunWork b b c k [] part read.Read tt (took-none b) none long cut)
@@ -130,7 +130,7 @@ work_at_line prompt a b c h i s t x y k part read.TooLong so none whole long cut
     (b, so, broken IsBegunWork b b c k [] part read.TooLong tt (took-none b) none long cut)
 
 -- a block has no end
-pub work_open : (prompt : List ℕ) (a b c d h i : Option (List ℕ)) (s t : Contents) (x y : State) (line : List ℕ) (f : ServeFault) → Worked prompt a b h i s x t y → GivesLine b c line
+pub work_open : (prompt : List ℕ) (a b c d h i : Option (List ℕ)) (s t : Contents) (x y : State) (line : List ℕ) (f : ServeFault) → WorkRepliesToInput prompt a b h i s x t y → GivesLine b c line
     → length line ≤ 65536 → asks_work_block line ≡ true → (f ≡ fault.Read → TookWhole a b) → Breaks BlockLines c d f → IsWork prompt a d h i s x t y (Err f)
 work_open prompt a b c d h i s t x y line fault.Read so gives fits asks whole breaks =
     (b, whole refl, so, (line ∷ breaks.0, breaks.1, breaks.2, (asks, fits, breaks.3), took-trans b c breaks.1 (line ∷ []) breaks.0 gives breaks.4, breaks.5))
@@ -149,7 +149,7 @@ work_unprompted prompt a h i s x n writes = inl (n, writes, refl, refl, refl)
 
 -- the writer stops in a reply, or in the prompt after it
 pub work_at_write : (prompt : List ℕ) (a b c d h i j : Option (List ℕ)) (s t u : Contents) (x y z : State) (line : List ℕ) (reply : Reply)
-    → Worked prompt a b h i s x t y → GivesLine b c line → length line ≤ 65536 → bytes_eq line quit_line ≡ false → IsWorkAnswered c d line t y reply u z
+    → WorkRepliesToInput prompt a b h i s x t y → GivesLine b c line → length line ≤ 65536 → bytes_eq line quit_line ≡ false → IsWorkAnswered c d line t y reply u z
     → ((text : List ℕ) → IsReply reply text → (n : ℕ) × Appends i j (take n (with_prompt prompt text))) → IsWork prompt a d h j s x u z (Err fault.Write)
 work_at_write prompt a b c d h i j s t u x y z line reply so gives fits other is writes =
     let front = writes is.answer.0 is.answer.1 in

@@ -66,7 +66,7 @@ fn stats(alloc: Global, bench: &Bench) -> Reply
 }
 
 /// Returns the reply to `unused`.
-fn unused(alloc: Global, bench: &Bench) -> Reply
+fn unused_reply(alloc: Global, bench: &Bench) -> Reply
     ensures { (d : State) → IsWorkAnswer (contents_of bench.now) d spec.Unused result (contents_of bench.now) d }
 {
     report(unused_text(alloc, bench))
@@ -196,7 +196,7 @@ pub fn answer_line(
         Request::Mark => mark(desk, bench),
         Request::Changes => changes(alloc, desk, bench),
         Request::Stats => stats(alloc, bench),
-        Request::Unused => unused(alloc, bench),
+        Request::Unused => unused_reply(alloc, bench),
         Request::Largest(argument) => largest(alloc, bench, argument),
         Request::Families(_) => families(alloc, bench, file),
         Request::Why(word) => why(alloc, bench, word),

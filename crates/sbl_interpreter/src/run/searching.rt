@@ -2,7 +2,7 @@
 
 ghost use Rattle.std.specs.Prelude.{◌≡◌, ◌<◌, ◌≤◌, false, IfOk, slice_get};
 ghost use Rattle.sbl_program.specs.ProgramOf.{program_of};
-ghost use Rattle.sbl_interpreter.specs.Endings.{Follows, IsSaved, Tried};
+ghost use Rattle.sbl_interpreter.specs.Endings.{Follows, IsSaved, Tries};
 ghost use Rattle.sbl_interpreter.specs.Run.{calls};
 ghost use Rattle.sbl_interpreter.specs.Search.{search_all, search_strings, try_one};
 ghost use Rattle.sbl_semantics.specs.State.{State as RunState, Ending, saved_cursor};
@@ -72,7 +72,7 @@ impl<'a, T: Tables> Runner<'a, T> {
         state: &mut State,
     ) -> Result<bool, Halt>
         requires { IsSaved from }
-        ensures tried { (begun : RunState) (follow : RunState → Ending) → from ≡ saved_cursor begun → Tried result state.new (try_one (calls (program_of (T.listed self.now.tables.now) self.now.program.now) self.now.levels) among (slice_get entries.now i) self.now.mode begun state.old follow) (follow state.new) }
+        ensures tried { (begun : RunState) (follow : RunState → Ending) → from ≡ saved_cursor begun → Tries result state.new (try_one (calls (program_of (T.listed self.now.tables.now) self.now.program.now) self.now.levels) among (slice_get entries.now i) self.now.mode begun state.old follow) (follow state.new) }
         ensures no_more { IfOk result (λ _. state.new.steps ≤ state.old.steps) }
         ensures fewer { IfOk result (λ b. b ≡ false → state.new.steps < state.old.steps) }
     {

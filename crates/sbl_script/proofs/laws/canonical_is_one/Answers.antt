@@ -1,5 +1,5 @@
 use Rattle.sbl_script.specs.ParsedScript.{source_of}
-use Rattle.sbl_script.proofs.Compared.{items_are_one}
+use Rattle.sbl_script.proofs.SameSources.{items_are_one}
 use Rattle.sbl_script.proofs.laws.canonical_is_one.Goals as goal
 
 pub returns : goal.returns

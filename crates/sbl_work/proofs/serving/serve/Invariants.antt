@@ -3,13 +3,13 @@ use Rattle.sbl_bench.specs.KeptRuns.{contents_of}
 use Rattle.sbl_io.specs.Devices.{WritesInTime}
 use Rattle.sbl_io.specs.HeldInput.{KeepsTime, TakesFeeds, fault_of, fuel_of, input_of, reads_bound}
 use Rattle.sbl_desk.specs.Desks.{state_of}
-use Rattle.sbl_work.specs.Serving.{Worked}
+use Rattle.sbl_work.specs.Serving.{WorkRepliesToInput}
 use Rattle.sbl_work.proofs.serving.serve.Given as goal
 
 -- each request so far has its reply; what was read and written so far was in time
 abbrev pub invariant-loop-lines : goal.invariant-loop-lines
 invariant-loop-lines g l = record {
-  work : Worked l.prompt (input_of g.R.Source.left l.fn.lines) (input_of g.R.Source.left l.lines) (g.W.Sink.held l.fn.writer) (g.W.Sink.held l.writer) (contents_of l.fn.bench) (state_of l.fn.desk) (contents_of l.bench) (state_of l.desk);
+  work : WorkRepliesToInput l.prompt (input_of g.R.Source.left l.fn.lines) (input_of g.R.Source.left l.lines) (g.W.Sink.held l.fn.writer) (g.W.Sink.held l.writer) (contents_of l.fn.bench) (state_of l.fn.desk) (contents_of l.bench) (state_of l.desk);
   fault : fault_of l.lines ≡ fault_of l.fn.lines;
   feeds : TakesFeeds g.R.Source.left l.fn.lines l.lines;
   read : (g.R.Source.tally l.lines.reader).failures ≡ (g.R.Source.tally l.fn.lines.reader).failures;

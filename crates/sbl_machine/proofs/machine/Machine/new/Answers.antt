@@ -4,7 +4,7 @@ use Rattle.sbl_ast.specs.Tree.{Item}
 use Rattle.sbl_semantics.specs.TouchedItems.{Names'}
 use Rattle.sbl_ast.specs.declared.tree.DeclarationKind.TheVariants as kinds
 use Rattle.sbl_semantics.specs.Items.{known_in}
-use Rattle.sbl_program.specs.AmongStrings.{Listed}
+use Rattle.sbl_program.specs.AmongStrings.{Listing}
 use Rattle.sbl_compiler.specs.NumberedItems.{numbered_items}
 use Rattle.sbl_machine.specs.MachineOf.{IsMachineOf}
 use Rattle.sbl_program.specs.FoundView.{listing_found}
@@ -22,7 +22,7 @@ returns g c =
     let made = c.in_ok-program.field-0 in
     let tables = c.in_ok-tables.ensures ∙ ap (map listing_found) c.deref.ensures.value in
     let items = view_items c.args.script.now.items in (
-      ap (λ (T : ℕ → Listed). program_of T made.program) (same_tables _ g.S.AmongSearch.entries g.S.AmongSearch.mode c.in_ok-tables.tables.items made.amongs.items tables)
+      ap (λ (T : ℕ → Listing). program_of T made.program) (same_tables _ g.S.AmongSearch.entries g.S.AmongSearch.mode c.in_ok-tables.tables.items made.amongs.items tables)
           ∙ c.in_ok-program.ensures.program
           ∙ ap (λ is. numbered_items (view_items is) c.external.result.now) c.items.ensures
           ∙ ap (numbered_items items) c.external.ensures,
