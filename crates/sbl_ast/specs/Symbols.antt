@@ -49,7 +49,7 @@ use Rattle.sbl_ast.specs.contracts.tree.Constant.{the_type as constant_type}
 use Rattle.sbl_ast.specs.declared.tree.Constant.{Constant}
 use Rattle.sbl_ast.specs.declared.tree.Constant.TheVariants as constants
 
--- the lexeme that the list has beside a constant
+-- the lexeme that is paired with this constant in the list; each list below has all constants of its type
 abbrev pub beside : (d : Declared) → d.D → List (d.D × Lexeme) → Lexeme
 beside d x pairs = unwrap_or (option_map (λ p. p.1) (find (λ p. sameb d p.0 x) pairs)) (name [])
 

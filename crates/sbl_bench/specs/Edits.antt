@@ -133,9 +133,9 @@ IsVerdict s e (Some f) t =
 
 -- ---- memory
 
--- An allocation failed, instead of an acceptance, of a refusal for the text or of too few counts; every other refusal is found
--- without an allocation. Nothing is changed, except
--- that some of the runs that it needs may have been counted if the edit would have been accepted. A removal needs no memory.
+-- An allocation failed. Only an edit that would be accepted, refused for its text, or refused for too few counts allocates; the
+-- other refusals and a removal need no memory. Nothing is changed, except that some of the runs that the edit needs may have been
+-- counted if it would have been accepted.
 pub record IsOutOfMemory (s : Contents) (e : Edit) (t : Contents) : Type 0 where
   pub wanted : (word : List ℕ) → e ≢ Remove word
   pub is : (((f : EditFault) → IsRefused s e f → (f ≡ fault.AmongCount) ⊎ ((g : ScriptFault) × (f ≡ fault.Script g))) × (t ≡ s))

@@ -70,7 +70,7 @@ view_search T k table entries = first_of (search (rules, the_lemmas), search (ru
 view_among : (T : ℕ → Listing) (k : ℕ) (before bodies : Vec Node Global) → view_node T (Among k before bodies) ≡ programs.among k (view_nodes T before.items) (view_nodes T bodies.items)
 view_among T k before bodies = first_of (search (rules, the_lemmas), search (rules, the_lemmas, fold_out-Node))
 
-pub view_sequence : (T : ℕ → Listing) (cs : Vec Node Global) → view_node T (Sequence cs) ≡ programs.sequence (view_nodes T cs.items)
+view_sequence : (T : ℕ → Listing) (cs : Vec Node Global) → view_node T (Sequence cs) ≡ programs.sequence (view_nodes T cs.items)
 view_sequence T cs = first_of (search (rules, the_lemmas), search (rules, the_lemmas, fold_out-Node))
 
 view_goto : (T : ℕ → Listing) (inner : Box Node Global) → view_node T (Goto inner) ≡ programs.goto (view_node T inner.value)
@@ -184,7 +184,7 @@ pub time_stops : (l : ℕ) (c : Doing) (m : Mode) (s new : State) (fault : RunFa
 time_stops zero c m s new fault l e = absurd (omega arith)
 time_stops (suc k) c m s new fault l e = ap (λ r. after r (times k c m) (Signals false)) e
 
-pub view_act : (T : ℕ → Listing) (a : Action) → view_node T (Act a) ≡ programs.act (view_action a)
+view_act : (T : ℕ → Listing) (a : Action) → view_node T (Act a) ≡ programs.act (view_action a)
 view_act T a = first_of (search (rules, the_lemmas), search (rules, the_lemmas, fold_out-Node))
 
 -- commands of which the first holds no command

@@ -5,4 +5,3 @@ pub mod NumberingTables
 pub mod Marked
 pub mod SlotValues
 pub mod Seeking
-pub mod Failing

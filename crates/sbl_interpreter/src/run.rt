@@ -12,7 +12,6 @@ ghost use Rattle.sbl_interpreter.specs.Rows.{joined_runs, row_runs};
 ghost use Rattle.sbl_semantics.specs.Choices.{choice};
 ghost use Rattle.sbl_semantics.specs.State.{Signals, after, then_on, saved_cursor, put_back};
 
-mod failing;
 mod searching;
 
 use crate::halt::Halt;
@@ -202,7 +201,7 @@ impl<'a, T: Tables> Runner<'a, T> {
     {
         state.pay_for(others.len().saturating_sub(1))?;
         let from = state.saved_cursor();
-        let mut signal = self.run_alternative(first, state)?;
+        let mut signal = self.run_command(first, state)?;
         for joined in others {
             signal = self.run_joined(from, signal, joined, state)?;
         }
@@ -227,20 +226,7 @@ impl<'a, T: Tables> Runner<'a, T> {
             return Ok(signal);
         }
         state.put_back(self.mode, from)?;
-        self.run_alternative(&joined.command, state)
-    }
-
-    /// Runs a command as `run_command` does. If the next character shows that it fails, its parts are not run.
-    #[cycle(run)]
-    #[inline(always)]
-    fn run_alternative(&self, command: &Node, state: &mut State) -> Result<bool, Halt>
-        ensures follows { Follows result state.new (runs (program_of (T.listed self.now.tables.now) self.now.program.now) self.now.levels (view_node (T.listed self.now.tables.now) command.now) self.now.mode state.old) }
-        ensures no_more { IfOk result (λ _. state.new.steps ≤ state.old.steps) }
-    {
-        if self.fails_at_once(command, state)? {
-            return Ok(false);
-        }
-        self.run_command(command, state)
+        self.run_command(&joined.command, state)
     }
 
     /// Runs commands one after another, up to the first f. If the first one holds no command and signals f, no function is

@@ -91,7 +91,8 @@ items_with p y (backward xs ∷ is) = if list_any p xs then backward (plains_wit
 abbrev pub among_depths : List AtDepth → List ℕ
 among_depths ps = map (λ p. p.1) (filter (λ p. is_among p.0) ps)
 
--- what an edit reads in place of a part of this definition; or the fault if there is none, or no such among
+-- The kind of text that an edit replaces in this definition; otherwise the fault: there is no such definition, or it has no such
+-- among.
 abbrev pub text_in : Option Plain → ScriptEdit → Result Text ScriptEditFault
 text_in (Some (routine m c os)) (body n) = Ok texts.body
 text_in (Some (routine m c os)) (among n k) = ok_or (option_map (λ p. texts.among p.1) (find (λ p. nat_eq p.0 k) (enumerate_from 1 (among_depths (places_in texts.body (c, os)))))) edits.NoAmong
@@ -151,7 +152,8 @@ IsEdited s e text t = (w : Text) × (text_for s.items e ≡ Ok w) × IsSubstitut
 -- ---- faults, in the order of the checks: no such routine or grouping; no such among; a fault of the text in its
 -- place; another number of amongs
 
--- what each fault means; running out of memory is not a fault of the edit
+-- What each fault means: the number of amongs changed; a fault of the text, found in the script with that text in place of the
+-- part; no such part. Running out of memory is not a fault of the edit.
 abbrev pub IsEditFault : Source → ScriptEdit → List ℕ → ScriptEditFault → Type 0
 IsEditFault s e text edits.AmongCount = (w : Text) × (text_for s.items e ≡ Ok w) × (t : Source) × IsSubstituted s e w text false t
 IsEditFault s e text (edits.Script f) =

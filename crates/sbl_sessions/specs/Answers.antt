@@ -29,8 +29,8 @@ edit_text (Some fault.MeterFull) = with_line_feed (codes "no 50 MeterFull")
 edit_text (Some fault.BadLimit) = with_line_feed (codes "no 51 BadLimit")
 edit_text (Some fault.NoGrouping) = with_line_feed (codes "no 53 NoGrouping")
 
--- The memory of a request: no allocation fails; or one for its name or block fails; or one for its edit or report fails, after
--- this many of the runs that the edit needs.
+-- The memory that a request gets: enough for all of it; too little for its name or its block; or too little for its edit or its
+-- report, after this many of the runs that the edit needs.
 pub data Memory : Type 0 where
   Enough : Memory
   BlockRefused : Memory

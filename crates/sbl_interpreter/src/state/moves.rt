@@ -59,14 +59,6 @@ impl State {
         found
     }
 
-    /// Returns whether the next character to read shows that a string is no prefix of the text ahead.
-    #[inline(always)]
-    pub fn begins_otherwise(&self, mode: Mode, string: &[char]) -> bool
-        ensures { IsTrue result → starts_with nat_eq (ahead mode self.now) (read_as mode string.now) ≡ false }
-    {
-        is_other(self.next_character(mode), first_read(mode, string))
-    }
-
     // Returns the next character to read, if any.
     #[inline(always)]
     fn next_character(&self, mode: Mode) -> Option<char>

@@ -50,10 +50,7 @@ abbrev pub decreases-run_row : goal.decreases-run_row
 decreases-run_row g l = 6 * l.state.now.steps + 3
 
 abbrev pub decreases-run_joined : goal.decreases-run_joined
-decreases-run_joined g l = 6 * l.state.now.steps + 2
-
-abbrev pub decreases-run_alternative : goal.decreases-run_alternative
-decreases-run_alternative g l = 6 * l.state.now.steps + 1
+decreases-run_joined g l = 6 * l.state.now.steps + 1
 
 abbrev pub decreases-run_in_turn : goal.decreases-run_in_turn
 decreases-run_in_turn g l = 6 * l.state.now.steps + 2

@@ -264,7 +264,7 @@ run_row-returns-in_err-signal-clause-follows g t c =
     let n : c.saturating_sub.result ≡ length os - 1 = n0 ∙ ap (λ k. k - 1) (sym (length-map xs (view_next_command T))) in
     let pay_first : pays (length os - 1) s ≡ Signals true q = ap (λ k. pays k s) (sym n) ∙ c.in_ok-pay_for.ensures.leads in
     let begun : row_runs P levels first os m s ≡ others_run P levels m from os (runs P levels first m q) = ap (λ r. then_on r go) pay_first ∙ ap (λ k. others_run P levels m k os (runs P levels first m q)) (sym c.saved_cursor-from.ensures.value) in
-    let u = c.run_alternative.new.state in
+    let u = c.run_command.new.state in
     let halt = c.in_err-signal.field-0.0 in
     let r : c.from_residual-in_err-signal.result ≡ Err halt = search rules in
     rw r (by_fault halt u _ (λ fault is. begun ∙ ap (λ e. others_run P levels m from os e) (stops_at halt u _ fault is c.in_err-signal.ensures.follows) ∙ others_stop P levels m from os fault u))
@@ -286,12 +286,12 @@ run_row-loop-joined-init g t c =
     let n : c.saturating_sub.result ≡ length os - 1 = n0 ∙ ap (λ k. k - 1) (sym (length-map xs (view_next_command T))) in
     let pay_first : pays (length os - 1) s ≡ Signals true q = ap (λ k. pays k s) (sym n) ∙ c.in_ok-pay_for.ensures.leads in
     let begun : row_runs P levels first os m s ≡ others_run P levels m from os (runs P levels first m q) = ap (λ r. then_on r go) pay_first ∙ ap (λ k. others_run P levels m k os (runs P levels first m q)) (sym c.saved_cursor-from.ensures.value) in
-    let u = c.run_alternative.new.state in
+    let u = c.run_command.new.state in
     let b = c.in_ok-signal.signal in
     let e : runs P levels first m q ≡ Signals b u = c.in_ok-signal.ensures.follows in
-    let not_more : u.steps ≤ q.steps = c.in_ok-signal.ensures.no_more in
+    let fewer : u.steps < q.steps = c.in_ok-signal.ensures.fewer in
     let no_more : q.steps ≤ s.steps = c.in_ok-pay_for.ensures.no_more in
-    let steps : u.steps ≤ s.steps = omega (arith, not_more, no_more) in
+    let steps : u.steps ≤ s.steps = omega (arith, fewer, no_more) in
     (sym (begun ∙ ap (λ e. others_run P levels m from os e) e), steps)
 
 pub run_row-returns-in_err-signal-2-clause-follows : goal.run_row-returns-in_err-signal-2-clause-follows
