@@ -29,7 +29,7 @@ cons x e = ap (λ (z : Ps). x ∷ z) e
 
 -- an argument and what follows it
 with_argument : (a : Argument) (d : ℕ) {ps : Ps} (rs : Rs) → ps ≡ lexed rs → (t.argument a, d) ∷ ps ≡ lexed ((argument_terminal a, d) ∷ rs)
-with_argument (written_out q) d rs e = cons (t.quoted q, d) e
+with_argument (written_out q) d rs e = cons (t.quoted_text q, d) e
 with_argument (by_name n) d rs e = cons (l.name n, d) e
 
 mutual
@@ -56,8 +56,8 @@ mutual
   factor_lexed (length_of a) d rs e = cons (l.word words.LenOf, d) (with_argument a d rs e)
 
 entry_lexed : (x : Entry) (d : ℕ) {ps : Ps} (rs : Rs) → ps ≡ lexed rs → placed_entry x d ps ≡ lexed (roles.placed_entry x d rs)
-entry_lexed (entry q None) d rs e = cons (t.quoted q, d) e
-entry_lexed (entry q (Some n)) d rs e = cons (t.quoted q, d) (cons (l.name n, d) e)
+entry_lexed (entry q None) d rs e = cons (t.quoted_text q, d) e
+entry_lexed (entry q (Some n)) d rs e = cons (t.quoted_text q, d) (cons (l.name n, d) e)
 
 entries_lexed : (xs : List Entry) (d : ℕ) {ps : Ps} (rs : Rs) → ps ≡ lexed rs → placed_entries xs d ps ≡ lexed (roles.placed_entries xs d rs)
 entries_lexed [] d rs e = e
@@ -67,7 +67,7 @@ mutual
   command_lexed : (c : Command) (d : ℕ) {ps : Ps} (rs : Rs) → ps ≡ lexed rs → placed_command c d ps ≡ lexed (roles.placed_command c d rs)
   command_lexed (bracket xs) d rs e = cons (l.sign signs.Open, d) (rows_lexed xs (d + 1) _ (cons (l.sign signs.Close, d) e))
   command_lexed (simple_ x) d rs e = cons (t.simple x, d) e
-  command_lexed (literal_ q) d rs e = cons (t.quoted q, d) e
+  command_lexed (literal_ q) d rs e = cons (t.quoted_text q, d) e
   command_lexed (name_ n) d rs e = cons (l.name n, d) e
   command_lexed (non_ true n) d rs e = cons (l.word words.Non, d) (cons (l.sign signs.Minus, d) (cons (l.name n, d) e))
   command_lexed (non_ false n) d rs e = cons (l.word words.Non, d) (cons (l.name n, d) e)
@@ -110,8 +110,8 @@ terms_lexed (term o a ∷ xs) rs e = cons (t.additive o, 0) (with_argument a 0 _
 pub plain_lexed : (x : Plain) {ps : Ps} (rs : Rs) → ps ≡ lexed rs → placed_plain x ps ≡ lexed (roles.placed_plain x rs)
 plain_lexed (declaration k ns) rs e = cons (t.declares k, 0) (cons (l.sign signs.Open, 0) (names_lexed ns _ (cons (l.sign signs.Close, 0) e)))
 plain_lexed (escapes a b) rs e = cons (l.word words.StringEscapes, 0) (cons (l.inserts a b, 0) e)
-plain_lexed (macro n None q) rs e = cons (l.word words.StringDef, 0) (cons (l.macro_name n, 0) (cons (t.quoted q, 0) e))
-plain_lexed (macro n (Some b) q) rs e = cons (l.word words.StringDef, 0) (cons (l.macro_name n, 0) (cons (t.base b, 0) (cons (t.quoted q, 0) e)))
+plain_lexed (macro n None q) rs e = cons (l.word words.StringDef, 0) (cons (l.macro_name n, 0) (cons (t.quoted_text q, 0) e))
+plain_lexed (macro n (Some b) q) rs e = cons (l.word words.StringDef, 0) (cons (l.macro_name n, 0) (cons (t.base b, 0) (cons (t.quoted_text q, 0) e)))
 plain_lexed (routine n c os) rs e = cons (l.word words.Define, 0) (cons (l.name n, 0) (cons (l.word words.As, 0) (command_lexed c 1 _ (others_lexed os 1 rs e))))
 plain_lexed (grouping n a xs) rs e = cons (l.word words.Define, 0) (cons (l.name n, 0) (with_argument a 0 _ (terms_lexed xs rs e)))
 

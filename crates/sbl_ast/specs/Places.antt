@@ -46,7 +46,7 @@ abbrev mutual
   placed_factor (length_of a) d rest = (word words.LenOf, d) ∷ (t.argument a, d) ∷ rest
 
 abbrev pub placed_entry : Entry → ℕ → List AtDepth → List AtDepth
-placed_entry (entry q condition) d rest = (t.quoted q, d) ∷ cons_option (option_map (λ n. (name n, d)) condition) rest
+placed_entry (entry q condition) d rest = (t.quoted_text q, d) ∷ cons_option (option_map (λ n. (name n, d)) condition) rest
 
 abbrev pub placed_entries : List Entry → ℕ → List AtDepth → List AtDepth
 placed_entries es d rest = foldr (λ e r. placed_entry e d r) rest es
@@ -57,7 +57,7 @@ abbrev mutual
   pub placed_command : Command → ℕ → List AtDepth → List AtDepth
   placed_command (bracket rs) d rest = (sign signs.Open, d) ∷ placed_rows rs (d + 1) ((sign signs.Close, d) ∷ rest)
   placed_command (simple_ s) d rest = (t.simple s, d) ∷ rest
-  placed_command (literal_ q) d rest = (t.quoted q, d) ∷ rest
+  placed_command (literal_ q) d rest = (t.quoted_text q, d) ∷ rest
   placed_command (name_ n) d rest = (name n, d) ∷ rest
   placed_command (non_ true n) d rest = (word words.Non, d) ∷ (sign signs.Minus, d) ∷ (name n, d) ∷ rest
   placed_command (non_ false n) d rest = (word words.Non, d) ∷ (name n, d) ∷ rest
@@ -97,7 +97,7 @@ placed_terms (term o a ∷ ts) rest = (t.additive o, 0) ∷ (t.argument a, 0) �
 abbrev pub placed_plain : Plain → List AtDepth → List AtDepth
 placed_plain (declaration k ns) rest = (t.declares k, 0) ∷ (sign signs.Open, 0) ∷ foldr (λ n r. (name n, 0) ∷ r) ((sign signs.Close, 0) ∷ rest) ns
 placed_plain (escapes a b) rest = (word words.StringEscapes, 0) ∷ (inserts a b, 0) ∷ rest
-placed_plain (macro n b q) rest = (word words.StringDef, 0) ∷ (macro_name n, 0) ∷ cons_option (option_map (λ x. (t.base x, 0)) b) ((t.quoted q, 0) ∷ rest)
+placed_plain (macro n b q) rest = (word words.StringDef, 0) ∷ (macro_name n, 0) ∷ cons_option (option_map (λ x. (t.base x, 0)) b) ((t.quoted_text q, 0) ∷ rest)
 placed_plain (routine n c os) rest = (word words.Define, 0) ∷ (name n, 0) ∷ (word words.As, 0) ∷ placed_command c 1 (placed_others os 1 rest)
 placed_plain (grouping n a ts) rest = (word words.Define, 0) ∷ (name n, 0) ∷ (t.argument a, 0) ∷ placed_terms ts rest
 

@@ -116,9 +116,9 @@ constant x = beside constant_type x
     ((constants.Cursor, word w.Cursor) ∷ (constants.Len, word w.Len) ∷ (constants.Limit, word w.Limit) ∷
     (constants.MaxInt, word w.MaxInt) ∷ (constants.MinInt, word w.MinInt) ∷ [])
 
-abbrev pub quoted : QuotedText → Lexeme
-quoted q = literal q.spelling q.value
+abbrev pub quoted_text : QuotedText → Lexeme
+quoted_text q = literal q.spelling q.value
 
 abbrev pub argument : Argument → Lexeme
-argument (written_out q) = quoted q
+argument (written_out q) = quoted_text q
 argument (by_name n) = name n

@@ -209,6 +209,6 @@ lexeme_as (constant x) = symbols.constant x
 lexeme_as (other x) = other_lexeme x
 lexeme_as (name n) = lexemes.name n
 lexeme_as (number n) = lexemes.number n
-lexeme_as (literal q) = symbols.quoted q
+lexeme_as (literal q) = symbols.quoted_text q
 lexeme_as (inserts a b) = lexemes.inserts a b
 lexeme_as (macro_name n) = lexemes.macro_name n

@@ -75,7 +75,7 @@ module _ (d : ℕ) where
         let close : Ps = (sign signs.Close, e) ∷ r in
         deep (sign signs.Open) e (placed_rows rs (e + 1) close) h ∙ rows_e rs (e + 1) close (up e h) ∙ deep (sign signs.Close) e r h
     tree_e (simple_ x) e r h = deep (t.simple x) e r h
-    tree_e (literal_ q) e r h = deep (t.quoted q) e r h
+    tree_e (literal_ q) e r h = deep (t.quoted_text q) e r h
     tree_e (name_ n) e r h = deep (name n) e r h
     tree_e (non_ true n) e r h = deep (word words.Non) e ((sign signs.Minus, e) ∷ (name n, e) ∷ r) h ∙ deep (sign signs.Minus) e ((name n, e) ∷ r) h ∙ deep (name n) e r h
     tree_e (non_ false n) e r h = deep (word words.Non) e ((name n, e) ∷ r) h ∙ deep (name n) e r h
