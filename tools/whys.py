@@ -17,6 +17,7 @@ class Call:
 def lay_out_why(rows, word, figures, notes):
     """Returns a line for each row of `why WORD` that took a string, asked a routine or changed the text, or with which a routine that did
     so signalled f, and one for the outcome, with the steps and the values of the integer variables, which are the rows `figures` of `integers WORD`.
+    A refused run has the routine in which it was refused.
     `notes` are, by the numbers of the rows, the tests without a name that were false when a routine signalled f: their texts and places; and
     the places of the strings that were taken."""
     text, lines, calls = word, [], []
@@ -43,7 +44,8 @@ def lay_out_why(rows, word, figures, notes):
         elif kind == "more":
             lines.append(("..", "%s more events" % row[1]))
         else:
-            lines.append((kind, "%s   %s" % (named(row[1]) or "''", lay_out_figures(figures))))
+            routine = " in %s" % calls[-1].name if calls else ""
+            lines.append((kind, "%s%s   %s" % (named(row[1]) or "''", routine, lay_out_figures(figures))))
     is_one = len(lines) == 1
     lines = most_of(folded(lines), word)
     column = max(len(name) for name, _ in lines)
