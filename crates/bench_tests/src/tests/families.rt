@@ -1,7 +1,7 @@
 //! Families over rows.
 
 use crate::tests::changes::{Asked, are_shown};
-use crate::tests::lists::{lists_in, rows_in, shown_families, view, view_lists};
+use crate::tests::row_lists::{lists_in, rows_in, shown_families, view, view_lists};
 use sbl_changes::families;
 use std::alloc::{AllocError, Global};
 use std::test::Fail;

@@ -1,6 +1,6 @@
 //! Figures about rows.
 
-use crate::tests::lists::{rows_in, view};
+use crate::tests::row_lists::{rows_in, view};
 use sbl_changes::{RowStats, stats};
 use std::test::Fail;
 
