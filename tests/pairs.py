@@ -3,7 +3,7 @@
 
     == the title of the pair
     rows: checks.md checks.cases       the files of tests/cases that are tried first; the others follow
-    unit: command_tests                in place of rows: a crate of tests; one of them has to fail
+    unit: session_tests                in place of rows: a crate of tests; one of them has to fail
     file: crates/NAME/specs/FILE.antt
     old: a text of the definition, which is there once
     new: the text in its place

@@ -2,8 +2,11 @@
 
 mod bench;
 mod changes;
-mod characters;
 mod edits;
+mod families;
 mod groupings;
+mod largest;
 mod limits;
+mod row_lists;
+mod stats;
 mod whole_scripts;

@@ -1,4 +1,4 @@
-//! Tests of the whole program. This crate has only tests.
+//! Tests of the whole program, of command lines and of work. This crate has only tests.
 #![tactic(auto)]
 
 #[cfg(test)]

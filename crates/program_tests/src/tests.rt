@@ -1,3 +1,5 @@
-//! Tests of the program, on devices that stop as a test requires.
+//! Tests of the program, of its command lines and of work, one file for each subject.
 
+mod command_lines;
 mod program;
+mod work;

@@ -1,4 +1,4 @@
-//! Tests of sessions and of lines. This crate has only tests.
+//! Tests of lines, sessions, filters and checks. This crate has only tests.
 #![tactic(auto)]
 
 #[cfg(test)]

@@ -1,6 +1,8 @@
-//! Tests of lines and sessions, one file for each subject.
+//! Tests of lines, sessions, filters and checks, one file for each subject.
 
+mod checks;
 mod devices;
+mod filters;
 mod lines;
-mod served;
 mod sessions;
+mod verbs;

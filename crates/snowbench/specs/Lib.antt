@@ -3,6 +3,5 @@ pub mod StemmedRows
 pub mod WholeSession
 pub mod WholeCheck
 pub mod Program
-pub mod CommandLine
 -- what the functions inside the crate promise each other: nothing in these need be believed
 pub mod Answering

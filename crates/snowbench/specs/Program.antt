@@ -1,8 +1,8 @@
 -- What the program writes for its input, and its exit status.
 use Rattle.std.specs.Prelude.{◌≡◌, ◌⊎◌, ◌++◌, ◌==◌, ℕ, List, [], ◌∷◌, Option, Result, Ok, Err, codes, if◌then◌else◌, take}
 use Rattle.std.specs.Io.KnownBytes.{Appends, Keeps}
-use Rattle.snowbench.specs.declared.command_line.Verb.{Verb}
-use Rattle.snowbench.specs.declared.command_line.Verb.TheVariants.{Session, Stem, Filter, Check, Work}
+use Rattle.sbl_command_line.specs.declared.command_line.Verb.{Verb}
+use Rattle.sbl_command_line.specs.declared.command_line.Verb.TheVariants.{Session, Stem, Filter, Check, Work}
 use Rattle.sbl_formats.specs.declared.faults.LoadFault.{LoadFault}
 use Rattle.sbl_formats.specs.declared.faults.LoadFault.TheVariants.{Input}
 use Rattle.sbl_io.specs.Devices.{HasStopped, Tally}

@@ -1,15 +1,13 @@
-//! The program over readers and writers: its command line, sessions, the stems of a vocabulary, and the comparison of
-//! stems with the expected stems.
+//! The program over readers and writers: sessions, the stems of a vocabulary, and the comparison of stems with the expected stems.
 #![tactic(auto)]
 
-mod command_line;
 mod laws;
 mod program;
 
-pub use command_line::{CommandLine, Face, Verb, read_command_line};
 pub use laws::lists_are_read;
 pub use program::run;
 pub use sbl_check::check;
+pub use sbl_command_line::{CommandLine, Face, Verb, read_command_line};
 pub use sbl_formats::{LoadFault, load, loading_is_one};
 pub use sbl_io::{Device, LineFault, Lines, MAX_LINE, ServeFault, Sink, Source, Stop};
 pub use sbl_sessions::{answers_are_one, serve};

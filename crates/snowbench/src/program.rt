@@ -12,8 +12,8 @@ ghost use Rattle.snowbench.specs.StemmedRows.{IsStemmed};
 ghost use Rattle.snowbench.specs.WholeCheck.{ChecksLists, IsWholeCheck, ReadsExpected, ReadsWords};
 ghost use Rattle.snowbench.specs.WholeSession.{IsWholeSession};
 
-use crate::command_line::{CommandLine, Verb};
 use sbl_check::check;
+use sbl_command_line::{CommandLine, Verb};
 use sbl_filter::filter;
 use sbl_formats::{LoadFault, load, read_script};
 use sbl_io::{Lines, ServeFault, Sink, Source, write_all};

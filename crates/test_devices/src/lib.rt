@@ -125,7 +125,7 @@ pub fn outputs_within(
 }
 
 /// Returns the bytes of a text: one for each letter below 256, so `ÿ` is no UTF-8. A `¶` is a line feed, `ⅰ` is 255 times `a`, `ⅱ` 256 times,
-/// `ⅲ` 65,536 times, `ⅳ` 65,537 times, and `ⅴ` is 1,048,577 line feeds. Returns `AllocError` if an allocation fails.
+/// `ⅲ` 65,536 times, `ⅳ` 65,537 times, `ⅵ` 65,535 times, and `ⅴ` is 1,048,577 line feeds. Returns `AllocError` if an allocation fails.
 pub fn bytes_of(alloc: Global, text: &str) -> Result<Vec<u8>, AllocError> {
     let mut bytes = Vec::new(alloc);
     for letter in text.chars() {
@@ -136,6 +136,7 @@ pub fn bytes_of(alloc: Global, text: &str) -> Result<Vec<u8>, AllocError> {
             'ⅲ' => (65_536, b'a'),
             'ⅳ' => (65_537, b'a'),
             'ⅴ' => (1_048_577, b'\n'),
+            'ⅵ' => (65_535, b'a'),
             _ => (1, u8::try_from(letter).unwrap_or(b'?')),
         };
         let length = bytes.len().saturating_add(count);

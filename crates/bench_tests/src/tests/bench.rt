@@ -1,6 +1,5 @@
 //! The words of a bench: refusals, and refused growths. What else is answered stands in tests/cases.
 
-use crate::tests::characters::{text_of, word_of};
 use sbl_bench::EditFault::{
     Absent, AmongCount, BadLimit, EmptyWord, Full, MeterFull, NoAmong, NoGrouping, NoRoutine,
     OutOfMemory, Present, WordTooLong,
@@ -8,23 +7,31 @@ use sbl_bench::EditFault::{
 use sbl_bench::{Bench, EditFault, Row};
 use sbl_machine::Outcome;
 use sbl_script::{Script, ScriptFault};
-use std::alloc::Global;
+use std::alloc::{AllocError, Global};
 use std::hash::RandomState;
 use std::process::Abort;
 use std::test::Fail;
 use test_devices::SameBytes;
-use test_scripts::{PREFIXES, print_values};
+use test_scripts::{PLURALS, PREFIXES, letters, print_values, text_of, with_line_feeds};
 
-/// A bench over this script and these words.
-pub(crate) fn bench_of(alloc: Global, script: &str, words: &[&str]) -> Result<Bench, Fail> {
-    let mut list = Vec::new(alloc);
-    for &word in words {
-        list.push(word_of(alloc, word)?)?;
+/// The words of a text, which have commas between them.
+fn words_in(alloc: Global, text: &str) -> Result<Vec<Vec<char>>, AllocError> {
+    let mut words = Vec::new(alloc);
+    for word in text.split(',') {
+        words.push(letters(alloc, word)?)?;
     }
+    Ok(words)
+}
+
+/// A bench over this script, with `¶` for a line feed or by its name, and these words.
+pub(crate) fn bench_of(alloc: Global, script: &str, words: &str) -> Result<Bench, Fail> {
+    let words = words_in(alloc, words)?;
     let keys = RandomState::new(&SameBytes)?;
+    let text = if script == "PLURALS" { PLURALS } else { script };
+    let text = with_line_feeds(alloc, text)?;
     // The script comes last: on no path is a script or a bench dropped, whose destructors would be proved here again.
-    let script = Script::parse(alloc, script.as_bytes(), "stem")?;
-    Ok(Bench::open(alloc, keys, script, list)?)
+    let script = Script::parse(alloc, text.as_str().as_bytes(), "stem")?;
+    Ok(Bench::open(alloc, keys, script, words)?)
 }
 
 /// A row as `WORD STEM`, or `WORD` and the fault.
@@ -52,7 +59,7 @@ pub(crate) fn rows_shown(alloc: Global, bench: &Bench) -> Result<String, Fail> {
 
 #[test]
 fn words_that_are_refused_change_nothing(rt: HostRuntime) -> Result<(), Fail> {
-    let mut bench = bench_of(rt.alloc(), PREFIXES, &["undo"])?;
+    let mut bench = bench_of(rt.alloc(), PREFIXES, "undo")?;
     assert_eq!(rt; bench.add(&[]), Err(EditFault::EmptyWord));
     assert_eq!(rt; bench.add(&['a'; 256]), Err(EditFault::WordTooLong));
     assert_eq!(rt; bench.add(&['u', 'n', 'd', 'o']), Err(EditFault::Present));
@@ -66,7 +73,7 @@ fn words_that_are_refused_change_nothing(rt: HostRuntime) -> Result<(), Fail> {
 
 #[test]
 fn why_takes_any_word_that_fits(rt: HostRuntime) -> Result<(), Fail> {
-    let bench = bench_of(rt.alloc(), PREFIXES, &["undo"])?;
+    let bench = bench_of(rt.alloc(), PREFIXES, "undo")?;
     assert_eq!(rt; bench.why(&[]), Err(EditFault::EmptyWord));
     assert_eq!(rt; bench.why(&['a'; 256]), Err(EditFault::WordTooLong));
     let why = bench.why(&['a'; 255]);

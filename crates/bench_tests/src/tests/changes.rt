@@ -1,32 +1,71 @@
-//! The words whose outcome the last edit changed. limits.rt has more rows.
+//! Two lists of rows, and their changes.
 
-use crate::tests::edits::{ANY, Case, Edit};
-use test_scripts::PLURALS;
+use crate::tests::families::families_of;
+use crate::tests::row_lists::{rows_in, shown, view};
+use sbl_changes::changes;
+use std::alloc::{AllocError, Global};
+use std::process::Abort;
+use std::test::Fail;
+use test_scripts::field;
 
-const TAKEN: &str = "cats cat;cats cats;boxes box;boxes boxes;cakes cak;cakes cakes;";
+/// The changes between two lists as rows.
+fn changes_of(alloc: Global, before: &str, after: &str) -> Result<String, AllocError> {
+    let (before, after) = (rows_in(alloc, before)?, rows_in(alloc, after)?);
+    let (before, after) = (view(alloc, &before)?, view(alloc, &after)?);
+    let changes = changes(alloc, &before, &after)?;
+    shown(alloc, &changes)
+}
 
-// With this among, `tail` takes nothing off. All five words run again, and those that end in `s` get another stem. A word that
-// is added or removed changes no outcome, and a refused edit leaves what there is.
-pub(crate) const CHANGES: &[Case] = &[(
-    PLURALS,
-    &["cats", "boxes", "cakes", "cake", "dog"],
-    &[
-        (
-            Edit::Among("tail", 1, "among ( 's' () )"),
-            "",
-            "cats cats;boxes boxes;cakes cakes;cake cak;dog dog;",
-            TAKEN,
-            10,
-        ),
-        (Edit::Add("dog"), "40 Present", ANY, TAKEN, 10),
-        (Edit::Add("s"), "", ANY, "", 11),
-        (
-            Edit::Body("last", "true"),
-            "",
-            ANY,
-            "cake cak;cake cake;",
-            0,
-        ),
-        (Edit::Remove("s"), "", ANY, "", 0),
-    ],
-)];
+/// What is asked about two texts.
+#[derive(Clone, Copy)]
+pub(crate) enum Asked {
+    Changes,
+    Families,
+}
+
+/// Asserts what is shown for each row: what is tried, two texts, and what is wanted.
+pub(crate) fn are_shown(
+    rt: &impl Abort,
+    alloc: Global,
+    asked: Asked,
+    rows: &str,
+) -> Result<(), Fail> {
+    for row in rows.split('\n') {
+        let (one, other) = (field(row, 1), field(row, 2));
+        let shown = match asked {
+            Asked::Changes => changes_of(alloc, one, other)?,
+            Asked::Families => families_of(alloc, one, other)?,
+        };
+        assert_eq!(rt; shown.as_str(), field(row, 3), "{row}");
+    }
+    Ok(())
+}
+
+/// What is tried, the rows before and after, and the changes between them.
+const CHANGES: &str = "equal lists have no changes|a=x b=x|a=x b=x|
+all words of a class have another stem|a=x b=x|a=y b=y|changed,a,stem,x,stem,y;changed,b,stem,x,stem,y;renamed,x,y;
+a class is split|a=x b=x|a=x b=y|changed,b,stem,x,stem,y;split,x,x,y;
+two classes are merged|a=x b=y|a=x b=x|changed,b,stem,y,stem,x;merged,x,x,y;
+a word goes to another class|a=x b=x c=y|a=x b=y c=y|changed,b,stem,x,stem,y;split,x,x,y;merged,y,x,y;
+two classes exchange their stems|a=x b=y|a=y b=x|changed,a,stem,x,stem,y;changed,b,stem,y,stem,x;renamed,x,y;renamed,y,x;
+a class is split into two other stems|a=x b=x|a=y b=z|changed,a,stem,x,stem,y;changed,b,stem,x,stem,z;split,x,y,z;
+a word is refused|a=x b=x|a=x b!Steps|changed,b,stem,x,refused,Steps;
+the only word is refused|a=x|a!Steps|changed,a,stem,x,refused,Steps;
+a refusal has another name|a!Steps|a!Depth|changed,a,refused,Steps,refused,Depth;
+a word is added|a=x|a=x b=x|added,b;
+a word is removed|a=x b=y|a=x|removed,b;
+a class is split merged and kept|a=x b=x c=y d=y|a=z b=z c=y d=x|changed,a,stem,x,stem,z;changed,b,stem,x,stem,z;changed,d,stem,y,stem,x;split,y,x,y;renamed,x,z;
+a refusal is mended|a!Steps b=x|a=x b=x|changed,a,refused,Steps,stem,x;
+a refused word that stays refused is no change|a!Steps|a!Steps|
+added words keep their order|c=x|b=y a=y c=x|added,b;added,a;
+removed words keep their order|b=y c=x a=y|c=x|removed,b;removed,a;
+changed words are in the order of now|a=x b=y|b=z a=z|changed,b,stem,y,stem,z;changed,a,stem,x,stem,z;merged,z,x,y;
+an added word joins no class|a=x|a=y b=y|added,b;changed,a,stem,x,stem,y;renamed,x,y;
+stems of a split are in code point order|a=x b=x c=x|a=z b=y c=é|changed,a,stem,x,stem,z;changed,b,stem,x,stem,y;changed,c,stem,x,stem,é;split,x,y,z,é;
+a prefix comes first|a=x b=x c=w d=w|a=ab b=a c=w d=v|changed,a,stem,x,stem,ab;changed,b,stem,x,stem,a;changed,d,stem,w,stem,v;split,w,v,w;split,x,a,ab;
+a class is in several rows|a=x b=x c=y|a=y b=z c=y|changed,a,stem,x,stem,y;changed,b,stem,x,stem,z;split,x,y,z;merged,y,x,y;";
+
+#[test]
+fn changes_between_two_lists(rt: HostRuntime) -> Result<(), Fail> {
+    are_shown(&rt, rt.alloc(), Asked::Changes, CHANGES)
+}

@@ -1,46 +1,43 @@
 //! Edits of a bench, with the rows, the changes and the count of runs after each. Sessions of edits are in tests/cases.
 
 use crate::tests::bench::{bench_of, rows_shown, shown};
-use crate::tests::changes::CHANGES;
-use crate::tests::characters::word_of;
 use crate::tests::groupings::GROUPINGS;
 use crate::tests::limits::LIMITS;
-use sbl_bench::{Bench, EditFault, Row as BenchRow};
+use sbl_bench::{Bench, EditFault, Row};
 use std::alloc::Global;
 use std::process::Abort;
 use std::test::Fail;
+use test_scripts::{field, fits, letters, number, with_line_feeds};
 
-/// An edit of a bench.
-#[derive(Clone, Copy, Debug)]
-pub(crate) enum Edit<'a> {
-    Add(&'a str),
-    Remove(&'a str),
-    Body(&'a str, &'a str),
-    Among(&'a str, u64, &'a str),
-    Terms(&'a str, &'a str),
-    Whole(&'a str),
-    Limit(u64),
-}
+/// A case has the script, the words with commas between them, and edits one after another, each on a line: the edit, why it is refused
+/// (empty if it is accepted), the rows and the changes after it (`?`: not asked), and the count of runs (empty: not asked). A `¶` is
+/// a line feed in a script. With the among of the first edit, `tail` takes nothing off. All five words run again, and those that end in
+/// `s` get another stem. A word that is added or removed changes no outcome, and a refused edit leaves what there is.
+const CHANGES: &[&str] = &[
+    "PLURALS
+cats,boxes,cakes,cake,dog
+among tail 1 among ( 's' () )||cats cats;boxes boxes;cakes cakes;cake cak;dog dog;|cats cat;cats cats;boxes box;boxes boxes;cakes cak;cakes cakes;|10
+add dog|40 Present|?|cats cat;cats cats;boxes box;boxes boxes;cakes cak;cakes cakes;|10
+add s||?||11
+routine last true||?|cake cak;cake cake;|
+remove s||?||",
+];
 
-/// What no row has: it is not asked.
-pub(crate) const ANY: &str = "?";
-
-/// An edit, why it is refused (empty if it is accepted), the rows and the changes after it, and the count of runs (0: not asked).
-pub(crate) type Row<'a> = (Edit<'a>, &'a str, &'a str, &'a str, u64);
-
-/// A script, words, and edits one after another.
-pub(crate) type Case<'a> = (&'a str, &'a [&'a str], &'a [Row<'a>]);
-
-/// Makes an edit.
-fn made(alloc: Global, bench: &mut Bench, edit: &Edit) -> Result<Result<(), EditFault>, Fail> {
-    Ok(match edit {
-        Edit::Add(word) => bench.add(word_of(alloc, word)?.as_slice()),
-        Edit::Remove(word) => bench.remove(word_of(alloc, word)?.as_slice()),
-        Edit::Body(name, text) => bench.replace_routine(name, text),
-        Edit::Among(name, k, text) => bench.replace_among(name, *k, text),
-        Edit::Terms(name, text) => bench.replace_grouping(name, text),
-        Edit::Whole(text) => bench.replace_script(text.as_bytes()),
-        Edit::Limit(limit) => bench.set_limit(*limit),
+/// Makes an edit of a bench.
+fn made(alloc: Global, bench: &mut Bench, edit: &str) -> Result<Result<(), EditFault>, Fail> {
+    let (verb, rest) = edit.split_once(' ').unwrap_or((edit, ""));
+    let (name, text) = rest.split_once(' ').unwrap_or((rest, ""));
+    Ok(match verb {
+        "add" => bench.add(letters(alloc, rest)?.as_slice()),
+        "remove" => bench.remove(letters(alloc, rest)?.as_slice()),
+        "routine" => bench.replace_routine(name, text),
+        "among" => {
+            let (k, text) = text.split_once(' ').unwrap_or((text, ""));
+            bench.replace_among(name, k.parse().unwrap_or(0), text)
+        }
+        "grouping" => bench.replace_grouping(name, text),
+        "limit" => bench.set_limit(rest.parse().unwrap_or(0)),
+        _ => bench.replace_script(with_line_feeds(alloc, rest)?.as_str().as_bytes()),
     })
 }
 
@@ -50,7 +47,7 @@ fn changes_shown(alloc: Global, bench: &Bench) -> Result<String, Fail> {
     let changes = bench.changes()?;
     for change in &changes {
         for outcome in [change.before, change.after] {
-            let row = BenchRow {
+            let row = Row {
                 word: change.word,
                 outcome,
             };
@@ -62,40 +59,36 @@ fn changes_shown(alloc: Global, bench: &Bench) -> Result<String, Fail> {
 }
 
 /// Makes one edit, and asserts what it gives.
-fn edits_one(rt: &impl Abort, alloc: Global, bench: &mut Bench, row: &Row) -> Result<(), Fail> {
-    let (edit, want, rows, changes, runs) = row;
-    let answer = match made(alloc, bench, edit)? {
+fn edits_one(rt: &impl Abort, alloc: Global, bench: &mut Bench, row: &str) -> Result<(), Fail> {
+    let answer = match made(alloc, bench, field(row, 0))? {
         Ok(()) => String::new(alloc),
         Err(fault) => format!(in alloc; "{fault}")?,
     };
-    assert_eq!(rt; answer.as_str(), *want, "{edit:?}");
+    assert!(rt; answer.as_str() == field(row, 1), "{row}");
     let shown = rows_shown(alloc, bench)?;
-    assert!(rt;
-        *rows == ANY || shown.as_str() == *rows,
-        "{edit:?}: {shown}"
-    );
+    assert!(rt; fits(row, 2, shown.as_str()), "{row}: {shown}");
     let shown = changes_shown(alloc, bench)?;
-    assert!(rt;
-        *changes == ANY || shown.as_str() == *changes,
-        "{edit:?}: {shown}"
-    );
-    assert!(rt; *runs == 0 || bench.runs() == *runs, "{edit:?}");
+    assert!(rt; fits(row, 3, shown.as_str()), "{row}: {shown}");
+    let runs = number(row, 4);
+    assert!(rt; runs == 0 || bench.runs() == runs, "{row}");
     Ok(())
 }
 
 /// Makes one edit after another, in a bench that was just opened: it has no changes.
-fn edits(rt: &impl Abort, alloc: Global, bench: &mut Bench, rows: &[Row]) -> Result<(), Fail> {
-    assert_eq!(rt; changes_shown(alloc, bench)?.as_str(), "");
-    for row in rows {
+fn edits(rt: &impl Abort, alloc: Global, bench: &mut Bench, rows: &str) -> Result<(), Fail> {
+    assert!(rt; changes_shown(alloc, bench)?.is_empty());
+    for row in rows.split('\n') {
         edits_one(rt, alloc, bench, row)?;
     }
     Ok(())
 }
 
-/// Tries edits on a bench over a script and words, and returns the limit at their end.
-pub(crate) fn tries(rt: &impl Abort, alloc: Global, case: &Case) -> Result<u32, Fail> {
-    let mut bench = bench_of(alloc, case.0, case.1)?;
-    let done = edits(rt, alloc, &mut bench, case.2);
+/// Tries the edits of a case, and returns the limit at their end.
+pub(crate) fn tries(rt: &impl Abort, alloc: Global, case: &str) -> Result<u32, Fail> {
+    let (script, rest) = case.split_once('\n').unwrap_or((case, ""));
+    let (words, rows) = rest.split_once('\n').unwrap_or((rest, ""));
+    let mut bench = bench_of(alloc, script, words)?;
+    let done = edits(rt, alloc, &mut bench, rows);
     let limit = bench.limit();
     bench.leak();
     done?;

@@ -1,38 +1,27 @@
 //! Whole scripts as edits, with the rows and the count of runs after each.
 
 use crate::tests::bench::{bench_of, rows_shown};
-use crate::tests::edits::{ANY, Edit, tries};
+use crate::tests::edits::tries;
 use sbl_bench::Bench;
 use sbl_script::Script;
 use std::alloc::{AllocError, Global};
 use std::process::Abort;
 use std::test::Fail;
+use test_scripts::with_line_feeds;
 
-const WORDS: &[&str] = &["xyb", "ab", "xb", "q", "ad"];
+const WORDS: &str = "xyb,ab,xb,q,ad";
 
 /// The rows of these words under `FIRST`.
 const ROWS: &str = "xyb xb;ab a;xb b;q ;ad ad;";
 
 /// Two groupings are built from `v`. `xyb` tests `u`, `xb` tests `u` and `w`, `q` tests `w`, and `ab` and `ad` test none of them.
 /// `ab` and `ad` enter `tail`, and only `ab` searches its among.
-const FIRST: &str = "groupings ( v w u )
-routines ( head tail )
-externals ( stem )
-define v 'a'
-define w v + 'b'
-define u v + 'y'
-define head as ( [ u ] delete )
-define tail as ( 'd' or ( [ among ( 'b' () 'c' () ) ] delete ) )
-define stem as ( 'x' head ) or ( 'a' tail ) or ( [ non w ] delete )
-";
+const FIRST: &str =
+    "groupings ( v w u )¶routines ( head tail )¶externals ( stem )¶define v 'a'¶define w v + 'b'¶define u v + 'y'¶define head as ( [ u ] delete )¶define tail as ( 'd' or ( [ among ( 'b' () 'c' () ) ] delete ) )¶define stem as ( 'x' head ) or ( 'a' tail ) or ( [ non w ] delete )¶";
 
 /// The first script in another layout, with comments.
-const LAID_OUT: &str = "// the groupings
-groupings(v w u)routines(head tail)externals(stem)
-define v'a' /* and */ define w v+'b'
-define u v+'y' define head as([u]delete)
-define tail as('d'or([among('b'()'c'())]delete))
-define stem as('x'head)or('a'tail)or([non w]delete)";
+const LAID_OUT: &str =
+    "// the groupings¶groupings(v w u)routines(head tail)externals(stem)¶define v'a' /* and */ define w v+'b'¶define u v+'y' define head as([u]delete)¶define tail as('d'or([among('b'()'c'())]delete))¶define stem as('x'head)or('a'tail)or([non w]delete)";
 
 const OTHER_EXTERNAL: &str = "externals ( other ) define other as next";
 
@@ -47,6 +36,16 @@ fn other_routine(alloc: Global) -> Result<String, AllocError> {
     changed(alloc, FIRST, "( [ u ] delete )", "( u )")
 }
 
+/// Returns the case, as in edits.rt, of whole scripts one after another, each with why it is refused, the rows and the count of runs.
+fn case_of(alloc: Global, scripts: &[(&str, &str, &str, u64)]) -> Result<String, AllocError> {
+    let mut case = format!(in alloc; "{FIRST}\n{WORDS}")?;
+    for (text, want, rows, runs) in scripts {
+        let row = format!(in alloc; "\nscript {text}|{want}|{rows}|?|{runs}")?;
+        case.push_str(row.as_str())?;
+    }
+    Ok(case)
+}
+
 // The first two scripts run nothing, the next four what met the items that differ, then two run all, and three are refused.
 #[test]
 fn a_whole_script_runs_what_met_the_items_that_differ(rt: HostRuntime) -> Result<(), Fail> {
@@ -57,9 +56,9 @@ fn a_whole_script_runs_what_met_the_items_that_differ(rt: HostRuntime) -> Result
     let among = changed(alloc, &routine, "'b' ()", "'b' ( attach 'e' )")?;
     let grouping = changed(alloc, &among, "v 'a'", "v 'aq'")?;
     let two_items = changed(alloc, FIRST, "v 'a'", "v 'aq'")?;
-    let moved = changed(alloc, &two_items, "define u v + 'y'\n", "")?;
-    let moved = changed(alloc, &moved, "define w", "define u v + 'y'\ndefine w")?;
-    let declared = changed(alloc, &moved, "define v", "integers ( n )\ndefine v")?;
+    let moved = changed(alloc, &two_items, "define u v + 'y'¶", "")?;
+    let moved = changed(alloc, &moved, "define w", "define u v + 'y'¶define w")?;
+    let declared = changed(alloc, &moved, "define v", "integers ( n )¶define v")?;
     let after = "xyb xb;ab a;xb b;q q;ad ad;";
     let rows: [(&str, &str, &str, u64); 12] = [
         (FIRST, "", ROWS, 5),
@@ -75,11 +74,8 @@ fn a_whole_script_runs_what_met_the_items_that_differ(rt: HostRuntime) -> Result
         ("", "48 NoExternal", after, 24),
         (FIRST, "", ROWS, 29),
     ];
-    let mut edits = Vec::new(alloc);
-    for (text, want, rows, runs) in rows {
-        edits.push((Edit::Whole(text), want, rows, ANY, runs))?;
-    }
-    tries(&rt, alloc, &(FIRST, WORDS, &edits))?;
+    let case = case_of(alloc, &rows)?;
+    tries(&rt, alloc, case.as_str())?;
     Ok(())
 }
 
@@ -91,9 +87,8 @@ fn a_script_that_is_too_long_changes_nothing(rt: HostRuntime) -> Result<(), Fail
     for _ in 0..1_048_577 {
         text.push(' ')?;
     }
-    let edit = Edit::Whole(text.as_str());
-    let row = (edit, "48 ScriptTooLong", ROWS, ANY, 5);
-    tries(&rt, alloc, &(FIRST, WORDS, &[row]))?;
+    let case = case_of(alloc, &[(text.as_str(), "48 ScriptTooLong", ROWS, 5)])?;
+    tries(&rt, alloc, case.as_str())?;
     Ok(())
 }
 
@@ -117,8 +112,8 @@ fn installs(
 /// Installs an edited script and takes it back. The two words run that enter the routine which differs.
 fn installs_an_edited_one(rt: &impl Abort, alloc: Global, bench: &mut Bench) -> Result<(), Fail> {
     let rows = [("xyb xyb;ab a;xb b;q ;ad ad;", 7), (ROWS, 9)];
-    let text = other_routine(alloc)?;
-    let mut script = Script::parse(alloc, text.as_bytes(), "stem")?;
+    let text = with_line_feeds(alloc, other_routine(alloc)?.as_str())?;
+    let mut script = Script::parse(alloc, text.as_str().as_bytes(), "stem")?;
     let done = installs(rt, alloc, bench, &mut script, rows);
     script.discard();
     done

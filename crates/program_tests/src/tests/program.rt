@@ -1,40 +1,34 @@
 //! Tests of the whole program with a reader and writers in memory. tests/cases has more of them.
 
 use snowbench::{CommandLine, Device, Lines, Verb, run};
-use std::alloc::Global;
+use std::alloc::{AllocError, Global};
 use std::hash::RandomState;
+use std::process::Abort;
 use std::test::Fail;
-use test_devices::{Pieces, SameBytes, WriteLog, in_pieces};
+use test_devices::{Pieces, SameBytes, bytes_of, in_pieces};
+use test_scripts::{field, number, with_scripts};
 
 /// Returns a writer in memory that takes four bytes at each write and fails at write `fails_at` (0 for never).
 fn writer(alloc: Global, fails_at: u64) -> Device<Pieces<Vec<u8>>> {
     Device::new(in_pieces(Vec::new(alloc), 4, fails_at, 0))
 }
 
-/// What a run of the program wrote, its status, and what it wrote to the writer of faults.
-#[derive(Debug, Drop)]
-struct RunReport {
-    written: WriteLog<u8>,
-    errors: Vec<u8>,
+/// Returns the verb of a word.
+fn verb_of(word: &str) -> Verb {
+    match word {
+        "session" => Verb::Session,
+        "stem" => Verb::Stem,
+        "filter" => Verb::Filter,
+        "check" => Verb::Check,
+        _ => Verb::Work,
+    }
 }
 
-/// Runs a subcommand over a script and what follows it. The writer of faults fails at write `fails_at` (0 for never).
-fn run_of(
-    alloc: Global,
-    verb: Verb,
-    external: &str,
-    script: &[u8],
-    rest: &[u8],
-    fails_at: u64,
-) -> Result<RunReport, Fail> {
-    let mut input = Vec::from_slice(alloc, script)?;
-    input.extend_from_slice(rest)?;
-    let keys = RandomState::new(&SameBytes)?;
-    let mut text = writer(alloc, 0);
-    let mut errors = writer(alloc, fails_at);
-    let mut lines = Lines::new(alloc, Device::new(in_pieces(input.as_slice(), 16, 0, 0)))?;
-    let command_line = CommandLine {
-        verb,
+/// Returns what a verb and its external, with a space between them, ask for.
+fn line_of(alloc: Global, words: &str) -> Result<CommandLine, AllocError> {
+    let (verb, external) = words.split_once(' ').unwrap_or((words, ""));
+    Ok(CommandLine {
+        verb: verb_of(verb),
         external: String::from_str(alloc, external)?,
         script: None,
         words: None,
@@ -43,239 +37,84 @@ fn run_of(
         is_strict: false,
         shows_places: false,
         face: None,
-    };
-    let ending = run(&command_line, keys, &mut lines, &mut text, &mut errors);
-    let text = text.into_inner().inner;
+    })
+}
+
+/// What a run of the program wrote, its status, and what it wrote to the writer of faults.
+#[derive(Drop)]
+struct RunReport {
+    text: Vec<u8>,
+    status: u8,
+    errors: Vec<u8>,
+}
+
+/// Runs a subcommand over an input. The writer of faults fails at write `fails_at` (0 for never).
+fn run_of(alloc: Global, words: &str, input: &[u8], fails_at: u64) -> Result<RunReport, Fail> {
+    let keys = RandomState::new(&SameBytes)?;
+    let mut text = writer(alloc, 0);
+    let mut errors = writer(alloc, fails_at);
+    let mut lines = Lines::new(alloc, Device::new(in_pieces(input, 16, 0, 0)))?;
+    let command_line = line_of(alloc, words)?;
+    let status = run(&command_line, keys, &mut lines, &mut text, &mut errors);
     Ok(RunReport {
-        written: WriteLog { text, ending },
+        text: text.into_inner().inner,
+        status,
         errors: errors.into_inner().inner,
     })
 }
 
-/// Deletes a first `un` or `re`.
-const PREFIXES: &[u8] =
-    b"externals ( stem )\ndefine stem as ( [ among ( 'un' () 're' () ) ] delete )\n.\n";
+/// A subcommand and its external, what follows the script, in the letters of `bytes_of`, and the write of faults that fails (empty: none);
+/// the status, what is written, and the line of a fault. A session is run to the end of input. Stems are written for a
+/// vocabulary alone; the input after it is not read, nor by a filter, for which a repeated word has a row again, and an empty line has
+/// none. A check has status 0 without a difference, also of two lists without lines, and 1 after a difference or a fault. The expected
+/// stems go on after a line `.`, which is one of them; a carriage return that belongs to a word is kept; the last word and the last
+/// stem may have no line feed. The external that is wanted is run. Work reads and writes nothing here. A fault has its status without its line.
+const ROWS: &str = "= externals ( stem )¶define stem as ( [ among ( 'un' () 're' () ) ] delete )¶.¶
+session stem|.¶add undo¶add redo¶stems¶||0|ok¶ok¶undo,stem,do¶redo,stem,do¶|
+stem stem|undo¶redo¶.¶||0|undo,stem,do¶redo,stem,do¶|
+= externals ( stem ) define stem as 'ab¶.¶
+session stem|||1||snowbench: 2 UnclosedString at 34¶
+= externals ( stem )¶define stem as repeat true¶.¶
+stem stem|a¶.¶add b¶ÿ¶||0|a,refused,Steps¶|
+= externals ( stem )¶define stem as true¶.¶
+filter stem|a¶ÿ¶b¶||1|a,stem,a¶|snowbench: 75 NotText¶
+= externals ( stem )¶define stem as ( [ 'un' ] delete )¶.¶
+filter stem|undo¶¶undo¶.¶ÿ¶||0|undo,stem,do¶undo,stem,do¶|
+check stem|undo¶redo¶.¶do¶redo¶||0||
+check stem|.¶||0||
+check stem|un.¶redo¶.¶.¶redo¶||0||
+check stem|undo\r\r¶.¶do\r\r¶||0||
+check stem|undo¶redo¶.¶do¶do¶||1|2,redo,do,redo¶|
+check stem|redo¶undo¶.¶redo¶un||1|2,undo,un,do¶|
+check stem|undo\r\r¶.¶do¶||1|1,\"undo\r\",do,\"do\r\"¶|
+check stem|redo¶undo¶.¶x¶||1|1,redo,x,redo¶|snowbench: 74 LengthsDiffer¶
+check stem|undo¶||1||snowbench: 73 Cut¶
+check stem|ÿ¶.¶x¶||1||snowbench: 75 NotText¶
+= externals ( go stem ) define go as insert 'b' define stem as next¶.¶
+stem stem|a¶.¶stems¶||0|a,stem,a¶|
+stem go|a¶.¶stems¶||0|a,stem,ba¶|
+session go|a¶.¶stems¶||0|a,stem,ba¶|
+check go|a¶.¶stems¶||1|1,a,stems,ba¶|
+check gone|a¶.¶stems¶||1||snowbench: 21 NoExternal¶
+= externals
+work stem|||0||
+stem stem||1|1||";
 
-/// Deletes a first `un`.
-const UN: &[u8] = b"externals ( stem )\ndefine stem as ( [ 'un' ] delete )\n.\n";
-
-/// Has two externals. Only `go` changes a word.
-const TWO: &[u8] = b"externals ( go stem ) define go as insert 'b' define stem as next\n.\n";
-
-/// A subcommand and its external; the script, and what follows it; the expected status, text and line of a fault.
-type Row<'a> = (Verb, &'a str, &'a [u8], &'a [u8], u8, &'a [u8], &'a [u8]);
-
-const ROWS: [Row<'static>; 22] = [
-    // A session is run to the end of input.
-    (
-        Verb::Session,
-        "stem",
-        PREFIXES,
-        b".\nadd undo\nadd redo\nstems\n",
-        0,
-        b"ok\nok\nundo,stem,do\nredo,stem,do\n",
-        b"",
-    ),
-    (
-        Verb::Session,
-        "stem",
-        b"externals ( stem ) define stem as 'ab\n.\n",
-        b"",
-        1,
-        b"",
-        b"snowbench: 2 UnclosedString at 34\n",
-    ),
-    // Stems are written for a vocabulary alone; the input after it is not read.
-    (
-        Verb::Stem,
-        "stem",
-        PREFIXES,
-        b"undo\nredo\n.\n",
-        0,
-        b"undo,stem,do\nredo,stem,do\n",
-        b"",
-    ),
-    (
-        Verb::Stem,
-        "stem",
-        b"externals ( stem )\ndefine stem as repeat true\n.\n",
-        b"a\n.\nadd b\n\xff\n",
-        0,
-        b"a,refused,Steps\n",
-        b"",
-    ),
-    // A word that is there again has a row again, and an empty line has none.
-    (
-        Verb::Filter,
-        "stem",
-        UN,
-        b"undo\n\nundo\n.\n\xff\n",
-        0,
-        b"undo,stem,do\nundo,stem,do\n",
-        b"",
-    ),
-    (
-        Verb::Filter,
-        "stem",
-        b"externals ( stem )\ndefine stem as true\n.\n",
-        b"a\n\xff\nb\n",
-        1,
-        b"a,stem,a\n",
-        b"snowbench: 75 NotText\n",
-    ),
-    // A check has status 0 without a difference.
-    (
-        Verb::Check,
-        "stem",
-        UN,
-        b"undo\nredo\n.\ndo\nredo\n",
-        0,
-        b"",
-        b"",
-    ),
-    // Two lists without lines.
-    (Verb::Check, "stem", UN, b".\n", 0, b"", b""),
-    // The expected stems go on after a line `.`, which is one of them.
-    (
-        Verb::Check,
-        "stem",
-        UN,
-        b"un.\nredo\n.\n.\nredo\n",
-        0,
-        b"",
-        b"",
-    ),
-    // A carriage return that belongs to a word is kept.
-    (
-        Verb::Check,
-        "stem",
-        UN,
-        b"undo\r\r\n.\ndo\r\r\n",
-        0,
-        b"",
-        b"",
-    ),
-    // A check has status 1 after a difference or a fault.
-    (
-        Verb::Check,
-        "stem",
-        UN,
-        b"undo\nredo\n.\ndo\ndo\n",
-        1,
-        b"2,redo,do,redo\n",
-        b"",
-    ),
-    // The last word has no line feed after it, and neither has the last expected stem.
-    (
-        Verb::Check,
-        "stem",
-        UN,
-        b"redo\nundo\n.\nredo\nun",
-        1,
-        b"2,undo,un,do\n",
-        b"",
-    ),
-    // A carriage return that belongs to a word is kept.
-    (
-        Verb::Check,
-        "stem",
-        UN,
-        b"undo\r\r\n.\ndo\n",
-        1,
-        b"1,\"undo\r\",do,\"do\r\"\n",
-        b"",
-    ),
-    (
-        Verb::Check,
-        "stem",
-        UN,
-        b"redo\nundo\n.\nx\n",
-        1,
-        b"1,redo,x,redo\n",
-        b"snowbench: 74 LengthsDiffer\n",
-    ),
-    (
-        Verb::Check,
-        "stem",
-        UN,
-        b"undo\n",
-        1,
-        b"",
-        b"snowbench: 73 Cut\n",
-    ),
-    (
-        Verb::Check,
-        "stem",
-        UN,
-        b"\xff\n.\nx\n",
-        1,
-        b"",
-        b"snowbench: 75 NotText\n",
-    ),
-    // The external that is wanted is run.
-    (
-        Verb::Stem,
-        "stem",
-        TWO,
-        b"a\n.\nstems\n",
-        0,
-        b"a,stem,a\n",
-        b"",
-    ),
-    (
-        Verb::Stem,
-        "go",
-        TWO,
-        b"a\n.\nstems\n",
-        0,
-        b"a,stem,ba\n",
-        b"",
-    ),
-    (
-        Verb::Session,
-        "go",
-        TWO,
-        b"a\n.\nstems\n",
-        0,
-        b"a,stem,ba\n",
-        b"",
-    ),
-    (
-        Verb::Check,
-        "go",
-        TWO,
-        b"a\n.\nstems\n",
-        1,
-        b"1,a,stems,ba\n",
-        b"",
-    ),
-    (
-        Verb::Check,
-        "gone",
-        TWO,
-        b"a\n.\nstems\n",
-        1,
-        b"",
-        b"snowbench: 21 NoExternal\n",
-    ),
-    // Work reads and writes nothing here.
-    (Verb::Work, "stem", b"externals", b"", 0, b"", b""),
-];
-
-#[test]
-fn a_subcommand_writes_its_text_and_ends_with_its_status(rt: HostRuntime) -> Result<(), Fail> {
-    for (number, (verb, external, script, rest, status, text, errors)) in ROWS.iter().enumerate() {
-        let ran = run_of(rt.alloc(), *verb, external, script, rest, 0)?;
-        let is_so = ran.written.is(text, status) && ran.errors.as_slice() == *errors;
-        assert!(rt; is_so, "{number}: {ran:?}");
-    }
+/// Asserts what a row writes, and its status.
+fn gives(rt: &impl Abort, alloc: Global, script: &str, row: &str) -> Result<(), Fail> {
+    let input = format!(in alloc; "{script}{}", field(row, 1))?;
+    let input = bytes_of(alloc, input.as_str())?;
+    let report = run_of(alloc, field(row, 0), &input, number(row, 2))?;
+    assert!(rt; u64::from(report.status) == number(row, 3), "{row}");
+    assert!(rt; report.text == bytes_of(alloc, field(row, 4))?, "{row}");
+    assert!(rt; report.errors == bytes_of(alloc, field(row, 5))?, "{row}");
     Ok(())
 }
 
 #[test]
-fn a_fault_has_its_status_without_its_line(rt: HostRuntime) -> Result<(), Fail> {
-    let cut = run_of(rt.alloc(), Verb::Stem, "stem", b"externals", b"", 1)?;
-    assert!(rt; cut.written.ending == 1);
-    assert!(rt; cut.errors.is_empty());
+fn a_subcommand_writes_its_text_and_ends_with_its_status(rt: HostRuntime) -> Result<(), Fail> {
+    for (script, row) in with_scripts(rt.alloc(), ROWS)? {
+        gives(&rt, rt.alloc(), script, row)?;
+    }
     Ok(())
 }

@@ -16,12 +16,11 @@ fn are_items<S: AmongSearch>(
     alloc: Global,
     machine: &Machine<S>,
     touches: &[Touch],
-    wanted: &BTreeSet<Item>,
+    mut items: BTreeSet<Item>,
 ) -> Result<(), Fail> {
-    assert!(rt; machine.items(alloc, touches)? == *wanted);
-    for item in wanted.iter() {
-        assert!(rt; machine.is_among_touches(touches, item));
-    }
+    assert!(rt; machine.items(alloc, touches)? == items);
+    items.retain(|item| !machine.is_among_touches(touches, item));
+    assert!(rt; items.is_empty());
     let other = Item::Routine(String::from_str(alloc, "nowhere")?);
     assert!(rt; !machine.is_among_touches(touches, &other));
     Ok(())
@@ -42,9 +41,10 @@ pub(crate) fn touches<S: AmongSearch>(
     let traced = machine.trace(alloc, &mut meter, word, limit)?;
     assert!(rt; meter.count() == 2);
     assert!(rt; traced.outcome == ran.outcome && traced.used == ran.used);
-    are_items(rt, alloc, machine, &traced.touches, &ran.touched)?;
     let (touched, used) = (&ran.touched, ran.used);
-    Ok(format!(in alloc; "{touched:?}|{used};")?)
+    let text = format!(in alloc; "{touched:?}|{used};")?;
+    are_items(rt, alloc, machine, &traced.touches, ran.touched)?;
+    Ok(text)
 }
 
 /// A word, the limit of steps, the items that its run touches, and the steps that it uses. A condition that signals f is entered, and a

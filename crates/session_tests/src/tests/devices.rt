@@ -1,67 +1,146 @@
-//! Tests of readers and writers that fail at each of their calls, and of the limit on reads.
+//! Tests of readers and writers that fail at each of their calls, of the limit on reads, and of interruptions.
 
-use crate::tests::served::served;
+use crate::tests::verbs::{Verb, written};
 use sbl_io::{Device, Lines};
 use std::alloc::{AllocError, Global};
+use std::process::Abort;
 use std::test::Fail;
-use test_devices::{bytes_of, in_pieces, outputs_within};
+use test_devices::{in_pieces, outputs_within};
 
-/// The script, and the line that ends the words.
-const BEGIN: &str =
-    "externals ( stem )¶define stem as ( [ among ( 'un' () 're' () ) ] delete )¶.¶.¶";
+/// A verb, the beginning of its input, and the lines after it, each with its output.
+type Case = (
+    Verb,
+    &'static [u8],
+    &'static [(&'static [u8], &'static [u8])],
+);
 
-/// Commands, each with its reply.
-const COMMANDS: [(&[u8], &[u8]); 3] = [
-    (b"add undo\n", b"ok\n"),
-    (b"add redo\n", b"ok\n"),
-    (b"stems\n", b"undo,stem,do\nredo,stem,do\n"),
-];
+/// Commands of a session, each with its reply.
+const SESSION: Case = (
+    Verb::Session,
+    b"externals ( stem )\ndefine stem as ( [ among ( 'un' () 're' () ) ] delete )\n.\n.\n",
+    &[
+        (b"add undo\n", b"ok\n"),
+        (b"add redo\n", b"ok\n"),
+        (b"stems\n", b"undo,stem,do\nredo,stem,do\n"),
+    ],
+);
 
-/// The commands, in the letters of `bytes_of`.
-const LINES: &str = "add undo¶add redo¶stems¶";
+/// Words of a filter, each with its row.
+const FILTER: Case = (
+    Verb::Filter,
+    b"externals ( stem )\ndefine stem as ( [ among ( 'un' () 're' () ) ] delete )\n.\n",
+    &[
+        (b"undo\n", b"undo,stem,do\n"),
+        (b"\n", b""),
+        (b"redo\n", b"redo,stem,do\n"),
+        (b"x\n", b"x,stem,x\n"),
+    ],
+);
 
-/// Returns the replies to the commands that are whole in this many bytes of the input.
-fn replies_to(alloc: Global, bytes: u64) -> Result<Vec<u8>, AllocError> {
-    let begin = bytes_of(alloc, BEGIN)?;
-    outputs_within(alloc, begin.len(), &COMMANDS, bytes)
+/// Returns the whole input.
+fn input_of(alloc: Global, case: &Case) -> Result<Vec<u8>, AllocError> {
+    let mut input = Vec::from_slice(alloc, case.1)?;
+    for (line, _) in case.2 {
+        input.extend_from_slice(line)?;
+    }
+    Ok(input)
 }
 
-/// Runs the session by reads and writes of one byte. It is read at most `most` times. The reader fails at read `read` and
-/// the writer at write `write`, both counted from 1 (0 for never).
-fn session(alloc: Global, most: u64, read: u64, write: u64) -> Result<Vec<u8>, Fail> {
-    let mut input = bytes_of(alloc, BEGIN)?;
-    input.extend_from_slice(bytes_of(alloc, LINES)?.as_slice())?;
-    let reader = Device::new(in_pieces(input.as_slice(), 1, read, 0));
-    let lines = Lines::with_reads(alloc, reader, most)?;
-    let writer = in_pieces(Vec::new(alloc), 1, write, 0);
-    served(alloc, lines, Device::new(writer))
+/// Returns the outputs of the lines that are whole in this many bytes of the input, and then this text.
+fn outputs(alloc: Global, case: &Case, bytes: u64, end: &str) -> Result<Vec<u8>, AllocError> {
+    let mut text = outputs_within(alloc, case.1.len(), case.2, bytes)?;
+    text.extend_from_slice(end.as_bytes())?;
+    Ok(text)
 }
 
-// The input has 103 bytes, and one more read finds its end.
+/// The most reads, the read and the write that fails, both counted from 1 (0 for never), and the interruptions before each read and write.
+#[derive(Clone, Copy)]
+struct Stops {
+    most: u64,
+    read: u64,
+    write: u64,
+    interruptions: u64,
+}
+
+/// No device stops.
+const NEVER: Stops = Stops {
+    most: u64::MAX,
+    read: 0,
+    write: 0,
+    interruptions: 0,
+};
+
+/// Does what the verb says, by reads and writes of one byte.
+fn runs(alloc: Global, case: &Case, stops: Stops) -> Result<Vec<u8>, Fail> {
+    let input = input_of(alloc, case)?;
+    let reader = in_pieces(input.as_slice(), 1, stops.read, stops.interruptions);
+    let mut lines = Lines::with_reads(alloc, Device::new(reader), stops.most)?;
+    let writer = in_pieces(Vec::new(alloc), 1, stops.write, stops.interruptions);
+    written(alloc, case.0, &mut lines, Device::new(writer))
+}
+
+/// Asserts that a read after each byte may fail, or be one more than there may be.
+fn reader_fails(rt: &impl Abort, alloc: Global, case: &Case) -> Result<(), Fail> {
+    // The read after the last byte finds the end of the input.
+    let reads = (input_of(alloc, case)?.len() as u64).saturating_add(1);
+    for bytes in 0..reads {
+        let text = outputs(alloc, case, bytes, "!70 Read")?;
+        let read = bytes.saturating_add(1);
+        assert!(rt;
+            runs(alloc, case, Stops { read, ..NEVER })? == text,
+            "{bytes}"
+        );
+        let most = bytes;
+        assert!(rt;
+            runs(alloc, case, Stops { most, ..NEVER })? == text,
+            "{bytes}"
+        );
+    }
+    Ok(())
+}
+
 #[test]
 fn a_reader_may_fail_or_be_at_its_limit_at_each_read(rt: HostRuntime) -> Result<(), Fail> {
-    let alloc = rt.alloc();
-    for bytes in 0..104u64 {
-        let mut text = replies_to(alloc, bytes)?;
-        text.extend_from_slice(b"!70 Read")?;
-        assert!(rt; session(alloc, u64::MAX, bytes + 1, 0)? == text, "{bytes}");
-        assert!(rt; session(alloc, bytes, 0, 0)? == text, "{bytes}");
+    reader_fails(&rt, rt.alloc(), &SESSION)?;
+    reader_fails(&rt, rt.alloc(), &FILTER)
+}
+
+/// Asserts that the writer may fail after each of its bytes.
+fn writer_fails(rt: &impl Abort, alloc: Global, case: &Case) -> Result<(), Fail> {
+    let whole = outputs(alloc, case, u64::MAX, "")?;
+    for bytes in 0..whole.len() {
+        let mut text = Vec::from_slice(alloc, &whole[..bytes])?;
+        text.extend_from_slice(b"!71 Write")?;
+        let write = bytes as u64 + 1;
+        assert!(rt;
+            runs(alloc, case, Stops { write, ..NEVER })? == text,
+            "{bytes}"
+        );
     }
     Ok(())
 }
 
 #[test]
 fn a_writer_may_fail_after_each_of_its_bytes(rt: HostRuntime) -> Result<(), Fail> {
-    let alloc = rt.alloc();
-    let replies = replies_to(alloc, 103)?;
-    for bytes in 0..replies.len() {
-        let mut text = Vec::from_slice(alloc, &replies[..bytes])?;
-        text.extend_from_slice(b"!71 Write")?;
-        assert!(rt;
-            session(alloc, u64::MAX, 0, bytes as u64 + 1)? == text,
-            "{bytes}"
-        );
-    }
-    assert!(rt; session(alloc, 104, 0, 0)? == replies);
+    writer_fails(&rt, rt.alloc(), &SESSION)?;
+    writer_fails(&rt, rt.alloc(), &FILTER)
+}
+
+/// Asserts that all is written by as many reads as there have to be, and after a thousand interruptions in a row, but not after more.
+fn bears(rt: &impl Abort, alloc: Global, case: &Case) -> Result<(), Fail> {
+    let whole = outputs(alloc, case, u64::MAX, "")?;
+    let most = (input_of(alloc, case)?.len() as u64).saturating_add(1);
+    assert!(rt; runs(alloc, case, Stops { most, ..NEVER })? == whole);
+    let mut stops = NEVER;
+    stops.interruptions = 1_000;
+    assert!(rt; runs(alloc, case, stops)? == whole);
+    stops.interruptions = 1_001;
+    assert!(rt; runs(alloc, case, stops)?.as_slice() == b"!70 Read".as_slice());
     Ok(())
+}
+
+#[test]
+fn a_thousand_interruptions_in_a_row_are_borne(rt: HostRuntime) -> Result<(), Fail> {
+    bears(&rt, rt.alloc(), &SESSION)?;
+    bears(&rt, rt.alloc(), &FILTER)
 }

@@ -1,22 +1,16 @@
 //! Tests of whole sessions, what they write and how they end. tests/cases has more of them.
 
-use crate::tests::served::served;
+use crate::tests::verbs::{Verb, all_give};
 use sbl_bench::EditFault::Full;
 use sbl_formats::LoadFault::{Input, Open, Script};
 use sbl_io::ServeFault::{Cut, LineTooLong, NotText, OutOfMemory, Read, Write};
-use sbl_io::{Device, Lines};
 use sbl_script::ScriptFault::{ScriptTooLong, UnclosedString, WrongMode};
-use std::alloc::Global;
-use std::process::Abort;
 use std::test::Fail;
-use test_devices::{bytes_of, in_pieces};
-use test_scripts::{field, number, print_values, with_scripts};
+use test_scripts::print_values;
 
-/// What follows the script, in the letters of `bytes_of`; the read and the write that fails, counted from 1 (empty: none); the interruptions
-/// before each write; what the session writes, and the fault that ends it. Each read returns 16 bytes: the sixth ends in the middle of
-/// the second edit, which is not made. Each write takes four bytes: the fourth fails in the middle of the report. A writer may be
-/// interrupted a thousand times in a row. A line that is too long may be in the words, in the commands, in a block, also in one whose
-/// command is bad, or in the script; a fault of the script comes before it.
+/// Rows as of `all_give`. The sixth read ends in the middle of the second edit, which is not made. The fourth write fails in the middle of the
+/// report. A writer may be interrupted a thousand times in a row. A line that is too long may be in the words, in the commands, in a block,
+/// also in one whose command is bad, or in the script; a fault of the script comes before it.
 const ROWS: &str = "ⅳ||||!72 LineTooLong
 = externals ( stem )¶define stem as ( [ among ( 'un' () 're' () ) ] delete )¶.¶
 ⅳ||||!72 LineTooLong
@@ -28,7 +22,7 @@ const ROWS: &str = "ⅳ||||!72 LineTooLong
 .¶add undo¶add redo¶stems¶|1|||!70 Read
 .¶add undo¶add redo¶stems¶||4||ok¶ok¶undo!71 Write
 .¶add undo¶stems¶|||1000|ok¶undo,stem,do¶
-.¶add undo¶stems¶|||1001|!71 Write
+.¶add undo¶stems¶|||1001|!71 Write|stems
 = groupings ( v ) externals ( stem ) define v 'a' define stem as ( [ v ] delete )¶.¶
 ab¶b¶.¶grouping v¶'b'¶.¶limit 4¶limit¶stems¶runs¶||||ok¶ok¶no 51 BadLimit¶ab,stem,ab¶b,refused,Steps¶5¶
 = externals ( stem ) define stem as among ( )¶.¶
@@ -36,25 +30,9 @@ ab¶b¶.¶grouping v¶'b'¶.¶limit 4¶limit¶stems¶runs¶||||ok¶ok¶no 51 Bad
 = ⅴ
 .¶||||!24 ScriptTooLong";
 
-/// Asserts what the session of a row writes, and how it ends.
-fn ends(rt: &impl Abort, alloc: Global, script: &str, row: &str) -> Result<(), Fail> {
-    let input = format!(in alloc; "{script}{}", field(row, 0))?;
-    let input = bytes_of(alloc, input.as_str())?;
-    let reader = in_pieces(input.as_slice(), 16, number(row, 1), 0);
-    let lines = Lines::new(alloc, Device::new(reader))?;
-    let writer = in_pieces(Vec::new(alloc), 4, number(row, 2), number(row, 3));
-    let text = served(alloc, lines, Device::new(writer))?;
-    let want = bytes_of(alloc, field(row, 4))?;
-    assert!(rt; text == want, "{row}");
-    Ok(())
-}
-
 #[test]
 fn sessions_write_and_end(rt: HostRuntime) -> Result<(), Fail> {
-    for (script, row) in with_scripts(rt.alloc(), ROWS)? {
-        ends(&rt, rt.alloc(), script, row)?;
-    }
-    Ok(())
+    all_give(&rt, rt.alloc(), Verb::Session, ROWS)
 }
 
 #[test]

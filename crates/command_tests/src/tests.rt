@@ -1,4 +1,0 @@
-//! Tests of checks and command lines, one file for each subject.
-
-mod checks;
-mod command_lines;

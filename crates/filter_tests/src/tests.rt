@@ -1,4 +1,0 @@
-//! Tests of filters, one file for each subject.
-
-mod devices;
-mod rows;

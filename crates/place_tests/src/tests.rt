@@ -1,6 +1,0 @@
-//! Tests of public functions, one file for each subject.
-
-mod blocks;
-mod faults;
-mod offsets;
-mod positions;

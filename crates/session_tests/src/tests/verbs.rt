@@ -1,0 +1,86 @@
+//! A session or a filter over a reader and a writer in memory, from its script to its end.
+
+use sbl_filter::filter;
+use sbl_formats::{LoadFault, load};
+use sbl_io::{Device, Lines};
+use sbl_sessions::serve;
+use std::alloc::Global;
+use std::hash::RandomState;
+use std::process::Abort;
+use std::test::Fail;
+use test_devices::{Pieces, SameBytes, bytes_of, in_pieces};
+use test_scripts::{field, number, with_scripts};
+
+/// A reader in memory.
+pub(crate) type Reader<'a> = Device<Pieces<&'a [u8]>>;
+
+/// A writer in memory.
+pub(crate) type Writer = Device<Pieces<Vec<u8>>>;
+
+/// What is done with the lines of an input.
+#[derive(Clone, Copy)]
+pub(crate) enum Verb {
+    Session,
+    Filter,
+}
+
+/// Runs a session.
+fn session(
+    lines: &mut Lines<Reader<'_>>,
+    writer: &mut Writer,
+) -> Result<Result<(), LoadFault>, Fail> {
+    let keys = RandomState::new(&SameBytes)?;
+    Ok(match load(lines, keys, "stem") {
+        Ok(mut bench) => {
+            let served = serve(&mut bench, lines, writer);
+            bench.leak();
+            served.map_err(LoadFault::Input)
+        }
+        Err(fault) => Err(fault),
+    })
+}
+
+/// Does what the verb says. Returns what is written, and after it `!` and the fault that ends it, if there is one.
+pub(crate) fn written(
+    alloc: Global,
+    verb: Verb,
+    lines: &mut Lines<Reader<'_>>,
+    mut writer: Writer,
+) -> Result<Vec<u8>, Fail> {
+    let ending = match verb {
+        Verb::Session => session(lines, &mut writer)?,
+        Verb::Filter => filter(lines, "stem", &mut writer),
+    };
+    let mut text = writer.into_inner().inner;
+    if let Err(fault) = ending {
+        text.extend_from_slice(format!(in alloc; "!{fault}")?.as_bytes())?;
+    }
+    Ok(text)
+}
+
+/// Asserts what is written for a row, and the line after what was read (empty if there is none).
+fn gives(rt: &impl Abort, alloc: Global, verb: Verb, script: &str, row: &str) -> Result<(), Fail> {
+    let input = format!(in alloc; "{script}{}", field(row, 0))?;
+    let input = bytes_of(alloc, input.as_str())?;
+    let reader = in_pieces(input.as_slice(), 16, number(row, 1), 0);
+    let mut lines = Lines::new(alloc, Device::new(reader))?;
+    let writer = in_pieces(Vec::new(alloc), 4, number(row, 2), number(row, 3));
+    let text = written(alloc, verb, &mut lines, Device::new(writer))?;
+    assert!(rt; text == bytes_of(alloc, field(row, 4))?, "{row}");
+    let mut next = Vec::new(alloc);
+    if lines.next_line() == Ok(true) {
+        next.extend_from_slice(lines.line())?;
+    }
+    assert!(rt; next.as_slice() == field(row, 5).as_bytes(), "{row}");
+    Ok(())
+}
+
+/// Asserts what is written for each row: what follows the script, in the letters of `bytes_of`; the read and the write that fails, counted
+/// from 1 (empty: none); the interruptions before each write; what is written, after `!` the fault that ends it, and the line after what
+/// was read. Each read returns 16 bytes, and each write takes four.
+pub(crate) fn all_give(rt: &impl Abort, alloc: Global, verb: Verb, rows: &str) -> Result<(), Fail> {
+    for (script, row) in with_scripts(alloc, rows)? {
+        gives(rt, alloc, verb, script, row)?;
+    }
+    Ok(())
+}

@@ -1,3 +1,0 @@
-//! Work over readers and writers that fail.
-
-mod serving;
