@@ -16,7 +16,7 @@ pub returns-in-Unused : goal.returns-in-Unused
 returns-in-Unused c =
     let s = contents_of c.args.bench.now in
     let d = state_of c.args.desk.now in
-    same_command s s d d (Unused) (alone_command (view_file c.args.file) c.args.line.now) c.unused.result (c.in-Unused.ensures (view_file c.args.file)) (c.unused.ensures d)
+    same_command s s d d (Unused) (alone_command (view_file c.args.file) c.args.line.now) c.unused_reply.result (c.in-Unused.ensures (view_file c.args.file)) (c.unused_reply.ensures d)
 
 pub returns-in-Largest : goal.returns-in-Largest
 returns-in-Largest c =
