@@ -71,21 +71,35 @@ fn words_that_are_refused_change_nothing(rt: HostRuntime) -> Result<(), Fail> {
     Ok(())
 }
 
+/// Returns the stem that `why` has, or the fault.
+fn why_of(alloc: Global, bench: &Bench, word: &[char]) -> Result<String, AllocError> {
+    match bench.why(word) {
+        Ok(why) => match &why.outcome {
+            Outcome::Stem(stem) => text_of(alloc, stem.as_slice()),
+            Outcome::Refused(fault) => format!(in alloc; "{fault}"),
+        },
+        Err(fault) => format!(in alloc; "{fault}"),
+    }
+}
+
+/// Asserts which words `why` takes.
+fn tells_why(rt: &impl Abort, alloc: Global, bench: &Bench) -> Result<(), Fail> {
+    assert!(rt; why_of(alloc, bench, &[])?.as_str() == "42 EmptyWord");
+    assert!(rt; why_of(alloc, bench, &['a'; 256])?.as_str() == "43 WordTooLong");
+    let word = ['a'; 255];
+    assert!(rt; why_of(alloc, bench, &word)? == text_of(alloc, &word)?);
+    assert!(rt; bench.routine_name(0) == "stem");
+    assert!(rt; bench.routine_name(1) == "");
+    assert!(rt; bench.runs() == 1);
+    Ok(())
+}
+
 #[test]
 fn why_takes_any_word_that_fits(rt: HostRuntime) -> Result<(), Fail> {
     let bench = bench_of(rt.alloc(), PREFIXES, "undo")?;
-    assert_eq!(rt; bench.why(&[]), Err(EditFault::EmptyWord));
-    assert_eq!(rt; bench.why(&['a'; 256]), Err(EditFault::WordTooLong));
-    let why = bench.why(&['a'; 255]);
-    assert_eq!(rt; bench.routine_name(0), "stem");
-    assert_eq!(rt; bench.routine_name(1), "");
-    assert_eq!(rt; bench.runs(), 1);
+    let done = tells_why(&rt, rt.alloc(), &bench);
     bench.leak();
-    assert_eq!(rt;
-        why?.outcome,
-        Outcome::Stem(Vec::from_slice(rt.alloc(), &['a'; 255])?)
-    );
-    Ok(())
+    done
 }
 
 /// Adds a word to an empty bench, and once more where a growth was refused.

@@ -7,7 +7,7 @@ use sbl_script::Script;
 use std::alloc::{AllocError, Global};
 use std::process::Abort;
 use std::test::Fail;
-use test_scripts::with_line_feeds;
+use test_scripts::{field, with_line_feeds};
 
 const WORDS: &str = "xyb,ab,xb,q,ad";
 
@@ -36,46 +36,58 @@ fn other_routine(alloc: Global) -> Result<String, AllocError> {
     changed(alloc, FIRST, "( [ u ] delete )", "( u )")
 }
 
-/// Returns the case, as in edits.rt, of whole scripts one after another, each with why it is refused, the rows and the count of runs.
-fn case_of(alloc: Global, scripts: &[(&str, &str, &str, u64)]) -> Result<String, AllocError> {
+/// Whole scripts one after another: a text, `first`, `laid out` or `before` for the script before it; a part of it and what is in its place
+/// (empty: nothing changes); why it is refused, the rows, and the count of runs. The first two run nothing, the next four what met the
+/// items that differ (in a routine, then also in the among of `tail`, then also in a grouping; the first two are taken back). Then two
+/// groupings are exchanged and an integer is declared, which run all, and three are refused.
+const SCRIPTS: &str = "first||||xyb xb;ab a;xb b;q ;ad ad;|5
+laid out||||xyb xb;ab a;xb b;q ;ad ad;|5
+first|( [ u ] delete )|( u )||xyb xyb;ab a;xb b;q ;ad ad;|7
+before|'b' ()|'b' ( attach 'e' )||xyb xyb;ab ae;xb b;q ;ad ad;|8
+before|v 'a'|v 'aq'||xyb xyb;ab ae;xb b;q q;ad ad;|11
+first|v 'a'|v 'aq'||xyb xb;ab a;xb b;q q;ad ad;|14
+before|define w v + 'b'¶define u v + 'y'¶|define u v + 'y'¶define w v + 'b'¶||xyb xb;ab a;xb b;q q;ad ad;|19
+before|define v|integers ( n )¶define v||xyb xb;ab a;xb b;q q;ad ad;|24
+define|||48 Syntax|xyb xb;ab a;xb b;q q;ad ad;|24
+externals ( other ) define other as next|||48 NoExternal|xyb xb;ab a;xb b;q q;ad ad;|24
+|||48 NoExternal|xyb xb;ab a;xb b;q q;ad ad;|24
+first||||xyb xb;ab a;xb b;q ;ad ad;|29";
+
+/// Returns the script of a row, after this one.
+fn script_in(alloc: Global, before: &str, row: &str) -> Result<String, AllocError> {
+    let text = match field(row, 0) {
+        "first" => FIRST,
+        "laid out" => LAID_OUT,
+        "before" => before,
+        text => text,
+    };
+    if field(row, 1).is_empty() {
+        return String::from_str(alloc, text);
+    }
+    changed(alloc, text, field(row, 1), field(row, 2))
+}
+
+/// Returns the case, as in edits.rt, of an edit to this script.
+fn line_of(alloc: Global, script: &str, row: &str) -> Result<String, AllocError> {
+    let (want, rows, runs) = (field(row, 3), field(row, 4), field(row, 5));
+    format!(in alloc; "\nscript {script}|{want}|{rows}|?|{runs}")
+}
+
+/// Returns the case, as in edits.rt, of these scripts.
+fn case_of(alloc: Global, scripts: &str) -> Result<String, AllocError> {
     let mut case = format!(in alloc; "{FIRST}\n{WORDS}")?;
-    for (text, want, rows, runs) in scripts {
-        let row = format!(in alloc; "\nscript {text}|{want}|{rows}|?|{runs}")?;
-        case.push_str(row.as_str())?;
+    let mut script = String::new(alloc);
+    for row in scripts.split('\n') {
+        script = script_in(alloc, script.as_str(), row)?;
+        case.push_str(line_of(alloc, script.as_str(), row)?.as_str())?;
     }
     Ok(case)
 }
 
-// The first two scripts run nothing, the next four what met the items that differ, then two run all, and three are refused.
 #[test]
 fn a_whole_script_runs_what_met_the_items_that_differ(rt: HostRuntime) -> Result<(), Fail> {
-    let alloc = rt.alloc();
-    // Each script but the last is the one before with one more difference: in a routine, in the among of `tail`, in a grouping; the
-    // first two are taken back; two groupings are exchanged; an integer is declared.
-    let routine = other_routine(alloc)?;
-    let among = changed(alloc, &routine, "'b' ()", "'b' ( attach 'e' )")?;
-    let grouping = changed(alloc, &among, "v 'a'", "v 'aq'")?;
-    let two_items = changed(alloc, FIRST, "v 'a'", "v 'aq'")?;
-    let moved = changed(alloc, &two_items, "define u v + 'y'¶", "")?;
-    let moved = changed(alloc, &moved, "define w", "define u v + 'y'¶define w")?;
-    let declared = changed(alloc, &moved, "define v", "integers ( n )¶define v")?;
-    let after = "xyb xb;ab a;xb b;q q;ad ad;";
-    let rows: [(&str, &str, &str, u64); 12] = [
-        (FIRST, "", ROWS, 5),
-        (LAID_OUT, "", ROWS, 5),
-        (&routine, "", "xyb xyb;ab a;xb b;q ;ad ad;", 7),
-        (&among, "", "xyb xyb;ab ae;xb b;q ;ad ad;", 8),
-        (&grouping, "", "xyb xyb;ab ae;xb b;q q;ad ad;", 11),
-        (&two_items, "", after, 14),
-        (&moved, "", after, 19),
-        (&declared, "", after, 24),
-        ("define", "48 Syntax", after, 24),
-        (OTHER_EXTERNAL, "48 NoExternal", after, 24),
-        ("", "48 NoExternal", after, 24),
-        (FIRST, "", ROWS, 29),
-    ];
-    let case = case_of(alloc, &rows)?;
-    tries(&rt, alloc, case.as_str())?;
+    let case = case_of(rt.alloc(), SCRIPTS)?;
+    tries(&rt, rt.alloc(), case.as_str())?;
     Ok(())
 }
 
@@ -87,7 +99,8 @@ fn a_script_that_is_too_long_changes_nothing(rt: HostRuntime) -> Result<(), Fail
     for _ in 0..1_048_577 {
         text.push(' ')?;
     }
-    let case = case_of(alloc, &[(text.as_str(), "48 ScriptTooLong", ROWS, 5)])?;
+    text.push_str("|||48 ScriptTooLong|xyb xb;ab a;xb b;q ;ad ad;|5")?;
+    let case = case_of(alloc, text.as_str())?;
     tries(&rt, alloc, case.as_str())?;
     Ok(())
 }

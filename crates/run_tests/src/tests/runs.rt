@@ -55,13 +55,13 @@ fn runs<S: AmongSearch>(
     rt: &impl Abort,
     alloc: Global,
     machine: &Machine<S>,
+    meter: &mut Meter,
     word: &[char],
     limit: u32,
 ) -> Result<String, Fail>
     requires { length word.now ≤ max_word_length }
 {
-    let mut meter = Meter::new();
-    let ran = machine.run(alloc, &mut meter, word, limit)?;
+    let ran = machine.run(alloc, meter, word, limit)?;
     assert!(rt; meter.count() == 1);
     let (outcome, used) = (outcome_text(alloc, &ran.outcome)?, ran.used);
     Ok(format!(in alloc; "{outcome}|{used};")?)
@@ -75,6 +75,28 @@ pub(crate) enum Asked {
     Events,
 }
 
+/// Asks a machine about a word, with a new meter. No other function here has one, and it is dropped by a call, since the prover takes it
+/// apart on each path that drops it without one.
+pub(crate) fn answer<S: AmongSearch>(
+    rt: &impl Abort,
+    alloc: Global,
+    asked: Asked,
+    machine: &Machine<S>,
+    word: &[char],
+    limit: u32,
+) -> Result<String, Fail>
+    requires { length word.now ≤ max_word_length }
+{
+    let mut meter = Meter::new();
+    let answer = match asked {
+        Asked::Outcome => runs(rt, alloc, machine, &mut meter, word, limit),
+        Asked::Items => touches(rt, alloc, machine, &mut meter, word, limit),
+        Asked::Events => does(rt, alloc, machine, &mut meter, word, limit),
+    };
+    drop(meter);
+    answer
+}
+
 /// Asks a machine about a row: the word, the limit of steps (empty: 100,000), and how the answer begins.
 fn ask_row<S: AmongSearch>(
     rt: &impl Abort,
@@ -85,11 +107,7 @@ fn ask_row<S: AmongSearch>(
 ) -> Result<(), Fail> {
     let word = word_in(rt, alloc, row)?;
     let limit = field(row, 1).parse().unwrap_or(100_000);
-    let answer = match asked {
-        Asked::Outcome => runs(rt, alloc, machine, &word, limit)?,
-        Asked::Items => touches(rt, alloc, machine, &word, limit)?,
-        Asked::Events => does(rt, alloc, machine, &word, limit)?,
-    };
+    let answer = answer(rt, alloc, asked, machine, &word, limit)?;
     let shown = format!(in alloc; "{}|{}|{answer}", field(row, 0), field(row, 1))?;
     assert!(rt; shown.as_str().starts_with(row), "{row}: {shown}");
     Ok(())

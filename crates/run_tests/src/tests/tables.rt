@@ -22,26 +22,49 @@ fn table_of<S: AmongSearch>(alloc: Global, mode: Mode, strings: &[&str]) -> Resu
     S::build(alloc, &all, mode)
 }
 
-/// Builds tables of one search, and asks them.
-fn asked<S: AmongSearch>(rt: &impl Abort, alloc: Global) -> Result<(), Fail> {
+/// Builds a table for reading forwards, and asks it.
+fn finds_forwards<S: AmongSearch>(rt: &impl Abort, alloc: Global) -> Result<(), Fail> {
     let text = ['a', 'b', 'd'];
     let forwards: S = table_of(alloc, Mode::Forward, &["a", "abc", "ab"])?;
     assert_eq!(rt; forwards.longest(&text, 0, 3), Some(2));
     assert_eq!(rt; forwards.next_shorter(1), Some(2));
     assert_eq!(rt; forwards.next_shorter(2), Some(0));
     assert_eq!(rt; forwards.next_shorter(0), None);
+    Ok(())
+}
+
+/// Builds a table for reading backwards, and asks it.
+fn finds_backwards<S: AmongSearch>(rt: &impl Abort, alloc: Global) -> Result<(), Fail> {
     let word = ['b', 'o', 'x', 'e', 's'];
     let backwards: S = table_of(alloc, Mode::Backward, &["s", "es"])?;
     assert_eq!(rt; backwards.longest(&word, 5, 0), Some(1));
     assert_eq!(rt; backwards.longest(&word, 5, 4), Some(0));
     assert_eq!(rt; backwards.next_shorter(1), Some(0));
+    Ok(())
+}
+
+/// Builds a table of the empty string, and asks it.
+fn finds_nothing_shorter<S: AmongSearch>(rt: &impl Abort, alloc: Global) -> Result<(), Fail> {
     let empty: S = table_of(alloc, Mode::Forward, &[""])?;
     assert_eq!(rt; empty.longest(&[], 0, 0), Some(0));
     assert_eq!(rt; empty.next_shorter(0), None);
+    Ok(())
+}
+
+/// Builds a table of strings that do not begin one another, and asks it.
+fn keeps_strings_apart<S: AmongSearch>(rt: &impl Abort, alloc: Global) -> Result<(), Fail> {
     // no string but a prefix is a shorter one
     let apart: S = table_of(alloc, Mode::Forward, &["a", "b"])?;
     assert_eq!(rt; apart.next_shorter(1), None);
     Ok(())
+}
+
+/// Builds tables of one search, and asks them.
+fn asked<S: AmongSearch>(rt: &impl Abort, alloc: Global) -> Result<(), Fail> {
+    finds_forwards::<S>(rt, alloc)?;
+    finds_backwards::<S>(rt, alloc)?;
+    finds_nothing_shorter::<S>(rt, alloc)?;
+    keeps_strings_apart::<S>(rt, alloc)
 }
 
 #[test]

@@ -31,14 +31,14 @@ pub(crate) fn touches<S: AmongSearch>(
     rt: &impl Abort,
     alloc: Global,
     machine: &Machine<S>,
+    meter: &mut Meter,
     word: &[char],
     limit: u32,
 ) -> Result<String, Fail>
     requires { length word.now ≤ max_word_length }
 {
-    let mut meter = Meter::new();
-    let ran = machine.run(alloc, &mut meter, word, limit)?;
-    let traced = machine.trace(alloc, &mut meter, word, limit)?;
+    let ran = machine.run(alloc, meter, word, limit)?;
+    let traced = machine.trace(alloc, meter, word, limit)?;
     assert!(rt; meter.count() == 2);
     assert!(rt; traced.outcome == ran.outcome && traced.used == ran.used);
     let (touched, used) = (&ran.touched, ran.used);

@@ -3,7 +3,7 @@
 ghost use Rattle.std.specs.Prelude.{◌≤◌, length};
 ghost use Rattle.sbl_semantics.specs.Limit.{max_word_length};
 
-use crate::tests::runs::{Asked, ask, machine_of, outcome_text};
+use crate::tests::runs::{Asked, answer, ask, machine_of, outcome_text};
 use sbl_machine::{AmongSearch, Machine, Meter, Table};
 use sbl_script::Script;
 use std::alloc::Global;
@@ -16,13 +16,14 @@ pub(crate) fn does<S: AmongSearch>(
     rt: &impl Abort,
     alloc: Global,
     machine: &Machine<S>,
+    meter: &mut Meter,
     word: &[char],
     limit: u32,
 ) -> Result<String, Fail>
     requires { length word.now ≤ max_word_length }
 {
     let why = machine.why(alloc, word, limit)?;
-    let ran = machine.run(alloc, &mut Meter::new(), word, limit)?;
+    let ran = machine.run(alloc, meter, word, limit)?;
     assert!(rt; why.outcome == ran.outcome && why.used == ran.used);
     let outcome = outcome_text(alloc, &ran.outcome)?;
     let integers = print_values(alloc, &why.integers)?;
@@ -68,7 +69,7 @@ fn after_an_edit_the_integers_are_those_of_the_new_body(rt: HostRuntime) -> Resu
     let edited = script.with_routine(alloc, "stem", "( $m = 3 $n -= 1 )");
     script.discard();
     let machine: Machine<Table> = machine_of(alloc, edited?)?;
-    let text = does(&rt, alloc, &machine, &['a', 'b'], 1_000);
+    let text = answer(&rt, alloc, Asked::Events, &machine, &['a', 'b'], 1_000);
     machine.discard();
     assert!(rt; text?.as_str().starts_with("ab|-1;3;0;|"));
     Ok(())

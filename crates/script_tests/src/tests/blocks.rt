@@ -2,6 +2,7 @@
 
 use sbl_places::{Part, ScriptFault, cut_at_part, offset_in_block};
 use std::alloc::{AllocError, Global};
+use std::process::Abort;
 use std::test::Fail;
 
 const UNDECLARED: ScriptFault = ScriptFault::Undeclared { item: 3 };
@@ -114,17 +115,20 @@ const ITEMS: &[&str] = &[
     "stringdef m 'x'",
 ];
 
+/// Asserts that a body and terms end before this item.
+fn ends_before(rt: &impl Abort, alloc: Global, item: &str) -> Result<(), Fail> {
+    let text = format!(in alloc; "define r as ( next or true ) {item} define v 'a' + 'e' {item}")?;
+    let body = part_in(alloc, text.as_str(), Part::Body("r"))?;
+    assert!(rt; body == Some(b"( next or true )".as_slice()), "{item}");
+    let terms = part_in(alloc, text.as_str(), Part::Terms("v"))?;
+    assert!(rt; terms == Some(b"'a' + 'e'".as_slice()), "{item}");
+    Ok(())
+}
+
 #[test]
 fn a_part_ends_before_the_next_item(rt: HostRuntime) -> Result<(), Fail> {
-    let alloc = rt.alloc();
     for item in ITEMS {
-        let text = format!(in alloc;
-            "define r as ( next or true ) {item} define v 'a' + 'e' {item}"
-        )?;
-        let body = part_in(alloc, text.as_str(), Part::Body("r"))?;
-        assert_eq!(rt; body, Some(b"( next or true )".as_slice()), "{item}");
-        let terms = part_in(alloc, text.as_str(), Part::Terms("v"))?;
-        assert_eq!(rt; terms, Some(b"'a' + 'e'".as_slice()), "{item}");
+        ends_before(&rt, rt.alloc(), item)?;
     }
     Ok(())
 }

@@ -5,6 +5,7 @@ use sbl_parser::parse;
 use sbl_script::{Command, Plain, ScriptItem};
 use sbl_text::{ScriptFault, tokens};
 use std::alloc::{AllocError, Global};
+use std::process::Abort;
 use std::test::Fail;
 use test_scripts::{FRONT, PLURALS, PORTER, discard, field};
 
@@ -68,17 +69,33 @@ stem|( next next|7 Syntax at 45
 stem|( $x 3 )|20 OutOfProfile at 36
 stem|get|7 Syntax at 34";
 
+/// Asserts what is shown of a text.
+fn is_shown(
+    rt: &impl Abort,
+    alloc: Global,
+    front: &str,
+    body: &str,
+    want: &str,
+) -> Result<(), Fail> {
+    let shown = shown(alloc, front, body)?;
+    assert!(rt; shown.as_str() == want, "{want}: {shown}");
+    Ok(())
+}
+
 #[test]
 fn texts_are_read_or_have_a_fault(rt: HostRuntime) -> Result<(), Fail> {
-    let alloc = rt.alloc();
-    assert_eq!(rt; shown(alloc, "", PLURALS)?.as_str(), "4");
-    assert_eq!(rt; shown(alloc, "", PORTER)?.as_str(), "9");
     for row in TEXTS.split('\n') {
         let front = if field(row, 0) == "stem" { FRONT } else { "" };
-        let shown = shown(alloc, front, field(row, 1))?;
-        assert_eq!(rt; shown.as_str(), field(row, 2), "{row}");
+        is_shown(&rt, rt.alloc(), front, field(row, 1), field(row, 2))?;
     }
-    let deep = repeated(alloc, "", "(", 100_000)?;
-    assert_eq!(rt; shown(alloc, FRONT, &deep)?.as_str(), "8 TooDeep at 98");
     Ok(())
+}
+
+#[test]
+fn long_and_deep_texts_are_read_or_have_a_fault(rt: HostRuntime) -> Result<(), Fail> {
+    let alloc = rt.alloc();
+    is_shown(&rt, alloc, "", PLURALS, "4")?;
+    is_shown(&rt, alloc, "", PORTER, "9")?;
+    let deep = repeated(alloc, "", "(", 100_000)?;
+    is_shown(&rt, alloc, FRONT, deep.as_str(), "8 TooDeep at 98")
 }

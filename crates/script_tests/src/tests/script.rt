@@ -58,19 +58,27 @@ externals ( stem ) define stem as next|2x|21 NoExternal
 externals ( stem ) define stem as next|next|21 NoExternal
 externals ( stem ) define stem as next|Stem|21 NoExternal";
 
+/// Asserts that a script has this fault, or is accepted if the fault is empty.
+fn has_fault(
+    rt: &impl Abort,
+    alloc: Global,
+    text: &[u8],
+    external: &str,
+    want: &str,
+) -> Result<(), Fail> {
+    let fault = fault_in(alloc, Script::parse(alloc, text, external))?;
+    assert!(rt; fault.as_str() == want, "{want}: {fault}");
+    Ok(())
+}
+
 #[test]
 fn a_script_is_accepted_or_has_its_first_fault(rt: HostRuntime) -> Result<(), Fail> {
-    let alloc = rt.alloc();
     for row in TEXTS.split('\n') {
         let text = field(row, 0).as_bytes();
-        let fault = fault_in(alloc, Script::parse(alloc, text, field(row, 1)))?;
-        assert_eq!(rt; fault.as_str(), field(row, 2), "{row}");
+        has_fault(&rt, rt.alloc(), text, field(row, 1), field(row, 2))?;
     }
-    let fault = fault_in(alloc, Script::parse(alloc, PORTER.as_bytes(), "stem"))?;
-    assert_eq!(rt; fault.as_str(), "");
-    let fault = fault_in(alloc, Script::parse(alloc, b"\xff", "stem"))?;
-    assert_eq!(rt; fault.as_str(), "23 NotUtf8");
-    Ok(())
+    has_fault(&rt, rt.alloc(), PORTER.as_bytes(), "stem", "")?;
+    has_fault(&rt, rt.alloc(), b"\xff", "stem", "23 NotUtf8")
 }
 
 /// A text, a part that follows so many times, and the fault.
@@ -85,8 +93,7 @@ fn texts_of_every_depth_and_length_have_an_answer(rt: HostRuntime) -> Result<(),
     let alloc = rt.alloc();
     for (front, part, count, want) in LONG {
         let text = repeated(alloc, front, part, *count)?;
-        let fault = fault_in(alloc, Script::parse(alloc, text.as_bytes(), "stem"))?;
-        assert_eq!(rt; fault.as_str(), *want, "{count}");
+        has_fault(&rt, alloc, text.as_bytes(), "stem", want)?;
     }
     Ok(())
 }

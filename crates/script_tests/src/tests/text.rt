@@ -5,6 +5,7 @@ use sbl_text::{
     read_literal, tokens,
 };
 use std::alloc::{AllocError, Global};
+use std::process::Abort;
 use std::test::Fail;
 use test_scripts::{letters, print_values, text_of};
 
@@ -112,22 +113,25 @@ const VALUES: &[(&str, &str)] = &[
     ("'{a}'", "{a}"),
 ];
 
-#[test]
-fn texts_are_cut_into_tokens(rt: HostRuntime) -> Result<(), Fail> {
-    for (asked, rows) in [
-        (Asked::Texts, TEXTS),
-        (Asked::Tokens, TOKENS),
-        (Asked::Value, VALUES),
-    ] {
-        for (text, want) in rows {
-            assert_eq!(rt;
-                shown(rt.alloc(), text, asked)?.as_str(),
-                *want,
-                "in {text:?}"
-            );
-        }
+/// Asserts what is shown of each text.
+fn are_shown(
+    rt: &impl Abort,
+    alloc: Global,
+    asked: Asked,
+    rows: &[(&str, &str)],
+) -> Result<(), Fail> {
+    for (text, want) in rows {
+        let shown = shown(alloc, text, asked)?;
+        assert!(rt; shown.as_str() == *want, "{shown} in {text:?}");
     }
     Ok(())
+}
+
+#[test]
+fn texts_are_cut_into_tokens(rt: HostRuntime) -> Result<(), Fail> {
+    are_shown(&rt, rt.alloc(), Asked::Texts, TEXTS)?;
+    are_shown(&rt, rt.alloc(), Asked::Tokens, TOKENS)?;
+    are_shown(&rt, rt.alloc(), Asked::Value, VALUES)
 }
 
 /// Returns what a lexer gives in turn, so many times.
@@ -234,20 +238,36 @@ const LITERALS: &[(&str, &str)] = &[
     ("'{zz}", "1 BadCharacter at 0"),
 ];
 
-#[test]
-fn a_literal_is_read_under_the_escapes_in_force(rt: HostRuntime) -> Result<(), Fail> {
-    let alloc = rt.alloc();
-    let mut escapes = Escapes::new(alloc);
+/// Asserts what each literal means under these escapes.
+fn are_read(rt: &impl Abort, alloc: Global, escapes: &Escapes) -> Result<(), Fail> {
+    for (spelling, want) in LITERALS {
+        let value = read_literal(alloc, escapes, spelling);
+        let shown = read_text(alloc, value)?;
+        assert!(rt; shown.as_str() == *want, "{shown} in {spelling:?}");
+    }
+    Ok(())
+}
+
+/// Asserts what a lexer gives under these escapes.
+fn is_read(rt: &impl Abort, alloc: Global, escapes: &Escapes) -> Result<(), Fail> {
+    let mut lexer = Lexer::with_escapes(alloc, "'{ss}'", escapes)?;
+    let shown = nexts(alloc, &mut lexer, 2)?;
+    assert!(rt; shown.as_str() == "Literal 0 6 {ss} \u{df};none;");
+    Ok(())
+}
+
+/// Defines a macro, and reads literals.
+fn read_under(rt: &impl Abort, alloc: Global, escapes: &mut Escapes) -> Result<(), Fail> {
     escapes.set('{', '}');
     escapes.define("ss", &['\u{df}'])?;
-    for (spelling, want) in LITERALS {
-        let value = read_literal(alloc, &escapes, spelling);
-        assert_eq!(rt; read_text(alloc, value)?.as_str(), *want, "in {spelling:?}");
-    }
-    let mut lexer = Lexer::with_escapes(alloc, "'{ss}'", &escapes)?;
-    let want = "Literal 0 6 {ss} \u{df};none;";
-    assert_eq!(rt; nexts(alloc, &mut lexer, 2)?.as_str(), want);
-    Ok(())
+    are_read(rt, alloc, escapes)?;
+    is_read(rt, alloc, escapes)
+}
+
+#[test]
+fn a_literal_is_read_under_the_escapes_in_force(rt: HostRuntime) -> Result<(), Fail> {
+    let mut escapes = Escapes::new(rt.alloc());
+    read_under(&rt, rt.alloc(), &mut escapes)
 }
 
 /// Whether codes are in base 16, the codes, and their characters.
