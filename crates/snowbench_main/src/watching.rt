@@ -3,16 +3,14 @@
 
 ghost use Rattle.std.specs.Io.{ReadsAtMost};
 
-use crate::faults::file_text;
 use crate::messages::print_line;
-use crate::talk::{Commands, PROMPT, Talk};
-use sbl_diagnostics::{TypedBlock, part_text, whole_text};
-use sbl_places::Part;
-use sbl_sessions::{Target, block_word, target_of};
+use crate::talk::{PROMPT, Talk};
+use sbl_diagnostics::{TypedBlock, fault_of, part_text, script_fault_text, whole_text};
+use sbl_sessions::{block_word, target_of};
+use sbl_work::part_of;
 use std::alloc::{AllocError, Global};
 use std::cell::RefCell;
 use std::io::{Read, Write};
-use std::rt::Files;
 use std::{fs, io};
 
 /// The line that asks for the script in force.
@@ -20,23 +18,21 @@ const QUESTION: &[u8] = b"script\n";
 
 /// What is known of a run beside its input.
 #[derive(Clone, Copy)]
-pub struct Context<'a> {
-    /// The external that is run.
-    pub external: &'a str,
+pub(crate) struct Context<'a> {
+    pub(crate) external: &'a str,
     /// The name of the text in which the commands are, if it is shown.
-    pub input: Option<&'a str>,
+    pub(crate) input: Option<&'a str>,
     /// The file that `reload` reads.
-    pub script: Option<&'a str>,
+    pub(crate) script: Option<&'a str>,
     /// Whether a prompt is written before each command.
-    pub prompts: bool,
+    pub(crate) prompts: bool,
 }
 
 /// A reader that reads a line at most at a time, and shows places.
 #[derive(Drop)]
-pub struct WatchedReader<'a, H, C, R> {
-    rt: &'a H,
+pub(crate) struct WatchedReader<'a, R> {
+    rt: &'a HostRuntime,
     context: Context<'a>,
-    commands: C,
     inner: R,
     chunk: Vec<u8>,
     at: usize,
@@ -66,10 +62,7 @@ fn line_length(bytes: &[u8]) -> usize {
 }
 
 /// Returns the lines on the fault of the file of the script, if it has one.
-fn reload_text<H: Files + AllocGlobal>(
-    rt: &H,
-    context: Context<'_>,
-) -> Result<Option<String>, AllocError> {
+fn reload_text(rt: &HostRuntime, context: Context<'_>) -> Result<Option<String>, AllocError> {
     let Some(path) = context.script else {
         return Ok(None);
     };
@@ -79,12 +72,16 @@ fn reload_text<H: Files + AllocGlobal>(
     file_text(rt.alloc(), path, &text, context.external)
 }
 
-/// Returns the part of a script that a target is.
-fn part_of(target: &Target) -> Part<'_> {
-    match target {
-        Target::Body(name) => Part::Body(name.as_str()),
-        Target::Among(name, k) => Part::Among(name.as_str(), *k),
-        Target::Terms(name) => Part::Terms(name.as_str()),
+/// Returns the lines on the fault of a script in a file, if it has one.
+pub(crate) fn file_text(
+    alloc: Global,
+    path: &str,
+    text: &[u8],
+    external: &str,
+) -> Result<Option<String>, AllocError> {
+    match fault_of(alloc, text, external) {
+        Some(fault) => Ok(Some(script_fault_text(alloc, path, text, external, fault)?)),
+        None => Ok(None),
     }
 }
 
@@ -116,7 +113,7 @@ fn block_text<'x>(
 }
 
 /// Shows what is wrong with what was refused. If there is no memory for it, nothing is shown.
-fn show<H: Files + Print + Eprint + AllocGlobal>(rt: &H, context: Context<'_>, talk: &Talk) {
+fn show(rt: &HostRuntime, context: Context<'_>, talk: &Talk) {
     let text = if talk.command() == b"reload".as_slice() {
         reload_text(rt, context)
     } else {
@@ -126,30 +123,23 @@ fn show<H: Files + Print + Eprint + AllocGlobal>(rt: &H, context: Context<'_>, t
         print_line(rt, Ok(text), 0);
     }
     if context.prompts {
-        let mut output = io::writer(rt);
+        let mut output = rt.stdout();
         let _ = output.write_all(PROMPT);
     }
 }
 
-impl<'a, H, C, R> WatchedReader<'a, H, C, R>
-where
-    H: Files + Print + Eprint + AllocGlobal,
-    C: Commands + Drop,
-    R: Drop,
-{
+impl<'a, R: Drop> WatchedReader<'a, R> {
     /// Returns the reader before its first read. Returns `AllocError` if an allocation fails.
-    pub fn new(
-        rt: &'a H,
+    pub(crate) fn new(
+        rt: &'a HostRuntime,
         context: Context<'a>,
-        commands: C,
         inner: R,
         talk: &'a RefCell<Talk>,
-    ) -> Result<WatchedReader<'a, H, C, R>, AllocError> {
+    ) -> Result<WatchedReader<'a, R>, AllocError> {
         let chunk = vec![in rt.alloc(); 0u8; CHUNK]?;
         Ok(WatchedReader {
             rt,
             context,
-            commands,
             inner,
             chunk,
             at: 0,
@@ -185,7 +175,7 @@ where
     /// Notes bytes that were given.
     fn note(&mut self, bytes: &[u8]) {
         if let Ok(mut talk) = self.talk.try_borrow_mut() {
-            talk.note_input(&self.commands, bytes);
+            talk.note_input(bytes);
         }
         self.at = self.at.saturating_add(bytes.len());
     }
@@ -199,12 +189,7 @@ where
     }
 }
 
-impl<H, C, R> Read for WatchedReader<'_, H, C, R>
-where
-    H: Files + Print + Eprint + AllocGlobal,
-    C: Commands + Drop,
-    R: Read + Drop,
-{
+impl<R: Read + Drop> Read for WatchedReader<'_, R> {
     fn read(&mut self, buf: &mut [u8]) -> io::Result<usize> {
         if self.asks(buf.len()) {
             return give(QUESTION, buf);
@@ -235,19 +220,19 @@ where
 
 /// A writer that holds back the reply to the question, and a prompt after a refusal.
 #[derive(Drop)]
-pub struct Quiet<'a, W> {
+pub(crate) struct Quiet<'a, W> {
     inner: W,
     talk: &'a RefCell<Talk>,
 }
 
 impl<'a, W> Quiet<'a, W> {
     /// Returns the writer before its first write.
-    pub fn new(inner: W, talk: &'a RefCell<Talk>) -> Quiet<'a, W> {
+    pub(crate) fn new(inner: W, talk: &'a RefCell<Talk>) -> Quiet<'a, W> {
         Quiet { inner, talk }
     }
 
     /// Returns the inner writer.
-    pub fn into_inner(self) -> W {
+    pub(crate) fn into_inner(self) -> W {
         self.inner
     }
 }

@@ -10,14 +10,14 @@ const MOST_KEPT: usize = 2_097_152;
 
 /// The first bytes that were read, and whether they are all.
 #[derive(Drop)]
-pub struct FirstBytes {
+pub(crate) struct FirstBytes {
     bytes: Vec<u8>,
     is_whole: bool,
 }
 
 impl FirstBytes {
     /// Returns no bytes. More are kept only if they are wanted.
-    pub fn new(alloc: Global, is_wanted: bool) -> FirstBytes {
+    pub(crate) fn new(alloc: Global, is_wanted: bool) -> FirstBytes {
         FirstBytes {
             bytes: Vec::new(alloc),
             is_whole: is_wanted,
@@ -48,14 +48,14 @@ impl FirstBytes {
 
 /// A reader that keeps the first bytes that it reads.
 #[derive(Drop)]
-pub struct Front<'a, R> {
+pub(crate) struct Front<'a, R> {
     inner: R,
     kept: &'a RefCell<FirstBytes>,
 }
 
 impl<'a, R> Front<'a, R> {
     /// Returns the reader before its first read.
-    pub fn new(inner: R, kept: &'a RefCell<FirstBytes>) -> Front<'a, R> {
+    pub(crate) fn new(inner: R, kept: &'a RefCell<FirstBytes>) -> Front<'a, R> {
         Front { inner, kept }
     }
 }
@@ -175,7 +175,7 @@ fn short_feed_count(bytes: &[u8]) -> u8 {
 
 /// A writer, and what the lines written to it were.
 #[derive(Drop)]
-pub struct Output<W> {
+pub(crate) struct Output<W> {
     inner: W,
     seen: LineCounts,
     is_closed: bool,
@@ -183,7 +183,7 @@ pub struct Output<W> {
 
 impl<W> Output<W> {
     /// Returns the writer before its first write.
-    pub fn new(inner: W) -> Output<W> {
+    pub(crate) fn new(inner: W) -> Output<W> {
         let seen = LineCounts {
             part: LinePart::Nothing,
             lines: 0,

@@ -1,8 +1,7 @@
 //! What is said between an input and the replies to it: which block a reply refuses.
-ghost use Rattle.std.specs.Prelude.{◌≡◌};
-ghost use Rattle.sbl_io.specs.LinesOf.{without_carriage_return};
 
 use sbl_sessions::block_word;
+use sbl_work::block_request;
 use std::alloc::Global;
 
 /// How many bytes of a line, of a block or of a script are kept; longer ones are refused (our own choice).
@@ -23,25 +22,9 @@ enum Next {
     Block,
 }
 
-/// The commands of an input.
-pub trait Commands {
-    /// Returns whether a block follows a command.
-    fn asks_block(&self, alloc: Global, line: &[u8]) -> bool;
-}
-
-/// The commands of sessions.
-#[derive(Clone, Copy)]
-pub struct SessionCommands;
-
-impl Commands for SessionCommands {
-    fn asks_block(&self, _alloc: Global, line: &[u8]) -> bool {
-        block_word(line).is_some()
-    }
-}
-
 /// What the lines of the input are.
 #[derive(Clone, Copy, PartialEq, Eq)]
-pub enum Lead {
+pub(crate) enum Lead {
     /// A script, words, and commands. All lines are counted.
     Session,
     /// A script, words, and commands. The commands are a text of their own.
@@ -52,7 +35,7 @@ pub enum Lead {
 
 /// The last command with its block, the first bytes of its reply, and the script in force if it was asked for.
 #[derive(Drop)]
-pub struct Talk {
+pub(crate) struct Talk {
     alloc: Global,
     lead: Lead,
     next: Next,
@@ -73,10 +56,8 @@ fn push(kept: &mut Vec<u8>, bytes: &[u8]) -> bool {
     bytes.len() <= MOST_KEPT.saturating_sub(kept.len()) && kept.extend_from_slice(bytes).is_ok()
 }
 
-/// Returns the line without a carriage return at its end.
-fn cut_end(line: &[u8]) -> &[u8]
-    ensures { result.now ≡ without_carriage_return line.now }
-{
+/// Returns the line without its end.
+fn cut_end(line: &[u8]) -> &[u8] {
     match line.split_last() {
         Some((b'\r', rest)) => rest,
         _ => line,
@@ -85,7 +66,7 @@ fn cut_end(line: &[u8]) -> &[u8]
 
 impl Talk {
     /// Returns the talk before its first line.
-    pub fn new(alloc: Global, lead: Lead) -> Talk {
+    pub(crate) fn new(alloc: Global, lead: Lead) -> Talk {
         let next = if lead == Lead::Work {
             Next::Command
         } else {
@@ -167,7 +148,7 @@ impl Talk {
     }
 
     /// Notes bytes of the input, which are in one line.
-    pub(crate) fn note_input<C: Commands>(&mut self, commands: &C, bytes: &[u8]) {
+    pub(crate) fn note_input(&mut self, bytes: &[u8]) {
         let (part, ends) = match bytes.split_last() {
             Some((b'\n', rest)) => (rest, true),
             _ => (bytes, false),
@@ -176,20 +157,20 @@ impl Talk {
             self.is_lost = true;
         }
         if ends {
-            self.note_line(commands);
+            self.note_line();
             self.line.clear();
         }
     }
 
     /// Notes the end of a line.
-    fn note_line<C: Commands>(&mut self, commands: &C) {
+    fn note_line(&mut self) {
         self.rows = self.rows.saturating_add(1);
         let is_point = cut_end(&self.line) == b".".as_slice();
         match self.next {
             Next::Script if is_point => self.next = Next::Words,
             Next::Words if is_point => self.begin_commands(),
             Next::Script | Next::Words => {}
-            Next::Command => self.note_command(commands),
+            Next::Command => self.note_command(),
             Next::Block if is_point => {
                 self.next = Next::Command;
                 self.reply.clear();
@@ -211,12 +192,12 @@ impl Talk {
     }
 
     /// Notes a line with a command.
-    fn note_command<C: Commands>(&mut self, commands: &C) {
+    fn note_command(&mut self) {
         self.reply.clear();
         self.command.clear();
         self.block.clear();
         self.is_lost = !push(&mut self.command, cut_end(&self.line));
-        self.has_block = commands.asks_block(self.alloc, &self.command);
+        self.has_block = asks_block(self.alloc, self.lead, &self.command);
         if self.has_block {
             self.next = Next::Block;
             self.block_row = self.rows.saturating_add(1);
@@ -241,5 +222,14 @@ impl Talk {
         if !push(&mut self.reply, first) {
             self.is_lost = true;
         }
+    }
+}
+
+/// Returns whether a block follows a command.
+fn asks_block(alloc: Global, lead: Lead, line: &[u8]) -> bool {
+    if lead == Lead::Work {
+        block_request(alloc, line).is_some()
+    } else {
+        block_word(line).is_some()
     }
 }

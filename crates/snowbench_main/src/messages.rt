@@ -1,17 +1,16 @@
 //! Lines on standard error.
-ghost use Rattle.std.specs.Prelude.{◌≡◌, ◌⊎◌};
 
 use sbl_diagnostics::plain_text;
 use std::alloc::{AllocError, Global};
 
 /// The exit status if the command line is refused, and also after help.
-pub const REFUSED: u8 = 2;
+pub(crate) const REFUSED: u8 = 2;
 
 /// The exit status after a fault or a difference.
 pub(crate) const FAILED: u8 = 1;
 
-/// The text that is printed if an allocation fails.
-const NO_MEMORY: &str = "snowbench: 49 OutOfMemory";
+/// The text that is printed if an allocation fails before anything was read.
+pub(crate) const NO_MEMORY: &str = "snowbench: 49 OutOfMemory";
 
 /// The line that is printed if the system gives no random numbers. The keys of the hash of words are made of them.
 pub(crate) const NO_KEYS: &str = "error: the system gives no random numbers\n";
@@ -35,15 +34,13 @@ pub(crate) fn count_and_word(
 }
 
 /// Prints a text without characters that a terminal obeys, and then an end. Returns the status. If an allocation has failed, it prints
-/// that, and returns 1.
-pub fn print_text<H: Eprint + AllocGlobal>(
-    rt: &H,
+/// that.
+pub(crate) fn print_text(
+    rt: &HostRuntime,
     text: Result<String, AllocError>,
     end: &str,
     status: u8,
-) -> u8
-    ensures { (result ≡ status) ⊎ (result ≡ 1) }
-{
+) -> u8 {
     let shown = match text {
         Ok(text) => plain_text(rt.alloc(), text.as_str()),
         Err(error) => Err(error),
@@ -57,29 +54,13 @@ pub fn print_text<H: Eprint + AllocGlobal>(
     }
 }
 
-/// Prints a line, and returns the status. If an allocation has failed, it prints that, and returns 1.
-pub(crate) fn print_line<H: Eprint + AllocGlobal>(
-    rt: &H,
-    line: Result<String, AllocError>,
-    status: u8,
-) -> u8
-    ensures { (result ≡ status) ⊎ (result ≡ 1) }
-{
+/// Prints a line, and returns the status. If an allocation has failed, it prints that.
+pub(crate) fn print_line(rt: &HostRuntime, line: Result<String, AllocError>, status: u8) -> u8 {
     print_text(rt, line, "\n", status)
 }
 
-/// Prints that an allocation failed, and returns the exit status.
-pub fn fail_memory(rt: &impl Eprint) -> u8
-    ensures { result ≡ 1 }
-{
+/// Prints that an allocation failed, and returns the status.
+pub(crate) fn fail_memory(rt: &HostRuntime) -> u8 {
     let _ = eprintln!(rt; "{NO_MEMORY}");
-    FAILED
-}
-
-/// Prints that the system gives no random numbers, and returns the exit status.
-pub fn fail_keys(rt: &impl Eprint) -> u8
-    ensures { result ≡ 1 }
-{
-    let _ = eprint!(rt; "{NO_KEYS}");
     FAILED
 }

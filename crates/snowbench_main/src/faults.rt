@@ -3,13 +3,12 @@
 use crate::blocks::{after_point, long_line, point_line};
 use crate::file_names::{FileNames, STANDARD_INPUT, file_name};
 use crate::messages::count_and_word;
-use crate::run_request::{InputKind, RunRequest};
 use crate::run_result::RunResult;
 use sbl_bench::MAX_WORD_LENGTH;
 use sbl_diagnostics::{fault_of, offset_of_byte, push_conversion, push_named, script_fault_text};
 use sbl_formats::read_script;
-use sbl_io::{Device, Lines};
 use sbl_places::position_of;
+use snowbench::{CommandLine, Device, Lines, Verb};
 use std::alloc::{AllocError, Global};
 
 /// The line of an input that is cut inside a block.
@@ -25,16 +24,16 @@ const TOO_LONG: &[u8] = b"snowbench: 43 WordTooLong\n";
 /// standard input.
 pub(crate) fn run_fault_text(
     alloc: Global,
-    request: RunRequest<'_>,
+    command_line: &CommandLine,
     names: Option<FileNames<'_>>,
     input: &[u8],
     ended: &RunResult,
 ) -> Result<Option<String>, AllocError> {
     let said = ended.said.as_slice();
     if said == CUT {
-        return format!(in alloc; "  {}", cut_text(request.kind, input)).map(Some);
+        return format!(in alloc; "  {}", cut_text(command_line.verb, input)).map(Some);
     }
-    if request.kind == InputKind::Filter && (said == NOT_TEXT || said == TOO_LONG) {
+    if command_line.verb == Verb::Filter && (said == NOT_TEXT || said == TOO_LONG) {
         let rows = count_and_word(alloc, ended.rows, "row", "rows")?;
         return format!(in alloc; "  it is the word after {rows}").map(Some);
     }
@@ -48,7 +47,7 @@ pub(crate) fn run_fault_text(
         Some(names) => file_name(names.script),
         None => STANDARD_INPUT,
     };
-    script_text(alloc, request.external, title, input, said)
+    script_text(alloc, command_line.external.as_str(), title, input, said)
 }
 
 /// Returns which line of the words, or of what follows them, is not UTF-8, and how to convert it. In standard input lines are counted
@@ -138,39 +137,26 @@ fn script_text(
     Ok(Some(script_fault_text(alloc, title, &text, external, fault)?))
 }
 
-/// Returns the lines on the fault of a script in a file, if it has one.
-pub(crate) fn file_text(
-    alloc: Global,
-    path: &str,
-    text: &[u8],
-    external: &str,
-) -> Result<Option<String>, AllocError> {
-    match fault_of(alloc, text, external) {
-        Some(fault) => Ok(Some(script_fault_text(alloc, path, text, external, fault)?)),
-        None => Ok(None),
-    }
-}
-
 /// Returns what an input lacks that is cut inside a block.
-fn cut_text(kind: InputKind, input: &[u8]) -> &'static str {
+fn cut_text(verb: Verb, input: &[u8]) -> &'static str {
     if point_line(input).is_none() {
         return "the input ends inside the script: a line that is a single point ends the script";
     }
-    if kind == InputKind::Check {
+    if verb == Verb::Check {
         return "the input ends inside the words: a line that is a single point ends them";
     }
     "the input ends inside a block: a line that is a single point ends it"
 }
 
 /// Returns what to say about an input that is not read to its end, because a point is missing or is one too many.
-pub(crate) fn hint(kind: InputKind, input: &[u8]) -> Option<&'static str> {
+pub(crate) fn hint(verb: Verb, input: &[u8]) -> Option<&'static str> {
     let words = after_point(input)?;
     let rest = after_point(words);
-    match (kind, rest) {
-        (InputKind::Session, None) => Some(
+    match (verb, rest) {
+        (Verb::Session, None) => Some(
             "snowbench: no line is read as a command: a line that is a single point ends the words",
         ),
-        (InputKind::Stem, Some(rest)) if has_text(rest) => {
+        (Verb::Stem, Some(rest)) if has_text(rest) => {
             Some("snowbench: what follows the words is not read: stem takes no commands")
         }
         _ => None,
