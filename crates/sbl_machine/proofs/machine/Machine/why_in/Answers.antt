@@ -8,7 +8,7 @@ use Rattle.sbl_interpreter.specs.Run.{calls}
 use Rattle.sbl_semantics.specs.State.{State}
 use Rattle.sbl_machine.proofs.SoundRuns.{telling_of, telling_same}
 use Rattle.sbl_machine.proofs.WhyLaw.{events_change_nothing}
-use Rattle.sbl_machine.proofs.machine.Machine.why.Goals as goal
+use Rattle.sbl_machine.proofs.machine.Machine.why_in.Goals as goal
 
 pub returns-clause-outcome : goal.returns-clause-outcome
 unfolding IsMachineOf

@@ -8,7 +8,7 @@ use Rattle.sbl_script.specs.ParsedScript.{source_of}
 use Rattle.sbl_script.specs.SpelledScript.{AreSpelled, IsSpelled}
 use Rattle.sbl_script.proofs.Shallow.{items_shallow}
 use Rattle.sbl_script.proofs.Spelled.{definition_replaced}
-use Rattle.sbl_script.proofs.script.Script.with_definition.Goals as goal
+use Rattle.sbl_script.proofs.script.Script.with_plain.Goals as goal
 
 pub check_tree-requires-clause-shallow : goal.check_tree-requires-clause-shallow
 check_tree-requires-clause-shallow c =
