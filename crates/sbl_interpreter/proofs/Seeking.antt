@@ -1,14 +1,19 @@
--- A test of a grouping that signals f moves nothing, and what follows it in `goto` and `gopast`.
-use Rattle.std.proofs.Common.{◌≡◌, ℕ, zero, suc, ◌+◌, ◌-◌, ◌≤◌, Bool, true, false, length, refl, sym, ap, ◌∙◌, arith}
-use Rattle.std.specs.Prelude.{nat_le, nat_lt, if◌then◌else◌, slice_get}
-use Rattle.std.proofs.lemmas.Bool.{le-leb, leb-true}
+-- A test of a grouping that signals f moves nothing, and what follows it in `goto` and `gopast`; only the first test touches.
+use Rattle.std.proofs.Common.{◌≡◌, ℕ, zero, suc, ◌+◌, ◌-◌, ◌<◌, ◌≤◌, Bool, true, false, List, [], ◌∷◌, ◌++◌, length, refl, sym, ap, ◌∙◌, arith}
+use Rattle.std.specs.Prelude.{◌||◌, nat_le, nat_lt, if◌then◌else◌, slice_get}
+use Rattle.std.specs.List.{list_any}
+use Rattle.std.proofs.lemmas.Bool.{eq-eqb, le-leb, leb-true}
 use Rattle.sbl_ast.specs.declared.mode.Mode.{Mode}
 use Rattle.sbl_ast.specs.declared.mode.Mode.TheVariants.{Forward, Backward}
-use Rattle.sbl_semantics.specs.declared.fault.RunFault.TheVariants.{Cursor}
+use Rattle.sbl_semantics.specs.declared.fault.RunFault.TheVariants.{Cursor, Steps}
+use Rattle.sbl_semantics.specs.declared.touch.Touch.{Touch}
+use Rattle.sbl_semantics.specs.declared.touch.Touch.TheVariants.{Tested}
 use Rattle.sbl_interpreter.specs.Actions.{test_grouping}
-use Rattle.sbl_semantics.specs.Moves.{next, next_is, touch_grouping}
+use Rattle.sbl_interpreter.proofs.Marked.{with_by}
+use Rattle.sbl_semantics.specs.Moves.{next, next_is, one_of, touch_grouping}
 use Rattle.sbl_semantics.specs.Control.{end_search, pay_first, seeks}
-use Rattle.sbl_semantics.specs.State.{State, Ending, Doing, Signals, Stops, after, then_on, pay, ahead, move_cursor, at_place, saved_cursor, put_back}
+use Rattle.sbl_semantics.specs.State.{State, Ending, Doing, Signals, Stops, after, then_on, pay, ahead, move_cursor, at_place, room, saved_cursor, put_back}
+use Rattle.sbl_semantics.specs.Touches.{same_touch, with_touch}
 
 -- a test that is not met
 less_if : (a b : ℕ) (t : Bool) → nat_lt a b ≡ t → b ≤ a → t ≡ false
@@ -57,3 +62,70 @@ last_try n past c m s f b new w e p x h =
     ∙ ap (λ r. after r (end_search past m s) (λ f. then_on (put_back m (saved_cursor s) f) go)) e
     ∙ ap (λ r. then_on r go) p
     ∙ ap (λ r. after r (seeks n past c m) (Signals false)) x
+
+-- ---- a grouping that is touched already
+
+or_true : (b : Bool) → (b || true) ≡ true
+or_true true = refl
+or_true false = refl
+
+any_last : (g : ℕ) (ts : List Touch) → list_any (same_touch (Tested g)) (ts ++ (Tested g ∷ [])) ≡ true
+any_last g [] = ap (λ b. b || false) (eq-eqb g g refl)
+any_last g (t ∷ ts) = ap (λ b. same_touch (Tested g) t || b) (any_last g ts) ∙ or_true (same_touch (Tested g) t)
+
+-- a grouping that is touched again stays as it is
+pub touched_twice : (g : ℕ) (ts : List Touch) → with_touch (Tested g) (with_touch (Tested g) ts) ≡ with_touch (Tested g) ts
+touched_twice g ts = by (list_any (same_touch (Tested g)) ts) refl
+  where
+    by : (b : Bool) → list_any (same_touch (Tested g)) ts ≡ b → with_touch (Tested g) (with_touch (Tested g) ts) ≡ with_touch (Tested g) ts
+    by true h = ap (with_touch (Tested g)) (with_by (Tested g) ts true h)
+    by false h =
+        let one : with_touch (Tested g) ts ≡ ts ++ (Tested g ∷ []) = with_by (Tested g) ts false h in
+        ap (with_touch (Tested g)) one ∙ with_by (Tested g) (ts ++ (Tested g ∷ [])) true (any_last g ts) ∙ sym one
+
+touched_if : (b : Bool) (x s new : State) (r : Bool) → x.touched ≡ s.touched → (if b then Signals true x else Signals false s) ≡ Signals r new → new.touched ≡ s.touched
+touched_if true x s new r h e = let same : x ≡ new = cc in sym (ap (λ (t : State). t.touched) same) ∙ h
+touched_if false x s new r h e = let same : s ≡ new = cc in sym (ap (λ (t : State). t.touched) same)
+
+moved_touched : (m : Mode) (n : ℕ) (s : State) → (move_cursor m n s).touched ≡ s.touched
+moved_touched Forward n s = refl
+moved_touched Backward n s = refl
+
+-- a move touches nothing
+pub next_touched : (m : Mode) (s new : State) (r : Bool) → next m s ≡ Signals r new → new.touched ≡ s.touched
+next_touched m s new r e = touched_if (nat_le 1 (room m s)) (move_cursor m 1 s) s new r (moved_touched m 1 s) e
+
+test_touched_at : (k : ℕ) (wanted : Bool) (class : ℕ → Bool) (g : ℕ) (m : Mode) (s new : State) (r : Bool) → then_on (pay k s) (test_grouping wanted class g m) ≡ Signals r new → new.touched ≡ with_touch (Tested g) s.touched
+test_touched_at zero wanted class g m s new r e = let no : ⊥ = cc in absurd no
+test_touched_at (suc k) wanted class g m s new r e =
+    let t = touch_grouping g (record s { steps = k }) in
+    touched_if (next_is wanted class (slice_get (ahead m t) 0)) (move_cursor m 1 t) t new r (moved_touched m 1 t) e
+
+-- what a test touches
+pub test_touched : (wanted : Bool) (class : ℕ → Bool) (g : ℕ) (m : Mode) (s new : State) (r : Bool) → pay_first (test_grouping wanted class g) m s ≡ Signals r new → new.touched ≡ with_touch (Tested g) s.touched
+test_touched wanted class g m s new r e = test_touched_at s.steps wanted class g m s new r e
+
+-- a paid test of a grouping that is touched already
+pub tested_at : (k : ℕ) (wanted : Bool) (class : ℕ → Bool) (g : ℕ) (m : Mode) (s u new : State) (r : Bool) → with_touch (Tested g) s.touched ≡ s.touched → pay k s ≡ Signals true u → one_of wanted class m u ≡ Signals r new → then_on (pay k s) (test_grouping wanted class g m) ≡ Signals r new
+tested_at zero wanted class g m s u new r w p e = let no : ⊥ = cc in absurd no
+tested_at (suc k) wanted class g m s u new r w p e =
+    let same : record s { steps = k } ≡ u = cc in
+    ap (λ ts. one_of wanted class m (record s { steps = k; touched = ts })) w ∙ ap (one_of wanted class m) same ∙ e
+
+first_by : (n : ℕ) (wanted : Bool) (class : ℕ → Bool) (g : ℕ) (m : Mode) (s : State) → 0 < n → then_on (pay n s) (test_grouping wanted class g m) ≡ then_on (pay n (touch_grouping g s)) (test_grouping wanted class g m)
+first_by zero wanted class g m s l = absurd (omega arith)
+first_by (suc k) wanted class g m s l = ap (λ ts. one_of wanted class m (record s { steps = k; touched = ts })) (sym (touched_twice g s.touched))
+
+-- the grouping may be touched before the first test, if that is paid
+pub touched_before : (n : ℕ) (past wanted : Bool) (class : ℕ → Bool) (g : ℕ) (m : Mode) (s : State) → 0 < s.steps → seeks (suc n) past (pay_first (test_grouping wanted class g)) m s ≡ seeks (suc n) past (pay_first (test_grouping wanted class g)) m (touch_grouping g s)
+touched_before n past wanted class g m s l =
+    let c = pay_first (test_grouping wanted class g) in
+    let go = λ (b : State). after (next m b) (seeks n past c m) (Signals false) in
+    ap (λ r. after r (end_search past m s) (λ f. then_on (put_back m (saved_cursor s) f) go)) (first_by s.steps wanted class g m s l)
+
+-- if no step is left, the first test is refused
+pub unpaid : (n : ℕ) (past wanted : Bool) (class : ℕ → Bool) (g : ℕ) (m : Mode) (s : State) → s.steps ≡ 0 → seeks (suc n) past (pay_first (test_grouping wanted class g)) m s ≡ Stops Steps s
+unpaid n past wanted class g m s z =
+    let c = pay_first (test_grouping wanted class g) in
+    let go = λ (b : State). after (next m b) (seeks n past c m) (Signals false) in
+    ap (λ k. after (then_on (pay k s) (test_grouping wanted class g m)) (end_search past m s) (λ f. then_on (put_back m (saved_cursor s) f) go)) z
