@@ -3,8 +3,7 @@
 use crate::declarations::{DeclaredName, declaration_of, declared_in};
 use crate::foreign::advice_on;
 use crate::grammar::{Outlook, Symbol, is_constant};
-use crate::sentences::Faulty;
-use crate::sites::{Site, push_advice};
+use crate::sites::{Site, push_advice, push_text};
 use sbl_text::{Kind, Lexer, Sign, Token, Word};
 use std::alloc::{AllocError, Global};
 
@@ -20,10 +19,10 @@ pub(crate) fn push_number(
     let token = site.spot.token;
     match site.spot.kind {
         Some(Kind::Word(word)) if is_constant(word) => {
-            let sentence = format!(in alloc;
-                "Numbers are compared in $( .. ), as in $( {token} > 2 )."
-            )?;
-            push_advice(shown, sentence.as_str())
+            push_text(
+                shown,
+                format!(in alloc; "Numbers are compared in $( .. ), as in $( {token} > 2 ).")?,
+            )
         }
         Some(Kind::Word(Word::LenOf)) => {
             push_advice(
@@ -99,8 +98,7 @@ pub(crate) fn push_rows(
     if !outlook.offers(Symbol::Joiners) {
         if site.is_at_joiner() {
             let word = site.spot.token;
-            let sentence = format!(in alloc; "Before {word} comes a command.")?;
-            return push_advice(shown, sentence.as_str());
+            return push_text(shown, format!(in alloc; "Before {word} comes a command.")?);
         }
         return push_advice(shown, "After ( comes a command or ).");
     }
@@ -119,8 +117,10 @@ pub(crate) fn push_names(
     match site.spot.kind {
         Some(Kind::Word(_)) => {
             let word = site.spot.token;
-            let sentence = format!(in alloc; "{word} is a reserved word: take another name.")?;
-            push_advice(shown, sentence.as_str())
+            push_text(
+                shown,
+                format!(in alloc; "{word} is a reserved word: take another name.")?,
+            )
         }
         Some(Kind::Number | Kind::Sign(Sign::Minus)) => push_advice(shown, NAMES),
         _ => push_advice(shown, "Names come here, and then )."),
@@ -135,8 +135,10 @@ pub(crate) fn push_sums(
 ) -> Result<bool, AllocError> {
     if site.is_at_joiner() {
         let word = site.spot.token;
-        let sentence = format!(in alloc; "{word} joins commands: $( a > b ) {word} $( c > d ).")?;
-        return push_advice(shown, sentence.as_str());
+        return push_text(
+            shown,
+            format!(in alloc; "{word} joins commands: $( a > b ) {word} $( c > d ).")?,
+        );
     }
     push_advice(shown, "Here comes +, -, *, / or ).")
 }
@@ -145,10 +147,9 @@ pub(crate) fn push_sums(
 pub(crate) fn push_missing_define(
     alloc: Global,
     shown: &mut String,
-    faulty: Faulty<'_>,
     site: Site<'_>,
 ) -> Result<bool, AllocError> {
-    let rest = faulty.text.get(site.spot.begin..).unwrap_or(&[]);
+    let rest = site.faulty.text.get(site.spot.begin..).unwrap_or(&[]);
     let Ok(rest) = str::from_utf8(rest) else {
         return Ok(false);
     };
@@ -162,18 +163,19 @@ pub(crate) fn push_missing_define(
     if name.kind != Kind::Name || next.kind != Kind::Word(Word::As) {
         return Ok(false);
     }
-    let sentence = format!(in alloc; "Before {} define is missing.", name.text)?;
-    push_advice(shown, sentence.as_str())
+    push_text(
+        shown,
+        format!(in alloc; "Before {} define is missing.", name.text)?,
+    )
 }
 
 /// Appends what comes among the items of a script.
 pub(crate) fn push_items(
     alloc: Global,
     shown: &mut String,
-    faulty: Faulty<'_>,
     site: Site<'_>,
 ) -> Result<bool, AllocError> {
-    if push_missing_define(alloc, shown, faulty, site)? {
+    if push_missing_define(alloc, shown, site)? {
         return Ok(true);
     }
     if site.is_at(Word::Backwards) {
@@ -185,10 +187,12 @@ pub(crate) fn push_items(
     match site.last {
         Some(last) if last.kind == Kind::Inserts => {
             let characters = last.text;
-            let sentence = format!(in alloc;
-                "stringescapes takes the two characters after it, here {characters}."
-            )?;
-            push_advice(shown, sentence.as_str())
+            push_text(
+                shown,
+                format!(in alloc;
+                    "stringescapes takes the two characters after it, here {characters}."
+                )?,
+            )
         }
         _ => push_advice(
             shown,
@@ -201,15 +205,14 @@ pub(crate) fn push_items(
 pub(crate) fn push_terms(
     alloc: Global,
     shown: &mut String,
-    faulty: Faulty<'_>,
     site: Site<'_>,
     tokens: &[Token<'_>],
     declared: &[DeclaredName<'_>],
 ) -> Result<bool, AllocError> {
-    if faulty.part.is_some() && !matches!(site.spot.kind, Some(Kind::Literal | Kind::Name)) {
+    if site.faulty.part.is_some() && !matches!(site.spot.kind, Some(Kind::Literal | Kind::Name)) {
         return Ok(false);
     }
-    if faulty.part.is_none() && push_missing_define(alloc, shown, faulty, site)? {
+    if site.faulty.part.is_none() && push_missing_define(alloc, shown, site)? {
         return Ok(true);
     }
     match declaration_of(declared, last_definition(tokens).name) {
@@ -262,17 +265,16 @@ fn last_definition<'a>(tokens: &[Token<'a>]) -> Definition<'a> {
 pub(crate) fn push_body(
     alloc: Global,
     shown: &mut String,
-    faulty: Faulty<'_>,
     site: Site<'_>,
     tokens: &[Token<'_>],
 ) -> Result<bool, AllocError> {
-    if push_foreign(alloc, shown, faulty, site)? {
+    if push_foreign(alloc, shown, site)? {
         return Ok(true);
     }
-    if faulty.part.is_some() || site.operator().is_some() {
+    if site.faulty.part.is_some() || site.operator().is_some() {
         return Ok(false);
     }
-    if push_missing_define(alloc, shown, faulty, site)? {
+    if push_missing_define(alloc, shown, site)? {
         return Ok(true);
     }
     let Definition { name, is_closed } = last_definition(tokens);
@@ -291,17 +293,12 @@ pub(crate) fn push_body(
 }
 
 /// Appends what to write for the name before the place, if it is a word of other languages and not declared.
-fn push_foreign(
-    alloc: Global,
-    shown: &mut String,
-    faulty: Faulty<'_>,
-    site: Site<'_>,
-) -> Result<bool, AllocError> {
+fn push_foreign(alloc: Global, shown: &mut String, site: Site<'_>) -> Result<bool, AllocError> {
     let Some(last) = site.last else {
         return Ok(false);
     };
-    let declared = declared_in(alloc, faulty.script)?;
-    match advice_on(alloc, faulty.script, last.text) {
+    let declared = declared_in(alloc, site.faulty.script)?;
+    match advice_on(alloc, site.faulty.script, last.text) {
         Some(advice) if declaration_of(&declared, last.text).is_none() => {
             push_advice(shown, advice)
         }

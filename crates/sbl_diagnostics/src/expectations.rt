@@ -6,8 +6,7 @@ use crate::constructs::{
 };
 use crate::declarations::{DeclaredName, declaration_of, declared_in};
 use crate::grammar::{Outlook, Symbol, outlook_after};
-use crate::sentences::{Faulty, Spot};
-use crate::sites::{Site, push_advice};
+use crate::sites::{Site, push_advice, push_text};
 use sbl_places::begins_item;
 use sbl_text::{Kind, Sign, Token, Word};
 use std::alloc::{AllocError, Global};
@@ -104,10 +103,12 @@ fn push_macro(alloc: Global, shown: &mut String, site: Site<'_>) -> Result<bool,
     match site.last {
         Some(last) if last.kind == Kind::MacroName => {
             let name = last.text;
-            let sentence = format!(in alloc;
-                "After the name of the macro, {name}, comes a literal, or hex or decimal and a literal."
-            )?;
-            push_advice(shown, sentence.as_str())
+            push_text(
+                shown,
+                format!(in alloc;
+                    "After the name of the macro, {name}, comes a literal, or hex or decimal and a literal."
+                )?,
+            )
         }
         _ => push_follower(alloc, shown, site, Symbol::MacroLiteral),
     }
@@ -119,10 +120,10 @@ fn push_loop(alloc: Global, shown: &mut String, site: Site<'_>) -> Result<bool, 
         return Ok(false);
     };
     let after = last.text;
-    let sentence = format!(in alloc;
-        "After {after} comes a command, after loop a number: loop 3 next."
-    )?;
-    push_advice(shown, sentence.as_str())
+    push_text(
+        shown,
+        format!(in alloc; "After {after} comes a command, after loop a number: loop 3 next.")?,
+    )
 }
 
 /// Appends what comes after `->`.
@@ -131,10 +132,10 @@ fn push_arrow(alloc: Global, shown: &mut String, site: Site<'_>) -> Result<bool,
         return push_follower(alloc, shown, site, Symbol::Name);
     }
     let literal = site.spot.token;
-    let sentence = format!(in alloc;
-        "After -> comes the name of a string; <- {literal} replaces the slice."
-    )?;
-    push_advice(shown, sentence.as_str())
+    push_text(
+        shown,
+        format!(in alloc; "After -> comes the name of a string; <- {literal} replaces the slice.")?,
+    )
 }
 
 /// Appends which symbol has to come.
@@ -180,7 +181,6 @@ fn push_required(
 fn push_inside(
     alloc: Global,
     shown: &mut String,
-    faulty: Faulty<'_>,
     site: Site<'_>,
     outlook: &Outlook,
     tokens: &[Token<'_>],
@@ -193,11 +193,11 @@ fn push_inside(
     } else if outlook.offers(Symbol::Rows) {
         push_rows(alloc, shown, site, outlook)
     } else if outlook.offers(Symbol::Joiners) {
-        push_body(alloc, shown, faulty, site, tokens)
+        push_body(alloc, shown, site, tokens)
     } else if outlook.offers(Symbol::Terms) {
-        push_terms(alloc, shown, faulty, site, tokens, declared)
+        push_terms(alloc, shown, site, tokens, declared)
     } else if outlook.offers(Symbol::Items) {
-        push_items(alloc, shown, faulty, site)
+        push_items(alloc, shown, site)
     } else if outlook.offers(Symbol::Sums) {
         push_sums(alloc, shown, site)
     } else {
@@ -218,22 +218,20 @@ fn is_item(site: Site<'_>) -> bool {
 pub(crate) fn push_expectation(
     alloc: Global,
     shown: &mut String,
-    faulty: Faulty<'_>,
-    spot: Spot<'_>,
+    site: Site<'_>,
     tokens: &[Token<'_>],
 ) -> Result<bool, AllocError> {
-    let Some(outlook) = outlook_after(alloc, tokens, faulty.part)? else {
+    let Some(outlook) = outlook_after(alloc, tokens, site.faulty.part)? else {
         return Ok(false);
     };
-    let site = Site::new(tokens, spot);
-    let declared = declared_in(alloc, faulty.script)?;
+    let declared = declared_in(alloc, site.faulty.script)?;
     if push_operator(alloc, shown, site, outlook.role, &declared)? {
         return Ok(true);
     }
     match outlook.required() {
-        Some(Symbol::Close) | None if is_item(site) || spot.token.is_empty() => Ok(false),
+        Some(Symbol::Close) | None if is_item(site) || site.spot.token.is_empty() => Ok(false),
         Some(Symbol::Close) | None => {
-            push_inside(alloc, shown, faulty, site, &outlook, tokens, &declared)
+            push_inside(alloc, shown, site, &outlook, tokens, &declared)
         }
         Some(symbol) => push_required(alloc, shown, site, symbol, &declared),
     }
@@ -243,18 +241,16 @@ pub(crate) fn push_expectation(
 pub(crate) fn push_use(
     alloc: Global,
     shown: &mut String,
-    faulty: Faulty<'_>,
-    spot: Spot<'_>,
+    site: Site<'_>,
     tokens: &[Token<'_>],
     declared: DeclaredName<'_>,
 ) -> Result<bool, AllocError> {
-    let Some(mut outlook) = outlook_after(alloc, tokens, faulty.part)? else {
+    let Some(mut outlook) = outlook_after(alloc, tokens, site.faulty.part)? else {
         return Ok(false);
     };
     if !outlook.pass(Kind::Name)? {
         return Ok(false);
     }
-    let site = Site::new(tokens, spot);
     match outlook.role {
         Some(Symbol::Name) if site.last_kind() == Some(Kind::Word(Word::Define)) => {
             push_form(alloc, shown, declared)
@@ -265,9 +261,11 @@ pub(crate) fn push_use(
         ),
         Some(Symbol::Definition) => push_advice(shown, GROUPINGS),
         Some(role) if role.has_command() && declared.word == Word::Integers => {
-            let name = spot.token;
-            let sentence = format!(in alloc; "An integer is no command, but ${name} > 0 is one.")?;
-            push_advice(shown, sentence.as_str())
+            let name = site.spot.token;
+            push_text(
+                shown,
+                format!(in alloc; "An integer is no command, but ${name} > 0 is one.")?,
+            )
         }
         Some(role) if !role.has_command() => push_follower(alloc, shown, site, role),
         _ => Ok(false),

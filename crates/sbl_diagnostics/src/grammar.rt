@@ -70,6 +70,9 @@ pub(crate) enum Symbol {
 /// An expression.
 const EXPRESSION: &[Symbol] = &[Symbol::Factor, Symbol::Scales, Symbol::Sums];
 
+/// The rest of an expression in parentheses, after the opening one.
+const PARENTHESIZED: &[Symbol] = &[Symbol::Factor, Symbol::Scales, Symbol::Sums, Symbol::Close];
+
 impl Symbol {
     /// Returns whether the symbol may be empty.
     fn is_optional(self) -> bool {
@@ -239,12 +242,7 @@ fn after_sign(symbol: Symbol, sign: Sign) -> Option<&'static [Symbol]> {
         (Symbol::Operator, _) if is_operator(sign) => Some(EXPRESSION),
         (Symbol::Comparison, _) if compares(sign) => Some(&[]),
         (Symbol::Factor, Sign::Minus) => Some(&[Symbol::Factor]),
-        (Symbol::Factor, Sign::Open) => Some(&[
-            Symbol::Factor,
-            Symbol::Scales,
-            Symbol::Sums,
-            Symbol::Close,
-        ]),
+        (Symbol::Factor, Sign::Open) => Some(PARENTHESIZED),
         (Symbol::Scales, Sign::Star | Sign::Slash) => Some(&[Symbol::Factor, Symbol::Scales]),
         (Symbol::Sums, Sign::Plus | Sign::Minus) => Some(EXPRESSION),
         (Symbol::Starter, Sign::Open) => Some(&[Symbol::Rows, Symbol::Close]),

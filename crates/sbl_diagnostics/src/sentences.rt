@@ -7,7 +7,7 @@ use crate::expectations::{push_expectation, push_use};
 use crate::foreign::{advice_on, foreign_character, left_out_text};
 use crate::near::{push_listed, push_near, push_near_reserved, push_near_word};
 use crate::reasons::{begins_sentence, reason};
-use crate::sites::push_advice;
+use crate::sites::{Site, push_advice};
 use sbl_places::{Part, Position, ScriptFault, begins_item, position_of};
 use sbl_text::{Kind, Lexer, Sign, Token, Word, tokens};
 use std::alloc::{AllocError, Global};
@@ -34,6 +34,13 @@ pub(crate) struct Spot<'a> {
     pub(crate) begin: usize,
     pub(crate) token: &'a str,
     pub(crate) kind: Option<Kind>,
+}
+
+/// A text that has a fault, and the place of the fault.
+#[derive(Clone, Copy)]
+pub(crate) struct Place<'a> {
+    pub(crate) faulty: Faulty<'a>,
+    pub(crate) spot: Spot<'a>,
 }
 
 /// What the text of a block is.
@@ -164,20 +171,16 @@ fn defined_first(alloc: Global, text: &[u8]) -> Result<Option<&str>, AllocError>
 }
 
 /// Appends what is wrong with a token that cannot follow those before it, or with the end of the text.
-fn push_syntax(
-    alloc: Global,
-    shown: &mut String,
-    faulty: Faulty<'_>,
-    spot: Spot<'_>,
-) -> Result<(), AllocError> {
+fn push_syntax(alloc: Global, shown: &mut String, place: Place<'_>) -> Result<(), AllocError> {
+    let Place { faulty, spot } = place;
     match tokens_before(alloc, faulty.text, spot.begin) {
         Some(before) => {
             if before.is_empty() && push_beginning(alloc, shown, faulty)? {
                 return Ok(());
             }
-            push_clause(alloc, shown, faulty, spot, Some(&before))
+            push_clause(alloc, shown, place, Some(&before))
         }
-        None => push_clause(alloc, shown, faulty, spot, None),
+        None => push_clause(alloc, shown, place, None),
     }
 }
 
@@ -185,10 +188,10 @@ fn push_syntax(
 fn push_clause(
     alloc: Global,
     shown: &mut String,
-    faulty: Faulty<'_>,
-    spot: Spot<'_>,
+    place: Place<'_>,
     before: Option<&[Token<'_>]>,
 ) -> Result<(), AllocError> {
+    let Place { faulty, spot } = place;
     let (begins, open) = match before {
         Some(before) => (before.is_empty(), open_in(alloc, before)?),
         None => (false, None),
@@ -211,7 +214,7 @@ fn push_clause(
         }
     }
     let is_outside = before.is_some() && open.is_none();
-    push_cure(alloc, shown, faulty, spot, before, is_outside)
+    push_cure(alloc, shown, place, before, is_outside)
 }
 
 /// Appends what a name may be meant for that is not declared. Returns whether it did.
@@ -235,16 +238,16 @@ fn push_meaning(
 fn push_cure(
     alloc: Global,
     shown: &mut String,
-    faulty: Faulty<'_>,
-    spot: Spot<'_>,
+    place: Place<'_>,
     before: Option<&[Token<'_>]>,
     is_outside: bool,
 ) -> Result<(), AllocError> {
+    let Place { faulty, spot } = place;
     if spot.kind == Some(Kind::Name) && push_meaning(alloc, shown, faulty, spot.token)? {
         return Ok(());
     }
     if let Some(before) = before {
-        if push_expectation(alloc, shown, faulty, spot, before)? {
+        if push_expectation(alloc, shown, Site::new(faulty, before, spot), before)? {
             return Ok(());
         }
     }
@@ -267,12 +270,8 @@ fn push_closing(shown: &mut String, part: Option<Part<'_>>) -> Result<(), AllocE
 }
 
 /// Appends what is wrong with a name: that it is not declared, or is declared as something that cannot be used here.
-fn push_name(
-    alloc: Global,
-    shown: &mut String,
-    faulty: Faulty<'_>,
-    spot: Spot<'_>,
-) -> Result<(), AllocError> {
+fn push_name(alloc: Global, shown: &mut String, place: Place<'_>) -> Result<(), AllocError> {
+    let Place { faulty, spot } = place;
     let name = spot.token;
     let declared = declared_in(alloc, faulty.script)?;
     match (faulty.fault, declaration_of(&declared, name)) {
@@ -284,7 +283,8 @@ fn push_name(
             shown.push_str(kind_text(declaration.word))?;
             shown.push_str(", which cannot be used here")?;
             if let Some(before) = tokens_before(alloc, faulty.text, spot.begin) {
-                push_use(alloc, shown, faulty, spot, &before, declaration)?;
+                let site = Site::new(faulty, &before, spot);
+                push_use(alloc, shown, site, &before, declaration)?;
             }
             Ok(())
         }
@@ -381,12 +381,8 @@ fn push_character(shown: &mut String, spot: Spot<'_>) -> Result<(), AllocError> 
 }
 
 /// Appends that something is left out here, or that a sign is missing after the name of an integer.
-fn push_left_out(
-    alloc: Global,
-    shown: &mut String,
-    faulty: Faulty<'_>,
-    spot: Spot<'_>,
-) -> Result<(), AllocError> {
+fn push_left_out(alloc: Global, shown: &mut String, place: Place<'_>) -> Result<(), AllocError> {
+    let Place { faulty, spot } = place;
     if spot.kind == Some(Kind::Sign(Sign::Dollar)) {
         if let Some(name) = integer_after(alloc, faulty, spot.begin)? {
             let text = format!(in alloc; "after ${name} comes a sign such as =, += or >")?;
@@ -425,18 +421,18 @@ fn integer_after<'a>(
 pub(crate) fn push_sentence(
     alloc: Global,
     shown: &mut String,
-    faulty: Faulty<'_>,
-    spot: Spot<'_>,
+    place: Place<'_>,
 ) -> Result<(), AllocError> {
+    let Place { faulty, spot } = place;
     match faulty.fault {
-        ScriptFault::Syntax { .. } => push_syntax(alloc, shown, faulty, spot),
+        ScriptFault::Syntax { .. } => push_syntax(alloc, shown, place),
         ScriptFault::Undeclared { .. } | ScriptFault::WrongKind { .. } => {
             push_thing(shown, spot)?;
-            push_name(alloc, shown, faulty, spot)
+            push_name(alloc, shown, place)
         }
         ScriptFault::NotUtf8 => push_byte(shown, faulty, spot.begin),
         ScriptFault::BadCharacter { .. } => push_character(shown, spot),
-        ScriptFault::OutOfProfile { .. } => push_left_out(alloc, shown, faulty, spot),
+        ScriptFault::OutOfProfile { .. } => push_left_out(alloc, shown, place),
         fault => {
             if !begins_sentence(fault) {
                 push_thing(shown, spot)?;

@@ -2,7 +2,7 @@
 
 use crate::characters::push_named;
 use crate::grammar::{begins_command, is_operator};
-use crate::sentences::Spot;
+use crate::sentences::{Faulty, Spot};
 use sbl_text::{Kind, Sign, Token, Word};
 use std::alloc::AllocError;
 
@@ -25,9 +25,10 @@ impl<'a> Piece<'a> {
     }
 }
 
-/// The place of a fault, and the two tokens before it.
+/// The place of a fault of a text, and the two tokens before it.
 #[derive(Clone, Copy)]
 pub(crate) struct Site<'a> {
+    pub(crate) faulty: Faulty<'a>,
     pub(crate) spot: Spot<'a>,
     pub(crate) last: Option<Piece<'a>>,
     pub(crate) prior: Option<Piece<'a>>,
@@ -35,13 +36,18 @@ pub(crate) struct Site<'a> {
 
 impl<'a> Site<'a> {
     /// Returns the site after these tokens.
-    pub(crate) fn new(tokens: &[Token<'a>], spot: Spot<'a>) -> Site<'a> {
+    pub(crate) fn new(faulty: Faulty<'a>, tokens: &[Token<'a>], spot: Spot<'a>) -> Site<'a> {
         let (last, prior) = match tokens {
             [.., prior, last] => (Some(Piece::new(last)), Some(Piece::new(prior))),
             [last] => (Some(Piece::new(last)), None),
             [] => (None, None),
         };
-        Site { spot, last, prior }
+        Site {
+            faulty,
+            spot,
+            last,
+            prior,
+        }
     }
 
     /// Returns the kind of the token before the place.
@@ -84,4 +90,9 @@ pub(crate) fn push_advice(shown: &mut String, sentence: &str) -> Result<bool, Al
     shown.push_str(". ")?;
     push_named(shown, sentence)?;
     Ok(true)
+}
+
+/// Appends a sentence that was made for the place, and returns that it did.
+pub(crate) fn push_text(shown: &mut String, sentence: String) -> Result<bool, AllocError> {
+    push_advice(shown, sentence.as_str())
 }
