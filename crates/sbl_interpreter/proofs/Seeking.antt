@@ -1,19 +1,16 @@
--- A test of a grouping that signals f moves nothing, and what follows it in `goto` and `gopast`; only the first test touches.
-use Rattle.std.proofs.Common.{◌≡◌, ℕ, zero, suc, ◌+◌, ◌-◌, ◌<◌, ◌≤◌, Bool, true, false, List, [], ◌∷◌, ◌++◌, length, refl, sym, ap, ◌∙◌, arith}
-use Rattle.std.specs.Prelude.{◌||◌, nat_le, nat_lt, if◌then◌else◌, slice_get}
-use Rattle.std.specs.List.{list_any}
-use Rattle.std.proofs.lemmas.Bool.{eq-eqb, le-leb, leb-true}
+-- A test of a grouping that signals f moves nothing, and what follows it in `goto` and `gopast`; what a test touches.
+use Rattle.std.proofs.Common.{◌≡◌, ℕ, zero, suc, ◌+◌, ◌-◌, ◌≤◌, Bool, true, false, length, refl, sym, ap, ◌∙◌, arith}
+use Rattle.std.specs.Prelude.{nat_le, nat_lt, if◌then◌else◌, slice_get}
+use Rattle.std.proofs.lemmas.Bool.{le-leb, leb-true}
 use Rattle.sbl_ast.specs.declared.mode.Mode.{Mode}
 use Rattle.sbl_ast.specs.declared.mode.Mode.TheVariants.{Forward, Backward}
-use Rattle.sbl_semantics.specs.declared.fault.RunFault.TheVariants.{Cursor, Steps}
-use Rattle.sbl_semantics.specs.declared.touch.Touch.{Touch}
+use Rattle.sbl_semantics.specs.declared.fault.RunFault.TheVariants.{Cursor}
 use Rattle.sbl_semantics.specs.declared.touch.Touch.TheVariants.{Tested}
 use Rattle.sbl_interpreter.specs.Actions.{test_grouping}
-use Rattle.sbl_interpreter.proofs.Marked.{with_by}
-use Rattle.sbl_semantics.specs.Moves.{next, next_is, one_of, touch_grouping}
+use Rattle.sbl_semantics.specs.Moves.{next, next_is, touch_grouping}
 use Rattle.sbl_semantics.specs.Control.{end_search, pay_first, seeks}
 use Rattle.sbl_semantics.specs.State.{State, Ending, Doing, Signals, Stops, after, then_on, pay, ahead, move_cursor, at_place, room, saved_cursor, put_back}
-use Rattle.sbl_semantics.specs.Touches.{same_touch, with_touch}
+use Rattle.sbl_semantics.specs.Touches.{with_touch}
 
 -- a test that is not met
 less_if : (a b : ℕ) (t : Bool) → nat_lt a b ≡ t → b ≤ a → t ≡ false
@@ -63,25 +60,7 @@ last_try n past c m s f b new w e p x h =
     ∙ ap (λ r. then_on r go) p
     ∙ ap (λ r. after r (seeks n past c m) (Signals false)) x
 
--- ---- a grouping that is touched already
-
-or_true : (b : Bool) → (b || true) ≡ true
-or_true true = refl
-or_true false = refl
-
-any_last : (g : ℕ) (ts : List Touch) → list_any (same_touch (Tested g)) (ts ++ (Tested g ∷ [])) ≡ true
-any_last g [] = ap (λ b. b || false) (eq-eqb g g refl)
-any_last g (t ∷ ts) = ap (λ b. same_touch (Tested g) t || b) (any_last g ts) ∙ or_true (same_touch (Tested g) t)
-
--- a grouping that is touched again stays as it is
-pub touched_twice : (g : ℕ) (ts : List Touch) → with_touch (Tested g) (with_touch (Tested g) ts) ≡ with_touch (Tested g) ts
-touched_twice g ts = by (list_any (same_touch (Tested g)) ts) refl
-  where
-    by : (b : Bool) → list_any (same_touch (Tested g)) ts ≡ b → with_touch (Tested g) (with_touch (Tested g) ts) ≡ with_touch (Tested g) ts
-    by true h = ap (with_touch (Tested g)) (with_by (Tested g) ts true h)
-    by false h =
-        let one : with_touch (Tested g) ts ≡ ts ++ (Tested g ∷ []) = with_by (Tested g) ts false h in
-        ap (with_touch (Tested g)) one ∙ with_by (Tested g) (ts ++ (Tested g ∷ [])) true (any_last g ts) ∙ sym one
+-- ---- what a move and a test touch
 
 touched_if : (b : Bool) (x s new : State) (r : Bool) → x.touched ≡ s.touched → (if b then Signals true x else Signals false s) ≡ Signals r new → new.touched ≡ s.touched
 touched_if true x s new r h e = let same : x ≡ new = cc in sym (ap (λ (t : State). t.touched) same) ∙ h
@@ -104,28 +83,3 @@ test_touched_at (suc k) wanted class g m s new r e =
 -- what a test touches
 pub test_touched : (wanted : Bool) (class : ℕ → Bool) (g : ℕ) (m : Mode) (s new : State) (r : Bool) → pay_first (test_grouping wanted class g) m s ≡ Signals r new → new.touched ≡ with_touch (Tested g) s.touched
 test_touched wanted class g m s new r e = test_touched_at s.steps wanted class g m s new r e
-
--- a paid test of a grouping that is touched already
-pub tested_at : (k : ℕ) (wanted : Bool) (class : ℕ → Bool) (g : ℕ) (m : Mode) (s u new : State) (r : Bool) → with_touch (Tested g) s.touched ≡ s.touched → pay k s ≡ Signals true u → one_of wanted class m u ≡ Signals r new → then_on (pay k s) (test_grouping wanted class g m) ≡ Signals r new
-tested_at zero wanted class g m s u new r w p e = let no : ⊥ = cc in absurd no
-tested_at (suc k) wanted class g m s u new r w p e =
-    let same : record s { steps = k } ≡ u = cc in
-    ap (λ ts. one_of wanted class m (record s { steps = k; touched = ts })) w ∙ ap (one_of wanted class m) same ∙ e
-
-first_by : (n : ℕ) (wanted : Bool) (class : ℕ → Bool) (g : ℕ) (m : Mode) (s : State) → 0 < n → then_on (pay n s) (test_grouping wanted class g m) ≡ then_on (pay n (touch_grouping g s)) (test_grouping wanted class g m)
-first_by zero wanted class g m s l = absurd (omega arith)
-first_by (suc k) wanted class g m s l = ap (λ ts. one_of wanted class m (record s { steps = k; touched = ts })) (sym (touched_twice g s.touched))
-
--- the grouping may be touched before the first test, if that is paid
-pub touched_before : (n : ℕ) (past wanted : Bool) (class : ℕ → Bool) (g : ℕ) (m : Mode) (s : State) → 0 < s.steps → seeks (suc n) past (pay_first (test_grouping wanted class g)) m s ≡ seeks (suc n) past (pay_first (test_grouping wanted class g)) m (touch_grouping g s)
-touched_before n past wanted class g m s l =
-    let c = pay_first (test_grouping wanted class g) in
-    let go = λ (b : State). after (next m b) (seeks n past c m) (Signals false) in
-    ap (λ r. after r (end_search past m s) (λ f. then_on (put_back m (saved_cursor s) f) go)) (first_by s.steps wanted class g m s l)
-
--- if no step is left, the first test is refused
-pub unpaid : (n : ℕ) (past wanted : Bool) (class : ℕ → Bool) (g : ℕ) (m : Mode) (s : State) → s.steps ≡ 0 → seeks (suc n) past (pay_first (test_grouping wanted class g)) m s ≡ Stops Steps s
-unpaid n past wanted class g m s z =
-    let c = pay_first (test_grouping wanted class g) in
-    let go = λ (b : State). after (next m b) (seeks n past c m) (Signals false) in
-    ap (λ k. after (then_on (pay k s) (test_grouping wanted class g m)) (end_search past m s) (λ f. then_on (put_back m (saved_cursor s) f) go)) z

@@ -50,7 +50,7 @@ impl State {
         Ok(self.take_one(mode, classes, number, wanted))
     }
 
-    // Does what `seek_one` does, if the grouping is touched already. So nothing is called for a character.
+    // Does what `seek_one` does, if the grouping is touched already. So the loop reads the cursor and the steps only once.
     #[inline(always)]
     fn seek_touched(
         &mut self,
