@@ -50,21 +50,19 @@ pub(crate) fn outcome_text(alloc: Global, outcome: &Outcome) -> Result<String, A
     }
 }
 
-/// Makes one run. Returns what it gives, and the steps that it uses.
+/// Makes one run. Returns what it gives and the steps that it uses, and the count of runs after it.
 fn runs<S: AmongSearch>(
-    rt: &impl Abort,
     alloc: Global,
     machine: &Machine<S>,
     word: &[char],
     limit: u32,
-) -> Result<String, Fail>
+) -> Result<(String, u64), Fail>
     requires { length word.now ≤ max_word_length }
 {
     let mut meter = Meter::new();
     let ran = machine.run(alloc, &mut meter, word, limit)?;
-    assert!(rt; meter.count() == 1);
     let (outcome, used) = (outcome_text(alloc, &ran.outcome)?, ran.used);
-    Ok(format!(in alloc; "{outcome}|{used};")?)
+    Ok((format!(in alloc; "{outcome}|{used};")?, meter.count()))
 }
 
 /// What is asked of a machine about each row.
@@ -86,7 +84,11 @@ fn ask_row<S: AmongSearch>(
     let word = word_in(rt, alloc, row)?;
     let limit = field(row, 1).parse().unwrap_or(100_000);
     let answer = match asked {
-        Asked::Outcome => runs(rt, alloc, machine, &word, limit)?,
+        Asked::Outcome => {
+            let (answer, count) = runs(alloc, machine, &word, limit)?;
+            assert!(rt; count == 1);
+            answer
+        }
         Asked::Items => touches(rt, alloc, machine, &word, limit)?,
         Asked::Events => does(rt, alloc, machine, &word, limit)?,
     };

@@ -99,12 +99,6 @@ fn reader_fails(rt: &impl Abort, alloc: Global, case: &Case) -> Result<(), Fail>
     Ok(())
 }
 
-#[test]
-fn a_reader_may_fail_or_be_at_its_limit_at_each_read(rt: HostRuntime) -> Result<(), Fail> {
-    reader_fails(&rt, rt.alloc(), &SESSION)?;
-    reader_fails(&rt, rt.alloc(), &FILTER)
-}
-
 /// Asserts that the writer may fail after each of its bytes.
 fn writer_fails(rt: &impl Abort, alloc: Global, case: &Case) -> Result<(), Fail> {
     let whole = outputs(alloc, case, u64::MAX, "")?;
@@ -118,12 +112,6 @@ fn writer_fails(rt: &impl Abort, alloc: Global, case: &Case) -> Result<(), Fail>
         );
     }
     Ok(())
-}
-
-#[test]
-fn a_writer_may_fail_after_each_of_its_bytes(rt: HostRuntime) -> Result<(), Fail> {
-    writer_fails(&rt, rt.alloc(), &SESSION)?;
-    writer_fails(&rt, rt.alloc(), &FILTER)
 }
 
 /// Asserts that all is written by as many reads as there have to be, and after a thousand interruptions in a row, but not after more.
@@ -140,7 +128,11 @@ fn bears(rt: &impl Abort, alloc: Global, case: &Case) -> Result<(), Fail> {
 }
 
 #[test]
-fn a_thousand_interruptions_in_a_row_are_borne(rt: HostRuntime) -> Result<(), Fail> {
-    bears(&rt, rt.alloc(), &SESSION)?;
-    bears(&rt, rt.alloc(), &FILTER)
+fn devices_may_fail_at_each_call(rt: HostRuntime) -> Result<(), Fail> {
+    for case in [&SESSION, &FILTER] {
+        reader_fails(&rt, rt.alloc(), case)?;
+        writer_fails(&rt, rt.alloc(), case)?;
+        bears(&rt, rt.alloc(), case)?;
+    }
+    Ok(())
 }
