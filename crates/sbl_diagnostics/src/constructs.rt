@@ -184,21 +184,16 @@ pub(crate) fn push_items(
             "Routines in backward mode are defined in backwardmode ( .. ).",
         );
     }
-    match site.last {
-        Some(last) if last.kind == Kind::Inserts => {
-            let characters = last.text;
-            push_text(
-                shown,
-                format!(in alloc;
-                    "stringescapes takes the two characters after it, here {characters}."
-                )?,
-            )
-        }
-        _ => push_advice(
+    let Some(characters) = site.last_of(Kind::Inserts) else {
+        return push_advice(
             shown,
             "Here comes a declaration or a definition, such as define r as ( .. ).",
-        ),
-    }
+        );
+    };
+    push_text(
+        shown,
+        format!(in alloc; "stringescapes takes the two characters after it, here {characters}.")?,
+    )
 }
 
 /// Appends what comes after a term of a grouping.
@@ -226,14 +221,14 @@ pub(crate) fn push_terms(
 
 /// The last definition that some tokens have.
 #[derive(Clone, Copy)]
-struct Definition<'a> {
+pub(crate) struct Definition<'a> {
     name: &'a str,
     /// Whether a parenthesis begins its body, and the last token closes it.
     is_closed: bool,
 }
 
 /// Returns the last definition in these tokens, as that of a routine.
-fn last_definition<'a>(tokens: &[Token<'a>]) -> Definition<'a> {
+pub(crate) fn last_definition<'a>(tokens: &[Token<'a>]) -> Definition<'a> {
     let mut name = "";
     let mut place: usize = 0;
     let mut depth: usize = 0;
@@ -266,7 +261,7 @@ pub(crate) fn push_body(
     alloc: Global,
     shown: &mut String,
     site: Site<'_>,
-    tokens: &[Token<'_>],
+    definition: Definition<'_>,
 ) -> Result<bool, AllocError> {
     if push_foreign(alloc, shown, site)? {
         return Ok(true);
@@ -277,7 +272,7 @@ pub(crate) fn push_body(
     if push_missing_define(alloc, shown, site)? {
         return Ok(true);
     }
-    let Definition { name, is_closed } = last_definition(tokens);
+    let Definition { name, is_closed } = definition;
     let sentence = if !site.has_command() {
         format!(in alloc;
             "The body of a routine is one command, or several with or or and between them."

@@ -1,8 +1,8 @@
 //! What can come at a place, in a sentence for the author of a script.
 
 use crate::constructs::{
-    NAMES, push_body, push_form, push_items, push_names, push_number, push_operator, push_rows,
-    push_sums, push_terms,
+    NAMES, last_definition, push_body, push_form, push_items, push_names, push_number,
+    push_operator, push_rows, push_sums, push_terms,
 };
 use crate::declarations::{DeclaredName, declaration_of, declared_in};
 use crate::grammar::{Outlook, Symbol, outlook_after};
@@ -100,9 +100,8 @@ fn push_definition(
 
 /// Appends what comes after the name of a macro, or after `hex` or `decimal`.
 fn push_macro(alloc: Global, shown: &mut String, site: Site<'_>) -> Result<bool, AllocError> {
-    match site.last {
-        Some(last) if last.kind == Kind::MacroName => {
-            let name = last.text;
+    match site.last_of(Kind::MacroName) {
+        Some(name) => {
             push_text(
                 shown,
                 format!(in alloc;
@@ -110,7 +109,7 @@ fn push_macro(alloc: Global, shown: &mut String, site: Site<'_>) -> Result<bool,
                 )?,
             )
         }
-        _ => push_follower(alloc, shown, site, Symbol::MacroLiteral),
+        None => push_follower(alloc, shown, site, Symbol::MacroLiteral),
     }
 }
 
@@ -193,7 +192,7 @@ fn push_inside(
     } else if outlook.offers(Symbol::Rows) {
         push_rows(alloc, shown, site, outlook)
     } else if outlook.offers(Symbol::Joiners) {
-        push_body(alloc, shown, site, tokens)
+        push_body(alloc, shown, site, last_definition(tokens))
     } else if outlook.offers(Symbol::Terms) {
         push_terms(alloc, shown, site, tokens, declared)
     } else if outlook.offers(Symbol::Items) {

@@ -58,6 +58,14 @@ impl<'a> Site<'a> {
         }
     }
 
+    /// Returns the text of the token before the place, if it is of this kind.
+    pub(crate) fn last_of(self, kind: Kind) -> Option<&'a str> {
+        match self.last {
+            Some(piece) if piece.kind == kind => Some(piece.text),
+            _ => None,
+        }
+    }
+
     /// Returns whether this word is at the place.
     pub(crate) fn is_at(self, word: Word) -> bool {
         self.spot.kind == Some(Kind::Word(word))

@@ -50,19 +50,19 @@ pub(crate) fn outcome_text(alloc: Global, outcome: &Outcome) -> Result<String, A
     }
 }
 
-/// Makes one run. Returns what it gives and the steps that it uses, and the count of runs after it.
+/// Makes one run, which the meter counts. Returns what it gives, and the steps that it uses.
 fn runs<S: AmongSearch>(
     alloc: Global,
     machine: &Machine<S>,
+    meter: &mut Meter,
     word: &[char],
     limit: u32,
-) -> Result<(String, u64), Fail>
+) -> Result<String, Fail>
     requires { length word.now ≤ max_word_length }
 {
-    let mut meter = Meter::new();
-    let ran = machine.run(alloc, &mut meter, word, limit)?;
+    let ran = machine.run(alloc, meter, word, limit)?;
     let (outcome, used) = (outcome_text(alloc, &ran.outcome)?, ran.used);
-    Ok((format!(in alloc; "{outcome}|{used};")?, meter.count()))
+    Ok(format!(in alloc; "{outcome}|{used};")?)
 }
 
 /// What is asked of a machine about each row.
@@ -85,12 +85,17 @@ fn ask_row<S: AmongSearch>(
     let limit = field(row, 1).parse().unwrap_or(100_000);
     let answer = match asked {
         Asked::Outcome => {
-            let (answer, count) = runs(alloc, machine, &word, limit)?;
-            assert!(rt; count == 1);
+            let mut meter = Meter::new();
+            let answer = runs(alloc, machine, &mut meter, &word, limit)?;
+            assert!(rt; meter.count() == 1);
             answer
         }
         Asked::Items => touches(rt, alloc, machine, &word, limit)?,
-        Asked::Events => does(rt, alloc, machine, &word, limit)?,
+        Asked::Events => {
+            let (answer, is_same) = does(alloc, machine, &word, limit)?;
+            assert!(rt; is_same);
+            answer
+        }
     };
     let shown = format!(in alloc; "{}|{}|{answer}", field(row, 0), field(row, 1))?;
     assert!(rt; shown.as_str().starts_with(row), "{row}: {shown}");

@@ -79,6 +79,19 @@ fn runs(alloc: Global, case: &Case, stops: Stops) -> Result<Vec<u8>, Fail> {
     written(alloc, case.0, &mut lines, Device::new(writer))
 }
 
+/// Asserts that a run with these stops gives this text.
+fn gives(
+    rt: &impl Abort,
+    alloc: Global,
+    case: &Case,
+    stops: Stops,
+    text: &[u8],
+) -> Result<(), Fail> {
+    let given = runs(alloc, case, stops)?;
+    assert!(rt; given.as_slice() == text, "{}", text.len());
+    Ok(())
+}
+
 /// Asserts that a read after each byte may fail, or be one more than there may be.
 fn reader_fails(rt: &impl Abort, alloc: Global, case: &Case) -> Result<(), Fail> {
     // The read after the last byte finds the end of the input.
@@ -86,15 +99,9 @@ fn reader_fails(rt: &impl Abort, alloc: Global, case: &Case) -> Result<(), Fail>
     for bytes in 0..reads {
         let text = outputs(alloc, case, bytes, "!70 Read")?;
         let read = bytes.saturating_add(1);
-        assert!(rt;
-            runs(alloc, case, Stops { read, ..NEVER })? == text,
-            "{bytes}"
-        );
+        gives(rt, alloc, case, Stops { read, ..NEVER }, &text)?;
         let most = bytes;
-        assert!(rt;
-            runs(alloc, case, Stops { most, ..NEVER })? == text,
-            "{bytes}"
-        );
+        gives(rt, alloc, case, Stops { most, ..NEVER }, &text)?;
     }
     Ok(())
 }
@@ -106,10 +113,7 @@ fn writer_fails(rt: &impl Abort, alloc: Global, case: &Case) -> Result<(), Fail>
         let mut text = Vec::from_slice(alloc, &whole[..bytes])?;
         text.extend_from_slice(b"!71 Write")?;
         let write = bytes as u64 + 1;
-        assert!(rt;
-            runs(alloc, case, Stops { write, ..NEVER })? == text,
-            "{bytes}"
-        );
+        gives(rt, alloc, case, Stops { write, ..NEVER }, &text)?;
     }
     Ok(())
 }
