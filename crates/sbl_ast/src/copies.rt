@@ -129,6 +129,13 @@ pub fn copy_entries(alloc: Global, entries: &Vec<Entry>) -> Result<Vec<Entry>, A
     Ok(copy_each!(alloc, entries, entry => copy_entry(alloc, entry)?))
 }
 
+/// Puts a command into a box. It is dropped here if an allocation fails, so no caller has to prove that again.
+fn boxed(alloc: Global, command: Command) -> Result<Box<Command>, AllocError>
+    ensures { IfOk result (λ b. b.value ≡ command) }
+{
+    Ok(Box::new(alloc, command)?)
+}
+
 /// Returns a copy of a command. Returns `AllocError` if an allocation fails.
 #[cycle(copies)]
 pub fn copy_command(alloc: Global, command: &Command) -> Result<Command, AllocError>
@@ -144,13 +151,13 @@ pub fn copy_command(alloc: Global, command: &Command) -> Result<Command, AllocEr
             name: copy_name(alloc, name)?,
         }),
         Command::Prefixed(prefix, inner) => {
-            let inner = copy_command(alloc, inner)?;
-            Ok(Command::Prefixed(*prefix, Box::new(alloc, inner)?))
+            let inner = boxed(alloc, copy_command(alloc, inner)?)?;
+            Ok(Command::Prefixed(*prefix, inner))
         }
         Command::Counted(count, times, inner) => {
             let times = copy_expression(alloc, times)?;
-            let inner = copy_command(alloc, inner)?;
-            Ok(Command::Counted(*count, times, Box::new(alloc, inner)?))
+            let inner = boxed(alloc, copy_command(alloc, inner)?)?;
+            Ok(Command::Counted(*count, times, inner))
         }
         Command::Move(word, place) => { Ok(Command::Move(*word, copy_expression(alloc, place)?)) }
         Command::Named(word, name) => Ok(Command::Named(*word, copy_name(alloc, name)?)),
@@ -158,9 +165,9 @@ pub fn copy_command(alloc: Global, command: &Command) -> Result<Command, AllocEr
             Ok(Command::Splice(*word, copy_argument(alloc, string)?))
         }
         Command::SetLimit(limit, inner) => {
-            let limit = copy_command(alloc, limit)?;
-            let inner = copy_command(alloc, inner)?;
-            Ok(Command::SetLimit(Box::new(alloc, limit)?, Box::new(alloc, inner)?))
+            let limit = boxed(alloc, copy_command(alloc, limit)?)?;
+            let inner = boxed(alloc, copy_command(alloc, inner)?)?;
+            Ok(Command::SetLimit(limit, inner))
         }
         Command::Assign(name, sign, number) => {
             let name = copy_name(alloc, name)?;
@@ -229,8 +236,9 @@ fn copy_others(alloc: Global, others: &Vec<NextCommand>) -> Result<Vec<NextComma
 pub fn copy_row(alloc: Global, row: &RowOfCommands) -> Result<RowOfCommands, AllocError>
     ensures { IfOk result (λ copy. view_row copy ≡ view_row row.now) }
 {
-    let first = copy_command(alloc, &row.first)?;
+    // A command comes last: on no path is one dropped, which the prover would take apart here.
     let others = copy_others(alloc, &row.others)?;
+    let first = copy_command(alloc, &row.first)?;
     Ok(RowOfCommands { first, others })
 }
 

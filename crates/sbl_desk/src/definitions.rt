@@ -169,8 +169,9 @@ fn line_of(alloc: Global, plain: &Plain) -> Result<Vec<u8>, AllocError>
     ensures { IfOk result (λ text. text.items ≡ plain_text (view_plain plain.now)) }
 {
     let item = ScriptItem::Plain(copy_plain(alloc, plain)?);
-    let text = canonical_text(alloc, from_ref(&item))?;
-    Ok(text.into_bytes())
+    let text = canonical_text(alloc, from_ref(&item));
+    drop(item);
+    Ok(text?.into_bytes())
 }
 
 /// Returns the line of the definition of this name, as the canonical text of the script has it; `None` if the script defines

@@ -3,13 +3,18 @@
 
 mod block_faults;
 mod characters;
+mod constructs;
 mod declarations;
 mod encodings;
+mod expectations;
+mod foreign;
+mod grammar;
 mod lines;
 mod near;
 mod places;
 mod reasons;
 mod sentences;
+mod sites;
 
 pub use block_faults::{TypedBlock, part_text, whole_text};
 pub use characters::{plain_text, push_named};

@@ -7,7 +7,7 @@ ghost use Rattle.sbl_script.specs.Reading.{IsFaultOf, IsScriptOf};
 
 use crate::characters::{plain, push_named, width};
 use crate::lines::line_at;
-use crate::sentences::{Faulty, Spot, is_blank, push_reason, push_sentence};
+use crate::sentences::{Faulty, Place, Spot, is_blank, push_reason, push_sentence};
 use sbl_places::{Position, ScriptFault, offset_of_fault, position_of};
 use sbl_script::Script;
 use sbl_text::Lexer;
@@ -241,7 +241,7 @@ pub(crate) fn fault_text(
     let position = position_of(faulty.text, begin);
     let spot = spot_at(alloc, faulty.text, begin);
     push_title(alloc, &mut shown, title, Some(position))?;
-    push_sentence(alloc, &mut shown, faulty, spot)?;
+    push_sentence(alloc, &mut shown, Place { faulty, spot })?;
     let characters = characters_of(alloc, line_at(faulty.text, position.line))?;
     let before = position.column.saturating_sub(1);
     push_line(&mut shown, &characters, before, spot.token.chars().count())?;

@@ -3,11 +3,18 @@
 use crate::characters::{push_hexadecimal, push_named};
 use crate::declarations::{DeclaredName, declaration_of, declared_in, kind_text, names_of};
 use crate::encodings::push_conversion;
-use crate::near::{push_listed, push_near, push_near_word};
+use crate::expectations::{push_expectation, push_use};
+use crate::foreign::{advice_on, foreign_character, left_out_text};
+use crate::near::{push_listed, push_near, push_near_reserved, push_near_word};
 use crate::reasons::{begins_sentence, reason};
+use crate::sites::{Site, push_advice};
 use sbl_places::{Part, Position, ScriptFault, begins_item, position_of};
-use sbl_text::{Kind, Sign, Token, Word, tokens};
+use sbl_text::{Kind, Lexer, Sign, Token, Word, tokens};
 use std::alloc::{AllocError, Global};
+
+/// What is wrong with insert characters.
+const INSERTS: &str =
+    "after stringescapes come two characters, side by side, and no quote as the first: stringescapes {}";
 
 /// A text that has a fault.
 #[derive(Clone, Copy)]
@@ -27,6 +34,13 @@ pub(crate) struct Spot<'a> {
     pub(crate) begin: usize,
     pub(crate) token: &'a str,
     pub(crate) kind: Option<Kind>,
+}
+
+/// A text that has a fault, and the place of the fault.
+#[derive(Clone, Copy)]
+pub(crate) struct Place<'a> {
+    pub(crate) faulty: Faulty<'a>,
+    pub(crate) spot: Spot<'a>,
 }
 
 /// What the text of a block is.
@@ -64,31 +78,15 @@ fn open_in(alloc: Global, tokens: &[Token<'_>]) -> Result<Option<usize>, AllocEr
     Ok(open.pop())
 }
 
-/// What is before a place: whether there is a token, and the innermost parenthesis that is open there.
-#[derive(Clone, Copy)]
-struct Before {
-    is_empty: bool,
-    open: Option<usize>,
-}
-
-/// Returns what is before an offset in a text.
-fn state_before(alloc: Global, text: &[u8], offset: usize) -> Result<Before, AllocError> {
+/// Returns the tokens before an offset in a text, or `None` if they cannot be read.
+fn tokens_before(alloc: Global, text: &[u8], offset: usize) -> Option<Vec<Token<'_>>> {
     let front = text.get(..offset).unwrap_or(text);
     let Ok(front) = str::from_utf8(front) else {
-        return Ok(Before {
-            is_empty: false,
-            open: None,
-        });
+        return None;
     };
     match tokens(alloc, front) {
-        Ok(tokens) => Ok(Before {
-            is_empty: tokens.is_empty(),
-            open: open_in(alloc, &tokens)?,
-        }),
-        Err(_) => Ok(Before {
-            is_empty: false,
-            open: None,
-        }),
+        Ok(tokens) => Some(tokens),
+        Err(_) => None,
     }
 }
 
@@ -173,37 +171,88 @@ fn defined_first(alloc: Global, text: &[u8]) -> Result<Option<&str>, AllocError>
 }
 
 /// Appends what is wrong with a token that cannot follow those before it, or with the end of the text.
-fn push_syntax(
+fn push_syntax(alloc: Global, shown: &mut String, place: Place<'_>) -> Result<(), AllocError> {
+    let Place { faulty, spot } = place;
+    match tokens_before(alloc, faulty.text, spot.begin) {
+        Some(before) => {
+            if before.is_empty() && push_beginning(alloc, shown, faulty)? {
+                return Ok(());
+            }
+            push_clause(alloc, shown, place, Some(&before))
+        }
+        None => push_clause(alloc, shown, place, None),
+    }
+}
+
+/// Appends that a token cannot follow these, cannot begin the text or is missing, and what can come there.
+fn push_clause(
     alloc: Global,
     shown: &mut String,
-    faulty: Faulty<'_>,
-    spot: Spot<'_>,
+    place: Place<'_>,
+    before: Option<&[Token<'_>]>,
 ) -> Result<(), AllocError> {
-    let before = state_before(alloc, faulty.text, spot.begin)?;
-    if before.is_empty && push_beginning(alloc, shown, faulty)? {
-        return Ok(());
+    let Place { faulty, spot } = place;
+    let (begins, open) = match before {
+        Some(before) => (before.is_empty(), open_in(alloc, before)?),
+        None => (false, None),
+    };
+    if spot.kind == Some(Kind::Sign(Sign::Close)) && before.is_some() && open.is_none() {
+        return push_closing(shown, faulty.part);
     }
     if is_at_end(faulty.text, spot.begin) {
         shown.push_str("the text ends here, and more is needed")?;
-        return push_open(alloc, shown, faulty.text, before.open);
-    }
-    if spot.kind == Some(Kind::Sign(Sign::Close)) && before.open.is_none() {
-        return push_closing(shown, faulty.part);
-    }
-    push_thing(shown, spot)?;
-    shown.push_str(if before.is_empty && faulty.part.is_some() {
-        " cannot begin the text"
+        push_open(alloc, shown, faulty.text, open)?;
     } else {
-        " cannot follow what is before it"
-    })?;
-    if is_at_item(spot.kind) {
-        push_open(alloc, shown, faulty.text, before.open)?;
+        push_thing(shown, spot)?;
+        shown.push_str(if begins && faulty.part.is_some() {
+            " cannot begin the text"
+        } else {
+            " cannot follow what is before it"
+        })?;
+        if is_at_item(spot.kind) {
+            push_open(alloc, shown, faulty.text, open)?;
+        }
     }
-    if spot.kind == Some(Kind::Name) && push_near_word(alloc, shown, spot.token)? {
+    let is_outside = before.is_some() && open.is_none();
+    push_cure(alloc, shown, place, before, is_outside)
+}
+
+/// Appends what a name may be meant for that is not declared. Returns whether it did.
+fn push_meaning(
+    alloc: Global,
+    shown: &mut String,
+    faulty: Faulty<'_>,
+    name: &str,
+) -> Result<bool, AllocError> {
+    let declared = declared_in(alloc, faulty.script)?;
+    if declaration_of(&declared, name).is_some() {
+        return Ok(false);
+    }
+    match advice_on(alloc, faulty.script, name) {
+        Some(advice) => push_advice(shown, advice),
+        None => push_near_word(alloc, shown, name),
+    }
+}
+
+/// Appends what can come in place of a token, if that is sure.
+fn push_cure(
+    alloc: Global,
+    shown: &mut String,
+    place: Place<'_>,
+    before: Option<&[Token<'_>]>,
+    is_outside: bool,
+) -> Result<(), AllocError> {
+    let Place { faulty, spot } = place;
+    if spot.kind == Some(Kind::Name) && push_meaning(alloc, shown, faulty, spot.token)? {
         return Ok(());
     }
+    if let Some(before) = before {
+        if push_expectation(alloc, shown, Site::new(faulty, before, spot), before)? {
+            return Ok(());
+        }
+    }
     match faulty.part {
-        Some(part) if before.open.is_none() => {
+        Some(part) if is_outside && !spot.token.is_empty() => {
             shown.push_str(". ")?;
             shown.push_str(whole_text(part))
         }
@@ -221,21 +270,23 @@ fn push_closing(shown: &mut String, part: Option<Part<'_>>) -> Result<(), AllocE
 }
 
 /// Appends what is wrong with a name: that it is not declared, or is declared as something that cannot be used here.
-fn push_name(
-    alloc: Global,
-    shown: &mut String,
-    faulty: Faulty<'_>,
-    name: &str,
-) -> Result<(), AllocError> {
+fn push_name(alloc: Global, shown: &mut String, place: Place<'_>) -> Result<(), AllocError> {
+    let Place { faulty, spot } = place;
+    let name = spot.token;
     let declared = declared_in(alloc, faulty.script)?;
     match (faulty.fault, declaration_of(&declared, name)) {
         (ScriptFault::Undeclared { .. }, _) => {
-            push_undeclared(alloc, shown, &declared, name, faulty.external)
+            push_undeclared(alloc, shown, &declared, faulty, name)
         }
         (_, Some(declaration)) => {
             shown.push_str(" is declared as ")?;
             shown.push_str(kind_text(declaration.word))?;
-            shown.push_str(", which cannot be used here")
+            shown.push_str(", which cannot be used here")?;
+            if let Some(before) = tokens_before(alloc, faulty.text, spot.begin) {
+                let site = Site::new(faulty, &before, spot);
+                push_use(alloc, shown, site, &before, declaration)?;
+            }
+            Ok(())
         }
         (fault, None) => {
             shown.push_str(" ")?;
@@ -249,9 +300,10 @@ fn push_undeclared(
     alloc: Global,
     shown: &mut String,
     declared: &[DeclaredName<'_>],
+    faulty: Faulty<'_>,
     name: &str,
-    external: &str,
 ) -> Result<(), AllocError> {
+    let (script, external) = (faulty.script, faulty.external);
     shown.push_str(" is not declared.")?;
     if name == external && names_of(alloc, declared, true)?.is_empty() {
         let text = format!(in alloc; " Declare it: externals ( {name} )")?;
@@ -259,6 +311,13 @@ fn push_undeclared(
     }
     let names = names_of(alloc, declared, false)?;
     if push_near(alloc, shown, name, &names)? {
+        return Ok(());
+    }
+    if let Some(advice) = advice_on(alloc, script, name) {
+        shown.push_str(" ")?;
+        return shown.push_str(advice);
+    }
+    if push_near_reserved(alloc, shown, name)? {
         return Ok(());
     }
     shown.push_str(" Declare it, or use another name.")
@@ -304,20 +363,76 @@ fn push_byte(shown: &mut String, faulty: Faulty<'_>, begin: usize) -> Result<(),
     push_conversion(shown, faulty.text, "OLD")
 }
 
+/// Returns whether a character can only be wrong as an insert character: it is white space or begins a literal.
+fn is_insert_fault(character: char) -> bool {
+    matches!(character, '\t'..='\r' | ' ' | '\'' | '\u{FEFF}')
+}
+
+/// Appends what is wrong with a character that begins nothing of the language.
+fn push_character(shown: &mut String, spot: Spot<'_>) -> Result<(), AllocError> {
+    match spot.token.chars().next() {
+        Some(character) if !is_insert_fault(character) => {
+            push_thing(shown, spot)?;
+            shown.push_str(" begins nothing of the language. ")?;
+            shown.push_str(foreign_character(character))
+        }
+        _ => shown.push_str(INSERTS),
+    }
+}
+
+/// Appends that something is left out here, or that a sign is missing after the name of an integer.
+fn push_left_out(alloc: Global, shown: &mut String, place: Place<'_>) -> Result<(), AllocError> {
+    let Place { faulty, spot } = place;
+    if spot.kind == Some(Kind::Sign(Sign::Dollar)) {
+        if let Some(name) = integer_after(alloc, faulty, spot.begin)? {
+            let text = format!(in alloc; "after ${name} comes a sign such as =, += or >")?;
+            return shown.push_str(text.as_str());
+        }
+    }
+    push_thing(shown, spot)?;
+    shown.push_str(" is of Snowball, but left out here: ")?;
+    shown.push_str(left_out_text(spot.kind))
+}
+
+/// Returns the name after the `$` at an offset, if it is declared as an integer.
+fn integer_after<'a>(
+    alloc: Global,
+    faulty: Faulty<'a>,
+    begin: usize,
+) -> Result<Option<&'a str>, AllocError> {
+    let Ok(rest) = str::from_utf8(faulty.text.get(begin..).unwrap_or(&[])) else {
+        return Ok(None);
+    };
+    let declared = declared_in(alloc, faulty.script)?;
+    let mut lexer = Lexer::new(alloc, rest);
+    let Ok(Some(_)) = lexer.next() else {
+        return Ok(None);
+    };
+    let Ok(Some(name)) = lexer.next() else {
+        return Ok(None);
+    };
+    match declaration_of(&declared, name.text) {
+        Some(declaration) if declaration.word == Word::Integers => Ok(Some(name.text)),
+        _ => Ok(None),
+    }
+}
+
 /// Appends the sentence for a fault at a place.
 pub(crate) fn push_sentence(
     alloc: Global,
     shown: &mut String,
-    faulty: Faulty<'_>,
-    spot: Spot<'_>,
+    place: Place<'_>,
 ) -> Result<(), AllocError> {
+    let Place { faulty, spot } = place;
     match faulty.fault {
-        ScriptFault::Syntax { .. } => push_syntax(alloc, shown, faulty, spot),
+        ScriptFault::Syntax { .. } => push_syntax(alloc, shown, place),
         ScriptFault::Undeclared { .. } | ScriptFault::WrongKind { .. } => {
             push_thing(shown, spot)?;
-            push_name(alloc, shown, faulty, spot.token)
+            push_name(alloc, shown, place)
         }
         ScriptFault::NotUtf8 => push_byte(shown, faulty, spot.begin),
+        ScriptFault::BadCharacter { .. } => push_character(shown, spot),
+        ScriptFault::OutOfProfile { .. } => push_left_out(alloc, shown, place),
         fault => {
             if !begins_sentence(fault) {
                 push_thing(shown, spot)?;

@@ -3,7 +3,7 @@
 ghost use Rattle.std.specs.Prelude.{◌≡◌, IfOk};
 ghost use Rattle.sbl_script.specs.ParsedScript.{source_of};
 ghost use Rattle.sbl_semantics.specs.Differs.{differs};
-ghost use Rattle.sbl_diff.specs.ItemsIn.{items_in};
+ghost use Rattle.sbl_tree_diff.specs.ItemsIn.{items_in};
 
 use crate::items::differ_items;
 use sbl_script::Script;

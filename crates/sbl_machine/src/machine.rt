@@ -135,23 +135,7 @@ impl<S: AmongSearch> Machine<S> {
         ensures integers { (script : Source) → IsMachineOf S S.entries S.mode self.now script → IfOk result (λ why. why.integers.items ≡ integers_of script word.now limit) }
     {
         let mut state = State::new(alloc);
-        state.restart(&self.program, word, limit)?;
-        state.record_events();
-        let runner = Runner {
-            tables: &self.tables,
-            program: &self.program,
-            levels: MAX_LEVELS,
-            mode: Mode::Forward,
-        };
-        let end = runner.run_call(self.program.external, &mut state);
-        let traced = result_of_end(alloc, end, limit, &state, Vec::new(alloc))?;
-        let integers = state.integers(alloc)?;
-        Ok(Why {
-            outcome: traced.outcome,
-            events: events_or_none(alloc, state.take_events()),
-            integers,
-            used: traced.used,
-        })
+        self.why_in(alloc, &mut state, word, limit)
     }
 
     /// Returns the name of the routine with this number, or an empty name if there is none. Routines count from 0, in the
@@ -245,6 +229,40 @@ impl<S: AmongSearch> Machine<S> {
                 Ok(traced)
             }
         }
+    }
+
+    // Makes a run with its events, in this state.
+    fn why_in(
+        &self,
+        alloc: Global,
+        state: &mut State,
+        word: &[char],
+        limit: u32,
+    ) -> Result<Why, AllocError>
+        requires { length word.now ≤ max_word_length }
+        ensures outcome { (script : Source) → IsMachineOf S S.entries S.mode self.now script → IfOk result (λ why. outcome_of why.outcome ≡ run_of script word.now limit) }
+        ensures events { (script : Source) → IsMachineOf S S.entries S.mode self.now script → IfOk result (λ why. map event_of why.events.items ≡ events_of script word.now limit) }
+        ensures used { (script : Source) → IsMachineOf S S.entries S.mode self.now script → IfOk result (λ why. why.used ≡ used_of script word.now limit) }
+        ensures integers { (script : Source) → IsMachineOf S S.entries S.mode self.now script → IfOk result (λ why. why.integers.items ≡ integers_of script word.now limit) }
+    {
+        state.restart(&self.program, word, limit)?;
+        state.record_events();
+        let runner = Runner {
+            tables: &self.tables,
+            program: &self.program,
+            levels: MAX_LEVELS,
+            mode: Mode::Forward,
+        };
+        let routine = self.program.external;
+        let end = runner.run_call(routine, state);
+        let traced = result_of_end(alloc, end, limit, state, Vec::new(alloc))?;
+        let integers = state.integers(alloc)?;
+        Ok(Why {
+            outcome: traced.outcome,
+            events: events_or_none(alloc, state.take_events()),
+            integers,
+            used: traced.used,
+        })
     }
 
     // Makes the run.

@@ -1,6 +1,6 @@
 //! Parses commands. Each function returns what it has read, or else the first fault, or `Memory` if an allocation fails.
 
-ghost use Rattle.std.specs.Prelude.{◌≡◌, ◌≤◌, ◌+◌, ◌∷◌, [], OnOk};
+ghost use Rattle.std.specs.Prelude.{◌≡◌, ◌≤◌, ◌+◌, ◌∷◌, [], IfErr, IfOk, OnOk};
 ghost use Rattle.sbl_parser.specs.Roles.{role_of};
 ghost use Rattle.sbl_ast.specs.Terminal as t;
 ghost use Rattle.sbl_parser.specs.Steps as wanted;
@@ -20,6 +20,15 @@ use crate::role::Role;
 use crate::starts::begins_command;
 use crate::tokens::{argument, name};
 use sbl_ast::{Among, Command, Count, Entry, Group, NextCommand, Prefix, RowOfCommands};
+use std::alloc::Global;
+
+/// Puts a command into a box. It is dropped here if an allocation fails, so no caller has to prove that again.
+fn boxed(alloc: Global, command: Command) -> ReadResult<Box<Command>>
+    ensures same { IfOk result (λ b. b.value ≡ command) }
+    ensures memory { IfErr result (λ e. e ≡ ReadError.Memory) }
+{
+    Ok(Box::new(alloc, command)?)
+}
 
 /// Parses a command whose first token is at nesting depth `depth`.
 #[cycle(commands)]
@@ -96,8 +105,8 @@ fn prefix_command(cursor: &mut Cursor<'_, '_>, depth: u8, prefix: Prefix) -> Rea
     requires { depth ≤ max_depth }
     ensures { Reads (wanted.command depth ∷ []) (λ x. spelled_command (view_command x)) (t.prefix prefix ∷ ahead cursor.old) result (ahead cursor.new) }
 {
-    let inner = command(cursor, depth + 1)?;
-    Ok(Command::Prefixed(prefix, Box::new(cursor.alloc, inner)?))
+    let inner = boxed(cursor.alloc, command(cursor, depth + 1)?)?;
+    Ok(Command::Prefixed(prefix, inner))
 }
 
 /// Parses `E C`, after a `loop` or `atleast`.
@@ -107,8 +116,7 @@ fn count_command(cursor: &mut Cursor<'_, '_>, depth: u8, count: Count) -> ReadRe
     ensures { Reads (wanted.command depth ∷ []) (λ x. spelled_command (view_command x)) (t.count count ∷ ahead cursor.old) result (ahead cursor.new) }
 {
     let times = expression(cursor, depth)?;
-    let inner = command(cursor, depth + 1)?;
-    let inner = Box::new(cursor.alloc, inner)?;
+    let inner = boxed(cursor.alloc, command(cursor, depth + 1)?)?;
     Ok(Command::Counted(count, times, inner))
 }
 
@@ -120,13 +128,10 @@ fn set_limit(cursor: &mut Cursor<'_, '_>, depth: u8) -> ReadResult<Command>
     ensures { Reads (wanted.command depth ∷ []) (λ x. spelled_command (view_command x)) (ahead cursor.old) result (ahead cursor.new) }
 {
     cursor.skip();
-    let limit = command(cursor, depth + 1)?;
+    let limit = boxed(cursor.alloc, command(cursor, depth + 1)?)?;
     cursor.take(Delimiter::For, depth)?;
-    let inner = command(cursor, depth + 1)?;
-    Ok(Command::SetLimit(
-        Box::new(cursor.alloc, limit)?,
-        Box::new(cursor.alloc, inner)?,
-    ))
+    let inner = boxed(cursor.alloc, command(cursor, depth + 1)?)?;
+    Ok(Command::SetLimit(limit, inner))
 }
 
 /// Parses `among ( .. )`.

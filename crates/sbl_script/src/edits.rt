@@ -212,10 +212,13 @@ pub fn escapes_before(
 pub fn routine(alloc: Global, name: &str, body: RowOfCommands) -> Result<Plain, AllocError>
     ensures { IfOk result (λ x. view_plain x ≡ trees.routine name.now (view_row body).0 (view_row body).1) }
 {
-    Ok(Plain::Routine {
-        name: String::from_str(alloc, name)?,
-        body,
-    })
+    match String::from_str(alloc, name) {
+        Ok(name) => Ok(Plain::Routine { name, body }),
+        Err(error) => {
+            drop(body);
+            Err(error)
+        }
+    }
 }
 
 /// Returns a grouping with this name and these terms.

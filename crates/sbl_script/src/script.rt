@@ -206,7 +206,7 @@ impl Script {
         let found = self.tokens_in(alloc, DefinitionKind::Routine, name, text)?;
         let body = body_of_tokens(alloc, &found, text.len())?;
         let new = edits::routine(alloc, name, body)?;
-        let script = self.with_definition(alloc, DefinitionKind::Routine, name, &new)?;
+        let script = self.with_definition(alloc, DefinitionKind::Routine, name, new)?;
         Ok(script)
     }
 
@@ -240,7 +240,7 @@ impl Script {
         let among = among_of_tokens(alloc, &found, text.len(), depth)?;
         let body = put_in_place(alloc, body, k, &among)?;
         let new = edits::routine(alloc, routine, body)?;
-        let script = self.with_definition(alloc, DefinitionKind::Routine, routine, &new)?;
+        let script = self.with_definition(alloc, DefinitionKind::Routine, routine, new)?;
         if has_as_many_amongs(&among, replaced) {
             Ok(script)
         } else {
@@ -271,7 +271,7 @@ impl Script {
         let found = self.tokens_in(alloc, DefinitionKind::Grouping, name, text)?;
         let terms = terms_of_tokens(alloc, &found, text.len())?;
         let new = edits::grouping(alloc, name, terms)?;
-        let script = self.with_definition(alloc, DefinitionKind::Grouping, name, &new)?;
+        let script = self.with_definition(alloc, DefinitionKind::Grouping, name, new)?;
         Ok(script)
     }
 
@@ -291,8 +291,30 @@ impl Script {
         tokens_under(alloc, text, escapes)
     }
 
-    /// Returns the script with `new` in place of the first definition of this kind and name.
+    /// Returns the script with `new` in place of the first definition of this kind and name, and drops `new`: by a call, since
+    /// the prover takes a tree apart on each path that drops it without one.
     fn with_definition(
+        &self,
+        alloc: Global,
+        kind: DefinitionKind,
+        name: &str,
+        new: Plain,
+    ) -> Result<Script, ScriptFault>
+        requires same { defines kind name.now (view_plain new) ≡ true }
+        requires shallow { AreShallow (placed_plain (view_plain new) []) }
+        requires spelled { IsSpelled (state_reached (defines kind name.now) (source_of self.now).items) (view_plain new) }
+        ensures items { IfOk result (λ s. (source_of s).items ≡ items_with (defines kind name.now) (view_plain new) (source_of self.now).items) }
+        ensures external { IfOk result (λ s. (source_of s).external ≡ (source_of self.now).external) }
+        ensures well_declared { IfOk result (λ s. WellDeclared (source_of s).items (source_of s).external) }
+        ensures fault { IfErr result (λ f. (f ≡ ScriptFault.OutOfMemory) ⊎ (fault_of (items_with (defines kind name.now) (view_plain new) (source_of self.now).items) (source_of self.now).external ≡ Some f)) }
+    {
+        let script = self.with_plain(alloc, kind, name, &new);
+        drop(new);
+        script
+    }
+
+    /// Returns the script with `new` in place of the first definition of this kind and name.
+    fn with_plain(
         &self,
         alloc: Global,
         kind: DefinitionKind,

@@ -1,26 +1,16 @@
 //! Work on the files of a script and of words.
 
-use sbl_console::{
-    Commands, Context, Lead, Quiet, REFUSED, Talk, WatchedReader, fail_keys, fail_memory,
-    print_work_end,
-};
-use sbl_io::{Device, Lines, Sink, Source};
-use sbl_work::{Paths, block_request, work};
-use snowbench::{CommandLine, Face};
+use crate::messages::{FAILED, NO_KEYS, REFUSED, fail_memory, print_line};
+use crate::talk::{Lead, Talk};
+use crate::watching::{Context, Quiet, WatchedReader, file_text};
+use sbl_diagnostics::fault_of;
+use sbl_work::{Paths, work};
+use snowbench::{CommandLine, Device, Face, Lines, Sink, Source};
 use std::alloc::{AllocError, Global};
 use std::cell::RefCell;
+use std::fs;
 use std::hash::RandomState;
 use std::io::IsTerminal;
-
-/// The commands of `work`.
-#[derive(Clone, Copy)]
-struct WorkCommands;
-
-impl Commands for WorkCommands {
-    fn asks_block(&self, alloc: Global, line: &[u8]) -> bool {
-        block_request(alloc, line).is_some()
-    }
-}
 
 /// Returns whether faults are shown with their places: if the face is text, also by default at a terminal.
 fn shows_places(rt: &HostRuntime, face: Option<Face>) -> bool {
@@ -54,7 +44,8 @@ pub(crate) fn start_work(rt: &HostRuntime, command_line: CommandLine) -> u8 {
         external,
     };
     let Ok(keys) = RandomState::new(rt) else {
-        return fail_keys(rt);
+        let _ = eprint!(rt; "{NO_KEYS}");
+        return FAILED;
     };
     let is_terminal = rt.stdin().is_terminal() && rt.stdout().is_terminal();
     let prompts = is_terminal && face != Some(Face::Rows);
@@ -105,25 +96,51 @@ fn work_in_text(
     prompts: bool,
     talk: &RefCell<Talk>,
 ) -> Result<u8, AllocError> {
-    let (script, external) = (paths.script.as_str(), paths.external.as_str());
     let context = Context {
-        external,
+        external: paths.external.as_str(),
         input: None,
-        script: Some(script),
+        script: Some(paths.script.as_str()),
         prompts,
     };
-    let reader = WatchedReader::new(rt, context, WorkCommands, rt.stdin(), talk)?;
+    let reader = Device::new(WatchedReader::new(rt, context, rt.stdin(), talk)?);
     let mut writer = Device::new(Quiet::new(rt.stdout(), talk));
     let mut errors = Device::new(Vec::new(rt.alloc()));
-    let status = work_over(
-        rt,
-        keys,
-        paths,
-        prompts,
-        Device::new(reader),
-        &mut writer,
-        &mut errors,
-    )?;
-    print_work_end(rt, script, external, &errors.into_inner())?;
+    let status = work_over(rt, keys, paths, prompts, reader, &mut writer, &mut errors)?;
+    print_end(rt, paths, &errors.into_inner())?;
     Ok(status)
+}
+
+/// Prints why the work has ended, and the place of the fault if it is one of the script.
+fn print_end(rt: &HostRuntime, paths: &Paths, said: &[u8]) -> Result<(), AllocError> {
+    if said.is_empty() {
+        return Ok(());
+    }
+    if let Ok(said) = str::from_utf8(said) {
+        let _ = eprint!(rt; "{said}");
+    }
+    let Ok(text) = fs::read(rt, paths.script.as_str()) else {
+        return Ok(());
+    };
+    if let Some(shown) = start_text(rt.alloc(), paths, &text, said)? {
+        print_line(rt, Ok(shown), FAILED);
+    }
+    Ok(())
+}
+
+/// Returns the lines on the fault of the script if that is the fault that was said.
+fn start_text(
+    alloc: Global,
+    paths: &Paths,
+    text: &[u8],
+    said: &[u8],
+) -> Result<Option<String>, AllocError> {
+    let external = paths.external.as_str();
+    let Some(fault) = fault_of(alloc, text, external) else {
+        return Ok(None);
+    };
+    let line = format!(in alloc; "snowbench: {fault}\n")?;
+    if line.as_bytes() != said {
+        return Ok(None);
+    }
+    file_text(alloc, paths.script.as_str(), text, external)
 }

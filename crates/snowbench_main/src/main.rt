@@ -2,14 +2,21 @@
 #![tactic(auto)]
 
 mod at_work;
+mod blocks;
+mod faults;
+mod file_names;
+mod messages;
+mod run_result;
 mod sessions;
+mod streams;
+mod talk;
+mod watching;
 
 use crate::at_work::start_work;
+use crate::file_names::{FileNames, reads_twice};
+use crate::messages::{NO_MEMORY, REFUSED, fail_memory, print_text};
 use crate::sessions::{run_check, run_filter, run_input, run_session};
 use clap::error::ErrorKind;
-use sbl_console::{
-    FileNames, InputKind, REFUSED, RunRequest, fail_memory, print_text, reads_twice,
-};
 use snowbench::{CommandLine, Verb, read_command_line};
 use std::io;
 use std::process::ExitCode;
@@ -51,7 +58,8 @@ fn words_of(rt: &HostRuntime) -> io::Result<Vec<String>> {
 /// Prints why the words of the command line cannot be read, and returns the exit status.
 fn refuse_words(rt: &HostRuntime, error: &io::Error) -> ExitCode {
     if error.kind() == io::ErrorKind::OutOfMemory {
-        return ExitCode::from(fail_memory(rt));
+        let _ = eprintln!(rt; "{NO_MEMORY}");
+        return ExitCode::FAILURE;
     }
     let _ = eprintln!(rt; "{NOT_UTF8}");
     ExitCode::from(REFUSED)
@@ -64,40 +72,26 @@ fn refuse_line(rt: &HostRuntime, error: &clap::Error) -> u8 {
 
 /// Does what the command line asks for, and returns the exit status.
 fn start(rt: &HostRuntime, command_line: CommandLine) -> u8 {
-    let kind = match command_line.verb {
-        Verb::Work => return start_work(rt, command_line),
-        Verb::Session => InputKind::Session,
-        Verb::Stem => InputKind::Stem,
-        Verb::Filter => InputKind::Filter,
-        Verb::Check => InputKind::Check,
-    };
-    let request = RunRequest {
-        kind,
-        external: command_line.external.as_str(),
-        is_strict: command_line.is_strict,
-    };
+    if command_line.verb == Verb::Work {
+        return start_work(rt, command_line);
+    }
     match &command_line.script {
-        None => run_input(rt, &command_line, request),
-        Some(script) => run_files(rt, &command_line, request, script.as_str()),
+        None => run_input(rt, &command_line),
+        Some(script) => run_files(rt, &command_line, script.as_str()),
     }
 }
 
-/// Runs a session, a filter or a check over files, and returns the exit status.
-fn run_files(
-    rt: &HostRuntime,
-    command_line: &CommandLine,
-    request: RunRequest<'_>,
-    script: &str,
-) -> u8 {
+/// Runs a session or a check over files, and returns the exit status.
+fn run_files(rt: &HostRuntime, command_line: &CommandLine, script: &str) -> u8 {
     let words = match &command_line.words {
         Some(words) => words.as_str(),
         None => "-",
     };
-    if request.kind == InputKind::Filter {
-        return run_filter(rt, command_line, request, script);
+    if command_line.verb == Verb::Filter {
+        return run_filter(rt, command_line, script);
     }
-    if request.kind == InputKind::Check {
-        return check_files(rt, command_line, request, script, words);
+    if command_line.verb == Verb::Check {
+        return check_files(rt, command_line, script, words);
     }
     let rest = text_in(&command_line.commands);
     let names = FileNames {
@@ -109,17 +103,11 @@ fn run_files(
         let _ = eprintln!(rt; "{NAMED_TWICE}");
         return REFUSED;
     }
-    run_session(rt, command_line, request, names)
+    run_session(rt, command_line, names)
 }
 
 /// Compares stems of files, and returns the exit status.
-fn check_files(
-    rt: &HostRuntime,
-    command_line: &CommandLine,
-    request: RunRequest<'_>,
-    script: &str,
-    words: &str,
-) -> u8 {
+fn check_files(rt: &HostRuntime, command_line: &CommandLine, script: &str, words: &str) -> u8 {
     let Some(stems) = text_in(&command_line.stems) else {
         let _ = eprintln!(rt; "{THREE_FILES}");
         return REFUSED;
@@ -133,7 +121,7 @@ fn check_files(
         let _ = eprintln!(rt; "{NAMED_TWICE_BY_CHECK}");
         return REFUSED;
     }
-    run_check(rt, command_line, request, names, stems)
+    run_check(rt, command_line, names, stems)
 }
 
 /// Returns the text, if there is one.

@@ -1,16 +1,22 @@
 //! Runs over files, and over standard input.
 
-use sbl_console::{
-    Context, FileNames, FirstBytes, Front, InputKind, Lead, Output, Quiet, RunRequest, RunResult,
-    STANDARD_INPUT, SessionCommands, Talk, WatchedReader, check_input, commands_name, fail_memory,
-    print_check_end, print_files_end, print_input_end, script_input, session_input,
-};
-use sbl_io::{Device, Lines, Source};
-use snowbench::{CommandLine, run};
-use std::alloc::AllocError;
+use crate::blocks::{compose, line_count, point_line, script_block};
+use crate::faults::{hint, run_fault_text};
+use crate::file_names::{FileNames, STANDARD_INPUT, file_name};
+use crate::messages::{FAILED, NO_KEYS, REFUSED, count_and_word, fail_memory, print_line};
+use crate::run_result::RunResult;
+use crate::streams::{FirstBytes, Front, Output};
+use crate::talk::{Lead, Talk};
+use crate::watching::{Context, Quiet, WatchedReader};
+use snowbench::{CommandLine, Device, Lines, Source, Verb, run};
+use std::alloc::{AllocError, Global};
 use std::cell::RefCell;
 use std::hash::RandomState;
-use std::io::Read;
+use std::io::{IsTerminal, Read};
+use std::{fs, io};
+
+/// The exit status after the reader of a pipe has closed it, as of a program that the signal ends.
+const CLOSED_PIPE: u8 = 141;
 
 /// How many bytes the line of a fault has at most.
 const MAX_FAULT_LINE: usize = 96;
@@ -22,7 +28,7 @@ fn run_lines<R: Source + Drop>(
     lines: &mut Lines<R>,
 ) -> Result<RunResult, AllocError> {
     let Ok(keys) = RandomState::new(rt) else {
-        return RunResult::without_keys(rt.alloc());
+        return without_keys(rt.alloc());
     };
     let said = Vec::with_capacity(rt.alloc(), MAX_FAULT_LINE)?;
     let mut writer = Device::new(Output::new(rt.stdout()));
@@ -42,7 +48,7 @@ fn run_watched<'x, R: Read + Drop>(
     talk: &'x RefCell<Talk>,
 ) -> Result<RunResult, AllocError> {
     let Ok(keys) = RandomState::new(rt) else {
-        return RunResult::without_keys(rt.alloc());
+        return without_keys(rt.alloc());
     };
     let context = Context {
         external: command_line.external.as_str(),
@@ -50,7 +56,7 @@ fn run_watched<'x, R: Read + Drop>(
         script: None,
         prompts: false,
     };
-    let reader = WatchedReader::new(rt, context, SessionCommands, reader, talk)?;
+    let reader = WatchedReader::new(rt, context, reader, talk)?;
     let mut lines = Lines::new(rt.alloc(), Device::new(reader))?;
     let said = Vec::with_capacity(rt.alloc(), MAX_FAULT_LINE)?;
     let mut writer = Device::new(Quiet::new(Output::new(rt.stdout()), talk));
@@ -60,51 +66,163 @@ fn run_watched<'x, R: Read + Drop>(
     Ok(RunResult::new(status, errors.into_inner(), &output))
 }
 
-/// Runs what the command line asks for over standard input, and returns the exit status.
-pub(crate) fn run_input(
+/// Returns the end of a run for which the system gives no random numbers.
+fn without_keys(alloc: Global) -> Result<RunResult, AllocError> {
+    Ok(RunResult {
+        status: FAILED,
+        said: Vec::from_slice(alloc, NO_KEYS.as_bytes())?,
+        rows: 0,
+        has_refusal: false,
+        is_closed: false,
+    })
+}
+
+/// Returns the exit status: that of the run, and with `--strict` 1 after a refused command.
+fn status_of(command_line: &CommandLine, ended: &RunResult) -> u8 {
+    if command_line.is_strict && ended.has_refusal {
+        return FAILED;
+    }
+    ended.status
+}
+
+/// Prints the line of a fault.
+fn print_said(rt: &HostRuntime, ended: &RunResult) {
+    if let Ok(said) = str::from_utf8(ended.said.as_slice()) {
+        let _ = eprint!(rt; "{said}");
+    }
+}
+
+/// Prints the line of a fault, and what it says of the input: its place, or what is missing. Without `names` all of the input is
+/// from standard input. Returns the exit status. A reader of a pipe that has closed it, as `head` does, is no fault.
+fn print_fault(
     rt: &HostRuntime,
     command_line: &CommandLine,
-    request: RunRequest<'_>,
+    names: Option<FileNames<'_>>,
+    input: &[u8],
+    ended: &RunResult,
 ) -> u8 {
-    let shows_places = command_line.shows_places;
-    let kept = RefCell::new(FirstBytes::new(rt.alloc(), shows_places));
+    if ended.is_closed && ended.said.as_slice() == b"snowbench: 71 Write\n".as_slice() {
+        return CLOSED_PIPE;
+    }
+    print_said(rt, ended);
+    match run_fault_text(rt.alloc(), command_line, names, input, ended) {
+        Ok(Some(text)) => print_line(rt, Ok(text), status_of(command_line, ended)),
+        Ok(None) => status_of(command_line, ended),
+        Err(_) => fail_memory(rt),
+    }
+}
+
+/// Runs what the command line asks for over standard input, and returns the exit status.
+pub(crate) fn run_input(rt: &HostRuntime, command_line: &CommandLine) -> u8 {
+    let kept = RefCell::new(FirstBytes::new(rt.alloc(), command_line.shows_places));
     let talk = RefCell::new(Talk::new(rt.alloc(), Lead::Session));
-    let Ok(ended) = run_front(rt, command_line, request.kind, &kept, &talk) else {
+    let Ok(ended) = run_front(rt, command_line, &kept, &talk) else {
         return fail_memory(rt);
     };
-    print_input_end(rt, request, shows_places, &kept.into_inner(), &ended)
+    if !command_line.shows_places {
+        print_said(rt, &ended);
+        return status_of(command_line, &ended);
+    }
+    let kept = kept.into_inner();
+    if ended.status == 0 && kept.is_whole() {
+        print_hint(rt, command_line.verb, kept.bytes());
+    }
+    print_fault(rt, command_line, None, kept.bytes(), &ended)
 }
 
 /// Runs what the command line asks for over standard input, and keeps its first bytes.
 fn run_front(
     rt: &HostRuntime,
     command_line: &CommandLine,
-    kind: InputKind,
     kept: &RefCell<FirstBytes>,
     talk: &RefCell<Talk>,
 ) -> Result<RunResult, AllocError> {
     let front = Front::new(rt.stdin(), kept);
-    if command_line.shows_places && kind == InputKind::Session {
+    if command_line.shows_places && command_line.verb == Verb::Session {
         return run_watched(rt, command_line, STANDARD_INPUT, front, talk);
     }
     let mut lines = Lines::new(rt.alloc(), Device::new(front))?;
     run_lines(rt, command_line, &mut lines)
 }
 
+/// Prints a hint if the input is not read to its end.
+fn print_hint(rt: &HostRuntime, verb: Verb, input: &[u8]) {
+    if let Some(text) = hint(verb, input) {
+        let _ = eprintln!(rt; "{text}");
+    }
+}
+
+/// Returns the bytes of a file, or of standard input if its name is `-`. If it cannot be read, prints why and returns the exit
+/// status. `what` are its lines.
+fn read_named(rt: &HostRuntime, path: &str, what: &str) -> Result<Vec<u8>, u8> {
+    if path == "-" {
+        return read_input(rt, what);
+    }
+    match fs::read(rt, path) {
+        Ok(bytes) => Ok(bytes),
+        Err(error) => {
+            let text = format!(in rt.alloc(); "snowbench: {path} is no file that can be read");
+            Err(print_unread(rt, &error, text, REFUSED))
+        }
+    }
+}
+
+/// Prints that something cannot be read, and returns the status. If an allocation has failed, it prints that.
+fn print_unread(
+    rt: &HostRuntime,
+    error: &io::Error,
+    text: Result<String, AllocError>,
+    status: u8,
+) -> u8 {
+    if error.kind() == io::ErrorKind::OutOfMemory {
+        return fail_memory(rt);
+    }
+    print_line(rt, text, status)
+}
+
+/// Returns the bytes of standard input. At a terminal it says which lines are to be typed.
+fn read_input(rt: &HostRuntime, what: &str) -> Result<Vec<u8>, u8> {
+    if rt.stdin().is_terminal() {
+        let _ = eprintln!(rt;
+            "snowbench: {what}, one a line; the end of input (control-D) ends them"
+        );
+    }
+    let mut bytes = Vec::new(rt.alloc());
+    match rt.stdin().read_to_end(&mut bytes) {
+        Ok(_) => Ok(bytes),
+        Err(error) => {
+            let text = format!(in rt.alloc(); "snowbench: standard input cannot be read: {error}");
+            Err(print_unread(rt, &error, text, FAILED))
+        }
+    }
+}
+
+/// Returns the bytes of a file that is a block of the input. A line that is a single point would end the block: it is refused.
+fn read_block(rt: &HostRuntime, command: &str, path: &str, what: &str) -> Result<Vec<u8>, u8> {
+    let bytes = read_named(rt, path, what)?;
+    let Some(line) = point_line(&bytes) else {
+        return Ok(bytes);
+    };
+    let name = file_name(path);
+    let alloc = rt.alloc();
+    let text = format!(in alloc;
+        "snowbench: line {line} of {name} is a single point, which would end it: {command} writes the points itself"
+    );
+    Err(print_line(rt, text, REFUSED))
+}
+
 /// Runs the commands of a file over a script and words in files, and returns the exit status.
 pub(crate) fn run_session(
     rt: &HostRuntime,
     command_line: &CommandLine,
-    request: RunRequest<'_>,
     names: FileNames<'_>,
 ) -> u8 {
-    let input = match session_input(rt, &mut rt.stdin(), names) {
-        Ok(input) => input,
-        Err(status) => return status,
-    };
-    match run_commands(rt, command_line, names, &input) {
-        Ok(ended) => print_files_end(rt, request, names, &input, &ended),
-        Err(_) => fail_memory(rt),
+    match session_input(rt, names) {
+        Ok(input) => match run_commands(rt, command_line, names, &input) {
+            Ok(ended) => print_fault(rt, command_line, Some(names), &input, &ended),
+            Err(_) => fail_memory(rt),
+        },
+        Err(status) => status,
     }
 }
 
@@ -115,24 +233,53 @@ fn run_commands(
     names: FileNames<'_>,
     input: &[u8],
 ) -> Result<RunResult, AllocError> {
+    let name = match names.rest {
+        None => STANDARD_INPUT,
+        Some(path) => file_name(path),
+    };
     let talk = RefCell::new(Talk::new(rt.alloc(), Lead::Commands));
-    run_watched(rt, command_line, commands_name(names), input, &talk)
+    run_watched(rt, command_line, name, input, &talk)
+}
+
+/// Runs what the command line asks for over these bytes.
+fn run_bytes(
+    rt: &HostRuntime,
+    command_line: &CommandLine,
+    input: &[u8],
+) -> Result<RunResult, AllocError> {
+    let mut lines = Lines::new(rt.alloc(), Device::new(input))?;
+    run_lines(rt, command_line, &mut lines)
+}
+
+/// Returns the input of a session. Without a file of commands the command is `stems`.
+fn session_input(rt: &HostRuntime, names: FileNames<'_>) -> Result<Vec<u8>, u8> {
+    let script = read_block(rt, "run", names.script, "lines of the script")?;
+    let words = read_block(rt, "run", names.words, "words")?;
+    let composed = match names.rest {
+        Some(path) => {
+            let commands = read_named(rt, path, "commands")?;
+            compose(rt.alloc(), &script, &words, &commands)
+        }
+        None => compose(rt.alloc(), &script, &words, b"stems\n"),
+    };
+    match composed {
+        Ok(input) => Ok(input),
+        Err(_) => Err(fail_memory(rt)),
+    }
 }
 
 /// Writes the row of each word of standard input by the script of a file, as they come, and returns the exit status. With the
 /// name `-` the script is at the beginning of standard input.
-pub(crate) fn run_filter(
-    rt: &HostRuntime,
-    command_line: &CommandLine,
-    request: RunRequest<'_>,
-    script: &str,
-) -> u8 {
+pub(crate) fn run_filter(rt: &HostRuntime, command_line: &CommandLine, script: &str) -> u8 {
     if script == "-" {
-        return run_input(rt, command_line, request);
+        return run_input(rt, command_line);
     }
-    let input = match script_input(rt, &mut rt.stdin(), script) {
-        Ok(input) => input,
+    let text = match read_block(rt, "filter", script, "lines of the script") {
+        Ok(text) => text,
         Err(status) => return status,
+    };
+    let Ok(input) = script_block(rt.alloc(), &text) else {
+        return fail_memory(rt);
     };
     let names = FileNames {
         script,
@@ -140,7 +287,7 @@ pub(crate) fn run_filter(
         rest: None,
     };
     match filter_words(rt, command_line, &input) {
-        Ok(ended) => print_files_end(rt, request, names, &input, &ended),
+        Ok(ended) => print_fault(rt, command_line, Some(names), &input, &ended),
         Err(_) => fail_memory(rt),
     }
 }
@@ -160,26 +307,59 @@ fn filter_words(
 pub(crate) fn run_check(
     rt: &HostRuntime,
     command_line: &CommandLine,
-    request: RunRequest<'_>,
     names: FileNames<'_>,
     stems: &str,
 ) -> u8 {
-    let (input, words) = match check_input(rt, &mut rt.stdin(), names, stems) {
+    let (input, words) = match check_input(rt, names, stems) {
         Ok(read) => read,
         Err(status) => return status,
     };
-    match run_bytes(rt, command_line, &input) {
-        Ok(ended) => print_check_end(rt, request, names, &input, words, &ended),
-        Err(_) => fail_memory(rt),
+    let Ok(ended) = run_bytes(rt, command_line, &input) else {
+        return fail_memory(rt);
+    };
+    let status = print_fault(rt, command_line, Some(names), &input, &ended);
+    if ended.said.is_empty() {
+        let rows = ended.rows;
+        let text = counts_text(rt.alloc(), words, rows);
+        return print_line(rt, text, status);
+    }
+    status
+}
+
+/// Returns the input of a check, and the number of its words.
+fn check_input(rt: &HostRuntime, names: FileNames<'_>, stems: &str) -> Result<(Vec<u8>, u64), u8> {
+    let script = read_block(rt, "check", names.script, "lines of the script")?;
+    let words = read_block(rt, "check", names.words, "words")?;
+    let expected = read_named(rt, stems, "stems")?;
+    let (count, other) = (line_count(&words), line_count(&expected));
+    if count != other {
+        let text = lengths_text(rt.alloc(), names.words, count, stems, other);
+        return Err(print_line(rt, text, REFUSED));
+    }
+    match compose(rt.alloc(), &script, &words, &expected) {
+        Ok(input) => Ok((input, count)),
+        Err(_) => Err(fail_memory(rt)),
     }
 }
 
-/// Runs what the command line asks for over these bytes.
-fn run_bytes(
-    rt: &HostRuntime,
-    command_line: &CommandLine,
-    input: &[u8],
-) -> Result<RunResult, AllocError> {
-    let mut lines = Lines::new(rt.alloc(), Device::new(input))?;
-    run_lines(rt, command_line, &mut lines)
+/// Returns how many words there are, and how many differ.
+fn counts_text(alloc: Global, words: u64, rows: u64) -> Result<String, AllocError> {
+    let words = count_and_word(alloc, words, "word", "words")?;
+    let rows = count_and_word(alloc, rows, "differs", "differ")?;
+    format!(in alloc; "{words}, {rows}")
+}
+
+/// Returns that two files have different numbers of lines.
+fn lengths_text(
+    alloc: Global,
+    words: &str,
+    count: u64,
+    stems: &str,
+    other: u64,
+) -> Result<String, AllocError> {
+    let count = count_and_word(alloc, count, "line", "lines")?;
+    let other = count_and_word(alloc, other, "line", "lines")?;
+    format!(in alloc;
+        "snowbench: {words} has {count} and {stems} has {other}: each word needs its stem"
+    )
 }

@@ -50,9 +50,8 @@ pub(crate) fn outcome_text(alloc: Global, outcome: &Outcome) -> Result<String, A
     }
 }
 
-/// Makes one run. Returns what it gives, and the steps that it uses.
+/// Makes one run, which the meter counts. Returns what it gives, and the steps that it uses.
 fn runs<S: AmongSearch>(
-    rt: &impl Abort,
     alloc: Global,
     machine: &Machine<S>,
     meter: &mut Meter,
@@ -62,7 +61,6 @@ fn runs<S: AmongSearch>(
     requires { length word.now ≤ max_word_length }
 {
     let ran = machine.run(alloc, meter, word, limit)?;
-    assert!(rt; meter.count() == 1);
     let (outcome, used) = (outcome_text(alloc, &ran.outcome)?, ran.used);
     Ok(format!(in alloc; "{outcome}|{used};")?)
 }
@@ -75,28 +73,6 @@ pub(crate) enum Asked {
     Events,
 }
 
-/// Asks a machine about a word, with a new meter. No other function here has one, and it is dropped by a call, since the prover takes it
-/// apart on each path that drops it without one.
-pub(crate) fn answer<S: AmongSearch>(
-    rt: &impl Abort,
-    alloc: Global,
-    asked: Asked,
-    machine: &Machine<S>,
-    word: &[char],
-    limit: u32,
-) -> Result<String, Fail>
-    requires { length word.now ≤ max_word_length }
-{
-    let mut meter = Meter::new();
-    let answer = match asked {
-        Asked::Outcome => runs(rt, alloc, machine, &mut meter, word, limit),
-        Asked::Items => touches(rt, alloc, machine, &mut meter, word, limit),
-        Asked::Events => does(rt, alloc, machine, &mut meter, word, limit),
-    };
-    drop(meter);
-    answer
-}
-
 /// Asks a machine about a row: the word, the limit of steps (empty: 100,000), and how the answer begins.
 fn ask_row<S: AmongSearch>(
     rt: &impl Abort,
@@ -107,7 +83,20 @@ fn ask_row<S: AmongSearch>(
 ) -> Result<(), Fail> {
     let word = word_in(rt, alloc, row)?;
     let limit = field(row, 1).parse().unwrap_or(100_000);
-    let answer = answer(rt, alloc, asked, machine, &word, limit)?;
+    let answer = match asked {
+        Asked::Outcome => {
+            let mut meter = Meter::new();
+            let answer = runs(alloc, machine, &mut meter, &word, limit)?;
+            assert!(rt; meter.count() == 1);
+            answer
+        }
+        Asked::Items => touches(rt, alloc, machine, &word, limit)?,
+        Asked::Events => {
+            let (answer, is_same) = does(alloc, machine, &word, limit)?;
+            assert!(rt; is_same);
+            answer
+        }
+    };
     let shown = format!(in alloc; "{}|{}|{answer}", field(row, 0), field(row, 1))?;
     assert!(rt; shown.as_str().starts_with(row), "{row}: {shown}");
     Ok(())

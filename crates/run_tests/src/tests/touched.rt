@@ -7,44 +7,40 @@ use crate::tests::runs::{Asked, ask};
 use sbl_machine::{AmongSearch, Item, Machine, Meter, Table, Touch};
 use std::alloc::Global;
 use std::collections::BTreeSet;
-use std::process::Abort;
 use std::test::Fail;
 
-/// Asserts that the numbers of what was touched say the same as these items.
+/// Returns whether the numbers of what was touched say the same as these items.
 fn are_items<S: AmongSearch>(
-    rt: &impl Abort,
     alloc: Global,
     machine: &Machine<S>,
     touches: &[Touch],
     mut items: BTreeSet<Item>,
-) -> Result<(), Fail> {
-    assert!(rt; machine.items(alloc, touches)? == items);
+) -> Result<bool, Fail> {
+    let is_same = machine.items(alloc, touches)? == items;
     items.retain(|item| !machine.is_among_touches(touches, item));
-    assert!(rt; items.is_empty());
     let other = Item::Routine(String::from_str(alloc, "nowhere")?);
-    assert!(rt; !machine.is_among_touches(touches, &other));
-    Ok(())
+    let has_other = machine.is_among_touches(touches, &other);
+    Ok(is_same && items.is_empty() && !has_other)
 }
 
-/// Runs a machine over a word twice: the numbers of what is touched say the same as the names. Returns the items in order, and the steps.
+/// Runs a machine over a word twice. Returns the items in order, and the steps; and whether both runs are the same, and the numbers of
+/// what is touched say the same as the names.
 pub(crate) fn touches<S: AmongSearch>(
-    rt: &impl Abort,
     alloc: Global,
     machine: &Machine<S>,
     meter: &mut Meter,
     word: &[char],
     limit: u32,
-) -> Result<String, Fail>
+) -> Result<(String, bool), Fail>
     requires { length word.now ≤ max_word_length }
 {
     let ran = machine.run(alloc, meter, word, limit)?;
     let traced = machine.trace(alloc, meter, word, limit)?;
-    assert!(rt; meter.count() == 2);
-    assert!(rt; traced.outcome == ran.outcome && traced.used == ran.used);
+    let is_same = traced.outcome == ran.outcome && traced.used == ran.used;
     let (touched, used) = (&ran.touched, ran.used);
     let text = format!(in alloc; "{touched:?}|{used};")?;
-    are_items(rt, alloc, machine, &traced.touches, ran.touched)?;
-    Ok(text)
+    let agree = are_items(alloc, machine, &traced.touches, ran.touched)?;
+    Ok((text, is_same && agree && meter.count() == 2))
 }
 
 /// A word, the limit of steps, the items that its run touches, and the steps that it uses. A condition that signals f is entered, and a

@@ -79,6 +79,19 @@ fn runs(alloc: Global, case: &Case, stops: Stops) -> Result<Vec<u8>, Fail> {
     written(alloc, case.0, &mut lines, Device::new(writer))
 }
 
+/// Asserts that a run with these stops gives this text.
+fn gives(
+    rt: &impl Abort,
+    alloc: Global,
+    case: &Case,
+    stops: Stops,
+    text: &[u8],
+) -> Result<(), Fail> {
+    let given = runs(alloc, case, stops)?;
+    assert!(rt; given.as_slice() == text, "{}", text.len());
+    Ok(())
+}
+
 /// Asserts that a read after each byte may fail, or be one more than there may be.
 fn reader_fails(rt: &impl Abort, alloc: Global, case: &Case) -> Result<(), Fail> {
     // The read after the last byte finds the end of the input.
@@ -86,23 +99,11 @@ fn reader_fails(rt: &impl Abort, alloc: Global, case: &Case) -> Result<(), Fail>
     for bytes in 0..reads {
         let text = outputs(alloc, case, bytes, "!70 Read")?;
         let read = bytes.saturating_add(1);
-        assert!(rt;
-            runs(alloc, case, Stops { read, ..NEVER })? == text,
-            "{bytes}"
-        );
+        gives(rt, alloc, case, Stops { read, ..NEVER }, &text)?;
         let most = bytes;
-        assert!(rt;
-            runs(alloc, case, Stops { most, ..NEVER })? == text,
-            "{bytes}"
-        );
+        gives(rt, alloc, case, Stops { most, ..NEVER }, &text)?;
     }
     Ok(())
-}
-
-#[test]
-fn a_reader_may_fail_or_be_at_its_limit_at_each_read(rt: HostRuntime) -> Result<(), Fail> {
-    reader_fails(&rt, rt.alloc(), &SESSION)?;
-    reader_fails(&rt, rt.alloc(), &FILTER)
 }
 
 /// Asserts that the writer may fail after each of its bytes.
@@ -112,18 +113,9 @@ fn writer_fails(rt: &impl Abort, alloc: Global, case: &Case) -> Result<(), Fail>
         let mut text = Vec::from_slice(alloc, &whole[..bytes])?;
         text.extend_from_slice(b"!71 Write")?;
         let write = bytes as u64 + 1;
-        assert!(rt;
-            runs(alloc, case, Stops { write, ..NEVER })? == text,
-            "{bytes}"
-        );
+        gives(rt, alloc, case, Stops { write, ..NEVER }, &text)?;
     }
     Ok(())
-}
-
-#[test]
-fn a_writer_may_fail_after_each_of_its_bytes(rt: HostRuntime) -> Result<(), Fail> {
-    writer_fails(&rt, rt.alloc(), &SESSION)?;
-    writer_fails(&rt, rt.alloc(), &FILTER)
 }
 
 /// Asserts that all is written by as many reads as there have to be, and after a thousand interruptions in a row, but not after more.
@@ -140,7 +132,11 @@ fn bears(rt: &impl Abort, alloc: Global, case: &Case) -> Result<(), Fail> {
 }
 
 #[test]
-fn a_thousand_interruptions_in_a_row_are_borne(rt: HostRuntime) -> Result<(), Fail> {
-    bears(&rt, rt.alloc(), &SESSION)?;
-    bears(&rt, rt.alloc(), &FILTER)
+fn devices_may_fail_at_each_call(rt: HostRuntime) -> Result<(), Fail> {
+    for case in [&SESSION, &FILTER] {
+        reader_fails(&rt, rt.alloc(), case)?;
+        writer_fails(&rt, rt.alloc(), case)?;
+        bears(&rt, rt.alloc(), case)?;
+    }
+    Ok(())
 }

@@ -1,2 +1,0 @@
--- definitions that public contracts depend on
-pub mod FileNames

@@ -1,0 +1,321 @@
+//! What can come in a construct of the language that a place is in, in a sentence.
+
+use crate::declarations::{DeclaredName, declaration_of, declared_in};
+use crate::foreign::advice_on;
+use crate::grammar::{Outlook, Symbol, is_constant};
+use crate::sites::{Site, push_advice, push_text};
+use sbl_text::{Kind, Lexer, Sign, Token, Word};
+use std::alloc::{AllocError, Global};
+
+/// What a name is.
+pub(crate) const NAMES: &str = "A name is an ASCII letter, and then ASCII letters, digits and _.";
+
+/// Appends how numbers are compared, if a word for a number is at a place of commands.
+pub(crate) fn push_number(
+    alloc: Global,
+    shown: &mut String,
+    site: Site<'_>,
+) -> Result<bool, AllocError> {
+    let token = site.spot.token;
+    match site.spot.kind {
+        Some(Kind::Word(word)) if is_constant(word) => {
+            push_text(
+                shown,
+                format!(in alloc; "Numbers are compared in $( .. ), as in $( {token} > 2 ).")?,
+            )
+        }
+        Some(Kind::Word(Word::LenOf)) => {
+            push_advice(
+                shown,
+                "Numbers are compared in $( .. ), as in $( lenof s > 2 ).",
+            )
+        }
+        _ => Ok(false),
+    }
+}
+
+/// Appends how the name before a sign is set or compared.
+pub(crate) fn push_operator(
+    alloc: Global,
+    shown: &mut String,
+    site: Site<'_>,
+    role: Option<Symbol>,
+    declared: &[DeclaredName<'_>],
+) -> Result<bool, AllocError> {
+    let (Some(last), Some(sign)) = (site.last, site.operator()) else {
+        return Ok(false);
+    };
+    let (name, sign_text) = (last.text, sign.text());
+    if last.kind != Kind::Name {
+        return Ok(false);
+    }
+    let word = match site.prior {
+        Some(prior) if role == Some(Symbol::Name) => prior.kind,
+        _ => last.kind,
+    };
+    let is_integer = match declaration_of(declared, name) {
+        Some(declared) => declared.word == Word::Integers,
+        None => true,
+    };
+    let is_command = match role {
+        Some(symbol) => symbol.has_command(),
+        None => false,
+    };
+    let sentence = match word {
+        Kind::Word(Word::Set | Word::Unset) => {
+            format!(in alloc; "set {name} makes {name} true, unset {name} makes it false.")?
+        }
+        Kind::Word(Word::SetMark) => format!(in alloc;
+            "setmark {name} sets {name} to the cursor, ${name} = .. to another number."
+        )?,
+        _ if is_command && is_integer => {
+            format!(in alloc; "Before the name of an integer comes $: ${name} {sign_text} ..")?
+        }
+        _ => return Ok(false),
+    };
+    push_advice(shown, sentence.as_str())
+}
+
+/// Appends what comes in parentheses of commands.
+pub(crate) fn push_rows(
+    alloc: Global,
+    shown: &mut String,
+    site: Site<'_>,
+    outlook: &Outlook,
+) -> Result<bool, AllocError> {
+    if site.operator().is_some() {
+        return Ok(false);
+    }
+    if push_number(alloc, shown, site)? {
+        return Ok(true);
+    }
+    if site.is_at(Word::For) {
+        return push_advice(shown, "for comes after setlimit: setlimit C for D.");
+    }
+    if site.is_at(Word::As) {
+        return push_advice(shown, "as comes after define and a name.");
+    }
+    if !outlook.offers(Symbol::Joiners) {
+        if site.is_at_joiner() {
+            let word = site.spot.token;
+            return push_text(shown, format!(in alloc; "Before {word} comes a command.")?);
+        }
+        return push_advice(shown, "After ( comes a command or ).");
+    }
+    push_advice(
+        shown,
+        "Commands follow each other (C D) or are joined (C or D, C and D).",
+    )
+}
+
+/// Appends what comes in the parentheses of a declaration.
+pub(crate) fn push_names(
+    alloc: Global,
+    shown: &mut String,
+    site: Site<'_>,
+) -> Result<bool, AllocError> {
+    match site.spot.kind {
+        Some(Kind::Word(_)) => {
+            let word = site.spot.token;
+            push_text(
+                shown,
+                format!(in alloc; "{word} is a reserved word: take another name.")?,
+            )
+        }
+        Some(Kind::Number | Kind::Sign(Sign::Minus)) => push_advice(shown, NAMES),
+        _ => push_advice(shown, "Names come here, and then )."),
+    }
+}
+
+/// Appends what comes in parentheses of an expression.
+pub(crate) fn push_sums(
+    alloc: Global,
+    shown: &mut String,
+    site: Site<'_>,
+) -> Result<bool, AllocError> {
+    if site.is_at_joiner() {
+        let word = site.spot.token;
+        return push_text(
+            shown,
+            format!(in alloc; "{word} joins commands: $( a > b ) {word} $( c > d ).")?,
+        );
+    }
+    push_advice(shown, "Here comes +, -, *, / or ).")
+}
+
+/// Appends that a `define` is missing before the token at the place, if `as` follows it.
+pub(crate) fn push_missing_define(
+    alloc: Global,
+    shown: &mut String,
+    site: Site<'_>,
+) -> Result<bool, AllocError> {
+    let rest = site.faulty.text.get(site.spot.begin..).unwrap_or(&[]);
+    let Ok(rest) = str::from_utf8(rest) else {
+        return Ok(false);
+    };
+    let mut lexer = Lexer::new(alloc, rest);
+    let Ok(Some(name)) = lexer.next() else {
+        return Ok(false);
+    };
+    let Ok(Some(next)) = lexer.next() else {
+        return Ok(false);
+    };
+    if name.kind != Kind::Name || next.kind != Kind::Word(Word::As) {
+        return Ok(false);
+    }
+    push_text(
+        shown,
+        format!(in alloc; "Before {} define is missing.", name.text)?,
+    )
+}
+
+/// Appends what comes among the items of a script.
+pub(crate) fn push_items(
+    alloc: Global,
+    shown: &mut String,
+    site: Site<'_>,
+) -> Result<bool, AllocError> {
+    if push_missing_define(alloc, shown, site)? {
+        return Ok(true);
+    }
+    if site.is_at(Word::Backwards) {
+        return push_advice(
+            shown,
+            "Routines in backward mode are defined in backwardmode ( .. ).",
+        );
+    }
+    let Some(characters) = site.last_of(Kind::Inserts) else {
+        return push_advice(
+            shown,
+            "Here comes a declaration or a definition, such as define r as ( .. ).",
+        );
+    };
+    push_text(
+        shown,
+        format!(in alloc; "stringescapes takes the two characters after it, here {characters}.")?,
+    )
+}
+
+/// Appends what comes after a term of a grouping.
+pub(crate) fn push_terms(
+    alloc: Global,
+    shown: &mut String,
+    site: Site<'_>,
+    tokens: &[Token<'_>],
+    declared: &[DeclaredName<'_>],
+) -> Result<bool, AllocError> {
+    if site.faulty.part.is_some() && !matches!(site.spot.kind, Some(Kind::Literal | Kind::Name)) {
+        return Ok(false);
+    }
+    if site.faulty.part.is_none() && push_missing_define(alloc, shown, site)? {
+        return Ok(true);
+    }
+    match declaration_of(declared, last_definition(tokens).name) {
+        Some(name) if matches!(name.word, Word::Routines | Word::Externals) => {
+            return push_form(alloc, shown, name);
+        }
+        _ => {}
+    }
+    push_advice(shown, "Between the terms of a grouping comes + or -.")
+}
+
+/// The last definition that some tokens have.
+#[derive(Clone, Copy)]
+pub(crate) struct Definition<'a> {
+    name: &'a str,
+    /// Whether a parenthesis begins its body, and the last token closes it.
+    is_closed: bool,
+}
+
+/// Returns the last definition in these tokens, as that of a routine.
+pub(crate) fn last_definition<'a>(tokens: &[Token<'a>]) -> Definition<'a> {
+    let mut name = "";
+    let mut place: usize = 0;
+    let mut depth: usize = 0;
+    let mut closing: usize = 0;
+    let mut opens = false;
+    for token in tokens {
+        place = place.saturating_add(1);
+        if token.kind == Kind::Word(Word::Define) {
+            (place, depth, closing, opens) = (0, 0, 0, false);
+        } else if place == 1 {
+            name = token.text;
+        } else if token.kind == Kind::Sign(Sign::Open) {
+            opens = opens || place == 3;
+            depth = depth.saturating_add(1);
+        } else if token.kind == Kind::Sign(Sign::Close) {
+            depth = depth.saturating_sub(1);
+            closing = if depth == 0 && closing == 0 {
+                place
+            } else {
+                closing
+            };
+        }
+    }
+    let is_closed = opens && closing == place;
+    Definition { name, is_closed }
+}
+
+/// Appends what comes after the body of a routine.
+pub(crate) fn push_body(
+    alloc: Global,
+    shown: &mut String,
+    site: Site<'_>,
+    definition: Definition<'_>,
+) -> Result<bool, AllocError> {
+    if push_foreign(alloc, shown, site)? {
+        return Ok(true);
+    }
+    if site.faulty.part.is_some() || site.operator().is_some() {
+        return Ok(false);
+    }
+    if push_missing_define(alloc, shown, site)? {
+        return Ok(true);
+    }
+    let Definition { name, is_closed } = definition;
+    let sentence = if !site.has_command() {
+        format!(in alloc;
+            "The body of a routine is one command, or several with or or and between them."
+        )?
+    } else if is_closed {
+        format!(in alloc; "The body of {name} ends at the ) before this.")?
+    } else {
+        format!(in alloc;
+            "The body of a routine is one command: put several in parentheses, define {name} as ( .. )."
+        )?
+    };
+    push_advice(shown, sentence.as_str())
+}
+
+/// Appends what to write for the name before the place, if it is a word of other languages and not declared.
+fn push_foreign(alloc: Global, shown: &mut String, site: Site<'_>) -> Result<bool, AllocError> {
+    let Some(last) = site.last else {
+        return Ok(false);
+    };
+    let declared = declared_in(alloc, site.faulty.script)?;
+    match advice_on(alloc, site.faulty.script, last.text) {
+        Some(advice) if declaration_of(&declared, last.text).is_none() => {
+            push_advice(shown, advice)
+        }
+        _ => Ok(false),
+    }
+}
+
+/// Appends how a name of this kind is defined.
+pub(crate) fn push_form(
+    alloc: Global,
+    shown: &mut String,
+    declared: DeclaredName<'_>,
+) -> Result<bool, AllocError> {
+    let name = declared.name;
+    let sentence = match declared.word {
+        Word::Groupings => {
+            format!(in alloc; "The definition of a grouping has no as: define {name} 'a' + 'b'.")?
+        }
+        Word::Routines | Word::Externals => {
+            format!(in alloc; "The definition of a routine has as: define {name} as ( .. ).")?
+        }
+        _ => format!(in alloc; "Only routines, externals and groupings are defined.")?,
+    };
+    push_advice(shown, sentence.as_str())
+}

@@ -1,0 +1,72 @@
+//! Words and characters of other languages, and parts of Snowball that are left out: what to write in a script.
+
+use sbl_text::{Kind, Word, tokens};
+use std::alloc::Global;
+
+/// Returns what to write in place of a part of Snowball that is left out.
+pub(crate) fn left_out_text(kind: Option<Kind>) -> &'static str {
+    match kind {
+        Some(Kind::Word(Word::Size)) => "write len, which counts characters",
+        Some(Kind::Word(Word::SizeOf)) => "write lenof, which counts characters",
+        _ => "docs/LANGUAGE.md says what to write",
+    }
+}
+
+/// Returns what to write in place of a word that other languages have.
+fn foreign_word(name: &str) -> Option<&'static str> {
+    match name {
+        "if" | "then" | "else" | "elif" | "elsif" | "unless" => Some(
+            "Snowball has no if: ( C D ) runs D if C signals t, and C or D runs D if C signals f.",
+        ),
+        "while" | "until" => {
+            Some("Snowball has no while: repeat C runs C again and again, until it signals f.")
+        }
+        "begin" | "end" => Some("Snowball has no begin and end: commands are in parentheses."),
+        "return" => Some("Snowball has no return: a routine ends with the last of its commands."),
+        _ => None,
+    }
+}
+
+/// Returns whether a script has `define` before this name.
+fn is_defined(alloc: Global, script: &[u8], name: &str) -> bool {
+    let Ok(text) = str::from_utf8(script) else {
+        return false;
+    };
+    let Ok(tokens) = tokens(alloc, text) else {
+        return false;
+    };
+    let mut follows = false;
+    for token in &tokens {
+        if follows && token.text == name {
+            return true;
+        }
+        follows = token.kind == Kind::Word(Word::Define);
+    }
+    false
+}
+
+/// Returns what to write in place of a name that is not declared, if it is a word of other languages, and not defined in the script.
+pub(crate) fn advice_on(alloc: Global, script: &[u8], name: &str) -> Option<&'static str> {
+    let advice = foreign_word(name)?;
+    if is_defined(alloc, script, name) {
+        return None;
+    }
+    Some(advice)
+}
+
+/// Returns what is wrong with a character that begins nothing of the language, and what to write.
+pub(crate) fn foreign_character(character: char) -> &'static str {
+    match character {
+        ',' | ';' => "Names and commands have only white space between them",
+        '"' | '`' | '\u{2018}' | '\u{2019}' | '\u{201C}' | '\u{201D}' => {
+            "A literal is in straight single quotes: 'abc'"
+        }
+        '#' | '%' => "A comment is from // to the end of the line, or from /* to */",
+        '{' | '}' => "Commands and names are in round parentheses",
+        '|' => "Between two commands write or",
+        '&' => "Between two commands write and",
+        '!' => "Before a command write not",
+        '\u{A0}' | '\u{2007}' | '\u{202F}' => "This is a no-break space: put a blank in its place",
+        _ => "In a literal it would be a character",
+    }
+}

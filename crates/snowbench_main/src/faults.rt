@@ -1,0 +1,174 @@
+//! What to say on the fault of a run over an input: where it is, or what is missing.
+
+use crate::blocks::{after_point, long_line, point_line};
+use crate::file_names::{FileNames, STANDARD_INPUT, file_name};
+use crate::messages::count_and_word;
+use crate::run_result::RunResult;
+use sbl_bench::MAX_WORD_LENGTH;
+use sbl_diagnostics::{fault_of, offset_of_byte, push_conversion, push_named, script_fault_text};
+use sbl_formats::read_script;
+use sbl_places::position_of;
+use snowbench::{CommandLine, Device, Lines, Verb};
+use std::alloc::{AllocError, Global};
+
+/// The line of an input that is cut inside a block.
+const CUT: &[u8] = b"snowbench: 73 Cut\n";
+
+/// The line of a word, or a line of a check, that is not UTF-8.
+const NOT_TEXT: &[u8] = b"snowbench: 75 NotText\n";
+
+/// The line of a word with too many characters.
+const TOO_LONG: &[u8] = b"snowbench: 43 WordTooLong\n";
+
+/// Returns what there is to say on the fault of a run, beside the line of the fault. Without `names` all of the input is from
+/// standard input.
+pub(crate) fn run_fault_text(
+    alloc: Global,
+    command_line: &CommandLine,
+    names: Option<FileNames<'_>>,
+    input: &[u8],
+    ended: &RunResult,
+) -> Result<Option<String>, AllocError> {
+    let said = ended.said.as_slice();
+    if said == CUT {
+        return format!(in alloc; "  {}", cut_text(command_line.verb, input)).map(Some);
+    }
+    if command_line.verb == Verb::Filter && (said == NOT_TEXT || said == TOO_LONG) {
+        let rows = count_and_word(alloc, ended.rows, "row", "rows")?;
+        return format!(in alloc; "  it is the word after {rows}").map(Some);
+    }
+    if said == NOT_TEXT {
+        return not_utf8_text(alloc, names, input);
+    }
+    if said == TOO_LONG {
+        return long_word_text(alloc, names, input);
+    }
+    let title = match names {
+        Some(names) => file_name(names.script),
+        None => STANDARD_INPUT,
+    };
+    script_text(alloc, command_line.external.as_str(), title, input, said)
+}
+
+/// Returns which line of the words, or of what follows them, is not UTF-8, and how to convert it. In standard input lines are counted
+/// from its beginning.
+fn not_utf8_text(
+    alloc: Global,
+    names: Option<FileNames<'_>>,
+    input: &[u8],
+) -> Result<Option<String>, AllocError> {
+    let (name, text) = match names {
+        Some(names) => part_not_utf8(names, input),
+        None => (STANDARD_INPUT, input),
+    };
+    let Some(offset) = offset_of_byte(text) else {
+        return Ok(None);
+    };
+    let line = position_of(text, offset).line;
+    let mut shown = String::new(alloc);
+    push_named(&mut shown, name)?;
+    let place = format!(in alloc; ":{line}: not UTF-8. ")?;
+    shown.push_str(place.as_str())?;
+    let old = if name == STANDARD_INPUT { "OLD" } else { name };
+    push_conversion(&mut shown, text, old)?;
+    Ok(Some(shown))
+}
+
+/// Returns the words with the name of their file if they are not UTF-8, and otherwise what follows them with the name of its file.
+fn part_not_utf8<'x>(names: FileNames<'x>, input: &'x [u8]) -> (&'x str, &'x [u8]) {
+    let words = after_point(input).unwrap_or(&[]);
+    let rest = after_point(words).unwrap_or(&[]);
+    let block = words
+        .get(..words.len().saturating_sub(rest.len()))
+        .unwrap_or(words);
+    match (offset_of_byte(block), names.rest) {
+        (None, Some(name)) => (file_name(name), rest),
+        _ => (file_name(names.words), block),
+    }
+}
+
+/// Returns which line of the words has too many characters for a word.
+fn long_word_text(
+    alloc: Global,
+    names: Option<FileNames<'_>>,
+    input: &[u8],
+) -> Result<Option<String>, AllocError> {
+    let Some(line) = long_line(after_point(input).unwrap_or(&[])) else {
+        return Ok(None);
+    };
+    let (name, line) = match names {
+        Some(names) => (file_name(names.words), line),
+        None => (
+            STANDARD_INPUT,
+            line.saturating_add(point_line(input).unwrap_or(0)),
+        ),
+    };
+    let mut shown = String::new(alloc);
+    push_named(&mut shown, name)?;
+    let place = format!(in alloc;
+        ":{line}: more than {MAX_WORD_LENGTH} characters, which no word may have"
+    )?;
+    shown.push_str(place.as_str())?;
+    Ok(Some(shown))
+}
+
+/// Returns the lines on a fault of the script, if that is the fault of the run.
+fn script_text(
+    alloc: Global,
+    external: &str,
+    title: &str,
+    input: &[u8],
+    said: &[u8],
+) -> Result<Option<String>, AllocError> {
+    if said.is_empty() {
+        return Ok(None);
+    }
+    let mut lines = Lines::new(alloc, Device::new(input))?;
+    let Ok(text) = read_script(&mut lines) else {
+        return Ok(None);
+    };
+    let Some(fault) = fault_of(alloc, &text, external) else {
+        return Ok(None);
+    };
+    let line = format!(in alloc; "snowbench: {fault}\n")?;
+    if line.as_bytes() != said {
+        return Ok(None);
+    }
+    Ok(Some(script_fault_text(alloc, title, &text, external, fault)?))
+}
+
+/// Returns what an input lacks that is cut inside a block.
+fn cut_text(verb: Verb, input: &[u8]) -> &'static str {
+    if point_line(input).is_none() {
+        return "the input ends inside the script: a line that is a single point ends the script";
+    }
+    if verb == Verb::Check {
+        return "the input ends inside the words: a line that is a single point ends them";
+    }
+    "the input ends inside a block: a line that is a single point ends it"
+}
+
+/// Returns what to say about an input that is not read to its end, because a point is missing or is one too many.
+pub(crate) fn hint(verb: Verb, input: &[u8]) -> Option<&'static str> {
+    let words = after_point(input)?;
+    let rest = after_point(words);
+    match (verb, rest) {
+        (Verb::Session, None) => Some(
+            "snowbench: no line is read as a command: a line that is a single point ends the words",
+        ),
+        (Verb::Stem, Some(rest)) if has_text(rest) => {
+            Some("snowbench: what follows the words is not read: stem takes no commands")
+        }
+        _ => None,
+    }
+}
+
+/// Returns whether a byte is no end of a line.
+fn has_text(text: &[u8]) -> bool {
+    for byte in text {
+        if *byte != b'\n' && *byte != b'\r' {
+            return true;
+        }
+    }
+    false
+}

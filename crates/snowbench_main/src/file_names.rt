@@ -1,0 +1,26 @@
+//! The names of the files of a run.
+
+/// What standard input is called.
+pub(crate) const STANDARD_INPUT: &str = "standard input";
+
+/// The names of the files: `-` is standard input.
+#[derive(Clone, Copy)]
+pub(crate) struct FileNames<'a> {
+    pub(crate) script: &'a str,
+    pub(crate) words: &'a str,
+    /// The commands of `run`, if they are in a file, or the stems of `check`.
+    pub(crate) rest: Option<&'a str>,
+}
+
+/// Returns whether more than one of the files is standard input.
+pub(crate) fn reads_twice(names: FileNames<'_>) -> bool {
+    let script = names.script == "-";
+    let words = names.words == "-";
+    let rest = names.rest == Some("-");
+    (script && words) || (script && rest) || (words && rest)
+}
+
+/// Returns the name of a file, as people call it.
+pub(crate) fn file_name(path: &str) -> &str {
+    if path == "-" { STANDARD_INPUT } else { path }
+}
