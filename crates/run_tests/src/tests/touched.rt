@@ -28,9 +28,9 @@ fn are_items<S: AmongSearch>(
 pub(crate) fn touches<S: AmongSearch>(
     alloc: Global,
     machine: &Machine<S>,
-    meter: &mut Meter,
     word: &[char],
     limit: u32,
+    meter: &mut Meter,
 ) -> Result<(String, bool), Fail>
     requires { length word.now ≤ max_word_length }
 {

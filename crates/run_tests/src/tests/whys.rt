@@ -3,7 +3,7 @@
 ghost use Rattle.std.specs.Prelude.{◌≤◌, length};
 ghost use Rattle.sbl_semantics.specs.Limit.{max_word_length};
 
-use crate::tests::runs::{Asked, ask, machine_of, outcome_text};
+use crate::tests::runs::{Asked, answer, ask, machine_of, outcome_text};
 use sbl_machine::{AmongSearch, Machine, Meter, Table};
 use sbl_script::Script;
 use std::alloc::Global;
@@ -13,6 +13,7 @@ use test_scripts::print_values;
 /// Returns what a run gives, the integers at its end or at its refusal, and its events; and whether the run without events is the same.
 pub(crate) fn does<S: AmongSearch>(
     alloc: Global,
+    meter: &mut Meter,
     machine: &Machine<S>,
     word: &[char],
     limit: u32,
@@ -20,7 +21,7 @@ pub(crate) fn does<S: AmongSearch>(
     requires { length word.now ≤ max_word_length }
 {
     let why = machine.why(alloc, word, limit)?;
-    let ran = machine.run(alloc, &mut Meter::new(), word, limit)?;
+    let ran = machine.run(alloc, meter, word, limit)?;
     let is_same = why.outcome == ran.outcome && why.used == ran.used;
     let outcome = outcome_text(alloc, &ran.outcome)?;
     let integers = print_values(alloc, &why.integers)?;
@@ -69,7 +70,7 @@ fn after_an_edit_the_integers_are_those_of_the_new_body(rt: HostRuntime) -> Resu
     let edited = script.with_routine(alloc, "stem", "( $m = 3 $n -= 1 )");
     script.discard();
     let machine: Machine<Table> = machine_of(alloc, edited?)?;
-    let done = does(alloc, &machine, &['a', 'b'], 1_000);
+    let done = answer(alloc, &machine, &['a', 'b'], 1_000, Asked::Events);
     machine.discard();
     let (text, is_same) = done?;
     assert!(rt; is_same && text.as_str().starts_with("ab|-1;3;0;|"));
