@@ -111,7 +111,7 @@ class History:
             else:
                 edit.files.discard(self.script_file)
         self.in_file = self.script
-        if is_new:
+        if is_new or self.is_older():
             self.read_at, self.has_parted = len(self.past), False
         return distinct(edit.name() for edit in aside)
 
