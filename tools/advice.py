@@ -14,6 +14,8 @@ BLOCKS = "routine among grouping replace families".split()
 # What `show` does not show, and what does.
 VARIABLES = {"integer": " integers WORD shows its value at the end of a run.", "string": "", "boolean": ""}
 DECLARATIONS = "strings integers booleans routines externals groupings".split()
+# What the program does in a shell and not at the prompt, and its files.
+VERBS = {"check": "SCRIPT WORDS STEMS", "filter": "SCRIPT < WORDS", "run": "SCRIPT WORDS", "work": "SCRIPT WORDS"}
 
 
 def split(command):
@@ -133,6 +135,8 @@ class Advice:
             return "A definition begins with define NAME as, or define NAME and the terms of a grouping, in one line."
         if line.lstrip().split(" ")[0] in PLAIN + ONE_LINE + BLOCKS:
             return "A command begins at the beginning of the line."
+        if word in VERBS:
+            return "%s is not a command here. In a shell: ./snowbench %s %s." % (word, word, VERBS[word])
         return "%s is not a command.%s help lists the commands." % (named((word or line.strip())[:60]), command_meant(word) if word else "")
 
     def lines_57(self, word, argument, command):
