@@ -13,6 +13,7 @@ mod touches;
 pub use halt::Halt;
 pub use run::Runner;
 pub use sbl_semantics::{Event, RunFault, Touch};
+pub use state::numbers::count_of;
 pub use state::{MAX_WORD_LENGTH, State};
 pub use table::{TableList, Tables, tables_of};
 pub use touches::TouchLog;

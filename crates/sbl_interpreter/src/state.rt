@@ -215,7 +215,7 @@ impl State {
 
     // Uses this many steps. Returns `Steps` if fewer are left; then these are used.
     #[inline(always)]
-    pub(crate) fn pay_for(&mut self, count: usize) -> Result<(), Halt>
+    pub fn pay_for(&mut self, count: usize) -> Result<(), Halt>
         ensures leads { Leads result self.new (pays count self.old) }
         ensures no_more { IfOk result (λ _. self.new.steps ≤ self.old.steps) }
     {

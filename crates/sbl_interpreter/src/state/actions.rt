@@ -20,7 +20,7 @@ use sbl_program::{Action, Arithmetic};
 impl State {
     /// Does a command as `act` does. The commands that are most of a run are done here, without a call of `act`.
     #[inline(always)]
-    pub(crate) fn act_here(
+    pub fn act_here(
         &mut self,
         groupings: &[CharacterClass],
         mode: Mode,
@@ -46,7 +46,7 @@ impl State {
 
     /// Uses a step, and does a command as `act` does. Returns `Steps` if no step is left.
     #[inline(always)]
-    pub(crate) fn pay_and_act(
+    pub fn pay_and_act(
         &mut self,
         groupings: &[CharacterClass],
         mode: Mode,

@@ -49,7 +49,7 @@ impl State {
 
     // Returns the value of an expression as `value` does. A number, a variable and the cursor need no call.
     #[inline(always)]
-    pub(crate) fn value_here(&self, mode: Mode, expression: &Arithmetic) -> Result<i32, RunFault>
+    pub fn value_here(&self, mode: Mode, expression: &Arithmetic) -> Result<i32, RunFault>
         ensures { result ≡ value (view_number expression.now) mode self.now }
     {
         match expression {

@@ -19,7 +19,7 @@ impl State {
     /// in the class, or over one that is not, as `wanted` says. Returns `OutOfMemory` if an allocation fails or the
     /// number is above `u32::MAX`.
     #[inline(always)]
-    pub(crate) fn take_grouping(
+    pub fn take_grouping(
         &mut self,
         mode: Mode,
         classes: &[CharacterClass],
@@ -81,7 +81,7 @@ impl State {
     /// Tests the grouping with this number at the cursor and further on, up to the first t. The cursor stays after the
     /// match if `past`, and else goes before it. The first test touches the grouping, and no later one does.
     #[inline(always)]
-    pub(crate) fn seek_one(
+    pub fn seek_one(
         &mut self,
         past: bool,
         mode: Mode,

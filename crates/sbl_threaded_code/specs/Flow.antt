@@ -1,0 +1,110 @@
+-- What a run does from an instruction on. You need not believe anything here: it is what the assembler and the runner
+-- promise each other.
+use Rattle.std.specs.Prelude.{ℕ, suc, Bool, true, false, List, map, Option, Some, None, replicate, slice_get, slice_set, slice_index_or}
+use Rattle.std.specs.Option.{option_map_or}
+use Rattle.sbl_char_class.specs.Terms.{class_at}
+use Rattle.sbl_program.specs.AmongStrings.{Listing}
+use Rattle.sbl_program.specs.ProgramOf.{view_action, view_number}
+use Rattle.sbl_interpreter.specs.Actions.{acts, test_grouping}
+use Rattle.sbl_interpreter.specs.Arithmetic.{value}
+use Rattle.sbl_interpreter.specs.Rows.{pays}
+use Rattle.sbl_interpreter.specs.Run.{calls}
+use Rattle.sbl_program.specs.Program as programs
+use Rattle.sbl_interpreter.specs.Search.{search_all}
+use Rattle.sbl_semantics.specs.Choices.{choice}
+use Rattle.sbl_semantics.specs.Control.{turns, times, count_of, seeks, limits, limit_here, restore_limit, backwards_from, backwards_end, pay_first}
+use Rattle.sbl_semantics.specs.Numbers.{continue_with}
+use Rattle.sbl_semantics.specs.State.{State, Ending, Signals, Doing, after, then_on, saved_cursor, put_back}
+use Rattle.sbl_semantics.specs.declared.cursor.SavedCursor.{SavedCursor}
+use Rattle.sbl_ast.specs.declared.mode.Mode.{Mode}
+use Rattle.sbl_ast.specs.declared.mode.Mode.TheVariants.{Backward}
+use Rattle.sbl_threaded_code.specs.Slots.{no_cursor, no_cursors}
+use Rattle.sbl_threaded_code.specs.declared.instruction.Instruction.{Instruction}
+use Rattle.sbl_threaded_code.specs.declared.instruction.Instruction.TheOpen.{Instruction-F}
+use Rattle.sbl_threaded_code.specs.declared.instruction.Instruction.TheOpen as code
+use Rattle.sbl_threaded_code.specs.declared.instruction.Instruction.TheFolds.{fold-Instruction}
+
+-- what a run does from an instruction on, with these saved cursors
+abbrev pub Flow : Type 0
+Flow = Mode → List SavedCursor → State → Ending
+
+-- the same of instructions that run by themselves
+abbrev pub alone : Flow → Doing
+alone f m s = f m no_cursors s
+
+-- ---- what commands do, given what the commands in them do
+
+abbrev pub not_of : Doing → Doing
+not_of c m s = after (c m s) (Signals false) (put_back m (saved_cursor s))
+
+abbrev pub test_of : Doing → Doing
+test_of c m s = after (c m s) (put_back m (saved_cursor s)) (Signals false)
+
+abbrev pub try_of : Doing → Doing
+try_of c m s = after (c m s) (Signals true) (put_back m (saved_cursor s))
+
+abbrev pub do_of : Doing → Doing
+do_of c m s = after (c m s) (put_back m (saved_cursor s)) (put_back m (saved_cursor s))
+
+abbrev pub fail_of : Doing → Doing
+fail_of c m s = after (c m s) (Signals false) (Signals false)
+
+abbrev pub turns_of : Doing → Doing
+turns_of c m s = turns (suc s.steps) c m s
+
+abbrev pub loop_of : programs.Arithmetic → Doing → Doing
+loop_of n c m s = continue_with (value n m s) s (λ z. times (count_of z) c m s)
+
+abbrev pub at_least_of : programs.Arithmetic → Doing → Doing
+at_least_of n c m s = after (loop_of n c m s) (turns_of c m) (Signals false)
+
+abbrev pub seek_of : Bool → Doing → Doing
+seek_of past c m s = seeks (suc s.steps) past c m s
+
+abbrev pub backwards_of : Doing → Doing
+backwards_of c m s = then_on (backwards_from s) (λ b. after (c Backward b) backwards_end (Signals false))
+
+abbrev pub limited_of : Doing → Doing → Doing
+limited_of c d m s =
+    after (c m s) (λ t. then_on (put_back m (saved_cursor s) (limit_here m t)) (λ u. restore_limit m (limits s) (d m u))) (Signals false)
+
+-- the instruction of the chosen group: `fail` if none is chosen, `next` if the group has no command
+abbrev pub chosen : Option ℕ → List Flow → Flow → Flow → Flow
+chosen None bodies next fail = fail
+chosen (Some g) bodies next fail = option_map_or (λ f. f) (slice_get bodies g) next
+
+abbrev pub flow_step : programs.Program → ℕ → (ℕ → Listing) → Instruction-F Flow → Flow
+flow_step p levels tables (code.End b) m slots s = Signals b s
+flow_step p levels tables (code.Pay cost next) m slots s = then_on (pays cost s) (next.value m slots)
+flow_step p levels tables (code.Act cost action next fail) m slots s =
+    then_on (pays cost s) (λ u. after (acts p.groupings (view_action action) m u) (next.value m slots) (fail.value m slots))
+flow_step p levels tables (code.Save cost slot next) m slots s =
+    then_on (pays cost s) (λ u. next.value m (slice_set slots slot (saved_cursor u)) u)
+flow_step p levels tables (code.Restore slot next) m slots s =
+    then_on (put_back m (slice_index_or slots slot no_cursor) s) (next.value m slots)
+flow_step p levels tables (code.Nested cost body next fail) m slots s =
+    then_on (pays cost s) (λ u. after (pay_first (alone body.value) m u) (next.value m slots) (fail.value m slots))
+flow_step p levels tables (code.Repeat cost body next) m slots s =
+    then_on (pays cost s) (λ u. after (pay_first (turns_of (alone body.value)) m u) (next.value m slots) (Signals false))
+flow_step p levels tables (code.Loop cost count body next fail) m slots s =
+    then_on (pays cost s) (λ u. after (pay_first (loop_of (view_number count) (alone body.value)) m u) (next.value m slots) (fail.value m slots))
+flow_step p levels tables (code.AtLeast cost count body next fail) m slots s =
+    then_on (pays cost s) (λ u. after (pay_first (at_least_of (view_number count) (alone body.value)) m u) (next.value m slots) (fail.value m slots))
+flow_step p levels tables (code.Seek cost past body next fail) m slots s =
+    then_on (pays cost s) (λ u. after (pay_first (seek_of past (alone body.value)) m u) (next.value m slots) (fail.value m slots))
+flow_step p levels tables (code.SeekGrouping cost past g wanted next fail) m slots s =
+    then_on (pays cost s) (λ u. after (seek_of past (pay_first (test_grouping wanted (class_at p.groupings g) g)) m u) (next.value m slots) (fail.value m slots))
+flow_step p levels tables (code.Backwards cost body next fail) m slots s =
+    then_on (pays cost s) (λ u. after (pay_first (backwards_of (alone body.value)) m u) (next.value m slots) (fail.value m slots))
+flow_step p levels tables (code.SetLimit cost first second next fail) m slots s =
+    then_on (pays cost s) (λ u. after (pay_first (limited_of (alone first.value) (alone second.value)) m u) (next.value m slots) (fail.value m slots))
+flow_step p levels tables (code.Call cost routine next fail) m slots s =
+    then_on (pays cost s) (λ u. after (pay_first (calls p levels routine) m u) (next.value m slots) (fail.value m slots))
+flow_step p levels tables (code.Search cost among table entries next fail) m slots s =
+    then_on (pays cost s) (λ u. after (pay_first (search_all (calls p levels) among entries.items (tables table)) m u) (next.value m slots) (fail.value m slots))
+flow_step p levels tables (code.Choose cost among bodies next fail) m slots s =
+    then_on (pays cost s) (λ u. chosen (choice among u) (map (λ f. f.value) bodies.items) next.value fail.value m slots u)
+
+-- what a run of a program does from an instruction on, if this many levels are left; `tables` has the strings of each table
+abbrev pub flow : programs.Program → ℕ → (ℕ → Listing) → Instruction → Flow
+flow p levels tables = fold-Instruction Flow (flow_step p levels tables)

@@ -1,0 +1,109 @@
+//! Copies of actions.
+
+use sbl_program::{Action, Addend, Arithmetic, Multiplicand, StringTerm};
+use std::alloc::{AllocError, Global};
+
+/// Returns a copy of a string.
+pub fn copy_term(alloc: Global, term: &StringTerm) -> Result<StringTerm, AllocError> {
+    match term {
+        StringTerm::Literal(string) => Ok(StringTerm::Literal(string.as_slice().to_vec(alloc)?)),
+        StringTerm::Variable(number) => Ok(StringTerm::Variable(*number)),
+    }
+}
+
+/// Returns a copy of a number.
+#[cycle(copy)]
+pub fn copy_number(alloc: Global, number: &Arithmetic) -> Result<Arithmetic, AllocError> {
+    match number {
+        Arithmetic::Number(it) => Ok(Arithmetic::Number(*it)),
+        Arithmetic::Integer(it) => Ok(Arithmetic::Integer(*it)),
+        Arithmetic::Cursor => Ok(Arithmetic::Cursor),
+        Arithmetic::Limit => Ok(Arithmetic::Limit),
+        Arithmetic::Length => Ok(Arithmetic::Length),
+        Arithmetic::LengthOf(term) => Ok(Arithmetic::LengthOf(copy_term(alloc, term)?)),
+        Arithmetic::Greatest => Ok(Arithmetic::Greatest),
+        Arithmetic::Least => Ok(Arithmetic::Least),
+        Arithmetic::Negative(inner) => {
+            let copy = copy_number(alloc, inner)?;
+            Ok(Arithmetic::Negative(Box::new(alloc, copy)?))
+        }
+        Arithmetic::Sum { first, others } => {
+            let copy = copy_number(alloc, first)?;
+            let rest = copy_addends(alloc, others)?;
+            Ok(Arithmetic::Sum {
+                first: Box::new(alloc, copy)?,
+                others: rest,
+            })
+        }
+        Arithmetic::Product { first, others } => {
+            let copy = copy_number(alloc, first)?;
+            let rest = copy_factors(alloc, others)?;
+            Ok(Arithmetic::Product {
+                first: Box::new(alloc, copy)?,
+                others: rest,
+            })
+        }
+    }
+}
+
+#[cycle(copy)]
+fn copy_addends(alloc: Global, others: &[Addend]) -> Result<Vec<Addend>, AllocError> {
+    let mut copies = Vec::new(alloc);
+    for other in others {
+        let number = copy_number(alloc, &other.number)?;
+        copies.push(Addend {
+            operator: other.operator,
+            number,
+        })?;
+    }
+    Ok(copies)
+}
+
+#[cycle(copy)]
+fn copy_factors(alloc: Global, others: &[Multiplicand]) -> Result<Vec<Multiplicand>, AllocError> {
+    let mut copies = Vec::new(alloc);
+    for other in others {
+        let number = copy_number(alloc, &other.number)?;
+        copies.push(Multiplicand {
+            operator: other.operator,
+            number,
+        })?;
+    }
+    Ok(copies)
+}
+
+/// Returns a copy of an action.
+pub fn copy_action(alloc: Global, action: &Action) -> Result<Action, AllocError> {
+    match action {
+        Action::Match(term) => Ok(Action::Match(copy_term(alloc, term)?)),
+        Action::Grouping(number) => Ok(Action::Grouping(*number)),
+        Action::NonGrouping(number) => Ok(Action::NonGrouping(*number)),
+        Action::Next => Ok(Action::Next),
+        Action::Hop(number) => Ok(Action::Hop(copy_number(alloc, number)?)),
+        Action::ToLimit => Ok(Action::ToLimit),
+        Action::AtLimit => Ok(Action::AtLimit),
+        Action::SetMark(number) => Ok(Action::SetMark(*number)),
+        Action::AtMark(number) => Ok(Action::AtMark(copy_number(alloc, number)?)),
+        Action::ToMark(number) => Ok(Action::ToMark(copy_number(alloc, number)?)),
+        Action::Set(number) => Ok(Action::Set(*number)),
+        Action::Unset(number) => Ok(Action::Unset(*number)),
+        Action::Boolean(number) => Ok(Action::Boolean(*number)),
+        Action::LeftBracket => Ok(Action::LeftBracket),
+        Action::RightBracket => Ok(Action::RightBracket),
+        Action::Replace(term) => Ok(Action::Replace(copy_term(alloc, term)?)),
+        Action::Delete => Ok(Action::Delete),
+        Action::Keep(number) => Ok(Action::Keep(*number)),
+        Action::Insert(term) => Ok(Action::Insert(copy_term(alloc, term)?)),
+        Action::Attach(term) => Ok(Action::Attach(copy_term(alloc, term)?)),
+        Action::Assign(number, change, value) => {
+            Ok(Action::Assign(*number, *change, copy_number(alloc, value)?))
+        }
+        Action::Compare(left, relation, right) => {
+            let x = copy_number(alloc, left)?;
+            let y = copy_number(alloc, right)?;
+            Ok(Action::Compare(x, *relation, y))
+        }
+        Action::True => Ok(Action::True),
+        Action::False => Ok(Action::False),
+    }
+}

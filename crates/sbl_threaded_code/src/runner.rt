@@ -1,0 +1,457 @@
+//! Runs code.
+
+ghost use Rattle.std.specs.Prelude.{◌≡◌, ◌<◌, ◌≤◌, true, false, suc, IfOk, slice_get};
+ghost use Rattle.sbl_program.specs.ProgramOf.{program_of, view_number};
+ghost use Rattle.sbl_interpreter.specs.Arithmetic.{value};
+ghost use Rattle.sbl_interpreter.specs.Endings.{Follows, IsSaved, Tries};
+ghost use Rattle.sbl_interpreter.specs.Run.{calls};
+ghost use Rattle.sbl_interpreter.specs.Search.{search_all, search_strings, try_one};
+ghost use Rattle.sbl_semantics.specs.Control.{times, count_of, seeks};
+ghost use Rattle.sbl_semantics.specs.Numbers.{continue_with};
+ghost use Rattle.sbl_semantics.specs.State.{State as RunState, Ending, Signals, after, saved_cursor};
+ghost use Rattle.sbl_threaded_code.specs.Slots.{no_cursors};
+ghost use Rattle.sbl_threaded_code.specs.Flow.{flow, alone, turns_of, backwards_of, limited_of};
+
+use crate::code::Code;
+use crate::instruction::Instruction;
+use crate::slots::SavedCursors;
+use sbl_ast::Mode;
+use sbl_interpreter::{Halt, State, Tables, count_of};
+use sbl_program::{Arithmetic, Candidate};
+use sbl_semantics::SavedCursor;
+
+/// The fixed part of a run. A call and `backwards` run with a runner of their own.
+#[derive_where(Clone, Copy)]
+pub struct Runner<'a, T> {
+    /// The tables of the program's amongs.
+    pub tables: &'a T,
+    /// The code of the program whose routines are called.
+    pub code: &'a Code,
+    /// The number of levels that calls may still go down.
+    pub levels: u32,
+    /// The mode: the direction in which commands read the text.
+    pub mode: Mode,
+}
+
+impl<'a, T: Tables> Runner<'a, T> {
+    // Runs instructions from this one on.
+    #[cycle(run)]
+    #[inline(never)]
+    fn run_from(&self, entry: &Instruction, state: &mut State) -> Result<bool, Halt>
+        ensures follows { Follows result state.new (flow (program_of (T.listed self.now.tables.now) self.now.code.now) self.now.levels (T.listed self.now.tables.now) entry.now self.now.mode no_cursors state.old) }
+        ensures no_more { IfOk result (λ _. state.new.steps ≤ state.old.steps) }
+    {
+        let mut slots = SavedCursors::new();
+        let mut at = entry;
+        loop {
+            match at {
+                Instruction::End(signal) => return Ok(*signal),
+                Instruction::Pay { cost, next } => {
+                    state.pay_for(*cost)?;
+                    at = next;
+                }
+                Instruction::Act {
+                    cost,
+                    action,
+                    next,
+                    fail,
+                } => {
+                    state.pay_for(*cost)?;
+                    at = if state.act_here(&self.code.program().groupings, self.mode, action)? {
+                        next
+                    } else {
+                        fail
+                    };
+                }
+                Instruction::Save { cost, slot, next } => {
+                    state.pay_for(*cost)?;
+                    slots.set(*slot, state.saved_cursor());
+                    at = next;
+                }
+                Instruction::Restore { slot, next } => {
+                    state.put_back(self.mode, slots.get(*slot))?;
+                    at = next;
+                }
+                Instruction::Nested {
+                    cost,
+                    body,
+                    next,
+                    fail,
+                } => {
+                    state.pay_for(*cost)?;
+                    state.pay()?;
+                    at = if self.run_from(body, state)? {
+                        next
+                    } else {
+                        fail
+                    };
+                }
+                Instruction::Repeat { cost, body, next } => {
+                    state.pay_for(*cost)?;
+                    state.pay()?;
+                    self.run_turns(body, state)?;
+                    at = next;
+                }
+                Instruction::Loop {
+                    cost,
+                    count,
+                    body,
+                    next,
+                    fail,
+                } => {
+                    state.pay_for(*cost)?;
+                    state.pay()?;
+                    at = if self.run_times(count, body, state)? {
+                        next
+                    } else {
+                        fail
+                    };
+                }
+                Instruction::AtLeast {
+                    cost,
+                    count,
+                    body,
+                    next,
+                    fail,
+                } => {
+                    state.pay_for(*cost)?;
+                    state.pay()?;
+                    at = if self.run_at_least(count, body, state)? {
+                        next
+                    } else {
+                        fail
+                    };
+                }
+                Instruction::Seek {
+                    cost,
+                    past,
+                    body,
+                    next,
+                    fail,
+                } => {
+                    state.pay_for(*cost)?;
+                    state.pay()?;
+                    at = if self.run_tries(*past, body, state)? {
+                        next
+                    } else {
+                        fail
+                    };
+                }
+                Instruction::SeekGrouping {
+                    cost,
+                    past,
+                    grouping,
+                    wanted,
+                    next,
+                    fail,
+                } => {
+                    state.pay_for(*cost)?;
+                    at = if state.seek_one(
+                        *past,
+                        self.mode,
+                        &self.code.program().groupings,
+                        *grouping,
+                        *wanted,
+                    )? {
+                        next
+                    } else {
+                        fail
+                    };
+                }
+                Instruction::Backwards {
+                    cost,
+                    body,
+                    next,
+                    fail,
+                } => {
+                    state.pay_for(*cost)?;
+                    state.pay()?;
+                    at = if self.run_backwards(body, state)? {
+                        next
+                    } else {
+                        fail
+                    };
+                }
+                Instruction::SetLimit {
+                    cost,
+                    first,
+                    second,
+                    next,
+                    fail,
+                } => {
+                    state.pay_for(*cost)?;
+                    state.pay()?;
+                    at = if self.run_limited(first, second, state)? {
+                        next
+                    } else {
+                        fail
+                    };
+                }
+                Instruction::Call {
+                    cost,
+                    routine,
+                    next,
+                    fail,
+                } => {
+                    state.pay_for(*cost)?;
+                    state.pay()?;
+                    at = if self.run_call(*routine, state)? {
+                        next
+                    } else {
+                        fail
+                    };
+                }
+                Instruction::Search {
+                    cost,
+                    among,
+                    table,
+                    entries,
+                    next,
+                    fail,
+                } => {
+                    state.pay_for(*cost)?;
+                    state.pay()?;
+                    at = if self.run_search_all(*among, *table, entries, state)? {
+                        next
+                    } else {
+                        fail
+                    };
+                }
+                Instruction::Choose {
+                    cost,
+                    among,
+                    bodies,
+                    next,
+                    fail,
+                } => {
+                    state.pay_for(*cost)?;
+                    at = match state.choice(*among) {
+                        None => fail,
+                        Some(group) => match bodies.get(group) {
+                            None => next,
+                            Some(body) => body,
+                        },
+                    };
+                }
+            }
+        }
+    }
+
+    #[cycle(run)]
+    #[inline(never)]
+    fn run_turns(&self, body: &Instruction, state: &mut State) -> Result<bool, Halt>
+        ensures follows { Follows result state.new (turns_of (alone (flow (program_of (T.listed self.now.tables.now) self.now.code.now) self.now.levels (T.listed self.now.tables.now) body.now)) self.now.mode state.old) }
+        ensures no_more { IfOk result (λ _. state.new.steps ≤ state.old.steps) }
+    {
+        loop {
+            let from = state.saved_cursor();
+            if !self.run_from(body, state)? {
+                state.put_back(self.mode, from)?;
+                return Ok(true);
+            }
+        }
+    }
+
+    #[cycle(run)]
+    #[inline(never)]
+    fn run_times(
+        &self,
+        count: &Arithmetic,
+        body: &Instruction,
+        state: &mut State,
+    ) -> Result<bool, Halt>
+        ensures follows { Follows result state.new (continue_with (value (view_number count.now) self.now.mode state.old) state.old (λ z. times (count_of z) (alone (flow (program_of (T.listed self.now.tables.now) self.now.code.now) self.now.levels (T.listed self.now.tables.now) body.now)) self.now.mode state.old)) }
+        ensures no_more { IfOk result (λ _. state.new.steps ≤ state.old.steps) }
+    {
+        let number = state.value(self.mode, count)?;
+        let mut left = count_of(number);
+        while 0 < left {
+            if !self.run_from(body, state)? {
+                return Ok(false);
+            }
+            left -= 1;
+        }
+        Ok(true)
+    }
+
+    #[cycle(run)]
+    #[inline(never)]
+    fn run_at_least(
+        &self,
+        count: &Arithmetic,
+        body: &Instruction,
+        state: &mut State,
+    ) -> Result<bool, Halt>
+        ensures follows { Follows result state.new (after (continue_with (value (view_number count.now) self.now.mode state.old) state.old (λ z. times (count_of z) (alone (flow (program_of (T.listed self.now.tables.now) self.now.code.now) self.now.levels (T.listed self.now.tables.now) body.now)) self.now.mode state.old)) (turns_of (alone (flow (program_of (T.listed self.now.tables.now) self.now.code.now) self.now.levels (T.listed self.now.tables.now) body.now)) self.now.mode) (Signals false)) }
+        ensures no_more { IfOk result (λ _. state.new.steps ≤ state.old.steps) }
+    {
+        if !self.run_times(count, body, state)? {
+            return Ok(false);
+        }
+        self.run_turns(body, state)
+    }
+
+    #[cycle(run)]
+    #[inline(never)]
+    fn run_tries(&self, past: bool, body: &Instruction, state: &mut State) -> Result<bool, Halt>
+        ensures follows { Follows result state.new (seeks (suc state.old.steps) past (alone (flow (program_of (T.listed self.now.tables.now) self.now.code.now) self.now.levels (T.listed self.now.tables.now) body.now)) self.now.mode state.old) }
+        ensures no_more { IfOk result (λ _. state.new.steps ≤ state.old.steps) }
+    {
+        loop {
+            let from = state.saved_cursor();
+            if self.run_from(body, state)? {
+                if !past {
+                    state.put_back(self.mode, from)?;
+                }
+                return Ok(true);
+            }
+            state.put_back(self.mode, from)?;
+            if !state.take_next(self.mode) {
+                return Ok(false);
+            }
+        }
+    }
+
+    #[cycle(run)]
+    #[inline(never)]
+    fn run_backwards(&self, body: &Instruction, state: &mut State) -> Result<bool, Halt>
+        ensures follows { Follows result state.new (backwards_of (alone (flow (program_of (T.listed self.now.tables.now) self.now.code.now) self.now.levels (T.listed self.now.tables.now) body.now)) self.now.mode state.old) }
+        ensures no_more { IfOk result (λ _. state.new.steps ≤ state.old.steps) }
+    {
+        state.begin_backwards()?;
+        let backwards = Runner {
+            mode: Mode::Backward,
+            ..*self
+        };
+        if !backwards.run_from(body, state)? {
+            return Ok(false);
+        }
+        state.end_backwards()?;
+        Ok(true)
+    }
+
+    #[cycle(run)]
+    #[inline(never)]
+    fn run_limited(
+        &self,
+        first: &Instruction,
+        second: &Instruction,
+        state: &mut State,
+    ) -> Result<bool, Halt>
+        ensures follows { Follows result state.new (limited_of (alone (flow (program_of (T.listed self.now.tables.now) self.now.code.now) self.now.levels (T.listed self.now.tables.now) first.now)) (alone (flow (program_of (T.listed self.now.tables.now) self.now.code.now) self.now.levels (T.listed self.now.tables.now) second.now)) self.now.mode state.old) }
+        ensures no_more { IfOk result (λ _. state.new.steps ≤ state.old.steps) }
+    {
+        let from = state.saved_cursor();
+        let limits = state.limits();
+        if !self.run_from(first, state)? {
+            return Ok(false);
+        }
+        state.limit_here(self.mode);
+        state.put_back(self.mode, from)?;
+        let signal = self.run_from(second, state)?;
+        state.limit_back(self.mode, limits);
+        Ok(signal)
+    }
+
+    /// Calls the routine with this number and returns its signal; f if there is none.
+    ///
+    /// Returns `Depth` if no level is left, `OutOfMemory` if an allocation fails or a number to be touched is above
+    /// `u32::MAX`, and else the fault of a command in the routine. After a fault the state is the one at the fault.
+    #[cycle(run)]
+    #[inline(never)]
+    pub fn run_call(&self, number: usize, state: &mut State) -> Result<bool, Halt>
+        ensures follows { Follows result state.new (calls (program_of (T.listed self.now.tables.now) self.now.code.now) self.now.levels number self.now.mode state.old) }
+        ensures no_more { IfOk result (λ _. state.new.steps ≤ state.old.steps) }
+    {
+        if self.levels == 0 {
+            return Err(Halt::Depth);
+        }
+        match self.code.routine(number) {
+            None => Ok(false),
+            Some(routine) => {
+                let caller = state.routine();
+                let kept = state.enter(number, routine.amongs)?;
+                let deeper = Runner {
+                    levels: self.levels - 1,
+                    ..*self
+                };
+                let signal = deeper.run_from(&routine.first, state)?;
+                state.leave(caller, kept, signal)?;
+                Ok(signal)
+            }
+        }
+    }
+
+    #[cycle(run)]
+    #[inline(never)]
+    fn run_search_all(
+        &self,
+        among: usize,
+        table: usize,
+        entries: &[Candidate],
+        state: &mut State,
+    ) -> Result<bool, Halt>
+        ensures follows { Follows result state.new (search_all (calls (program_of (T.listed self.now.tables.now) self.now.code.now) self.now.levels) among entries.now (T.listed self.now.tables.now table) self.now.mode state.old) }
+        ensures no_more { IfOk result (λ _. state.new.steps ≤ state.old.steps) }
+    {
+        state.touch_among(among, self.mode)?;
+        self.run_search(among, table, entries, state)
+    }
+
+    #[cycle(run)]
+    #[inline(always)]
+    fn run_search(
+        &self,
+        among: usize,
+        table: usize,
+        entries: &[Candidate],
+        state: &mut State,
+    ) -> Result<bool, Halt>
+        ensures follows { Follows result state.new (search_strings (calls (program_of (T.listed self.now.tables.now) self.now.code.now) self.now.levels) among entries.now (T.listed self.now.tables.now table) self.now.mode state.old) }
+        ensures no_more { IfOk result (λ _. state.new.steps ≤ state.old.steps) }
+    {
+        let from = state.saved_cursor();
+        let mut place = self
+            .tables
+            .longest(table, state.text(), state.place(), state.bound(self.mode));
+        while let Some(i) = place {
+            match self.try_string(among, from, entries, i, state) {
+                Err(halt) => return Err(halt),
+                Ok(true) => return Ok(true),
+                Ok(false) => {}
+            }
+            place = self.tables.next_shorter(table, i);
+        }
+        state.take_none(among)?;
+        Ok(false)
+    }
+
+    #[cycle(run)]
+    fn try_string(
+        &self,
+        among: usize,
+        from: SavedCursor,
+        entries: &[Candidate],
+        i: usize,
+        state: &mut State,
+    ) -> Result<bool, Halt>
+        requires { IsSaved from }
+        ensures tried { (begun : RunState) (follow : RunState → Ending) → from ≡ saved_cursor begun → Tries result state.new (try_one (calls (program_of (T.listed self.now.tables.now) self.now.code.now) self.now.levels) among (slice_get entries.now i) self.now.mode begun state.old follow) (follow state.new) }
+        ensures no_more { IfOk result (λ _. state.new.steps ≤ state.old.steps) }
+        ensures fewer { IfOk result (λ b. b ≡ false → state.new.steps < state.old.steps) }
+    {
+        let Some(entry) = entries.get(i).copied() else {
+            return Ok(true);
+        };
+        state.place_after(self.mode, from, entry.length)?;
+        if let Some(number) = entry.condition {
+            state.pay()?;
+            if !self.run_call(number, state)? {
+                return Ok(false);
+            }
+        }
+        state.place_after(self.mode, from, entry.length)?;
+        state.take_string(among, entry.length, entry.group)?;
+        Ok(true)
+    }
+}
