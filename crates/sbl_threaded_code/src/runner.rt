@@ -229,7 +229,7 @@ impl<'a, T: Tables> Runner<'a, T> {
                         None => fail,
                         Some(group) => match bodies.get(group) {
                             None => next,
-                            Some(body) => body,
+                            Some(body) => &body.first,
                         },
                     };
                 }
