@@ -1,19 +1,29 @@
 -- What instructions perform, by what they do first and what those after them perform.
-use Rattle.std.proofs.Common.{◌≡◌, ◌≢◌, ℕ, ◌+◌, ◌-◌, ◌<◌, ◌≤◌, zero, suc, Bool, true, false, List, [], ◌∷◌, length, refl, sym, ap, ◌∙◌, arith, get_or-set_same, get_or-set_other}
-use Rattle.std.specs.Prelude.{slice_set, slice_index_or, replicate}
+use Rattle.std.proofs.Common.{◌≡◌, ◌≢◌, ℕ, ◌+◌, ◌-◌, ◌<◌, ◌≤◌, zero, suc, Bool, true, false, List, [], ◌∷◌, length, map, Option, Some, None, refl, sym, ap, subst, ◌∙◌, arith, rules, get_or-set_same, get_or-set_other}
+use Rattle.std.specs.Prelude.{slice_get, slice_set, slice_index_or}
+use Rattle.std.specs.Option.{option_map_or}
 use Rattle.std.proofs.Math.Path.{fun_ext}
 use Rattle.std.proofs.lemmas.List.{length-set}
 use Rattle.sbl_program.specs.AmongStrings.{Listing}
 use Rattle.sbl_program.specs.Program as programs
+use Rattle.sbl_program.specs.ProgramOf.{view_nodes}
+use Rattle.sbl_program.specs.declared.node.Node.{Node}
 use Rattle.sbl_interpreter.specs.Rows.{pays}
+use Rattle.sbl_interpreter.specs.Run.{nth_runs, group_runs}
+use Rattle.sbl_semantics.specs.Choices.{choice}
 use Rattle.sbl_semantics.specs.Control.{pay_first}
-use Rattle.sbl_semantics.specs.State.{State, Ending, Signals, Doing, after, then_on, saved_cursor, put_back}
+use Rattle.sbl_semantics.specs.State.{State, Ending, Signals, Doing, after, then_on, pay, saved_cursor, put_back}
 use Rattle.sbl_semantics.specs.declared.cursor.SavedCursor.{SavedCursor}
 use Rattle.sbl_ast.specs.declared.mode.Mode.{Mode}
 use Rattle.sbl_threaded_code.specs.declared.instruction.Instruction.{Instruction}
+use Rattle.sbl_threaded_code.specs.declared.instruction.Instruction.TheFolds.{fold_out-Instruction, fold_out-Group}
+use Rattle.sbl_threaded_code.specs.declared.instruction.Instruction.TheViews.{the_lemmas}
+use Rattle.sbl_threaded_code.specs.declared.instruction.Group.{Group, out-Group}
+use Rattle.sbl_threaded_code.specs.declared.assembler.Exits.{Exits}
+use Rattle.sbl_threaded_code.specs.declared.assembler.Place.{Place}
 use Rattle.sbl_threaded_code.specs.Slots.{no_cursor, no_cursors}
-use Rattle.sbl_threaded_code.specs.Flow.{Flow, flow, alone, not_of, test_of, try_of, do_of, fail_of}
-use Rattle.sbl_threaded_code.specs.Performs.{Agree, GoesOn, Meaning, Performs, Ends, Restores, Saves, Runs}
+use Rattle.sbl_threaded_code.specs.Flow.{Flow, flow, group_flow, alone, chosen}
+use Rattle.sbl_threaded_code.specs.Performs.{Agree, GoesOn, Meaning, Performs, Ends, Restores, Saves, Runs, IsPlaced, IsPlace, ArePerformed}
 use Rattle.sbl_threaded_code.proofs.Endings.{after_after, after_same, as_it_is, Passes, pays_pass, back_passes, own_step, steps_more}
 
 -- ---- slots
@@ -54,33 +64,46 @@ after_steps cost s d a b go stop p q =
 
 -- an instruction that acts and goes on
 pub emitted :
-  (tables : ℕ → Listing) (d : Meaning) (cost : ℕ) (next fail entry : Instruction) →
-  ((p : programs.Program) (levels : ℕ) (m : Mode) (ys : List SavedCursor) (s : State) →
-   flow p levels tables entry m ys s ≡ then_on (pays cost s) (λ u. after (d p levels m u) (flow p levels tables next m ys) (flow p levels tables fail m ys))) →
-  (n : ℕ) → Performs tables d cost n next fail entry
+    (tables : ℕ → Listing) (d : Meaning) (cost : ℕ) (next fail entry : Instruction) →
+    ((p : programs.Program) (levels : ℕ) (m : Mode) (ys : List SavedCursor) (s : State) →
+    flow p levels tables entry m ys s ≡ then_on (pays cost s) (λ u. after (d p levels m u) (flow p levels tables next m ys) (flow p levels tables fail m ys))) →
+    (n : ℕ) → Performs tables d cost n next fail entry
 emitted tables d cost next fail entry is n p levels m slots go stop l g h ys a s =
     is p levels m ys s ∙ after_steps cost s (d p levels m) (flow p levels tables next m ys) (flow p levels tables fail m ys) go stop (g ys a) (h ys a)
 
+-- the same, for links to equal instructions
+pub emitted_at :
+    (tables : ℕ → Listing) (d : Meaning) (cost : ℕ) (a b next fail entry : Instruction) → a ≡ next → b ≡ fail →
+    ((p : programs.Program) (levels : ℕ) (m : Mode) (ys : List SavedCursor) (s : State) →
+    flow p levels tables entry m ys s ≡ then_on (pays cost s) (λ u. after (d p levels m u) (flow p levels tables a m ys) (flow p levels tables b m ys))) →
+    (n : ℕ) → Performs tables d cost n next fail entry
+emitted_at tables d cost a b next fail entry x y is =
+    emitted tables d cost next fail entry
+    (λ p levels m ys s.
+    is p levels m ys s
+    ∙ ap (λ i. then_on (pays cost s) (λ u. after (d p levels m u) (flow p levels tables i m ys) (flow p levels tables b m ys))) x
+    ∙ ap (λ i. then_on (pays cost s) (λ u. after (d p levels m u) (flow p levels tables next m ys) (flow p levels tables i m ys))) y)
+
 -- an instruction that only goes on
 pub skipped :
-  (tables : ℕ → Listing) (cost : ℕ) (next fail entry : Instruction) →
-  ((p : programs.Program) (levels : ℕ) (m : Mode) (ys : List SavedCursor) (s : State) → flow p levels tables entry m ys s ≡ then_on (pays cost s) (flow p levels tables next m ys)) →
-  (n : ℕ) → Performs tables (λ p levels m s. Signals true s) cost n next fail entry
+    (tables : ℕ → Listing) (cost : ℕ) (next fail entry : Instruction) →
+    ((p : programs.Program) (levels : ℕ) (m : Mode) (ys : List SavedCursor) (s : State) → flow p levels tables entry m ys s ≡ then_on (pays cost s) (flow p levels tables next m ys)) →
+    (n : ℕ) → Performs tables (λ p levels m s. Signals true s) cost n next fail entry
 skipped tables cost next fail entry is n = emitted tables (λ p levels m s. Signals true s) cost next fail entry is n
 
 -- the same instruction, for a meaning that is equal
 pub same_meaning :
-  (tables : ℕ → Listing) (d e : Meaning) (cost n : ℕ) (next fail entry : Instruction) →
-  ((p : programs.Program) (levels : ℕ) (m : Mode) (s : State) → d p levels m s ≡ e p levels m s) →
-  Performs tables d cost n next fail entry → Performs tables e cost n next fail entry
+    (tables : ℕ → Listing) (d e : Meaning) (cost n : ℕ) (next fail entry : Instruction) →
+    ((p : programs.Program) (levels : ℕ) (m : Mode) (s : State) → d p levels m s ≡ e p levels m s) →
+    Performs tables d cost n next fail entry → Performs tables e cost n next fail entry
 same_meaning tables d e cost n next fail entry q h p levels m slots go stop l g k ys a s =
     h p levels m slots go stop l g k ys a s
     ∙ ap (λ r. after r go stop) (after_same (pays cost s) (d p levels m) (Signals false) (e p levels m) (Signals false) (q p levels m) (λ u. refl))
 
 -- the last step before it, as its first step
 pub first_step :
-  (tables : ℕ → Listing) (d : Meaning) (cost more n : ℕ) (next fail entry : Instruction) → more ≡ cost + 1 →
-  Performs tables d more n next fail entry → Performs tables (λ p levels. pay_first (d p levels)) cost n next fail entry
+    (tables : ℕ → Listing) (d : Meaning) (cost more n : ℕ) (next fail entry : Instruction) → more ≡ cost + 1 →
+    Performs tables d more n next fail entry → Performs tables (λ p levels. pay_first (d p levels)) cost n next fail entry
 first_step tables d cost more n next fail entry is h p levels m slots go stop l g k ys a s =
     let e : more ≡ suc cost = omega (arith, is) in
     h p levels m slots go stop l g k ys a s
@@ -89,8 +112,8 @@ first_step tables d cost more n next fail entry is h p levels m slots go stop l 
 
 -- the last steps before it, as its first steps
 pub first_steps :
-  (tables : ℕ → Listing) (d : Meaning) (cost k more n : ℕ) (next fail entry : Instruction) → more ≡ cost + k →
-  Performs tables d more n next fail entry → Performs tables (λ p levels m s. then_on (pays k s) (d p levels m)) cost n next fail entry
+    (tables : ℕ → Listing) (d : Meaning) (cost k more n : ℕ) (next fail entry : Instruction) → more ≡ cost + k →
+    Performs tables d more n next fail entry → Performs tables (λ p levels m s. then_on (pays k s) (d p levels m)) cost n next fail entry
 first_steps tables d cost k more n next fail entry is h p levels m slots go stop l g w ys a s =
     h p levels m slots go stop l g w ys a s
     ∙ ap (λ j. after (then_on (pays j s) (d p levels m)) go stop) is
@@ -98,9 +121,9 @@ first_steps tables d cost k more n next fail entry is h p levels m slots go stop
 
 -- one after another
 pub in_turn :
-  (tables : ℕ → Listing) (c d : Meaning) (cost n : ℕ) (next fail middle entry : Instruction) →
-  Performs tables c cost n middle fail entry → Performs tables d 0 n next fail middle →
-  Performs tables (λ p levels m s. after (c p levels m s) (d p levels m) (Signals false)) cost n next fail entry
+    (tables : ℕ → Listing) (c d : Meaning) (cost n : ℕ) (next fail middle entry : Instruction) →
+    Performs tables c cost n middle fail entry → Performs tables d 0 n next fail middle →
+    Performs tables (λ p levels m s. after (c p levels m s) (d p levels m) (Signals false)) cost n next fail entry
 in_turn tables c d cost n next fail middle entry h k p levels m slots go stop l g w ys a s =
     h p levels m slots (λ t. after (d p levels m t) go stop) stop l (k p levels m slots go stop l g w) w ys a s
     ∙ after_after (pays cost s) (c p levels m) (Signals false) (λ t. after (d p levels m t) go stop) stop
@@ -139,24 +162,24 @@ abbrev pub wrapped : (Mode → SavedCursor → State → Ending) → (Mode → S
 wrapped on_t on_f c m s = after (c m s) (on_t m (saved_cursor s)) (on_f m (saved_cursor s))
 
 pub saving :
-  (tables : ℕ → Listing) (c : Meaning) (on_t on_f : Mode → SavedCursor → State → Ending) (cost n : ℕ) (next fail own_next own_fail inner entry : Instruction) →
-  n < 4 → Saves cost n inner entry →
-  Performs tables c 0 (suc n) own_next own_fail inner →
-  Leaves tables n next fail own_next on_t → Leaves tables n next fail own_fail on_f →
-  Performs tables (λ p levels. wrapped on_t on_f (c p levels)) cost n next fail entry
+    (tables : ℕ → Listing) (c : Meaning) (on_t on_f : Mode → SavedCursor → State → Ending) (cost n : ℕ) (next fail own_next own_fail inner entry : Instruction) →
+    n < 4 → Saves cost n inner entry →
+    Performs tables c 0 (suc n) own_next own_fail inner →
+    Leaves tables n next fail own_next on_t → Leaves tables n next fail own_fail on_f →
+    Performs tables (λ p levels. wrapped on_t on_f (c p levels)) cost n next fail entry
 saving tables c on_t on_f cost n next fail own_next own_fail inner entry small saves h lt lf p levels m slots go stop l g k ys a s =
     let d = λ (u : State). wrapped on_t on_f (c p levels) m u in
     let room : n < length ys = omega (arith, a.as_many, l) in
     let inside = λ (u : State).
-      let v = saved_cursor u in
-      let zs = slice_set ys n v in
-      let kept : Agree n slots zs = agree_then n slots ys zs a (agree_set n ys v) in
-      let many : length zs ≡ 4 = length-set ys n v ∙ a.as_many ∙ l in
-      let got : slice_index_or zs n no_cursor ≡ v = get_or-set_same ys n v no_cursor room in
-      h p levels m zs (λ t. after (on_t m (slice_index_or zs n no_cursor) t) go stop) (λ t. after (on_f m (slice_index_or zs n no_cursor) t) go stop) many
-        (lt p levels m slots zs go stop g k kept) (lf p levels m slots zs go stop g k kept) zs (agree_self (suc n) zs) u
-      ∙ ap (λ w. after (c p levels m u) (λ t. after (on_t m w t) go stop) (λ t. after (on_f m w t) go stop)) got
-      ∙ sym (after_after (c p levels m u) (on_t m v) (on_f m v) go stop)
+    let v = saved_cursor u in
+    let zs = slice_set ys n v in
+    let kept : Agree n slots zs = agree_then n slots ys zs a (agree_set n ys v) in
+    let many : length zs ≡ 4 = length-set ys n v ∙ a.as_many ∙ l in
+    let got : slice_index_or zs n no_cursor ≡ v = get_or-set_same ys n v no_cursor room in
+    h p levels m zs (λ t. after (on_t m (slice_index_or zs n no_cursor) t) go stop) (λ t. after (on_f m (slice_index_or zs n no_cursor) t) go stop) many
+    (lt p levels m slots zs go stop g k kept) (lf p levels m slots zs go stop g k kept) zs (agree_self (suc n) zs) u
+    ∙ ap (λ w. after (c p levels m u) (λ t. after (on_t m w t) go stop) (λ t. after (on_f m w t) go stop)) got
+    ∙ sym (after_after (c p levels m u) (on_t m v) (on_f m v) go stop)
     in
     saves p levels tables m ys s
     ∙ after_same (pays cost s) (λ u. flow p levels tables inner m (slice_set ys n (saved_cursor u)) u) (Signals false) (λ u. after (d u) go stop) (Signals false) inside (λ u. refl)
@@ -165,8 +188,8 @@ saving tables c on_t on_f cost n next fail own_next own_fail inner entry small s
 -- ---- instructions that run by themselves
 
 pub by_itself :
-  (tables : ℕ → Listing) (d : Meaning) (next fail entry : Instruction) → Ends true next → Ends false fail →
-  Performs tables d 0 0 next fail entry → Runs tables d entry
+    (tables : ℕ → Listing) (d : Meaning) (next fail entry : Instruction) → Ends true next → Ends false fail →
+    Performs tables d 0 0 next fail entry → Runs tables d entry
 by_itself tables d next fail entry e f h p levels m s =
     h p levels m no_cursors (Signals true) (Signals false) refl (λ ys a t. e p levels tables m ys t) (λ ys a t. f p levels tables m ys t) no_cursors (agree_self 0 no_cursors) s
     ∙ as_it_is (d p levels m s)
@@ -177,9 +200,82 @@ runs_as tables d entry h p levels = fun_ext (λ m. fun_ext (λ s. h p levels m s
 
 -- something made of them
 pub made_of :
-  (tables : ℕ → Listing) (of : Doing → Doing) (d : Meaning) (body : Instruction) (cost n : ℕ) (next fail entry : Instruction) → Runs tables d body →
-  Performs tables (λ p levels. pay_first (of (alone (flow p levels tables body)))) cost n next fail entry →
-  Performs tables (λ p levels. pay_first (of (d p levels))) cost n next fail entry
+    (tables : ℕ → Listing) (of : Doing → Doing) (d : Meaning) (body : Instruction) (cost n : ℕ) (next fail entry : Instruction) → Runs tables d body →
+    Performs tables (λ p levels. pay_first (of (alone (flow p levels tables body)))) cost n next fail entry →
+    Performs tables (λ p levels. pay_first (of (d p levels))) cost n next fail entry
 made_of tables of d body cost n next fail entry r h =
     same_meaning tables (λ p levels. pay_first (of (alone (flow p levels tables body)))) (λ p levels. pay_first (of (d p levels))) cost n next fail entry
-      (λ p levels m s. ap (λ c. pay_first (of c) m s) (runs_as tables d body r p levels)) h
+    (λ p levels m s. ap (λ c. pay_first (of c) m s) (runs_as tables d body r p levels)) h
+
+-- ---- where a command saves the cursor
+
+placed_at : (b c : Bool) (cost own slot : ℕ) (exits : Exits) (place : Place) → b ≡ c → IsPlaced b cost own slot exits place → IsPlaced c cost own slot exits place
+placed_at b c cost own slot exits place e h = subst (λ x. IsPlaced x cost own slot exits place) e h
+
+pub here_place :
+  (tables : ℕ → Listing) (d : Meaning) (cost own slot : ℕ) (exits : Exits) (place : Place) (entry : Instruction) → IsPlace cost own slot exits place → place.nested ≡ false →
+  Performs tables d place.cost place.slot place.exits.next.value place.exits.fail.value entry →
+  Performs tables (λ p levels m s. then_on (pays own s) (d p levels m)) cost slot exits.next.value exits.fail.value entry
+here_place tables d cost own slot exits place entry is unless h =
+    let q = placed_at place.nested false cost own slot exits place unless is.2 in
+    let h1 = subst (λ n. Performs tables d place.cost n place.exits.next.value place.exits.fail.value entry) q.0 h in
+    let h2 = subst (λ x. Performs tables d place.cost slot x place.exits.fail.value entry) q.2 h1 in
+    let h3 = subst (λ x. Performs tables d place.cost slot exits.next.value x entry) q.3 h2 in
+    first_steps tables d cost own place.cost slot exits.next.value exits.fail.value entry q.1 h3
+
+pub nested_place :
+  (tables : ℕ → Listing) (d : Meaning) (cost own slot : ℕ) (exits : Exits) (place : Place) (entry made : Instruction) → IsPlace cost own slot exits place → place.nested ≡ true →
+  Performs tables d place.cost place.slot place.exits.next.value place.exits.fail.value entry →
+  ((n : ℕ) → Performs tables (λ p levels. pay_first (alone (flow p levels tables entry))) cost n exits.next.value exits.fail.value made) →
+  Performs tables (λ p levels m s. then_on (pays own s) (d p levels m)) cost slot exits.next.value exits.fail.value made
+nested_place tables d cost own slot exits place entry made is when h k =
+    let q = placed_at place.nested true cost own slot exits place when is.2 in
+    let c : Meaning = λ p levels m s. then_on (pays place.cost s) (d p levels m) in
+    let h1 = subst (λ n. Performs tables d place.cost n place.exits.next.value place.exits.fail.value entry) q.0 h in
+    let none : place.cost ≡ 0 + place.cost = omega arith in
+    let h2 = first_steps tables d 0 place.cost place.cost 0 place.exits.next.value place.exits.fail.value entry none h1 in
+    let r = by_itself tables c place.exits.next.value place.exits.fail.value entry q.2 q.3 h2 in
+    let one : suc place.cost ≡ own = omega (arith, q.1) in
+    same_meaning tables (λ p levels. pay_first (c p levels)) (λ p levels m s. then_on (pays own s) (d p levels m)) cost slot exits.next.value exits.fail.value made
+      (λ p levels m s. sym (after_after (pay s.steps s) (pays place.cost) (Signals false) (d p levels m) (Signals false)) ∙ ap (λ j. then_on (pays j s) (d p levels m)) one)
+      (made_of tables (λ x. x) c entry cost slot exits.next.value exits.fail.value made r (k slot))
+
+-- ---- the groups of an among
+
+module _ (tables : ℕ → Listing) (p : programs.Program) (levels n : ℕ) (exits : Exits) (m : Mode) (slots : List SavedCursor) (go stop : State → Ending) where
+  group_is : (x : Group) → group_flow p levels tables x ≡ flow p levels tables (out-Group x).first.value
+  group_is x = first_of (search (rules, the_lemmas), search (rules, the_lemmas, fold_out-Group, fold_out-Instruction))
+
+  nth_group :
+    length slots ≡ 4 → GoesOn (flow p levels tables exits.next.value) m n slots go → GoesOn (flow p levels tables exits.fail.value) m n slots stop →
+    (nodes : List Node) (groups : List Group) (g : ℕ) → ArePerformed tables nodes n exits groups →
+    (ys : List SavedCursor) → Agree n slots ys → (u : State) →
+    option_map_or (λ f. f) (slice_get (map (group_flow p levels tables) groups) g) (flow p levels tables exits.next.value) m ys u ≡ after (nth_runs p levels (view_nodes tables nodes) g m u) go stop
+  nth_group l h k nodes [] g are ys a u = h ys a u ∙ ap (λ ns. after (nth_runs p levels (view_nodes tables ns) g m u) go stop) (sym are)
+  nth_group l h k [] (x ∷ xs) g are ys a u = absurd are
+  nth_group l h k (node ∷ nodes) (x ∷ xs) zero are ys a u = ap (λ f. f m ys u) (group_is x) ∙ are.0 p levels m slots go stop l h k ys a u
+  nth_group l h k (node ∷ nodes) (x ∷ xs) (suc g) are ys a u = nth_group l h k nodes xs g are.1 ys a u
+
+  pub chosen_group :
+    length slots ≡ 4 → GoesOn (flow p levels tables exits.next.value) m n slots go → GoesOn (flow p levels tables exits.fail.value) m n slots stop →
+    (nodes : List Node) (groups : List Group) (o : Option ℕ) → ArePerformed tables nodes n exits groups →
+    (ys : List SavedCursor) → Agree n slots ys → (u : State) →
+    chosen o (map (group_flow p levels tables) groups) (flow p levels tables exits.next.value) (flow p levels tables exits.fail.value) m ys u ≡ after (group_runs p levels (view_nodes tables nodes) o m u) go stop
+  chosen_group l h k nodes groups None are ys a u = k ys a u
+  chosen_group l h k nodes groups (Some g) are ys a u = nth_group l h k nodes groups g are ys a u
+
+pub choosing :
+  (tables : ℕ → Listing) (cost among n : ℕ) (exits : Exits) (nodes : List Node) (groups : List Group) (a b made : Instruction) → a ≡ exits.next.value → b ≡ exits.fail.value →
+  ((p : programs.Program) (levels : ℕ) (m : Mode) (ys : List SavedCursor) (s : State) →
+   flow p levels tables made m ys s ≡ then_on (pays cost s) (λ u. chosen (choice among u) (map (group_flow p levels tables) groups) (flow p levels tables a) (flow p levels tables b) m ys u)) →
+  ArePerformed tables nodes n exits groups →
+  Performs tables (λ p levels m t. group_runs p levels (view_nodes tables nodes) (choice among t) m t) cost n exits.next.value exits.fail.value made
+choosing tables cost among n exits nodes groups a b made x y is are p levels m slots go stop l h k ys w s =
+    let gs = map (group_flow p levels tables) groups in
+    let d = λ (u : State). group_runs p levels (view_nodes tables nodes) (choice among u) m u in
+    is p levels m ys s
+    ∙ ap (λ i. then_on (pays cost s) (λ u. chosen (choice among u) gs (flow p levels tables i) (flow p levels tables b) m ys u)) x
+    ∙ ap (λ i. then_on (pays cost s) (λ u. chosen (choice among u) gs (flow p levels tables exits.next.value) (flow p levels tables i) m ys u)) y
+    ∙ after_same (pays cost s) (λ u. chosen (choice among u) gs (flow p levels tables exits.next.value) (flow p levels tables exits.fail.value) m ys u) (Signals false) (λ u. after (d u) go stop) (Signals false)
+        (λ u. chosen_group tables p levels n exits m slots go stop l h k nodes groups (choice among u) are ys w u) (λ u. refl)
+    ∙ after_steps cost s d go stop go stop (λ t. refl) (λ t. refl)

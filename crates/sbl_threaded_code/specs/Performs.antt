@@ -1,5 +1,5 @@
 -- What the instructions made of a command do: what the command does, and then what the instructions after it do.
-use Rattle.std.specs.Prelude.{◌≡◌, ℕ, suc, ◌<◌, Bool, true, false, List, [], ◌∷◌, slice_set, length, slice_index_or}
+use Rattle.std.specs.Prelude.{◌≡◌, ℕ, suc, ◌+◌, ◌<◌, Bool, true, false, List, [], ◌∷◌, slice_set, length, slice_index_or}
 use Rattle.sbl_program.specs.AmongStrings.{Listing}
 use Rattle.sbl_program.specs.Chains.{JoinedView}
 use Rattle.sbl_program.specs.ProgramOf.{view_node}
@@ -13,6 +13,7 @@ use Rattle.sbl_ast.specs.declared.mode.Mode.{Mode}
 use Rattle.sbl_threaded_code.specs.declared.instruction.Instruction.{Instruction}
 use Rattle.sbl_threaded_code.specs.declared.instruction.Group.{Group, out-Group}
 use Rattle.sbl_threaded_code.specs.declared.assembler.Exits.{Exits}
+use Rattle.sbl_threaded_code.specs.declared.assembler.Place.{Place}
 use Rattle.sbl_threaded_code.specs.Flow.{Flow, flow, alone}
 use Rattle.sbl_threaded_code.specs.Slots.{no_cursor}
 
@@ -64,6 +65,17 @@ Saves cost n next x =
 -- does what a command does, as instructions that run by themselves
 abbrev pub Runs : (ℕ → Listing) → Meaning → Instruction → Type 0
 Runs tables meaning x = (p : programs.Program) (levels : ℕ) (m : Mode) (s : State) → alone (flow p levels tables x) m s ≡ meaning p levels m s
+
+abbrev pub IsPlaced : Bool → ℕ → ℕ → ℕ → Exits → Place → Type 0
+IsPlaced false cost own slot exits place =
+    (place.slot ≡ slot) × (place.cost ≡ cost + own) × (place.exits.next.value ≡ exits.next.value) × (place.exits.fail.value ≡ exits.fail.value)
+IsPlaced true cost own slot exits place =
+    (place.slot ≡ 0) × (place.cost + 1 ≡ own) × Ends true place.exits.next.value × Ends false place.exits.fail.value
+
+-- A command that uses its own steps saves the cursor in slot `place.slot`: after those before it, if a slot is left; else it
+-- runs by itself, and what runs it uses its first step.
+abbrev pub IsPlace : ℕ → ℕ → ℕ → Exits → Place → Type 0
+IsPlace cost own slot exits place = (place.slot < 4) × (0 < own) × IsPlaced place.nested cost own slot exits place
 
 -- From these exits on, a run does what is left of a row after t and after f. The cursor at the beginning of the row is in
 -- slot n.

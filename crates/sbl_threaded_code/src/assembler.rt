@@ -6,16 +6,17 @@ ghost use Rattle.sbl_program.specs.AmongStrings.{Listing};
 ghost use Rattle.sbl_program.specs.Chains.{JoinedView};
 ghost use Rattle.sbl_program.specs.ProgramOf.{view_action, view_number, view_node, view_nodes, view_next_command, view_routine};
 ghost use Rattle.sbl_interpreter.specs.Actions.{acts, test_grouping};
-ghost use Rattle.sbl_interpreter.specs.Rows.{row_runs, others_run};
+ghost use Rattle.sbl_interpreter.specs.Rows.{pays};
 ghost use Rattle.sbl_interpreter.specs.Run.{runs, all_run, group_runs, calls};
 ghost use Rattle.sbl_interpreter.specs.Search.{search_all};
 ghost use Rattle.sbl_semantics.specs.Choices.{choice};
 ghost use Rattle.sbl_semantics.specs.Control.{pay_first};
-ghost use Rattle.sbl_semantics.specs.State.{Signals, after, saved_cursor};
+ghost use Rattle.sbl_semantics.specs.State.{Signals, after, then_on};
 ghost use Rattle.sbl_threaded_code.specs.declared.assembler.Exits.{Exits as TheExits};
 ghost use Rattle.sbl_threaded_code.specs.CodeOf.{IsCodeOf, AreCodeOf};
 ghost use Rattle.sbl_threaded_code.specs.Flow.{flow, alone, not_of, test_of, try_of, do_of, fail_of, turns_of, loop_of, at_least_of, seek_of, backwards_of, limited_of};
-ghost use Rattle.sbl_threaded_code.specs.Performs.{Performs, Exited, Ends, Restores, Saves, Runs, IsRest, ArePerformed};
+ghost use Rattle.sbl_threaded_code.specs.Performs.{Performs, Meaning, Exited, Ends, Restores, Saves, Runs, IsPlace, IsRest, ArePerformed};
+ghost use Rattle.sbl_threaded_code.specs.declared.instruction.Instruction.{Instruction as TheInstruction};
 
 use crate::code::RoutineCode;
 use crate::copies::{copy_action, copy_number};
@@ -38,6 +39,15 @@ pub struct Assembler {
 pub struct Exits {
     next: Rc<Instruction>,
     fail: Rc<Instruction>,
+}
+
+/// Where a command saves the cursor, and where it goes on from there.
+#[derive(Drop)]
+pub struct Place {
+    cost: usize,
+    slot: usize,
+    exits: Exits,
+    nested: bool,
 }
 
 // Returns the sum of two numbers of steps. Returns `AllocError` if it is above `usize::MAX`: no script has so many commands.
@@ -286,19 +296,30 @@ impl Assembler {
         match node {
             Node::Act(action) => self.act(action, more(cost, 1)?, exits),
             Node::Sequence(commands) => self.sequence(commands, more(cost, 1)?, slot, exits),
-            Node::Row { first, others } => self.row(first, others, cost, slot, exits),
+            Node::Row { first, others } => {
+                if others.is_empty() {
+                    return self.command(first, more(cost, 1)?, slot, exits);
+                }
+                let place = self.place(cost, others.len(), slot, exits)?;
+                let rest = self.rest(others, place.slot, &place.exits)?;
+                let entry = self.command(first, 0, place.slot + 1, &rest)?;
+                self.saved(&place, entry, cost, exits)
+            }
             Node::Not(inner) => self.not(inner, cost, slot, exits),
             Node::Test(inner) => self.test(inner, cost, slot, exits),
             Node::Try(inner) => self.attempt(inner, cost, slot, exits),
             Node::Do(inner) => self.do_always(inner, cost, slot, exits),
             Node::Fail(inner) => self.fail(inner, cost, slot, exits),
             Node::Repeat(inner) => self.repeat(inner, cost, exits),
-            Node::Loop(count, inner) => self.turns(count, inner, cost, exits),
-            Node::AtLeast(count, inner) => self.at_least(count, inner, cost, exits),
+            Node::Loop(count, inner) => self.turns(inner, count, cost, exits),
+            Node::AtLeast(count, inner) => self.at_least(inner, count, cost, exits),
             Node::Goto(inner) => self.seek(false, inner, cost, exits),
             Node::GoPast(inner) => self.seek(true, inner, cost, exits),
             Node::Backwards(inner) => self.backwards(inner, cost, exits),
-            Node::SetLimit(first, second) => self.set_limit(first, second, cost, exits),
+            Node::SetLimit(first, second) => {
+                let second = self.body(second)?;
+                self.set_limit(first, second, cost, exits)
+            }
             Node::Call(number) => self.call(*number, cost, exits),
             Node::Search {
                 among,
@@ -309,7 +330,10 @@ impl Assembler {
                 among,
                 before,
                 bodies,
-            } => self.among(*among, before, bodies, cost, slot, exits),
+            } => {
+                let choose = self.groups(bodies, *among, slot, exits)?;
+                self.among(before, choose, cost, slot, exits)
+            }
         }
     }
 
@@ -345,236 +369,6 @@ impl Assembler {
         self.command(&commands[0], cost, slot, &now)
     }
 
-    // A row.
-    #[cycle(command)]
-    fn row(
-        &mut self,
-        first: &Node,
-        others: &[JoinedNode],
-        cost: usize,
-        slot: usize,
-        exits: &Exits,
-    ) -> Result<Rc<Instruction>, AllocError>
-        ensures { IfOk result (λ made. (tables : ℕ → Listing) → Exited tables (λ p levels. pay_first (row_runs p levels (view_node tables first.now) (map (view_next_command tables) others.now))) cost slot exits.now made.value) }
-    {
-        if others.is_empty() {
-            return self.command(first, more(cost, 1)?, slot, exits);
-        }
-        if slot < SLOTS {
-            return self.row_here(first, others, more(cost, others.len())?, slot, exits);
-        }
-        let ends = self.ends()?;
-        let body = self.row_here(first, others, others.len() - 1, 0, &ends)?;
-        self.nested(body, cost, exits)
-    }
-
-    // The commands of a row. `cost` steps are used before them.
-    #[cycle(command)]
-    fn row_here(
-        &mut self,
-        first: &Node,
-        others: &[JoinedNode],
-        cost: usize,
-        slot: usize,
-        exits: &Exits,
-    ) -> Result<Rc<Instruction>, AllocError>
-        ensures { IfOk result (λ made. (tables : ℕ → Listing) → slot < 4 → Exited tables (λ p levels m s. others_run p levels m (saved_cursor s) (map (view_next_command tables) others.now) (runs p levels (view_node tables first.now) m s)) cost slot exits.now made.value) }
-    {
-        let rest = self.rest(others, slot, exits)?;
-        let entry = self.command(first, 0, slot + 1, &rest)?;
-        self.save(cost, slot, entry)
-    }
-
-    // Where a row goes on after its first command.
-    #[cycle(command)]
-    fn rest(
-        &mut self,
-        others: &[JoinedNode],
-        slot: usize,
-        exits: &Exits,
-    ) -> Result<Exits, AllocError>
-        ensures { IfOk result (λ rest. (tables : ℕ → Listing) → slot < 4 → IsRest tables slot (map (view_next_command tables) others.now) exits.now rest) }
-    {
-        let mut rest = exits.again()?;
-        let mut i = others.len();
-        while 0 < i {
-            i -= 1;
-            rest = self.joined(&others[i], slot, &rest)?;
-        }
-        Ok(rest)
-    }
-
-    // Where a row goes on before one of its commands, if it goes on like this after it.
-    #[cycle(command)]
-    fn joined(&mut self, other: &JoinedNode, slot: usize, rest: &Exits) -> Result<Exits, AllocError>
-        ensures { IfOk result (λ made. (tables : ℕ → Listing) (exits : TheExits) (others : List JoinedView) → slot < 4 → IsRest tables slot others exits rest.now → IsRest tables slot (view_next_command tables other.now ∷ others) exits made) }
-    {
-        let entry = self.command(&other.command, 0, slot + 1, rest)?;
-        let back = self.restore(slot, &entry)?;
-        match other.joiner {
-            Joiner::Or => Ok(Exits {
-                next: rest.next.clone()?,
-                fail: back,
-            }),
-            Joiner::And => Ok(Exits {
-                next: back,
-                fail: rest.fail.clone()?,
-            }),
-        }
-    }
-
-    // `not C`
-    #[cycle(command)]
-    fn not(
-        &mut self,
-        inner: &Node,
-        cost: usize,
-        slot: usize,
-        exits: &Exits,
-    ) -> Result<Rc<Instruction>, AllocError>
-        ensures { IfOk result (λ made. (tables : ℕ → Listing) → Exited tables (λ p levels. pay_first (not_of (runs p levels (view_node tables inner.now)))) cost slot exits.now made.value) }
-    {
-        if slot < SLOTS {
-            return self.not_here(inner, more(cost, 1)?, slot, exits);
-        }
-        let ends = self.ends()?;
-        let body = self.not_here(inner, 0, 0, &ends)?;
-        self.nested(body, cost, exits)
-    }
-
-    // The same after its own step. `cost` steps are used before it.
-    #[cycle(command)]
-    fn not_here(
-        &mut self,
-        inner: &Node,
-        cost: usize,
-        slot: usize,
-        exits: &Exits,
-    ) -> Result<Rc<Instruction>, AllocError>
-        ensures { IfOk result (λ made. (tables : ℕ → Listing) → slot < 4 → Exited tables (λ p levels. not_of (runs p levels (view_node tables inner.now))) cost slot exits.now made.value) }
-    {
-        let own = Exits {
-            next: exits.fail.clone()?,
-            fail: self.restore(slot, &exits.next)?,
-        };
-        let entry = self.command(inner, 0, slot + 1, &own)?;
-        self.save(cost, slot, entry)
-    }
-
-    // `test C`
-    #[cycle(command)]
-    fn test(
-        &mut self,
-        inner: &Node,
-        cost: usize,
-        slot: usize,
-        exits: &Exits,
-    ) -> Result<Rc<Instruction>, AllocError>
-        ensures { IfOk result (λ made. (tables : ℕ → Listing) → Exited tables (λ p levels. pay_first (test_of (runs p levels (view_node tables inner.now)))) cost slot exits.now made.value) }
-    {
-        if slot < SLOTS {
-            return self.test_here(inner, more(cost, 1)?, slot, exits);
-        }
-        let ends = self.ends()?;
-        let body = self.test_here(inner, 0, 0, &ends)?;
-        self.nested(body, cost, exits)
-    }
-
-    // The same after its own step. `cost` steps are used before it.
-    #[cycle(command)]
-    fn test_here(
-        &mut self,
-        inner: &Node,
-        cost: usize,
-        slot: usize,
-        exits: &Exits,
-    ) -> Result<Rc<Instruction>, AllocError>
-        ensures { IfOk result (λ made. (tables : ℕ → Listing) → slot < 4 → Exited tables (λ p levels. test_of (runs p levels (view_node tables inner.now))) cost slot exits.now made.value) }
-    {
-        let own = Exits {
-            next: self.restore(slot, &exits.next)?,
-            fail: exits.fail.clone()?,
-        };
-        let entry = self.command(inner, 0, slot + 1, &own)?;
-        self.save(cost, slot, entry)
-    }
-
-    // `try C`
-    #[cycle(command)]
-    fn attempt(
-        &mut self,
-        inner: &Node,
-        cost: usize,
-        slot: usize,
-        exits: &Exits,
-    ) -> Result<Rc<Instruction>, AllocError>
-        ensures { IfOk result (λ made. (tables : ℕ → Listing) → Exited tables (λ p levels. pay_first (try_of (runs p levels (view_node tables inner.now)))) cost slot exits.now made.value) }
-    {
-        if slot < SLOTS {
-            return self.attempt_here(inner, more(cost, 1)?, slot, exits);
-        }
-        let ends = self.ends()?;
-        let body = self.attempt_here(inner, 0, 0, &ends)?;
-        self.nested(body, cost, exits)
-    }
-
-    // The same after its own step. `cost` steps are used before it.
-    #[cycle(command)]
-    fn attempt_here(
-        &mut self,
-        inner: &Node,
-        cost: usize,
-        slot: usize,
-        exits: &Exits,
-    ) -> Result<Rc<Instruction>, AllocError>
-        ensures { IfOk result (λ made. (tables : ℕ → Listing) → slot < 4 → Exited tables (λ p levels. try_of (runs p levels (view_node tables inner.now))) cost slot exits.now made.value) }
-    {
-        let own = Exits {
-            next: exits.next.clone()?,
-            fail: self.restore(slot, &exits.next)?,
-        };
-        let entry = self.command(inner, 0, slot + 1, &own)?;
-        self.save(cost, slot, entry)
-    }
-
-    // `do C`
-    #[cycle(command)]
-    fn do_always(
-        &mut self,
-        inner: &Node,
-        cost: usize,
-        slot: usize,
-        exits: &Exits,
-    ) -> Result<Rc<Instruction>, AllocError>
-        ensures { IfOk result (λ made. (tables : ℕ → Listing) → Exited tables (λ p levels. pay_first (do_of (runs p levels (view_node tables inner.now)))) cost slot exits.now made.value) }
-    {
-        if slot < SLOTS {
-            return self.do_always_here(inner, more(cost, 1)?, slot, exits);
-        }
-        let ends = self.ends()?;
-        let body = self.do_always_here(inner, 0, 0, &ends)?;
-        self.nested(body, cost, exits)
-    }
-
-    // The same after its own step. `cost` steps are used before it.
-    #[cycle(command)]
-    fn do_always_here(
-        &mut self,
-        inner: &Node,
-        cost: usize,
-        slot: usize,
-        exits: &Exits,
-    ) -> Result<Rc<Instruction>, AllocError>
-        ensures { IfOk result (λ made. (tables : ℕ → Listing) → slot < 4 → Exited tables (λ p levels. do_of (runs p levels (view_node tables inner.now))) cost slot exits.now made.value) }
-    {
-        let own = Exits {
-            next: self.restore(slot, &exits.next)?,
-            fail: self.restore(slot, &exits.next)?,
-        };
-        let entry = self.command(inner, 0, slot + 1, &own)?;
-        self.save(cost, slot, entry)
-    }
-
     // `fail C`
     #[cycle(command)]
     fn fail(
@@ -606,52 +400,6 @@ impl Assembler {
         let body = self.body(inner)?;
         let next = exits.next.clone()?;
         self.emit(Instruction::Repeat { cost, body, next })
-    }
-
-    // `loop AE C`
-    #[cycle(command)]
-    fn turns(
-        &mut self,
-        count: &Arithmetic,
-        inner: &Node,
-        cost: usize,
-        exits: &Exits,
-    ) -> Result<Rc<Instruction>, AllocError>
-        ensures { IfOk result (λ made. (tables : ℕ → Listing) (n : ℕ) → Exited tables (λ p levels. pay_first (loop_of (view_number count.now) (runs p levels (view_node tables inner.now)))) cost n exits.now made.value) }
-    {
-        let body = self.body(inner)?;
-        let count = copy_number(self.alloc, count)?;
-        let Exits { next, fail } = exits.again()?;
-        self.emit(Instruction::Loop {
-            cost,
-            count,
-            body,
-            next,
-            fail,
-        })
-    }
-
-    // `atleast AE C`
-    #[cycle(command)]
-    fn at_least(
-        &mut self,
-        count: &Arithmetic,
-        inner: &Node,
-        cost: usize,
-        exits: &Exits,
-    ) -> Result<Rc<Instruction>, AllocError>
-        ensures { IfOk result (λ made. (tables : ℕ → Listing) (n : ℕ) → Exited tables (λ p levels. pay_first (at_least_of (view_number count.now) (runs p levels (view_node tables inner.now)))) cost n exits.now made.value) }
-    {
-        let body = self.body(inner)?;
-        let count = copy_number(self.alloc, count)?;
-        let Exits { next, fail } = exits.again()?;
-        self.emit(Instruction::AtLeast {
-            cost,
-            count,
-            body,
-            next,
-            fail,
-        })
     }
 
     // `goto C` and `gopast C`
@@ -718,19 +466,228 @@ impl Assembler {
         })
     }
 
-    // `setlimit C1 for C2`
+    // Returns where a command saves the cursor that uses `own` steps, and where it goes on: in this slot, or in instructions
+    // that run by themselves if no slot is left.
+    fn place(
+        &mut self,
+        cost: usize,
+        own: usize,
+        slot: usize,
+        exits: &Exits,
+    ) -> Result<Place, AllocError>
+        requires { 0 < own }
+        ensures { IfOk result (λ place. IsPlace cost own slot exits.now place) }
+    {
+        if slot < SLOTS {
+            return Ok(Place {
+                cost: more(cost, own)?,
+                slot,
+                exits: exits.again()?,
+                nested: false,
+            });
+        }
+        Ok(Place {
+            cost: own - 1,
+            slot: 0,
+            exits: self.ends()?,
+            nested: true,
+        })
+    }
+
+    // Saves the cursor in that slot before these instructions.
+    fn saved(
+        &mut self,
+        place: &Place,
+        inner: Rc<Instruction>,
+        cost: usize,
+        exits: &Exits,
+    ) -> Result<Rc<Instruction>, AllocError>
+        ensures { IfOk result (λ made. (tables : ℕ → Listing) (meaning : Meaning) (own slot : ℕ) → IsPlace cost own slot exits.now place.now → ((entry : TheInstruction) → Saves place.now.cost place.now.slot inner.value entry → Exited tables meaning place.now.cost place.now.slot place.now.exits entry) → Exited tables (λ p levels m s. then_on (pays own s) (meaning p levels m)) cost slot exits.now made.value) }
+    {
+        let entry = self.save(place.cost, place.slot, inner)?;
+        if place.nested {
+            self.nested(entry, cost, exits)
+        } else {
+            Ok(entry)
+        }
+    }
+
+    // `not C`
+    #[cycle(command)]
+    fn not(
+        &mut self,
+        inner: &Node,
+        cost: usize,
+        slot: usize,
+        exits: &Exits,
+    ) -> Result<Rc<Instruction>, AllocError>
+        ensures { IfOk result (λ made. (tables : ℕ → Listing) → Exited tables (λ p levels. pay_first (not_of (runs p levels (view_node tables inner.now)))) cost slot exits.now made.value) }
+    {
+        let place = self.place(cost, 1, slot, exits)?;
+        let own = Exits {
+            next: place.exits.fail.clone()?,
+            fail: self.restore(place.slot, &place.exits.next)?,
+        };
+        let entry = self.command(inner, 0, place.slot + 1, &own)?;
+        self.saved(&place, entry, cost, exits)
+    }
+
+    // `test C`
+    #[cycle(command)]
+    fn test(
+        &mut self,
+        inner: &Node,
+        cost: usize,
+        slot: usize,
+        exits: &Exits,
+    ) -> Result<Rc<Instruction>, AllocError>
+        ensures { IfOk result (λ made. (tables : ℕ → Listing) → Exited tables (λ p levels. pay_first (test_of (runs p levels (view_node tables inner.now)))) cost slot exits.now made.value) }
+    {
+        let place = self.place(cost, 1, slot, exits)?;
+        let own = Exits {
+            next: self.restore(place.slot, &place.exits.next)?,
+            fail: place.exits.fail.clone()?,
+        };
+        let entry = self.command(inner, 0, place.slot + 1, &own)?;
+        self.saved(&place, entry, cost, exits)
+    }
+
+    // `try C`
+    #[cycle(command)]
+    fn attempt(
+        &mut self,
+        inner: &Node,
+        cost: usize,
+        slot: usize,
+        exits: &Exits,
+    ) -> Result<Rc<Instruction>, AllocError>
+        ensures { IfOk result (λ made. (tables : ℕ → Listing) → Exited tables (λ p levels. pay_first (try_of (runs p levels (view_node tables inner.now)))) cost slot exits.now made.value) }
+    {
+        let place = self.place(cost, 1, slot, exits)?;
+        let own = Exits {
+            next: place.exits.next.clone()?,
+            fail: self.restore(place.slot, &place.exits.next)?,
+        };
+        let entry = self.command(inner, 0, place.slot + 1, &own)?;
+        self.saved(&place, entry, cost, exits)
+    }
+
+    // `do C`
+    #[cycle(command)]
+    fn do_always(
+        &mut self,
+        inner: &Node,
+        cost: usize,
+        slot: usize,
+        exits: &Exits,
+    ) -> Result<Rc<Instruction>, AllocError>
+        ensures { IfOk result (λ made. (tables : ℕ → Listing) → Exited tables (λ p levels. pay_first (do_of (runs p levels (view_node tables inner.now)))) cost slot exits.now made.value) }
+    {
+        let place = self.place(cost, 1, slot, exits)?;
+        let own = Exits {
+            next: self.restore(place.slot, &place.exits.next)?,
+            fail: self.restore(place.slot, &place.exits.next)?,
+        };
+        let entry = self.command(inner, 0, place.slot + 1, &own)?;
+        self.saved(&place, entry, cost, exits)
+    }
+
+    // Where a row goes on after its first command.
+    #[cycle(command)]
+    fn rest(
+        &mut self,
+        others: &[JoinedNode],
+        slot: usize,
+        exits: &Exits,
+    ) -> Result<Exits, AllocError>
+        ensures { IfOk result (λ rest. (tables : ℕ → Listing) → slot < 4 → IsRest tables slot (map (view_next_command tables) others.now) exits.now rest) }
+    {
+        let mut rest = exits.again()?;
+        let mut i = others.len();
+        while 0 < i {
+            i -= 1;
+            rest = self.joined(&others[i], slot, &rest)?;
+        }
+        Ok(rest)
+    }
+
+    // Where a row goes on before one of its commands, if it goes on like this after it.
+    #[cycle(command)]
+    fn joined(&mut self, other: &JoinedNode, slot: usize, rest: &Exits) -> Result<Exits, AllocError>
+        ensures { IfOk result (λ made. (tables : ℕ → Listing) (exits : TheExits) (others : List JoinedView) → slot < 4 → IsRest tables slot others exits rest.now → IsRest tables slot (view_next_command tables other.now ∷ others) exits made) }
+    {
+        let entry = self.command(&other.command, 0, slot.saturating_add(1), rest)?;
+        let back = self.restore(slot, &entry)?;
+        match other.joiner {
+            Joiner::Or => Ok(Exits {
+                next: rest.next.clone()?,
+                fail: back,
+            }),
+            Joiner::And => Ok(Exits {
+                next: back,
+                fail: rest.fail.clone()?,
+            }),
+        }
+    }
+
+    // `loop AE C`
+    #[cycle(command)]
+    fn turns(
+        &mut self,
+        inner: &Node,
+        count: &Arithmetic,
+        cost: usize,
+        exits: &Exits,
+    ) -> Result<Rc<Instruction>, AllocError>
+        ensures { IfOk result (λ made. (tables : ℕ → Listing) (n : ℕ) → Exited tables (λ p levels. pay_first (loop_of (view_number count.now) (runs p levels (view_node tables inner.now)))) cost n exits.now made.value) }
+    {
+        let body = self.body(inner)?;
+        let count = copy_number(self.alloc, count)?;
+        let Exits { next, fail } = exits.again()?;
+        self.emit(Instruction::Loop {
+            cost,
+            count,
+            body,
+            next,
+            fail,
+        })
+    }
+
+    // `atleast AE C`
+    #[cycle(command)]
+    fn at_least(
+        &mut self,
+        inner: &Node,
+        count: &Arithmetic,
+        cost: usize,
+        exits: &Exits,
+    ) -> Result<Rc<Instruction>, AllocError>
+        ensures { IfOk result (λ made. (tables : ℕ → Listing) (n : ℕ) → Exited tables (λ p levels. pay_first (at_least_of (view_number count.now) (runs p levels (view_node tables inner.now)))) cost n exits.now made.value) }
+    {
+        let body = self.body(inner)?;
+        let count = copy_number(self.alloc, count)?;
+        let Exits { next, fail } = exits.again()?;
+        self.emit(Instruction::AtLeast {
+            cost,
+            count,
+            body,
+            next,
+            fail,
+        })
+    }
+
+    // `setlimit C1 for C2`, of which C2 is made already.
     #[cycle(command)]
     fn set_limit(
         &mut self,
         first: &Node,
-        second: &Node,
+        second: Rc<Instruction>,
         cost: usize,
         exits: &Exits,
     ) -> Result<Rc<Instruction>, AllocError>
-        ensures { IfOk result (λ made. (tables : ℕ → Listing) (n : ℕ) → Exited tables (λ p levels. pay_first (limited_of (runs p levels (view_node tables first.now)) (runs p levels (view_node tables second.now)))) cost n exits.now made.value) }
+        ensures { IfOk result (λ made. (tables : ℕ → Listing) (n : ℕ) → Exited tables (λ p levels. pay_first (limited_of (runs p levels (view_node tables first.now)) (alone (flow p levels tables second.value)))) cost n exits.now made.value) }
     {
         let first = self.body(first)?;
-        let second = self.body(second)?;
         let Exits { next, fail } = exits.again()?;
         self.emit(Instruction::SetLimit {
             cost,
@@ -741,26 +698,38 @@ impl Assembler {
         })
     }
 
-    // An among: what it does before the command of its group, and then that command.
+    // What an among does before the command of its group, and then that command, which is made already.
     #[cycle(command)]
     fn among(
         &mut self,
-        among: usize,
         before: &[Node],
-        bodies: &[Node],
+        choose: Rc<Instruction>,
         cost: usize,
         slot: usize,
         exits: &Exits,
     ) -> Result<Rc<Instruction>, AllocError>
-        ensures { IfOk result (λ made. (tables : ℕ → Listing) → Exited tables (λ p levels. pay_first (λ m s. after (all_run p levels (view_nodes tables before.now) m s) (λ t. group_runs p levels (view_nodes tables bodies.now) (choice among t) m t) (Signals false))) cost slot exits.now made.value) }
+        ensures { IfOk result (λ made. (tables : ℕ → Listing) (chosen : Meaning) → Exited tables chosen 0 slot exits.now choose.value → Exited tables (λ p levels. pay_first (λ m s. after (all_run p levels (view_nodes tables before.now) m s) (chosen p levels m) (Signals false))) cost slot exits.now made.value) }
     {
-        let entries = self.bodies(bodies, slot, exits)?;
-        let choose = self.choose(among, entries, 0, exits)?;
         let own = Exits {
             next: choose,
             fail: exits.fail.clone()?,
         };
         self.sequence(before, more(cost, 1)?, slot, &own)
+    }
+
+    // The command of the chosen group.
+    #[cycle(command)]
+    fn groups(
+        &mut self,
+        bodies: &[Node],
+        among: usize,
+        slot: usize,
+        exits: &Exits,
+    ) -> Result<Rc<Instruction>, AllocError>
+        ensures { IfOk result (λ made. (tables : ℕ → Listing) → Exited tables (λ p levels m t. group_runs p levels (view_nodes tables bodies.now) (choice among t) m t) 0 slot exits.now made.value) }
+    {
+        let entries = self.bodies(bodies, slot, exits)?;
+        self.choose(among, entries, 0, exits)
     }
 
     // The commands of an among's groups.

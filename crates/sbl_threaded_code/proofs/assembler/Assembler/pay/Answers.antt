@@ -12,7 +12,7 @@ returns c =
     let cost = c.args.cost in
     let e = c.args.exits.now in
     IfOk-weaker c.emit.result _ _
-      (λ made is. λ tables n. skipped tables cost e.next.value e.fail.value made.value
-        (λ p levels m ys s. ap (λ x. flow p levels tables x m ys s) is ∙ flow_pay p levels tables m ys s cost c.in_ok-next.next
-          ∙ ap (λ x. then_on (pays cost s) (flow p levels tables x m ys)) c.in_ok-next.ensures.cases) n)
-      c.emit.ensures
+    (λ made is. λ tables n. skipped tables cost e.next.value e.fail.value made.value
+    (λ p levels m ys s. ap (λ x. flow p levels tables x m ys s) is ∙ flow_pay p levels tables m ys s cost c.in_ok-next.next
+    ∙ ap (λ x. then_on (pays cost s) (flow p levels tables x m ys)) c.in_ok-next.ensures.cases) n)
+    c.emit.ensures
