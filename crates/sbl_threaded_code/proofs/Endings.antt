@@ -35,7 +35,7 @@ passes_then e f p q a b c =
     ∙ after_same e (λ s. after (f s) a b) c (λ s. after (f s) a c) c (λ s. q s a b c) (λ s. refl)
     ∙ sym (after_after e f (Signals false) a c)
 
-pay_passes : (k : ℕ) (s : State) → Passes (pay k s)
+pub pay_passes : (k : ℕ) (s : State) → Passes (pay k s)
 pay_passes zero s a b c = refl
 pay_passes (suc k) s a b c = refl
 

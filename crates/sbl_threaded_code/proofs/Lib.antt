@@ -1,3 +1,5 @@
 pub mod Endings
 pub mod Instructions
 pub mod Performing
+pub mod Rests
+pub mod Views

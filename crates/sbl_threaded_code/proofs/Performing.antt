@@ -6,12 +6,12 @@ use Rattle.std.proofs.Math.Path.{fun_ext}
 use Rattle.std.proofs.lemmas.List.{length-set}
 use Rattle.sbl_program.specs.AmongStrings.{Listing}
 use Rattle.sbl_program.specs.Program as programs
-use Rattle.sbl_program.specs.ProgramOf.{view_nodes}
+use Rattle.sbl_program.specs.ProgramOf.{view_node, view_nodes}
 use Rattle.sbl_program.specs.declared.node.Node.{Node}
 use Rattle.sbl_interpreter.specs.Rows.{pays}
-use Rattle.sbl_interpreter.specs.Run.{nth_runs, group_runs}
+use Rattle.sbl_interpreter.specs.Run.{runs, runs_paid, nth_runs, group_runs}
 use Rattle.sbl_semantics.specs.Choices.{choice}
-use Rattle.sbl_semantics.specs.Control.{pay_first}
+use Rattle.sbl_semantics.specs.Control.{turns, pay_first}
 use Rattle.sbl_semantics.specs.State.{State, Ending, Signals, Doing, after, then_on, pay, saved_cursor, put_back}
 use Rattle.sbl_semantics.specs.declared.cursor.SavedCursor.{SavedCursor}
 use Rattle.sbl_ast.specs.declared.mode.Mode.{Mode}
@@ -22,23 +22,23 @@ use Rattle.sbl_threaded_code.specs.declared.instruction.Group.{Group, out-Group}
 use Rattle.sbl_threaded_code.specs.declared.assembler.Exits.{Exits}
 use Rattle.sbl_threaded_code.specs.declared.assembler.Place.{Place}
 use Rattle.sbl_threaded_code.specs.Slots.{no_cursor, no_cursors}
-use Rattle.sbl_threaded_code.specs.Flow.{Flow, flow, group_flow, alone, chosen}
+use Rattle.sbl_threaded_code.specs.Flow.{Flow, flow, group_flow, alone, chosen, fail_of, turns_of}
 use Rattle.sbl_threaded_code.specs.Performs.{Agree, GoesOn, Meaning, Performs, Ends, Restores, Saves, Runs, IsPlaced, IsPlace, ArePerformed}
-use Rattle.sbl_threaded_code.proofs.Endings.{after_after, after_same, as_it_is, Passes, pays_pass, back_passes, own_step, steps_more}
+use Rattle.sbl_threaded_code.proofs.Endings.{after_after, after_same, as_it_is, Passes, passes_then, pay_passes, pays_pass, back_passes, own_step, steps_more}
 
 -- ---- slots
 
-agree_self : (n : ℕ) (xs : List SavedCursor) → Agree n xs xs
+pub agree_self : (n : ℕ) (xs : List SavedCursor) → Agree n xs xs
 agree_self n xs = record { as_many = refl; same = λ j l. refl }
 
-agree_then : (n : ℕ) (xs ys zs : List SavedCursor) → Agree n xs ys → Agree n ys zs → Agree n xs zs
+pub agree_then : (n : ℕ) (xs ys zs : List SavedCursor) → Agree n xs ys → Agree n ys zs → Agree n xs zs
 agree_then n xs ys zs a b = record { as_many = b.as_many ∙ a.as_many; same = λ j l. b.same j l ∙ a.same j l }
 
 pub agree_fewer : (n : ℕ) (xs ys : List SavedCursor) → Agree (suc n) xs ys → Agree n xs ys
 agree_fewer n xs ys a = record { as_many = a.as_many; same = λ j l. a.same j (omega arith) }
 
 -- a cursor saved in slot n leaves the slots before it
-agree_set : (n : ℕ) (xs : List SavedCursor) (v : SavedCursor) → Agree n xs (slice_set xs n v)
+pub agree_set : (n : ℕ) (xs : List SavedCursor) (v : SavedCursor) → Agree n xs (slice_set xs n v)
 agree_set n xs v = record {
   as_many = length-set xs n v;
   same = λ j l. let ne : j ≢ n = omega arith in get_or-set_other xs n j v no_cursor ne;
@@ -56,7 +56,7 @@ pub goes_same : (f : Flow) (m : Mode) (n : ℕ) (xs : List SavedCursor) (go to :
 goes_same f m n xs go to g p ys a s = g ys a s ∙ p s
 
 -- steps, and then something whose ends are known
-after_steps : (cost : ℕ) (s : State) (d : State → Ending) (a b go stop : State → Ending) → ((t : State) → a t ≡ go t) → ((t : State) → b t ≡ stop t) → then_on (pays cost s) (λ u. after (d u) a b) ≡ after (then_on (pays cost s) d) go stop
+pub after_steps : (cost : ℕ) (s : State) (d : State → Ending) (a b go stop : State → Ending) → ((t : State) → a t ≡ go t) → ((t : State) → b t ≡ stop t) → then_on (pays cost s) (λ u. after (d u) a b) ≡ after (then_on (pays cost s) d) go stop
 after_steps cost s d a b go stop p q =
     after_same (pays cost s) (λ u. after (d u) a b) (Signals false) (λ u. after (d u) go stop) (Signals false) (λ u. after_same (d u) a b go stop p q) (λ u. refl)
     ∙ pays_pass cost s (λ u. after (d u) go stop) (Signals false) (λ u. after (Signals false u) go stop)
@@ -162,12 +162,14 @@ abbrev pub wrapped : (Mode → SavedCursor → State → Ending) → (Mode → S
 wrapped on_t on_f c m s = after (c m s) (on_t m (saved_cursor s)) (on_f m (saved_cursor s))
 
 pub saving :
-    (tables : ℕ → Listing) (c : Meaning) (on_t on_f : Mode → SavedCursor → State → Ending) (cost n : ℕ) (next fail own_next own_fail inner entry : Instruction) →
-    n < 4 → Saves cost n inner entry →
-    Performs tables c 0 (suc n) own_next own_fail inner →
+    (tables : ℕ → Listing) (c : Meaning) (on_t on_f : Mode → SavedCursor → State → Ending) (cost n k : ℕ) (next fail own_next own_fail inner entry : Instruction) →
+    k ≡ n + 1 → n < 4 → Saves cost n inner entry →
+    Performs tables c 0 k own_next own_fail inner →
     Leaves tables n next fail own_next on_t → Leaves tables n next fail own_fail on_f →
     Performs tables (λ p levels. wrapped on_t on_f (c p levels)) cost n next fail entry
-saving tables c on_t on_f cost n next fail own_next own_fail inner entry small saves h lt lf p levels m slots go stop l g k ys a s =
+saving tables c on_t on_f cost n deep next fail own_next own_fail inner entry is small saves h' lt lf p levels m slots go stop l g k ys a s =
+    let one : deep ≡ suc n = omega (arith, is) in
+    let h = subst (λ j. Performs tables c 0 j own_next own_fail inner) one h' in
     let d = λ (u : State). wrapped on_t on_f (c p levels) m u in
     let room : n < length ys = omega (arith, a.as_many, l) in
     let inside = λ (u : State).
@@ -200,12 +202,54 @@ runs_as tables d entry h p levels = fun_ext (λ m. fun_ext (λ s. h p levels m s
 
 -- something made of them
 pub made_of :
-    (tables : ℕ → Listing) (of : Doing → Doing) (d : Meaning) (body : Instruction) (cost n : ℕ) (next fail entry : Instruction) → Runs tables d body →
-    Performs tables (λ p levels. pay_first (of (alone (flow p levels tables body)))) cost n next fail entry →
-    Performs tables (λ p levels. pay_first (of (d p levels))) cost n next fail entry
+  (tables : ℕ → Listing) (of : programs.Program → ℕ → Doing → Doing) (d : Meaning) (body : Instruction) (cost n : ℕ) (next fail entry : Instruction) → Runs tables d body →
+  Performs tables (λ p levels. pay_first (of p levels (alone (flow p levels tables body)))) cost n next fail entry →
+  Performs tables (λ p levels. pay_first (of p levels (d p levels))) cost n next fail entry
 made_of tables of d body cost n next fail entry r h =
-    same_meaning tables (λ p levels. pay_first (of (alone (flow p levels tables body)))) (λ p levels. pay_first (of (d p levels))) cost n next fail entry
-    (λ p levels m s. ap (λ c. pay_first (of c) m s) (runs_as tables d body r p levels)) h
+    same_meaning tables (λ p levels. pay_first (of p levels (alone (flow p levels tables body)))) (λ p levels. pay_first (of p levels (d p levels))) cost n next fail entry
+      (λ p levels m s. ap (λ c. pay_first (of p levels c) m s) (runs_as tables d body r p levels)) h
+
+-- ---- commands
+
+-- the instructions of a command, by what it does after its own step
+pub arm :
+  (tables : ℕ → Listing) (d : Meaning) (node x : Node) (cost n : ℕ) (next fail entry : Instruction) → node ≡ x →
+  ((p : programs.Program) (levels : ℕ) (m : Mode) (s : State) → runs_paid p levels (view_node tables x) m s ≡ d p levels m s) →
+  Performs tables (λ p levels. pay_first (d p levels)) cost n next fail entry → Performs tables (λ p levels. runs p levels (view_node tables node)) cost n next fail entry
+arm tables d node x cost n next fail entry e q =
+    same_meaning tables (λ p levels. pay_first (d p levels)) (λ p levels. runs p levels (view_node tables node)) cost n next fail entry
+      (λ p levels m s. ap (λ f. then_on (pay s.steps s) f) (fun_ext (λ u. sym (q p levels m u))) ∙ ap (λ y. runs p levels (view_node tables y) m s) (sym e))
+
+-- one step, and then a command
+pub one_step :
+  (tables : ℕ → Listing) (d : Meaning) (cost n : ℕ) (next fail entry : Instruction) →
+  Performs tables (λ p levels m s. then_on (pays 1 s) (d p levels m)) cost n next fail entry → Performs tables (λ p levels. pay_first (d p levels)) cost n next fail entry
+one_step tables d cost n next fail entry =
+    same_meaning tables (λ p levels m s. then_on (pays 1 s) (d p levels m)) (λ p levels. pay_first (d p levels)) cost n next fail entry (λ p levels m s. own_step 0 s (d p levels) m)
+
+-- whatever it signals, f
+pub failing :
+  (tables : ℕ → Listing) (c : Meaning) (cost n : ℕ) (next fail a b entry : Instruction) → a ≡ fail → b ≡ fail →
+  Performs tables c cost n a b entry → Performs tables (λ p levels. fail_of (c p levels)) cost n next fail entry
+failing tables c cost n next fail a b entry x y h p levels m slots go stop l g k ys w s =
+    let g' = λ (zs : List SavedCursor) (v : Agree n slots zs) (t : State). ap (λ i. flow p levels tables i m zs t) x ∙ k zs v t in
+    let k' = λ (zs : List SavedCursor) (v : Agree n slots zs) (t : State). ap (λ i. flow p levels tables i m zs t) y ∙ k zs v t in
+    h p levels m slots stop stop l g' k' ys w s
+    ∙ after_after (pays cost s) (c p levels m) (Signals false) stop stop
+    ∙ after_same (pays cost s) (λ u. after (c p levels m u) stop stop) stop (λ u. after (fail_of (c p levels) m u) go stop) stop (λ u. sym (after_after (c p levels m u) (Signals false) (Signals false) go stop)) (λ u. refl)
+    ∙ sym (after_after (pays cost s) (fail_of (c p levels) m) (Signals false) go stop)
+
+turns_pass : (n : ℕ) (c : Doing) (m : Mode) (s : State) → Passes (turns n c m s)
+turns_pass zero c m s u v w = refl
+turns_pass (suc n) c m s u v w =
+    let f = put_back m (saved_cursor s) in
+    after_after (c m s) (turns n c m) f u v
+    ∙ after_same (c m s) (λ t. after (turns n c m t) u v) (λ t. after (f t) u v) (λ t. after (turns n c m t) u w) (λ t. after (f t) u w) (λ t. turns_pass n c m t u v w) (λ t. back_passes m (saved_cursor s) t u v w)
+    ∙ sym (after_after (c m s) (turns n c m) f u w)
+
+-- `repeat` does not signal f
+pub repeating : (c : Doing) (m : Mode) (s : State) → Passes (pay_first (turns_of c) m s)
+repeating c m s = passes_then (pay s.steps s) (turns_of c m) (pay_passes s.steps s) (λ u. turns_pass (suc u.steps) c m u)
 
 -- ---- where a command saves the cursor
 
@@ -238,7 +282,7 @@ nested_place tables d cost own slot exits place entry made is when h k =
     let one : suc place.cost ≡ own = omega (arith, q.1) in
     same_meaning tables (λ p levels. pay_first (c p levels)) (λ p levels m s. then_on (pays own s) (d p levels m)) cost slot exits.next.value exits.fail.value made
       (λ p levels m s. sym (after_after (pay s.steps s) (pays place.cost) (Signals false) (d p levels m) (Signals false)) ∙ ap (λ j. then_on (pays j s) (d p levels m)) one)
-      (made_of tables (λ x. x) c entry cost slot exits.next.value exits.fail.value made r (k slot))
+      (made_of tables (λ p levels x. x) c entry cost slot exits.next.value exits.fail.value made r (k slot))
 
 -- ---- the groups of an among
 

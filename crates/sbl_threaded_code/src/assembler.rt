@@ -414,12 +414,15 @@ impl Assembler {
         ensures { IfOk result (λ made. (tables : ℕ → Listing) (n : ℕ) → Exited tables (λ p levels. pay_first (seek_of past (runs p levels (view_node tables inner.now)))) cost n exits.now made.value) }
     {
         match inner {
-            Node::Act(Action::Grouping(number)) => {
-                self.seek_grouping(past, *number, true, more(cost, 1)?, exits)
-            }
-            Node::Act(Action::NonGrouping(number)) => {
-                self.seek_grouping(past, *number, false, more(cost, 1)?, exits)
-            }
+            Node::Act(action) => match action {
+                Action::Grouping(number) => {
+                    self.seek_grouping(past, *number, true, more(cost, 1)?, exits)
+                }
+                Action::NonGrouping(number) => {
+                    self.seek_grouping(past, *number, false, more(cost, 1)?, exits)
+                }
+                _ => self.seek_any(past, inner, cost, exits),
+            },
             _ => self.seek_any(past, inner, cost, exits),
         }
     }

@@ -1,5 +1,4 @@
-use Rattle.std.proofs.Common.{◌≡◌, ℕ, ◌<◌, ◌≤◌, drop, map, length}
-use Rattle.std.specs.Prelude.{take}
+use Rattle.std.proofs.Common.{◌≡◌, ℕ, ◌<◌, ◌≤◌, drop, map, take, length}
 use Rattle.sbl_program.specs.AmongStrings.{Listing}
 use Rattle.sbl_program.specs.ProgramOf.{view_next_command, view_nodes}
 use Rattle.sbl_interpreter.specs.Run.{all_run}
@@ -9,7 +8,7 @@ use Rattle.sbl_threaded_code.proofs.assembler.Assembler.+command.Given as goal
 -- the commands from i on
 abbrev pub invariant-sequence-loop-i : goal.invariant-sequence-loop-i
 invariant-sequence-loop-i l =
-    (l.i ≤ length l.commands) × (l.now.fail.value ≡ l.exits.fail.value) ×
+    (0 < l.i) × (l.i ≤ length l.commands) × (l.now.fail.value ≡ l.exits.fail.value) ×
     ((tables : ℕ → Listing) → Performs tables (λ p levels. all_run p levels (view_nodes tables (drop l.i l.commands))) 0 l.slot l.exits.next.value l.exits.fail.value l.now.next.value)
 
 abbrev pub decreases-sequence-loop-i : goal.decreases-sequence-loop-i
