@@ -3,3 +3,4 @@ pub mod Instructions
 pub mod Performing
 pub mod Rests
 pub mod Views
+pub mod Codes
