@@ -33,9 +33,14 @@ pub struct Code {
 
 impl Model for Code {
     ghost use Rattle.sbl_program.specs.declared.node.Program.{Program};
+    ghost use Rattle.sbl_program.specs.contracts.node.Node as node;
+    ghost use Rattle.sbl_program.specs.contracts.action.Arithmetic as arithmetic;
+    ghost use Rattle.std.specs.Coded.{codes};
     ghost use Rattle.sbl_threaded_code.specs.CodeOf.{AreCodeOf};
 
     ghost Value = { Program };
+
+    ghost coded = { Prim.hlevel (codes, node.the_row.coded, arithmetic.the_row.coded) };
 
     ghost view = { λ c. c.program };
 
