@@ -1,7 +1,7 @@
 -- What an instruction does, kind by kind.
 use Rattle.std.proofs.Common.{◌≡◌, ℕ, zero, suc, ◌<◌, ◌≤◌, Bool, true, false, List, [], ◌∷◌, map, length, get_or, Option, Some, None, Err, rules, arith, refl, sym, ap, ◌∙◌, Vec, Global}
 use Rattle.std.specs.Prelude.{slice_set, slice_index_or}
-use Rattle.std.specs.Rc.{Rc}
+use Rattle.std.specs.declared.rc.Rc.{Rc}
 use Rattle.sbl_char_class.specs.Terms.{class_at}
 use Rattle.sbl_program.specs.AmongStrings.{Listing}
 use Rattle.sbl_program.specs.ProgramOf.{view_action, view_number}

@@ -1,6 +1,6 @@
 -- What each kind of instruction does, and what follows it.
 use Rattle.std.proofs.Common.{◌≡◌, ◌≤◌, ◌<◌, true, false, Err, List, map, sym, ap, ◌∙◌, arith, rules, length, get_or, Global}
-use Rattle.std.specs.Rc.{Rc}
+use Rattle.std.specs.declared.rc.Rc.{Rc}
 use Rattle.sbl_program.specs.ProgramOf.{program_of, view_number}
 use Rattle.sbl_program.specs.declared.node.Candidate.{Candidate}
 use Rattle.sbl_interpreter.proofs.Arms.{follows_at, after_halts}
