@@ -2,6 +2,7 @@
 use Rattle.std.proofs.Common.{◌≡◌, ℕ, zero, suc, ◌<◌, ◌≤◌, Bool, true, false, List, [], ◌∷◌, map, length, get_or, Option, Some, None, Err, rules, arith, refl, sym, ap, ◌∙◌, Vec, Global}
 use Rattle.std.specs.Prelude.{slice_set, slice_index_or}
 use Rattle.std.specs.declared.rc.Rc.{Rc}
+use Rattle.std.proofs.lemmas.Simd.{map-map}
 use Rattle.sbl_char_class.specs.Terms.{class_at}
 use Rattle.sbl_program.specs.AmongStrings.{Listing}
 use Rattle.sbl_program.specs.ProgramOf.{view_action, view_number}
@@ -71,7 +72,7 @@ pub search_flow : (p : programs.Program) (levels : ℕ) (T : ℕ → Listing) (c
 search_flow p levels T cost among table entries next fail m slots s = first_of (search (rules, the_lemmas), search (rules, the_lemmas, fold_out-Instruction))
 
 pub choose_flow : (p : programs.Program) (levels : ℕ) (T : ℕ → Listing) (cost among : ℕ) (bodies : Vec (Rc Instruction Global) Global) (next fail : Rc Instruction Global) (m : Mode) (slots : List SavedCursor) (s : State) → flow p levels T (Choose cost among bodies next fail) m slots s ≡ then_on (pays cost s) (λ u. chosen (choice among u) (map (λ (b : Rc Instruction Global). flow p levels T b.value) bodies.items) (flow p levels T next.value) (flow p levels T fail.value) m slots u)
-choose_flow p levels T cost among bodies next fail m slots s = first_of (search (rules, the_lemmas), search (rules, the_lemmas, fold_out-Instruction))
+choose_flow p levels T cost among bodies next fail m slots s = first_of (search (rules, the_lemmas, map-map), search (rules, the_lemmas, fold_out-Instruction, map-map))
 
 -- ---- commands behind their steps
 

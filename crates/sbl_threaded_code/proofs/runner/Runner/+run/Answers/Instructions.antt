@@ -1,5 +1,5 @@
 -- What each kind of instruction does, and what follows it.
-use Rattle.std.proofs.Common.{◌≡◌, ◌≤◌, ◌<◌, true, false, Err, List, map, sym, ap, ◌∙◌, arith, rules, length, get_or, Global}
+use Rattle.std.proofs.Common.{◌≡◌, ℕ, Option, Some, ◌≤◌, ◌<◌, true, false, Err, List, map, sym, ap, ◌∙◌, arith, rules, length, get_or, Global}
 use Rattle.std.specs.declared.rc.Rc.{Rc}
 use Rattle.sbl_program.specs.ProgramOf.{program_of, view_number}
 use Rattle.sbl_program.specs.declared.node.Candidate.{Candidate}
@@ -7,8 +7,9 @@ use Rattle.sbl_interpreter.proofs.Arms.{follows_at, after_halts}
 use Rattle.sbl_interpreter.specs.Rows.{pays}
 use Rattle.sbl_interpreter.specs.Run.{calls}
 use Rattle.sbl_interpreter.specs.Search.{search_all}
+use Rattle.sbl_semantics.specs.Choices.{choice}
 use Rattle.sbl_semantics.specs.State.{State, Ending, Doing, Signals, after, pay, then_on}
-use Rattle.sbl_threaded_code.specs.Flow.{flow, alone, turns_of, loop_of, at_least_of, seek_of, limited_of}
+use Rattle.sbl_threaded_code.specs.Flow.{Flow, flow, alone, chosen, turns_of, loop_of, at_least_of, seek_of, limited_of}
 use Rattle.sbl_threaded_code.specs.declared.instruction.Instruction.{Instruction}
 use Rattle.sbl_threaded_code.proofs.Flows.{paid, chosen_at, chosen_past, choose_flow, nested_flow, repeat_flow, loop_flow, at_least_flow, seek_flow, set_limit_flow, search_flow}
 use Rattle.sbl_threaded_code.proofs.runner.Runner.+run.Goals as goal
@@ -448,7 +449,49 @@ run_from-loop-at-preserved-else-branch-10 g t c =
     (ap (λ x. flow P levels T x m slots new) c.deref-at-else-branch-10.ensures ∙ sym h, steps)
 
 pub run_from-loop-at-preserved-in-None-get : goal.run_from-loop-at-preserved-in-None-get
-run_from-loop-at-preserved-in-None-get g t c = ?
+run_from-loop-at-preserved-in-None-get g t c =
+    let T = g.T.Tables.listed c.args.self.now.tables.now in
+    let P = program_of T c.args.self.now.code.now in
+    let levels = c.args.self.now.levels in
+    let m = c.args.self.now.mode in
+    let inv = c.loop-at.invariant in
+    let s = c.loop-at.state in
+    let slots = c.loop-at.slots in
+    let F = λ (b : Rc Instruction Global). flow P levels T b.value in
+    let a = c.in-Choose in
+    let u = c.pay_for-in-Choose.new.self in
+    let bodies = a.bodies.items in
+    let ds = c.deref-in-Some.result.now in
+    let group = c.in-Some.group in
+    let go = λ (o : Option ℕ). chosen o (map F bodies) (F a.next) (F a.fail) m slots u in
+    let is : choice a.among u ≡ Some group = sym c.choice.ensures ∙ c.in-Some.is in
+    let whole = sym inv.0 ∙ ap (λ x. flow P levels T x m slots s) a.is ∙ choose_flow P levels T a.cost a.among a.bodies a.next a.fail m slots s ∙ ap (λ r. then_on r (λ v. chosen (choice a.among v) (map F bodies) (F a.next) (F a.fail) m slots v)) c.in_ok-pay_for-in-Choose.ensures.leads ∙ ap go is ∙ ap (λ xs. chosen (Some group) (map F xs) (F a.next) (F a.fail) m slots u) (sym c.deref-in-Some.ensures.value) in
+    let no_more : u.steps ≤ s.steps = c.in_ok-pay_for-in-Choose.ensures.no_more in
+    let steps : u.steps ≤ c.args.state.now.steps = omega (arith, no_more, inv.1) in
+    let l : length ds ≤ group = search rules in
+    (ap (λ x. flow P levels T x m slots u) c.deref-in-None-get.ensures ∙ sym (whole ∙ ap (λ (f : Flow). f m slots u) (chosen_past F ds group (F a.next) (F a.fail) l)), steps)
 
 pub run_from-loop-at-preserved : goal.run_from-loop-at-preserved
-run_from-loop-at-preserved g t c = ?
+run_from-loop-at-preserved g t c =
+    let T = g.T.Tables.listed c.args.self.now.tables.now in
+    let P = program_of T c.args.self.now.code.now in
+    let levels = c.args.self.now.levels in
+    let m = c.args.self.now.mode in
+    let inv = c.loop-at.invariant in
+    let s = c.loop-at.state in
+    let slots = c.loop-at.slots in
+    let F = λ (b : Rc Instruction Global). flow P levels T b.value in
+    let a = c.in-Choose in
+    let u = c.pay_for-in-Choose.new.self in
+    let bodies = a.bodies.items in
+    let ds = c.deref-in-Some.result.now in
+    let group = c.in-Some.group in
+    let go = λ (o : Option ℕ). chosen o (map F bodies) (F a.next) (F a.fail) m slots u in
+    let is : choice a.among u ≡ Some group = sym c.choice.ensures ∙ c.in-Some.is in
+    let whole = sym inv.0 ∙ ap (λ x. flow P levels T x m slots s) a.is ∙ choose_flow P levels T a.cost a.among a.bodies a.next a.fail m slots s ∙ ap (λ r. then_on r (λ v. chosen (choice a.among v) (map F bodies) (F a.next) (F a.fail) m slots v)) c.in_ok-pay_for-in-Choose.ensures.leads ∙ ap go is ∙ ap (λ xs. chosen (Some group) (map F xs) (F a.next) (F a.fail) m slots u) (sym c.deref-in-Some.ensures.value) in
+    let no_more : u.steps ≤ s.steps = c.in_ok-pay_for-in-Choose.ensures.no_more in
+    let steps : u.steps ≤ c.args.state.now.steps = omega (arith, no_more, inv.1) in
+    let body = c.in-Some-get.body.now in
+    let l : group < length ds = search rules in
+    let r : body ≡ get_or ds group body = search rules in
+    (ap (λ x. flow P levels T x m slots u) c.deref-in-Some-get.ensures ∙ sym (whole ∙ ap (λ (f : Flow). f m slots u) (chosen_at F ds group body (F a.next) (F a.fail) l r)), steps)
