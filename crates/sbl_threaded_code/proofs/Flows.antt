@@ -1,94 +1,138 @@
--- What an instruction does, kind by kind.
-use Rattle.std.proofs.Common.{◌≡◌, ℕ, zero, suc, ◌<◌, ◌≤◌, Bool, true, false, List, [], ◌∷◌, map, length, get_or, Option, Some, None, Err, rules, arith, refl, sym, ap, ◌∙◌, Vec, Global}
-use Rattle.std.specs.Prelude.{slice_set, slice_index_or}
+-- What a kind of instruction does from the state in which its steps are paid.
+use Rattle.std.proofs.Common.{◌≡◌, ℕ, zero, suc, ◌<◌, ◌≤◌, Bool, true, false, List, [], ◌∷◌, map, length, get_or, Option, Some, None, Result, Err, arith, rules, refl, sym, ap, ◌∙◌, Vec, Global}
 use Rattle.std.specs.declared.rc.Rc.{Rc}
-use Rattle.std.proofs.lemmas.Simd.{map-map}
-use Rattle.sbl_char_class.specs.Terms.{class_at}
 use Rattle.sbl_program.specs.AmongStrings.{Listing}
-use Rattle.sbl_program.specs.ProgramOf.{view_action, view_number}
 use Rattle.sbl_program.specs.Program as programs
-use Rattle.sbl_program.specs.declared.action.Action.{Action}
+use Rattle.sbl_program.specs.ProgramOf.{view_number}
 use Rattle.sbl_program.specs.declared.action.Arithmetic.{Arithmetic}
 use Rattle.sbl_program.specs.declared.node.Candidate.{Candidate}
-use Rattle.sbl_interpreter.specs.Actions.{acts, test_grouping}
+use Rattle.sbl_interpreter.specs.declared.halt.Halt.{Halt}
+use Rattle.sbl_interpreter.specs.Endings.{Follows}
 use Rattle.sbl_interpreter.specs.Rows.{pays}
 use Rattle.sbl_interpreter.specs.Run.{calls}
 use Rattle.sbl_interpreter.specs.Search.{search_all}
+use Rattle.sbl_interpreter.proofs.Arms.{follows_at, after_halts}
 use Rattle.sbl_semantics.specs.Choices.{choice}
-use Rattle.sbl_semantics.specs.Control.{pay_first}
-use Rattle.sbl_semantics.specs.State.{State, Ending, Doing, Signals, Stops, after, then_on, saved_cursor, put_back}
+use Rattle.sbl_semantics.specs.State.{State, Ending, Signals, Stops, after, pay, then_on}
 use Rattle.sbl_semantics.specs.declared.cursor.SavedCursor.{SavedCursor}
 use Rattle.sbl_ast.specs.declared.mode.Mode.{Mode}
-use Rattle.sbl_threaded_code.specs.Slots.{no_cursor}
-use Rattle.sbl_threaded_code.specs.Flow.{Flow, flow, alone, chosen, turns_of, loop_of, at_least_of, seek_of, backwards_of, limited_of}
+use Rattle.sbl_threaded_code.specs.declared.instruction.Group.{Group, out-Group}
 use Rattle.sbl_threaded_code.specs.declared.instruction.Instruction.{Instruction}
-use Rattle.sbl_threaded_code.specs.declared.instruction.Instruction.TheVariants.{End, Pay, Act, Save, Restore, Nested, Repeat, Loop, AtLeast, Seek, SeekGrouping, Backwards, SetLimit, Call, Search, Choose}
+use Rattle.sbl_threaded_code.specs.declared.instruction.Instruction.TheVariants.{Nested, Repeat, Loop, AtLeast, Seek, SetLimit, Search, Choose}
+use Rattle.sbl_threaded_code.specs.declared.instruction.Instruction.TheFolds.{fold_out-Group}
 use Rattle.sbl_threaded_code.specs.declared.instruction.Instruction.TheViews.{the_lemmas}
-use Rattle.sbl_threaded_code.specs.declared.instruction.Instruction.TheFolds.{fold_out-Instruction}
+use Rattle.sbl_threaded_code.specs.Flow.{Flow, flow, group_flow, alone, chosen, turns_of, loop_of, at_least_of, seek_of, limited_of}
+use Rattle.sbl_threaded_code.proofs.Instructions.{flow_nested, flow_repeat, flow_loop, flow_at_least, flow_seek, flow_set_limit, flow_search, flow_choose}
 
-pub end_flow : (p : programs.Program) (levels : ℕ) (T : ℕ → Listing) (b : Bool) (m : Mode) (slots : List SavedCursor) (s : State) → flow p levels T (End b) m slots s ≡ Signals b s
-end_flow p levels T b m slots s = first_of (search (rules, the_lemmas), search (rules, the_lemmas, fold_out-Instruction))
+abbrev I : Type 0
+I = Rc Instruction Global
 
-pub pay_flow : (p : programs.Program) (levels : ℕ) (T : ℕ → Listing) (cost : ℕ) (next : Rc Instruction Global) (m : Mode) (slots : List SavedCursor) (s : State) → flow p levels T (Pay cost next) m slots s ≡ then_on (pays cost s) (flow p levels T next.value m slots)
-pay_flow p levels T cost next m slots s = first_of (search (rules, the_lemmas), search (rules, the_lemmas, fold_out-Instruction))
+-- the steps of a cost and the command's own are paid, and this state is left
+abbrev pub IsPaid : ℕ → State → State → Type 0
+IsPaid cost s u = then_on (pays cost s) (λ v. pay v.steps v) ≡ Signals true u
 
-pub act_flow : (p : programs.Program) (levels : ℕ) (T : ℕ → Listing) (cost : ℕ) (action : Action) (next fail : Rc Instruction Global) (m : Mode) (slots : List SavedCursor) (s : State) → flow p levels T (Act cost action next fail) m slots s ≡ then_on (pays cost s) (λ u. after (acts p.groupings (view_action action) m u) (flow p levels T next.value m slots) (flow p levels T fail.value m slots))
-act_flow p levels T cost action next fail m slots s = first_of (search (rules, the_lemmas), search (rules, the_lemmas, fold_out-Instruction))
+paid_of : (e : Ending) (pay_own : State → Ending) (u : State) (d f g : State → Ending) → then_on e pay_own ≡ Signals true u → then_on e (λ v. after (then_on (pay_own v) d) f g) ≡ after (d u) f g
+paid_of (Signals true v) pay_own u d f g h = ap (λ r. after (then_on r d) f g) h
+paid_of (Signals false v) pay_own u d f g h = let no : ⊥ = cc in absurd no
+paid_of (Stops fault v) pay_own u d f g h = let no : ⊥ = cc in absurd no
 
-pub save_flow : (p : programs.Program) (levels : ℕ) (T : ℕ → Listing) (cost slot : ℕ) (next : Rc Instruction Global) (m : Mode) (slots : List SavedCursor) (s : State) → flow p levels T (Save cost slot next) m slots s ≡ then_on (pays cost s) (λ u. flow p levels T next.value m (slice_set slots slot (saved_cursor u)) u)
-save_flow p levels T cost slot next m slots s = first_of (search (rules, the_lemmas), search (rules, the_lemmas, fold_out-Instruction))
+paid : (cost : ℕ) (s u : State) (d f g : State → Ending) → IsPaid cost s u → then_on (pays cost s) (λ v. after (then_on (pay v.steps v) d) f g) ≡ after (d u) f g
+paid cost s u d f g h = paid_of (pays cost s) (λ v. pay v.steps v) u d f g h
 
-pub restore_flow : (p : programs.Program) (levels : ℕ) (T : ℕ → Listing) (slot : ℕ) (next : Rc Instruction Global) (m : Mode) (slots : List SavedCursor) (s : State) → flow p levels T (Restore slot next) m slots s ≡ then_on (put_back m (slice_index_or slots slot no_cursor) s) (flow p levels T next.value m slots)
-restore_flow p levels T slot next m slots s = first_of (search (rules, the_lemmas), search (rules, the_lemmas, fold_out-Instruction))
-
-pub nested_flow : (p : programs.Program) (levels : ℕ) (T : ℕ → Listing) (cost : ℕ) (body next fail : Rc Instruction Global) (m : Mode) (slots : List SavedCursor) (s : State) → flow p levels T (Nested cost body next fail) m slots s ≡ then_on (pays cost s) (λ u. after (pay_first (alone (flow p levels T body.value)) m u) (flow p levels T next.value m slots) (flow p levels T fail.value m slots))
-nested_flow p levels T cost body next fail m slots s = first_of (search (rules, the_lemmas), search (rules, the_lemmas, fold_out-Instruction))
-
-pub repeat_flow : (p : programs.Program) (levels : ℕ) (T : ℕ → Listing) (cost : ℕ) (body next : Rc Instruction Global) (m : Mode) (slots : List SavedCursor) (s : State) → flow p levels T (Repeat cost body next) m slots s ≡ then_on (pays cost s) (λ u. after (pay_first (turns_of (alone (flow p levels T body.value))) m u) (flow p levels T next.value m slots) (Signals false))
-repeat_flow p levels T cost body next m slots s = first_of (search (rules, the_lemmas), search (rules, the_lemmas, fold_out-Instruction))
-
-pub loop_flow : (p : programs.Program) (levels : ℕ) (T : ℕ → Listing) (cost : ℕ) (count : Arithmetic) (body next fail : Rc Instruction Global) (m : Mode) (slots : List SavedCursor) (s : State) → flow p levels T (Loop cost count body next fail) m slots s ≡ then_on (pays cost s) (λ u. after (pay_first (loop_of (view_number count) (alone (flow p levels T body.value))) m u) (flow p levels T next.value m slots) (flow p levels T fail.value m slots))
-loop_flow p levels T cost count body next fail m slots s = first_of (search (rules, the_lemmas), search (rules, the_lemmas, fold_out-Instruction))
-
-pub at_least_flow : (p : programs.Program) (levels : ℕ) (T : ℕ → Listing) (cost : ℕ) (count : Arithmetic) (body next fail : Rc Instruction Global) (m : Mode) (slots : List SavedCursor) (s : State) → flow p levels T (AtLeast cost count body next fail) m slots s ≡ then_on (pays cost s) (λ u. after (pay_first (at_least_of (view_number count) (alone (flow p levels T body.value))) m u) (flow p levels T next.value m slots) (flow p levels T fail.value m slots))
-at_least_flow p levels T cost count body next fail m slots s = first_of (search (rules, the_lemmas), search (rules, the_lemmas, fold_out-Instruction))
-
-pub seek_flow : (p : programs.Program) (levels : ℕ) (T : ℕ → Listing) (cost : ℕ) (past : Bool) (body next fail : Rc Instruction Global) (m : Mode) (slots : List SavedCursor) (s : State) → flow p levels T (Seek cost past body next fail) m slots s ≡ then_on (pays cost s) (λ u. after (pay_first (seek_of past (alone (flow p levels T body.value))) m u) (flow p levels T next.value m slots) (flow p levels T fail.value m slots))
-seek_flow p levels T cost past body next fail m slots s = first_of (search (rules, the_lemmas), search (rules, the_lemmas, fold_out-Instruction))
-
-pub seek_grouping_flow : (p : programs.Program) (levels : ℕ) (T : ℕ → Listing) (cost : ℕ) (past : Bool) (g : ℕ) (wanted : Bool) (next fail : Rc Instruction Global) (m : Mode) (slots : List SavedCursor) (s : State) → flow p levels T (SeekGrouping cost past g wanted next fail) m slots s ≡ then_on (pays cost s) (λ u. after (seek_of past (pay_first (test_grouping wanted (class_at p.groupings g) g)) m u) (flow p levels T next.value m slots) (flow p levels T fail.value m slots))
-seek_grouping_flow p levels T cost past g wanted next fail m slots s = first_of (search (rules, the_lemmas), search (rules, the_lemmas, fold_out-Instruction))
-
-pub backwards_flow : (p : programs.Program) (levels : ℕ) (T : ℕ → Listing) (cost : ℕ) (body next fail : Rc Instruction Global) (m : Mode) (slots : List SavedCursor) (s : State) → flow p levels T (Backwards cost body next fail) m slots s ≡ then_on (pays cost s) (λ u. after (pay_first (backwards_of (alone (flow p levels T body.value))) m u) (flow p levels T next.value m slots) (flow p levels T fail.value m slots))
-backwards_flow p levels T cost body next fail m slots s = first_of (search (rules, the_lemmas), search (rules, the_lemmas, fold_out-Instruction))
-
-pub set_limit_flow : (p : programs.Program) (levels : ℕ) (T : ℕ → Listing) (cost : ℕ) (first second next fail : Rc Instruction Global) (m : Mode) (slots : List SavedCursor) (s : State) → flow p levels T (SetLimit cost first second next fail) m slots s ≡ then_on (pays cost s) (λ u. after (pay_first (limited_of (alone (flow p levels T first.value)) (alone (flow p levels T second.value))) m u) (flow p levels T next.value m slots) (flow p levels T fail.value m slots))
-set_limit_flow p levels T cost first second next fail m slots s = first_of (search (rules, the_lemmas), search (rules, the_lemmas, fold_out-Instruction))
-
-pub call_flow : (p : programs.Program) (levels : ℕ) (T : ℕ → Listing) (cost routine : ℕ) (next fail : Rc Instruction Global) (m : Mode) (slots : List SavedCursor) (s : State) → flow p levels T (Call cost routine next fail) m slots s ≡ then_on (pays cost s) (λ u. after (pay_first (calls p levels routine) m u) (flow p levels T next.value m slots) (flow p levels T fail.value m slots))
-call_flow p levels T cost routine next fail m slots s = first_of (search (rules, the_lemmas), search (rules, the_lemmas, fold_out-Instruction))
-
-pub search_flow : (p : programs.Program) (levels : ℕ) (T : ℕ → Listing) (cost among table : ℕ) (entries : Vec Candidate Global) (next fail : Rc Instruction Global) (m : Mode) (slots : List SavedCursor) (s : State) → flow p levels T (Search cost among table entries next fail) m slots s ≡ then_on (pays cost s) (λ u. after (pay_first (search_all (calls p levels) among entries.items (T table)) m u) (flow p levels T next.value m slots) (flow p levels T fail.value m slots))
-search_flow p levels T cost among table entries next fail m slots s = first_of (search (rules, the_lemmas), search (rules, the_lemmas, fold_out-Instruction))
-
-pub choose_flow : (p : programs.Program) (levels : ℕ) (T : ℕ → Listing) (cost among : ℕ) (bodies : Vec (Rc Instruction Global) Global) (next fail : Rc Instruction Global) (m : Mode) (slots : List SavedCursor) (s : State) → flow p levels T (Choose cost among bodies next fail) m slots s ≡ then_on (pays cost s) (λ u. chosen (choice among u) (map (λ (b : Rc Instruction Global). flow p levels T b.value) bodies.items) (flow p levels T next.value) (flow p levels T fail.value) m slots u)
-choose_flow p levels T cost among bodies next fail m slots s = first_of (search (rules, the_lemmas, map-map), search (rules, the_lemmas, fold_out-Instruction, map-map))
-
--- ---- commands behind their steps
-
--- a command whose steps are paid
-pub paid : (e : Ending) (pay_own : State → Ending) (u : State) (d f g : State → Ending) → then_on e pay_own ≡ Signals true u → then_on e (λ v. after (then_on (pay_own v) d) f g) ≡ after (d u) f g
-paid (Signals true v) pay_own u d f g h = ap (λ r. after (then_on r d) f g) h
-paid (Signals false v) pay_own u d f g h = let no : ⊥ = cc in absurd no
-paid (Stops fault v) pay_own u d f g h = let no : ⊥ = cc in absurd no
+-- a command that ends early
+pub ends_early : (r : Result Bool Halt) (halt : Halt) (new : State) (w e : Ending) (f g : State → Ending) → r ≡ Err halt → w ≡ after e f g → Follows (Err halt) new e → Follows r new w
+ends_early r halt new w e f g is p h = rw is (follows_at (Err halt) new w (after e f g) p (after_halts halt new e f g h))
 
 -- the group's command, if there is one
-pub chosen_at : (f : Rc Instruction Global → Flow) (xs : List (Rc Instruction Global)) (g : ℕ) (x : Rc Instruction Global) (next fail : Flow) → g < length xs → x ≡ get_or xs g x → chosen (Some g) (map f xs) next fail ≡ f x
-chosen_at f [] g x next fail l e = absurd (omega arith)
-chosen_at f (y ∷ ys) zero x next fail l e = ap f (sym e)
-chosen_at f (y ∷ ys) (suc g) x next fail l e = chosen_at f ys g x next fail (omega arith) e
+picked_at : (f : Group → Flow) (xs : List Group) (g : ℕ) (x : Group) (next fail : Flow) → g < length xs → x ≡ get_or xs g x → chosen (Some g) (map f xs) next fail ≡ f x
+picked_at f [] g x next fail l e = absurd (omega arith)
+picked_at f (y ∷ ys) zero x next fail l e = ap f (sym e)
+picked_at f (y ∷ ys) (suc g) x next fail l e = picked_at f ys g x next fail (omega arith) e
 
-pub chosen_past : (f : Rc Instruction Global → Flow) (xs : List (Rc Instruction Global)) (g : ℕ) (next fail : Flow) → length xs ≤ g → chosen (Some g) (map f xs) next fail ≡ next
-chosen_past f [] g next fail l = refl
-chosen_past f (y ∷ ys) zero next fail l = absurd (omega arith)
-chosen_past f (y ∷ ys) (suc g) next fail l = chosen_past f ys g next fail (omega arith)
+picked_past : (f : Group → Flow) (xs : List Group) (g : ℕ) (next fail : Flow) → length xs ≤ g → chosen (Some g) (map f xs) next fail ≡ next
+picked_past f [] g next fail l = refl
+picked_past f (y ∷ ys) zero next fail l = absurd (omega arith)
+picked_past f (y ∷ ys) (suc g) next fail l = picked_past f ys g next fail (omega arith)
+
+group_is : (p : programs.Program) (levels : ℕ) (tables : ℕ → Listing) (x : Group) → group_flow p levels tables x ≡ flow p levels tables (out-Group x).first.value
+group_is p levels tables x = first_of (search (rules, the_lemmas), search (rules, the_lemmas, fold_out-Group))
+
+-- what the command of a group does
+pub group_does : (p : programs.Program) (levels : ℕ) (tables : ℕ → Listing) (m : Mode) (slots : List SavedCursor) (s : State) (x : Group) (y : Instruction) → y ≡ (out-Group x).first.value → group_flow p levels tables x m slots s ≡ flow p levels tables y m slots s
+group_does p levels tables m slots s x y h = ap (λ (f : Flow). f m slots s) (group_is p levels tables x) ∙ ap (λ (i : Instruction). flow p levels tables i m slots s) (sym h)
+
+module _ (p : programs.Program) (levels : ℕ) (tables : ℕ → Listing) (m : Mode) (slots : List SavedCursor) (s : State) (at : Instruction) where
+  abbrev F : Instruction → Flow
+  F = flow p levels tables
+
+  pub nested_paid : (cost : ℕ) (body next fail : I) (x : Instruction) (u : State) → at ≡ Nested cost body next fail → IsPaid cost s u → x ≡ body.value → F at m slots s ≡ after (alone (F x) m u) (F next.value m slots) (F fail.value m slots)
+  nested_paid cost body next fail x u is h hx =
+      ap (λ (i : Instruction). F i m slots s) is
+      ∙ flow_nested p levels tables m slots s cost body next fail
+      ∙ paid cost s u (alone (F body.value) m) (F next.value m slots) (F fail.value m slots) h
+      ∙ ap (λ (z : Instruction). after (alone (F z) m u) (F next.value m slots) (F fail.value m slots)) (sym hx)
+
+  pub repeat_paid : (cost : ℕ) (body next : I) (x : Instruction) (u : State) → at ≡ Repeat cost body next → IsPaid cost s u → x ≡ body.value → F at m slots s ≡ after (turns_of (alone (F x)) m u) (F next.value m slots) (Signals false)
+  repeat_paid cost body next x u is h hx =
+      ap (λ (i : Instruction). F i m slots s) is
+      ∙ flow_repeat p levels tables m slots s cost body next
+      ∙ paid cost s u (turns_of (alone (F body.value)) m) (F next.value m slots) (Signals false) h
+      ∙ ap (λ (z : Instruction). after (turns_of (alone (F z)) m u) (F next.value m slots) (Signals false)) (sym hx)
+
+  pub loop_paid : (cost : ℕ) (count : Arithmetic) (body next fail : I) (x : Instruction) (u : State) → at ≡ Loop cost count body next fail → IsPaid cost s u → x ≡ body.value → F at m slots s ≡ after (loop_of (view_number count) (alone (F x)) m u) (F next.value m slots) (F fail.value m slots)
+  loop_paid cost count body next fail x u is h hx =
+      ap (λ (i : Instruction). F i m slots s) is
+      ∙ flow_loop p levels tables m slots s cost count body next fail
+      ∙ paid cost s u (loop_of (view_number count) (alone (F body.value)) m) (F next.value m slots) (F fail.value m slots) h
+      ∙ ap (λ (z : Instruction). after (loop_of (view_number count) (alone (F z)) m u) (F next.value m slots) (F fail.value m slots)) (sym hx)
+
+  pub at_least_paid : (cost : ℕ) (count : Arithmetic) (body next fail : I) (x : Instruction) (u : State) → at ≡ AtLeast cost count body next fail → IsPaid cost s u → x ≡ body.value → F at m slots s ≡ after (at_least_of (view_number count) (alone (F x)) m u) (F next.value m slots) (F fail.value m slots)
+  at_least_paid cost count body next fail x u is h hx =
+      ap (λ (i : Instruction). F i m slots s) is
+      ∙ flow_at_least p levels tables m slots s cost count body next fail
+      ∙ paid cost s u (at_least_of (view_number count) (alone (F body.value)) m) (F next.value m slots) (F fail.value m slots) h
+      ∙ ap (λ (z : Instruction). after (at_least_of (view_number count) (alone (F z)) m u) (F next.value m slots) (F fail.value m slots)) (sym hx)
+
+  pub seek_paid : (cost : ℕ) (past : Bool) (body next fail : I) (x : Instruction) (u : State) → at ≡ Seek cost past body next fail → IsPaid cost s u → x ≡ body.value → F at m slots s ≡ after (seek_of past (alone (F x)) m u) (F next.value m slots) (F fail.value m slots)
+  seek_paid cost past body next fail x u is h hx =
+      ap (λ (i : Instruction). F i m slots s) is
+      ∙ flow_seek p levels tables m slots s cost past body next fail
+      ∙ paid cost s u (seek_of past (alone (F body.value)) m) (F next.value m slots) (F fail.value m slots) h
+      ∙ ap (λ (z : Instruction). after (seek_of past (alone (F z)) m u) (F next.value m slots) (F fail.value m slots)) (sym hx)
+
+  pub set_limit_paid : (cost : ℕ) (first second next fail : I) (x : Instruction) (y : Instruction) (u : State) → at ≡ SetLimit cost first second next fail → IsPaid cost s u → x ≡ first.value → y ≡ second.value → F at m slots s ≡ after (limited_of (alone (F x)) (alone (F y)) m u) (F next.value m slots) (F fail.value m slots)
+  set_limit_paid cost first second next fail x y u is h hx hy =
+      ap (λ (i : Instruction). F i m slots s) is
+      ∙ flow_set_limit p levels tables m slots s cost first second next fail
+      ∙ paid cost s u (limited_of (alone (F first.value)) (alone (F second.value)) m) (F next.value m slots) (F fail.value m slots) h
+      ∙ ap (λ (z : Instruction). after (limited_of (alone (F z)) (alone (F second.value)) m u) (F next.value m slots) (F fail.value m slots)) (sym hx)
+      ∙ ap (λ (z : Instruction). after (limited_of (alone (F x)) (alone (F z)) m u) (F next.value m slots) (F fail.value m slots)) (sym hy)
+
+  pub search_paid : (cost among table : ℕ) (entries : Vec Candidate Global) (next fail : I) (es : List Candidate) (u : State) → at ≡ Search cost among table entries next fail → IsPaid cost s u → es ≡ entries.items → F at m slots s ≡ after (search_all (calls p levels) among es (tables table) m u) (F next.value m slots) (F fail.value m slots)
+  search_paid cost among table entries next fail es u is h hes =
+      ap (λ (i : Instruction). F i m slots s) is
+      ∙ flow_search p levels tables m slots s cost among table entries next fail
+      ∙ paid cost s u (search_all (calls p levels) among entries.items (tables table) m) (F next.value m slots) (F fail.value m slots) h
+      ∙ ap (λ (z : List Candidate). after (search_all (calls p levels) among z (tables table) m u) (F next.value m slots) (F fail.value m slots)) (sym hes)
+
+  choose_paid : (cost among : ℕ) (bodies : Vec Group Global) (next fail : I) (u : State) (g : ℕ) → at ≡ Choose cost among bodies next fail → pays cost s ≡ Signals true u → choice among u ≡ Some g → F at m slots s ≡ chosen (Some g) (map (group_flow p levels tables) bodies.items) (F next.value) (F fail.value) m slots u
+  choose_paid cost among bodies next fail u g is h k =
+      let pick = λ (o : Option ℕ) (v : State). chosen o (map (group_flow p levels tables) bodies.items) (F next.value) (F fail.value) m slots v in
+      ap (λ (i : Instruction). F i m slots s) is
+      ∙ flow_choose p levels tables m slots s cost among bodies next fail
+      ∙ ap (λ r. then_on r (λ v. pick (choice among v) v)) h
+      ∙ ap (λ o. pick o u) k
+
+  -- the chosen group has a command
+  pub chosen_at : (cost among : ℕ) (bodies : Vec Group Global) (next fail : I) (u : State) (g : ℕ) (ds : List Group) (x : Group) → at ≡ Choose cost among bodies next fail → pays cost s ≡ Signals true u → choice among u ≡ Some g → ds ≡ bodies.items → g < length ds → x ≡ get_or ds g x → F at m slots s ≡ group_flow p levels tables x m slots u
+  chosen_at cost among bodies next fail u g ds x is h k same l e =
+      choose_paid cost among bodies next fail u g is h k
+      ∙ ap (λ xs. chosen (Some g) (map (group_flow p levels tables) xs) (F next.value) (F fail.value) m slots u) (sym same)
+      ∙ ap (λ (f : Flow). f m slots u) (picked_at (group_flow p levels tables) ds g x (F next.value) (F fail.value) l e)
+
+  -- it has none
+  pub chosen_past : (cost among : ℕ) (bodies : Vec Group Global) (next fail : I) (u : State) (g : ℕ) (ds : List Group) → at ≡ Choose cost among bodies next fail → pays cost s ≡ Signals true u → choice among u ≡ Some g → ds ≡ bodies.items → length ds ≤ g → F at m slots s ≡ F next.value m slots u
+  chosen_past cost among bodies next fail u g ds is h k same l =
+      choose_paid cost among bodies next fail u g is h k
+      ∙ ap (λ xs. chosen (Some g) (map (group_flow p levels tables) xs) (F next.value) (F fail.value) m slots u) (sym same)
+      ∙ ap (λ (f : Flow). f m slots u) (picked_past (group_flow p levels tables) ds g (F next.value) (F fail.value) l)

@@ -1,1 +1,4 @@
+pub mod Endings
+pub mod Instructions
+pub mod Performing
 pub mod Flows

@@ -1,6 +1,6 @@
 -- What a run does from an instruction on. You need not believe anything here: it is what the assembler and the runner
 -- promise each other.
-use Rattle.std.specs.Prelude.{ℕ, suc, Bool, true, false, List, map, Option, Some, None, replicate, slice_get, slice_set, slice_index_or}
+use Rattle.std.specs.Prelude.{ℕ, suc, Bool, true, false, List, Option, Some, None, replicate, slice_get, slice_set, slice_index_or}
 use Rattle.std.specs.Option.{option_map_or}
 use Rattle.sbl_char_class.specs.Terms.{class_at}
 use Rattle.sbl_program.specs.AmongStrings.{Listing}
@@ -20,9 +20,10 @@ use Rattle.sbl_ast.specs.declared.mode.Mode.{Mode}
 use Rattle.sbl_ast.specs.declared.mode.Mode.TheVariants.{Backward}
 use Rattle.sbl_threaded_code.specs.Slots.{no_cursor, no_cursors}
 use Rattle.sbl_threaded_code.specs.declared.instruction.Instruction.{Instruction}
-use Rattle.sbl_threaded_code.specs.declared.instruction.Instruction.TheOpen.{Instruction-F}
+use Rattle.sbl_threaded_code.specs.declared.instruction.Instruction.TheOpen.{Instruction-F, Group-F}
 use Rattle.sbl_threaded_code.specs.declared.instruction.Instruction.TheOpen as code
-use Rattle.sbl_threaded_code.specs.declared.instruction.Instruction.TheFolds.{fold-Instruction}
+use Rattle.sbl_threaded_code.specs.declared.instruction.Instruction.TheFolds.{fold-Instruction, fold-Group}
+use Rattle.sbl_threaded_code.specs.declared.instruction.Group.{Group}
 
 -- what a run does from an instruction on, with these saved cursors
 abbrev pub Flow : Type 0
@@ -73,7 +74,7 @@ abbrev pub chosen : Option ℕ → List Flow → Flow → Flow → Flow
 chosen None bodies next fail = fail
 chosen (Some g) bodies next fail = option_map_or (λ f. f) (slice_get bodies g) next
 
-abbrev pub flow_step : programs.Program → ℕ → (ℕ → Listing) → Instruction-F Flow → Flow
+abbrev pub flow_step : programs.Program → ℕ → (ℕ → Listing) → Instruction-F Flow Flow → Flow
 flow_step p levels tables (code.End b) m slots s = Signals b s
 flow_step p levels tables (code.Pay cost next) m slots s = then_on (pays cost s) (next.value m slots)
 flow_step p levels tables (code.Act cost action next fail) m slots s =
@@ -103,8 +104,15 @@ flow_step p levels tables (code.Call cost routine next fail) m slots s =
 flow_step p levels tables (code.Search cost among table entries next fail) m slots s =
     then_on (pays cost s) (λ u. after (pay_first (search_all (calls p levels) among entries.items (tables table)) m u) (next.value m slots) (fail.value m slots))
 flow_step p levels tables (code.Choose cost among bodies next fail) m slots s =
-    then_on (pays cost s) (λ u. chosen (choice among u) (map (λ f. f.value) bodies.items) next.value fail.value m slots u)
+    then_on (pays cost s) (λ u. chosen (choice among u) bodies.items next.value fail.value m slots u)
+
+abbrev pub group_step : Group-F Flow Flow → Flow
+group_step g = g.first.value
 
 -- what a run of a program does from an instruction on, if this many levels are left; `tables` has the strings of each table
 abbrev pub flow : programs.Program → ℕ → (ℕ → Listing) → Instruction → Flow
-flow p levels tables = fold-Instruction Flow (flow_step p levels tables)
+flow p levels tables = fold-Instruction Flow Flow (flow_step p levels tables) group_step
+
+-- the same of the command of a group
+abbrev pub group_flow : programs.Program → ℕ → (ℕ → Listing) → Group → Flow
+group_flow p levels tables = fold-Group Flow Flow (flow_step p levels tables) group_step

@@ -19,7 +19,7 @@ ghost use Rattle.sbl_threaded_code.specs.Performs.{Performs, Exited, Ends, Resto
 
 use crate::code::RoutineCode;
 use crate::copies::{copy_action, copy_number};
-use crate::instruction::Instruction;
+use crate::instruction::{Group, Instruction};
 use crate::slots::SLOTS;
 use sbl_ast::Joiner;
 use sbl_program::{Action, Arithmetic, Candidate, JoinedNode, Node, Program, Routine};
@@ -256,11 +256,11 @@ impl Assembler {
     fn choose(
         &mut self,
         among: usize,
-        bodies: Vec<Rc<Instruction>>,
+        bodies: Vec<Group>,
         cost: usize,
         exits: &Exits,
     ) -> Result<Rc<Instruction>, AllocError>
-        ensures { IfOk result (λ made. (tables : ℕ → Listing) (nodes : List Node) (n : ℕ) → ArePerformed tables nodes n exits.now (map (λ b. b.value) bodies.items) → Exited tables (λ p levels m t. group_runs p levels (view_nodes tables nodes) (choice among t) m t) cost n exits.now made.value) }
+        ensures { IfOk result (λ made. (tables : ℕ → Listing) (nodes : List Node) (n : ℕ) → ArePerformed tables nodes n exits.now bodies.items → Exited tables (λ p levels m t. group_runs p levels (view_nodes tables nodes) (choice among t) m t) cost n exits.now made.value) }
     {
         let Exits { next, fail } = exits.again()?;
         self.emit(Instruction::Choose {
@@ -770,13 +770,13 @@ impl Assembler {
         bodies: &[Node],
         slot: usize,
         exits: &Exits,
-    ) -> Result<Vec<Rc<Instruction>>, AllocError>
-        ensures { IfOk result (λ made. (tables : ℕ → Listing) → ArePerformed tables bodies.now slot exits.now (map (λ b. b.value) made.items)) }
+    ) -> Result<Vec<Group>, AllocError>
+        ensures { IfOk result (λ made. (tables : ℕ → Listing) → ArePerformed tables bodies.now slot exits.now made.items) }
     {
         let mut entries = Vec::new(self.alloc);
         for body in bodies {
-            let entry = self.command(body, 0, slot, exits)?;
-            entries.push(entry)?;
+            let first = self.command(body, 0, slot, exits)?;
+            entries.push(Group { first })?;
         }
         Ok(entries)
     }

@@ -1,10 +1,15 @@
-//! Copies of actions.
+//! Copies of commands that contain no command.
+
+ghost use Rattle.std.specs.Prelude.{◌≡◌, map, IfOk};
+ghost use Rattle.sbl_program.specs.ProgramOf.{view_text, view_number, view_next_product, view_next_factor, view_action};
 
 use sbl_program::{Action, Addend, Arithmetic, Multiplicand, StringTerm};
 use std::alloc::{AllocError, Global};
 
 /// Returns a copy of a string.
-pub fn copy_term(alloc: Global, term: &StringTerm) -> Result<StringTerm, AllocError> {
+pub fn copy_term(alloc: Global, term: &StringTerm) -> Result<StringTerm, AllocError>
+    ensures { IfOk result (λ copy. view_text copy ≡ view_text term.now) }
+{
     match term {
         StringTerm::Literal(string) => Ok(StringTerm::Literal(string.as_slice().to_vec(alloc)?)),
         StringTerm::Variable(number) => Ok(StringTerm::Variable(*number)),
@@ -13,7 +18,9 @@ pub fn copy_term(alloc: Global, term: &StringTerm) -> Result<StringTerm, AllocEr
 
 /// Returns a copy of a number.
 #[cycle(copy)]
-pub fn copy_number(alloc: Global, number: &Arithmetic) -> Result<Arithmetic, AllocError> {
+pub fn copy_number(alloc: Global, number: &Arithmetic) -> Result<Arithmetic, AllocError>
+    ensures { IfOk result (λ copy. view_number copy ≡ view_number number.now) }
+{
     match number {
         Arithmetic::Number(it) => Ok(Arithmetic::Number(*it)),
         Arithmetic::Integer(it) => Ok(Arithmetic::Integer(*it)),
@@ -47,7 +54,9 @@ pub fn copy_number(alloc: Global, number: &Arithmetic) -> Result<Arithmetic, All
 }
 
 #[cycle(copy)]
-fn copy_addends(alloc: Global, others: &[Addend]) -> Result<Vec<Addend>, AllocError> {
+fn copy_addends(alloc: Global, others: &[Addend]) -> Result<Vec<Addend>, AllocError>
+    ensures { IfOk result (λ copies. map view_next_product copies.items ≡ map view_next_product others.now) }
+{
     let mut copies = Vec::new(alloc);
     for other in others {
         let number = copy_number(alloc, &other.number)?;
@@ -60,7 +69,9 @@ fn copy_addends(alloc: Global, others: &[Addend]) -> Result<Vec<Addend>, AllocEr
 }
 
 #[cycle(copy)]
-fn copy_factors(alloc: Global, others: &[Multiplicand]) -> Result<Vec<Multiplicand>, AllocError> {
+fn copy_factors(alloc: Global, others: &[Multiplicand]) -> Result<Vec<Multiplicand>, AllocError>
+    ensures { IfOk result (λ copies. map view_next_factor copies.items ≡ map view_next_factor others.now) }
+{
     let mut copies = Vec::new(alloc);
     for other in others {
         let number = copy_number(alloc, &other.number)?;
@@ -73,7 +84,9 @@ fn copy_factors(alloc: Global, others: &[Multiplicand]) -> Result<Vec<Multiplica
 }
 
 /// Returns a copy of an action.
-pub fn copy_action(alloc: Global, action: &Action) -> Result<Action, AllocError> {
+pub fn copy_action(alloc: Global, action: &Action) -> Result<Action, AllocError>
+    ensures { IfOk result (λ copy. view_action copy ≡ view_action action.now) }
+{
     match action {
         Action::Match(term) => Ok(Action::Match(copy_term(alloc, term)?)),
         Action::Grouping(number) => Ok(Action::Grouping(*number)),

@@ -5,6 +5,7 @@ use std::rc::Rc;
 
 /// An instruction of a routine. A run acts and goes on with `next` after t and with `fail` after f. Before it acts it uses
 /// the steps of `cost`: those of the commands that begin here and do nothing else.
+#[cycle(instruction)]
 #[derive(Drop)]
 pub enum Instruction {
     /// The end, with the signal of all.
@@ -113,8 +114,16 @@ pub enum Instruction {
     Choose {
         cost: usize,
         among: usize,
-        bodies: Vec<Rc<Instruction>>,
+        bodies: Vec<Group>,
         next: Rc<Instruction>,
         fail: Rc<Instruction>,
     },
+}
+
+/// The command of a group of an among.
+#[cycle(instruction)]
+#[derive(Drop)]
+pub struct Group {
+    /// Its first instruction.
+    pub first: Rc<Instruction>,
 }

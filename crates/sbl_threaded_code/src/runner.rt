@@ -45,7 +45,7 @@ pub struct Runner<'a, T> {
 }
 
 impl<'a, T: Tables> Runner<'a, T> {
-    // Runs instructions from this one on.
+    /// Runs instructions from this one on, up to an end, and returns the signal there.
     #[cycle(run)]
     #[inline(never)]
     fn run_from(&self, entry: &Instruction, state: &mut State) -> Result<bool, Halt>
@@ -231,7 +231,7 @@ impl<'a, T: Tables> Runner<'a, T> {
                         None => fail,
                         Some(group) => match bodies.get(group) {
                             None => next,
-                            Some(body) => body,
+                            Some(body) => &body.first,
                         },
                     };
                 }
@@ -239,6 +239,8 @@ impl<'a, T: Tables> Runner<'a, T> {
         }
     }
 
+    /// Runs instructions again and again up to their first f, and puts the cursor back to where it was before that. The
+    /// assembler makes bodies that use a step, so there are at most as many turns as steps, and one more.
     #[cycle(run)]
     #[inline(never)]
     fn run_turns(&self, body: &Instruction, state: &mut State) -> Result<(), Halt>
@@ -259,6 +261,7 @@ impl<'a, T: Tables> Runner<'a, T> {
         }
     }
 
+    /// Runs instructions as often as `count` says, up to the first f.
     #[cycle(run)]
     #[inline(never)]
     fn run_times(
@@ -281,6 +284,7 @@ impl<'a, T: Tables> Runner<'a, T> {
         Ok(true)
     }
 
+    /// Runs instructions as often as `count` says, up to the first f, and then again and again as `run_turns` does.
     #[cycle(run)]
     #[inline(never)]
     fn run_at_least(
@@ -299,6 +303,8 @@ impl<'a, T: Tables> Runner<'a, T> {
         Ok(true)
     }
 
+    /// Tries instructions at the cursor and further on, up to their first t. The cursor stays after the match, or goes
+    /// before it. There are at most as many tries as steps, and one more.
     #[cycle(run)]
     #[inline(never)]
     fn run_tries(&self, past: bool, body: &Instruction, state: &mut State) -> Result<bool, Halt>
@@ -325,6 +331,7 @@ impl<'a, T: Tables> Runner<'a, T> {
         }
     }
 
+    /// Runs instructions backwards, from the limit to the cursor.
     #[cycle(run)]
     #[inline(never)]
     fn run_backwards(&self, body: &Instruction, state: &mut State) -> Result<bool, Halt>
@@ -343,6 +350,7 @@ impl<'a, T: Tables> Runner<'a, T> {
         Ok(true)
     }
 
+    /// Runs instructions up to where others end from the same cursor: those first ones set the limit.
     #[cycle(run)]
     #[inline(never)]
     fn run_limited(
@@ -395,6 +403,7 @@ impl<'a, T: Tables> Runner<'a, T> {
         }
     }
 
+    /// Searches an among, which touches it.
     #[cycle(run)]
     #[inline(never)]
     fn run_search_all(
@@ -411,6 +420,7 @@ impl<'a, T: Tables> Runner<'a, T> {
         self.run_search(among, table, entries, state)
     }
 
+    /// Tries the strings that match, the longest first.
     #[cycle(run)]
     #[inline(always)]
     fn run_search(
@@ -439,6 +449,7 @@ impl<'a, T: Tables> Runner<'a, T> {
         Ok(false)
     }
 
+    /// Tries one string and returns whether it is taken. It is not taken if its condition signals f.
     #[cycle(run)]
     fn try_string(
         &self,

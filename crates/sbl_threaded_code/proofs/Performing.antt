@@ -1,0 +1,185 @@
+-- What instructions perform, by what they do first and what those after them perform.
+use Rattle.std.proofs.Common.{◌≡◌, ◌≢◌, ℕ, ◌+◌, ◌-◌, ◌<◌, ◌≤◌, zero, suc, Bool, true, false, List, [], ◌∷◌, length, refl, sym, ap, ◌∙◌, arith, get_or-set_same, get_or-set_other}
+use Rattle.std.specs.Prelude.{slice_set, slice_index_or, replicate}
+use Rattle.std.proofs.Math.Path.{fun_ext}
+use Rattle.std.proofs.lemmas.List.{length-set}
+use Rattle.sbl_program.specs.AmongStrings.{Listing}
+use Rattle.sbl_program.specs.Program as programs
+use Rattle.sbl_interpreter.specs.Rows.{pays}
+use Rattle.sbl_semantics.specs.Control.{pay_first}
+use Rattle.sbl_semantics.specs.State.{State, Ending, Signals, Doing, after, then_on, saved_cursor, put_back}
+use Rattle.sbl_semantics.specs.declared.cursor.SavedCursor.{SavedCursor}
+use Rattle.sbl_ast.specs.declared.mode.Mode.{Mode}
+use Rattle.sbl_threaded_code.specs.declared.instruction.Instruction.{Instruction}
+use Rattle.sbl_threaded_code.specs.Slots.{no_cursor, no_cursors}
+use Rattle.sbl_threaded_code.specs.Flow.{Flow, flow, alone, not_of, test_of, try_of, do_of, fail_of}
+use Rattle.sbl_threaded_code.specs.Performs.{Agree, GoesOn, Meaning, Performs, Ends, Restores, Saves, Runs}
+use Rattle.sbl_threaded_code.proofs.Endings.{after_after, after_same, as_it_is, Passes, pays_pass, back_passes, own_step, steps_more}
+
+-- ---- slots
+
+agree_self : (n : ℕ) (xs : List SavedCursor) → Agree n xs xs
+agree_self n xs = record { as_many = refl; same = λ j l. refl }
+
+agree_then : (n : ℕ) (xs ys zs : List SavedCursor) → Agree n xs ys → Agree n ys zs → Agree n xs zs
+agree_then n xs ys zs a b = record { as_many = b.as_many ∙ a.as_many; same = λ j l. b.same j l ∙ a.same j l }
+
+pub agree_fewer : (n : ℕ) (xs ys : List SavedCursor) → Agree (suc n) xs ys → Agree n xs ys
+agree_fewer n xs ys a = record { as_many = a.as_many; same = λ j l. a.same j (omega arith) }
+
+-- a cursor saved in slot n leaves the slots before it
+agree_set : (n : ℕ) (xs : List SavedCursor) (v : SavedCursor) → Agree n xs (slice_set xs n v)
+agree_set n xs v = record {
+  as_many = length-set xs n v;
+  same = λ j l. let ne : j ≢ n = omega arith in get_or-set_other xs n j v no_cursor ne;
+}
+
+-- ---- going on
+
+pub goes_with : (f : Flow) (m : Mode) (n : ℕ) (xs ys : List SavedCursor) (go : State → Ending) → Agree n xs ys → GoesOn f m n xs go → GoesOn f m n ys go
+goes_with f m n xs ys go a g zs b s = g zs (agree_then n xs ys zs a b) s
+
+pub goes_deeper : (f : Flow) (m : Mode) (n : ℕ) (xs ys : List SavedCursor) (go : State → Ending) → Agree n xs ys → GoesOn f m n xs go → GoesOn f m (suc n) ys go
+goes_deeper f m n xs ys go a g zs b s = g zs (agree_then n xs ys zs a (agree_fewer n ys zs b)) s
+
+pub goes_same : (f : Flow) (m : Mode) (n : ℕ) (xs : List SavedCursor) (go to : State → Ending) → GoesOn f m n xs go → ((s : State) → go s ≡ to s) → GoesOn f m n xs to
+goes_same f m n xs go to g p ys a s = g ys a s ∙ p s
+
+-- steps, and then something whose ends are known
+after_steps : (cost : ℕ) (s : State) (d : State → Ending) (a b go stop : State → Ending) → ((t : State) → a t ≡ go t) → ((t : State) → b t ≡ stop t) → then_on (pays cost s) (λ u. after (d u) a b) ≡ after (then_on (pays cost s) d) go stop
+after_steps cost s d a b go stop p q =
+    after_same (pays cost s) (λ u. after (d u) a b) (Signals false) (λ u. after (d u) go stop) (Signals false) (λ u. after_same (d u) a b go stop p q) (λ u. refl)
+    ∙ pays_pass cost s (λ u. after (d u) go stop) (Signals false) (λ u. after (Signals false u) go stop)
+    ∙ sym (after_after (pays cost s) d (Signals false) go stop)
+
+-- an instruction that acts and goes on
+pub emitted :
+  (tables : ℕ → Listing) (d : Meaning) (cost : ℕ) (next fail entry : Instruction) →
+  ((p : programs.Program) (levels : ℕ) (m : Mode) (ys : List SavedCursor) (s : State) →
+   flow p levels tables entry m ys s ≡ then_on (pays cost s) (λ u. after (d p levels m u) (flow p levels tables next m ys) (flow p levels tables fail m ys))) →
+  (n : ℕ) → Performs tables d cost n next fail entry
+emitted tables d cost next fail entry is n p levels m slots go stop l g h ys a s =
+    is p levels m ys s ∙ after_steps cost s (d p levels m) (flow p levels tables next m ys) (flow p levels tables fail m ys) go stop (g ys a) (h ys a)
+
+-- an instruction that only goes on
+pub skipped :
+  (tables : ℕ → Listing) (cost : ℕ) (next fail entry : Instruction) →
+  ((p : programs.Program) (levels : ℕ) (m : Mode) (ys : List SavedCursor) (s : State) → flow p levels tables entry m ys s ≡ then_on (pays cost s) (flow p levels tables next m ys)) →
+  (n : ℕ) → Performs tables (λ p levels m s. Signals true s) cost n next fail entry
+skipped tables cost next fail entry is n = emitted tables (λ p levels m s. Signals true s) cost next fail entry is n
+
+-- the same instruction, for a meaning that is equal
+pub same_meaning :
+  (tables : ℕ → Listing) (d e : Meaning) (cost n : ℕ) (next fail entry : Instruction) →
+  ((p : programs.Program) (levels : ℕ) (m : Mode) (s : State) → d p levels m s ≡ e p levels m s) →
+  Performs tables d cost n next fail entry → Performs tables e cost n next fail entry
+same_meaning tables d e cost n next fail entry q h p levels m slots go stop l g k ys a s =
+    h p levels m slots go stop l g k ys a s
+    ∙ ap (λ r. after r go stop) (after_same (pays cost s) (d p levels m) (Signals false) (e p levels m) (Signals false) (q p levels m) (λ u. refl))
+
+-- the last step before it, as its first step
+pub first_step :
+  (tables : ℕ → Listing) (d : Meaning) (cost more n : ℕ) (next fail entry : Instruction) → more ≡ cost + 1 →
+  Performs tables d more n next fail entry → Performs tables (λ p levels. pay_first (d p levels)) cost n next fail entry
+first_step tables d cost more n next fail entry is h p levels m slots go stop l g k ys a s =
+    let e : more ≡ suc cost = omega (arith, is) in
+    h p levels m slots go stop l g k ys a s
+    ∙ ap (λ j. after (then_on (pays j s) (d p levels m)) go stop) e
+    ∙ ap (λ r. after r go stop) (own_step cost s (d p levels) m)
+
+-- the last steps before it, as its first steps
+pub first_steps :
+  (tables : ℕ → Listing) (d : Meaning) (cost k more n : ℕ) (next fail entry : Instruction) → more ≡ cost + k →
+  Performs tables d more n next fail entry → Performs tables (λ p levels m s. then_on (pays k s) (d p levels m)) cost n next fail entry
+first_steps tables d cost k more n next fail entry is h p levels m slots go stop l g w ys a s =
+    h p levels m slots go stop l g w ys a s
+    ∙ ap (λ j. after (then_on (pays j s) (d p levels m)) go stop) is
+    ∙ ap (λ r. after r go stop) (steps_more cost k s (d p levels m))
+
+-- one after another
+pub in_turn :
+  (tables : ℕ → Listing) (c d : Meaning) (cost n : ℕ) (next fail middle entry : Instruction) →
+  Performs tables c cost n middle fail entry → Performs tables d 0 n next fail middle →
+  Performs tables (λ p levels m s. after (c p levels m s) (d p levels m) (Signals false)) cost n next fail entry
+in_turn tables c d cost n next fail middle entry h k p levels m slots go stop l g w ys a s =
+    h p levels m slots (λ t. after (d p levels m t) go stop) stop l (k p levels m slots go stop l g w) w ys a s
+    ∙ after_after (pays cost s) (c p levels m) (Signals false) (λ t. after (d p levels m t) go stop) stop
+    ∙ after_same (pays cost s) (λ u. after (c p levels m u) (λ t. after (d p levels m t) go stop) stop) (λ u. stop u) (λ u. after (after (c p levels m u) (d p levels m) (Signals false)) go stop) (λ u. stop u) (λ u. sym (after_after (c p levels m u) (d p levels m) (Signals false) go stop)) (λ u. refl)
+    ∙ sym (after_after (pays cost s) (λ u. after (c p levels m u) (d p levels m) (Signals false)) (Signals false) go stop)
+
+-- ---- saved cursors
+
+-- what follows a command in it, in which the cursor is saved in slot n
+abbrev pub Leaves : (ℕ → Listing) → ℕ → Instruction → Instruction → Instruction → (Mode → SavedCursor → State → Ending) → Type 0
+Leaves tables n next fail own on =
+    (p : programs.Program) (levels : ℕ) (m : Mode) (slots ys : List SavedCursor) (go stop : State → Ending) →
+    GoesOn (flow p levels tables next) m n slots go →
+    GoesOn (flow p levels tables fail) m n slots stop →
+    Agree n slots ys →
+    GoesOn (flow p levels tables own) m (suc n) ys (λ t. after (on m (slice_index_or ys n no_cursor) t) go stop)
+
+pub leaves_next : (tables : ℕ → Listing) (n : ℕ) (next fail own : Instruction) → own ≡ next → Leaves tables n next fail own (λ m from. Signals true)
+leaves_next tables n next fail own e p levels m slots ys go stop g h a zs b s =
+    ap (λ x. flow p levels tables x m zs s) e ∙ goes_deeper (flow p levels tables next) m n slots ys go a g zs b s
+
+pub leaves_fail : (tables : ℕ → Listing) (n : ℕ) (next fail own : Instruction) → own ≡ fail → Leaves tables n next fail own (λ m from. Signals false)
+leaves_fail tables n next fail own e p levels m slots ys go stop g h a zs b s =
+    ap (λ x. flow p levels tables x m zs s) e ∙ goes_deeper (flow p levels tables fail) m n slots ys stop a h zs b s
+
+pub leaves_back : (tables : ℕ → Listing) (n : ℕ) (next fail own : Instruction) → Restores n next own → Leaves tables n next fail own put_back
+leaves_back tables n next fail own r p levels m slots ys go stop g h a zs b s =
+    let from = slice_index_or ys n no_cursor in
+    r p levels tables m zs s
+    ∙ ap (λ v. then_on (put_back m v s) (flow p levels tables next m zs)) (b.same n (omega arith))
+    ∙ after_same (put_back m from s) (flow p levels tables next m zs) (Signals false) go (Signals false) (goes_deeper (flow p levels tables next) m n slots ys go a g zs b) (λ u. refl)
+    ∙ back_passes m from s go (Signals false) stop
+
+-- what a command does with the cursor saved before it
+abbrev pub wrapped : (Mode → SavedCursor → State → Ending) → (Mode → SavedCursor → State → Ending) → Doing → Doing
+wrapped on_t on_f c m s = after (c m s) (on_t m (saved_cursor s)) (on_f m (saved_cursor s))
+
+pub saving :
+  (tables : ℕ → Listing) (c : Meaning) (on_t on_f : Mode → SavedCursor → State → Ending) (cost n : ℕ) (next fail own_next own_fail inner entry : Instruction) →
+  n < 4 → Saves cost n inner entry →
+  Performs tables c 0 (suc n) own_next own_fail inner →
+  Leaves tables n next fail own_next on_t → Leaves tables n next fail own_fail on_f →
+  Performs tables (λ p levels. wrapped on_t on_f (c p levels)) cost n next fail entry
+saving tables c on_t on_f cost n next fail own_next own_fail inner entry small saves h lt lf p levels m slots go stop l g k ys a s =
+    let d = λ (u : State). wrapped on_t on_f (c p levels) m u in
+    let room : n < length ys = omega (arith, a.as_many, l) in
+    let inside = λ (u : State).
+      let v = saved_cursor u in
+      let zs = slice_set ys n v in
+      let kept : Agree n slots zs = agree_then n slots ys zs a (agree_set n ys v) in
+      let many : length zs ≡ 4 = length-set ys n v ∙ a.as_many ∙ l in
+      let got : slice_index_or zs n no_cursor ≡ v = get_or-set_same ys n v no_cursor room in
+      h p levels m zs (λ t. after (on_t m (slice_index_or zs n no_cursor) t) go stop) (λ t. after (on_f m (slice_index_or zs n no_cursor) t) go stop) many
+        (lt p levels m slots zs go stop g k kept) (lf p levels m slots zs go stop g k kept) zs (agree_self (suc n) zs) u
+      ∙ ap (λ w. after (c p levels m u) (λ t. after (on_t m w t) go stop) (λ t. after (on_f m w t) go stop)) got
+      ∙ sym (after_after (c p levels m u) (on_t m v) (on_f m v) go stop)
+    in
+    saves p levels tables m ys s
+    ∙ after_same (pays cost s) (λ u. flow p levels tables inner m (slice_set ys n (saved_cursor u)) u) (Signals false) (λ u. after (d u) go stop) (Signals false) inside (λ u. refl)
+    ∙ after_steps cost s d go stop go stop (λ t. refl) (λ t. refl)
+
+-- ---- instructions that run by themselves
+
+pub by_itself :
+  (tables : ℕ → Listing) (d : Meaning) (next fail entry : Instruction) → Ends true next → Ends false fail →
+  Performs tables d 0 0 next fail entry → Runs tables d entry
+by_itself tables d next fail entry e f h p levels m s =
+    h p levels m no_cursors (Signals true) (Signals false) refl (λ ys a t. e p levels tables m ys t) (λ ys a t. f p levels tables m ys t) no_cursors (agree_self 0 no_cursors) s
+    ∙ as_it_is (d p levels m s)
+
+-- as functions
+pub runs_as : (tables : ℕ → Listing) (d : Meaning) (entry : Instruction) → Runs tables d entry → (p : programs.Program) (levels : ℕ) → alone (flow p levels tables entry) ≡ d p levels
+runs_as tables d entry h p levels = fun_ext (λ m. fun_ext (λ s. h p levels m s))
+
+-- something made of them
+pub made_of :
+  (tables : ℕ → Listing) (of : Doing → Doing) (d : Meaning) (body : Instruction) (cost n : ℕ) (next fail entry : Instruction) → Runs tables d body →
+  Performs tables (λ p levels. pay_first (of (alone (flow p levels tables body)))) cost n next fail entry →
+  Performs tables (λ p levels. pay_first (of (d p levels))) cost n next fail entry
+made_of tables of d body cost n next fail entry r h =
+    same_meaning tables (λ p levels. pay_first (of (alone (flow p levels tables body)))) (λ p levels. pay_first (of (d p levels))) cost n next fail entry
+      (λ p levels m s. ap (λ c. pay_first (of c) m s) (runs_as tables d body r p levels)) h
