@@ -85,3 +85,9 @@ run_call-returns-in_err-signal-in-Some-clause-follows = calls.run_call-returns-i
 
 pub run_call-returns-in_ok-leave-in-Some-clause-follows : goal.run_call-returns-in_ok-leave-in-Some-clause-follows
 run_call-returns-in_ok-leave-in-Some-clause-follows = calls.run_call-returns-in_ok-leave-in-Some-clause-follows
+
+pub run_times-loop-left-preserved : goal.run_times-loop-left-preserved
+run_times-loop-left-preserved = calls.run_times-loop-left-preserved
+
+pub run_times-returns-in_err-run_from-clause-follows : goal.run_times-returns-in_err-run_from-clause-follows
+run_times-returns-in_err-run_from-clause-follows = calls.run_times-returns-in_err-run_from-clause-follows

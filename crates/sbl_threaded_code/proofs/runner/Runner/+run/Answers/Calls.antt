@@ -1,11 +1,13 @@
--- What instructions call: searches and calls.
+-- What instructions call: turns, searches and calls.
 use Rattle.std.proofs.Common.{◌≡◌, ◌+◌, true, false, Some, Ok, Err, refl, ◌<◌, [], ◌∷◌, ◌++◌, ◌≤◌, sym, ap, ◌∙◌, arith, rules, append_assoc}
 use Rattle.std.specs.Prelude.{slice_get, ◌-◌}
 use Rattle.sbl_interpreter.specs.Endings.{Follows}
-use Rattle.sbl_interpreter.proofs.Arms.{follows_at, one_more, halted, called, leave_signals, leave_halts}
+use Rattle.sbl_interpreter.proofs.Arms.{by_fault, follows_at, one_more, one_time, stops_at, time_stops, halted, called, leave_signals, leave_halts}
 use Rattle.sbl_semantics.specs.State.{State, Signals}
-use Rattle.sbl_program.specs.ProgramOf.{program_of}
-use Rattle.sbl_semantics.specs.Control.{back_in, enter}
+use Rattle.sbl_program.specs.ProgramOf.{program_of, view_number}
+use Rattle.sbl_semantics.specs.Control.{times, count_of, back_in, enter}
+use Rattle.sbl_semantics.specs.Numbers.{continue_with}
+use Rattle.sbl_interpreter.specs.Arithmetic.{value}
 use Rattle.sbl_interpreter.specs.Run.{runs, calls}
 use Rattle.sbl_interpreter.specs.Search.{tries, try_one, bound_in}
 use Rattle.sbl_interpreter.specs.Listing.{fits_at}
@@ -95,3 +97,34 @@ run_call-returns-in_ok-leave-in-Some-clause-follows g t c =
     let h : body ≡ Signals b new = sym k ∙ c.in_ok-signal-in-Some.ensures.follows in
     let kept : c.in_ok-kept-in-Some.kept ≡ s.choices = c.in_ok-kept-in-Some.ensures.kept in
     q ∙ leave_signals s.routine s.choices body b new h ∙ ap (λ i. Signals b (back_in i s.choices b new)) (sym c.routine-caller.ensures) ∙ ap (λ cs. Signals b (back_in c.routine-caller.result cs b new)) (sym kept) ∙ ap (Signals b) (sym c.in_ok-leave-in-Some.ensures)
+
+pub run_times-loop-left-preserved : goal.run_times-loop-left-preserved
+run_times-loop-left-preserved g t c =
+    let inv = c.loop-left.invariant in
+    let T = g.T.Tables.listed c.args.self.now.tables.now in
+    let D = alone (flow (program_of T c.args.self.now.code.now) c.args.self.now.levels T c.args.body.now) in
+    let m = c.args.self.now.mode in
+    let s = c.loop-left.state in
+    let new = c.run_from.new.state in
+    let b : c.in_ok-run_from.field-0 ≡ true = search rules in
+    let e : D m s ≡ Signals true new = c.in_ok-run_from.ensures.follows ∙ ap (λ v. Signals v new) b in
+    let some : 0 < c.loop-left.left = omega (arith, c.loop-left-test.true) in
+    let no_more : new.steps ≤ s.steps = c.in_ok-run_from.ensures.no_more in
+    let steps : new.steps ≤ c.args.state.now.steps = omega (arith, no_more, inv.1) in
+    (one_time c.loop-left.left D m s new _ some e inv.0, steps)
+
+pub run_times-returns-in_err-run_from-clause-follows : goal.run_times-returns-in_err-run_from-clause-follows
+run_times-returns-in_err-run_from-clause-follows g t c =
+    let T = g.T.Tables.listed c.args.self.now.tables.now in
+    let D = alone (flow (program_of T c.args.self.now.code.now) c.args.self.now.levels T c.args.body.now) in
+    let m = c.args.self.now.mode in
+    let s = c.loop-left.state in
+    let u = c.run_from.new.state in
+    let inv = c.loop-left.invariant in
+    let number = c.in_ok-number.number in
+    let halt = c.in_err-run_from.field-0.0 in
+    let r : c.from_residual-in_err-run_from.result ≡ Err halt = search rules in
+    let some : 0 < c.loop-left.left = omega (arith, c.loop-left-test.true) in
+    let v : value (view_number c.args.count.now) m c.args.state.now ≡ Ok number = search rules in
+    let left : c.count_of-left.result ≡ count_of number = search rules in
+    rw r (by_fault halt u _ (λ fault is. ap (λ r. continue_with r c.args.state.now (λ z. times (count_of z) D m c.args.state.now)) v ∙ ap (λ n. times n D m c.args.state.now) (sym left) ∙ sym inv.0 ∙ time_stops c.loop-left.left D m s u fault some (stops_at halt u _ fault is c.in_err-run_from.ensures.follows)))

@@ -8,7 +8,6 @@ use Rattle.sbl_semantics.specs.State.{State, Ending, Signals, after}
 use Rattle.sbl_threaded_code.specs.Flow.{flow, alone, turns_of, loop_of, at_least_of, seek_of, limited_of}
 use Rattle.sbl_threaded_code.specs.declared.instruction.Group.{out-Group}
 use Rattle.sbl_threaded_code.specs.declared.instruction.Instruction.{Instruction}
-use Rattle.sbl_threaded_code.specs.declared.instruction.Instruction.TheViews.{the_lemmas}
 use Rattle.sbl_threaded_code.proofs.Flows.{ends_early, nested_paid, repeat_paid, loop_paid, at_least_paid, seek_paid, set_limit_paid, search_paid, chosen_at, chosen_past, group_does}
 use Rattle.sbl_threaded_code.proofs.runner.Runner.+run.Goals as goal
 
@@ -508,5 +507,5 @@ run_from-loop-at-preserved g t c =
     let r : body ≡ get_or ds group body = search rules in
     let whole = sym inv.0 ∙ chosen_at P levels T m slots s at a.cost a.among a.bodies a.next a.fail u group ds body a.is c.in_ok-pay_for-in-Choose.ensures.leads is c.deref-in-Some.ensures.value l r in
     let y = c.deref-in-Some-get.result.now in
-    let first : y ≡ (out-Group body).first.value = first_of (search rules, search (rules, the_lemmas)) in
+    let first : y ≡ (out-Group body).first.value = c.deref-in-Some-get.ensures in
     (sym (whole ∙ group_does P levels T m slots u body y first), steps)
