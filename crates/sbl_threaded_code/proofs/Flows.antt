@@ -1,5 +1,5 @@
 -- What a kind of instruction does from the state in which its steps are paid.
-use Rattle.std.proofs.Common.{◌≡◌, ℕ, zero, suc, ◌<◌, ◌≤◌, Bool, true, false, List, [], ◌∷◌, map, length, get_or, Option, Some, None, Result, Err, arith, rules, refl, sym, ap, ◌∙◌, Vec, Global}
+use Rattle.std.proofs.Common.{◌≡◌, ℕ, zero, suc, ◌<◌, ◌≤◌, Bool, true, false, List, [], ◌∷◌, map, length, get_or, Option, Some, Result, Err, arith, rules, refl, sym, ap, ◌∙◌, Vec, Global}
 use Rattle.std.specs.declared.rc.Rc.{Rc}
 use Rattle.sbl_program.specs.AmongStrings.{Listing}
 use Rattle.sbl_program.specs.Program as programs

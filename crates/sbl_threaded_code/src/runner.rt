@@ -331,7 +331,7 @@ impl<'a, T: Tables> Runner<'a, T> {
         }
     }
 
-    /// Runs instructions backwards, from the limit to the cursor.
+    /// Runs instructions backwards, on the text between the cursor and the limit.
     #[cycle(run)]
     #[inline(never)]
     fn run_backwards(&self, body: &Instruction, state: &mut State) -> Result<bool, Halt>
@@ -350,7 +350,7 @@ impl<'a, T: Tables> Runner<'a, T> {
         Ok(true)
     }
 
-    /// Runs instructions up to where others end from the same cursor: those first ones set the limit.
+    /// Runs instructions that set the limit, and then others within that limit, from where the cursor was before.
     #[cycle(run)]
     #[inline(never)]
     fn run_limited(

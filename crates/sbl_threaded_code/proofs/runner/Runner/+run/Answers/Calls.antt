@@ -1,9 +1,9 @@
 -- What instructions call: turns, searches and calls.
-use Rattle.std.proofs.Common.{◌≡◌, ◌+◌, true, false, Some, Ok, Err, refl, ◌<◌, [], ◌∷◌, ◌++◌, ◌≤◌, sym, ap, ◌∙◌, arith, rules, append_assoc}
+use Rattle.std.proofs.Common.{◌≡◌, ◌+◌, true, false, Ok, Err, refl, ◌<◌, [], ◌∷◌, ◌++◌, ◌≤◌, sym, ap, ◌∙◌, arith, rules, append_assoc}
 use Rattle.std.specs.Prelude.{slice_get, ◌-◌}
 use Rattle.sbl_interpreter.specs.Endings.{Follows}
 use Rattle.sbl_interpreter.proofs.Arms.{by_fault, follows_at, one_more, one_time, stops_at, time_stops, halted, called, leave_signals, leave_halts}
-use Rattle.sbl_semantics.specs.State.{State, Signals}
+use Rattle.sbl_semantics.specs.State.{Signals}
 use Rattle.sbl_program.specs.ProgramOf.{program_of, view_number}
 use Rattle.sbl_semantics.specs.Control.{times, count_of, back_in, enter}
 use Rattle.sbl_semantics.specs.Numbers.{continue_with}
