@@ -4,3 +4,4 @@ pub mod Performing
 pub mod Rests
 pub mod Views
 pub mod Codes
+pub mod Flows

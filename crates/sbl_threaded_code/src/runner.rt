@@ -3,12 +3,13 @@
 ghost use Rattle.std.specs.Prelude.{◌≡◌, ◌<◌, ◌≤◌, true, false, suc, IfOk, slice_get};
 ghost use Rattle.sbl_program.specs.ProgramOf.{program_of, view_number};
 ghost use Rattle.sbl_interpreter.specs.Arithmetic.{value};
-ghost use Rattle.sbl_interpreter.specs.Endings.{Follows, IsSaved, Tries};
+ghost use Rattle.sbl_interpreter.specs.Endings.{Follows, IsSaved, Leads, Tries};
+ghost use Rattle.sbl_interpreter.specs.Rows.{pays};
 ghost use Rattle.sbl_interpreter.specs.Run.{calls};
 ghost use Rattle.sbl_interpreter.specs.Search.{search_all, search_strings, try_one};
 ghost use Rattle.sbl_semantics.specs.Control.{times, count_of, seeks};
 ghost use Rattle.sbl_semantics.specs.Numbers.{continue_with};
-ghost use Rattle.sbl_semantics.specs.State.{State as RunState, Ending, Signals, after, saved_cursor};
+ghost use Rattle.sbl_semantics.specs.State.{State as RunState, Ending, Signals, after, pay, saved_cursor, then_on};
 ghost use Rattle.sbl_threaded_code.specs.Slots.{no_cursors};
 ghost use Rattle.sbl_threaded_code.specs.Flow.{flow, alone, turns_of, backwards_of, limited_of};
 
@@ -19,6 +20,16 @@ use sbl_ast::Mode;
 use sbl_interpreter::{Halt, State, Tables, count_of};
 use sbl_program::{Arithmetic, Candidate};
 use sbl_semantics::SavedCursor;
+
+// Uses the steps of `cost`, and the command's own. Returns `Steps` if fewer are left.
+#[inline(always)]
+fn pay_all(cost: usize, state: &mut State) -> Result<(), Halt>
+    ensures leads { Leads result state.new (then_on (pays cost state.old) (λ u. pay u.steps u)) }
+    ensures fewer { IfOk result (λ _. state.new.steps < state.old.steps) }
+{
+    state.pay_for(cost)?;
+    state.pay()
+}
 
 /// The fixed part of a run. A call and `backwards` run with a runner of their own.
 #[derive_where(Clone, Copy)]
@@ -34,7 +45,7 @@ pub struct Runner<'a, T> {
 }
 
 impl<'a, T: Tables> Runner<'a, T> {
-    // Runs instructions from this one on.
+    /// Runs instructions from this one on, up to an end, and returns the signal there.
     #[cycle(run)]
     #[inline(never)]
     fn run_from(&self, entry: &Instruction, state: &mut State) -> Result<bool, Halt>
@@ -78,8 +89,7 @@ impl<'a, T: Tables> Runner<'a, T> {
                     next,
                     fail,
                 } => {
-                    state.pay_for(*cost)?;
-                    state.pay()?;
+                    pay_all(*cost, state)?;
                     at = if self.run_from(body, state)? {
                         next
                     } else {
@@ -87,8 +97,7 @@ impl<'a, T: Tables> Runner<'a, T> {
                     };
                 }
                 Instruction::Repeat { cost, body, next } => {
-                    state.pay_for(*cost)?;
-                    state.pay()?;
+                    pay_all(*cost, state)?;
                     self.run_turns(body, state)?;
                     at = next;
                 }
@@ -99,8 +108,7 @@ impl<'a, T: Tables> Runner<'a, T> {
                     next,
                     fail,
                 } => {
-                    state.pay_for(*cost)?;
-                    state.pay()?;
+                    pay_all(*cost, state)?;
                     at = if self.run_times(count, body, state)? {
                         next
                     } else {
@@ -114,8 +122,7 @@ impl<'a, T: Tables> Runner<'a, T> {
                     next,
                     fail,
                 } => {
-                    state.pay_for(*cost)?;
-                    state.pay()?;
+                    pay_all(*cost, state)?;
                     at = if self.run_at_least(count, body, state)? {
                         next
                     } else {
@@ -129,8 +136,7 @@ impl<'a, T: Tables> Runner<'a, T> {
                     next,
                     fail,
                 } => {
-                    state.pay_for(*cost)?;
-                    state.pay()?;
+                    pay_all(*cost, state)?;
                     at = if self.run_tries(*past, body, state)? {
                         next
                     } else {
@@ -164,8 +170,7 @@ impl<'a, T: Tables> Runner<'a, T> {
                     next,
                     fail,
                 } => {
-                    state.pay_for(*cost)?;
-                    state.pay()?;
+                    pay_all(*cost, state)?;
                     at = if self.run_backwards(body, state)? {
                         next
                     } else {
@@ -179,8 +184,7 @@ impl<'a, T: Tables> Runner<'a, T> {
                     next,
                     fail,
                 } => {
-                    state.pay_for(*cost)?;
-                    state.pay()?;
+                    pay_all(*cost, state)?;
                     at = if self.run_limited(first, second, state)? {
                         next
                     } else {
@@ -193,8 +197,7 @@ impl<'a, T: Tables> Runner<'a, T> {
                     next,
                     fail,
                 } => {
-                    state.pay_for(*cost)?;
-                    state.pay()?;
+                    pay_all(*cost, state)?;
                     at = if self.run_call(*routine, state)? {
                         next
                     } else {
@@ -209,8 +212,7 @@ impl<'a, T: Tables> Runner<'a, T> {
                     next,
                     fail,
                 } => {
-                    state.pay_for(*cost)?;
-                    state.pay()?;
+                    pay_all(*cost, state)?;
                     at = if self.run_search_all(*among, *table, entries, state)? {
                         next
                     } else {
@@ -237,21 +239,29 @@ impl<'a, T: Tables> Runner<'a, T> {
         }
     }
 
+    /// Runs instructions again and again up to their first f, and puts the cursor back to where it was before that. The
+    /// assembler makes bodies that use a step, so there are at most as many turns as steps, and one more.
     #[cycle(run)]
     #[inline(never)]
-    fn run_turns(&self, body: &Instruction, state: &mut State) -> Result<bool, Halt>
-        ensures follows { Follows result state.new (turns_of (alone (flow (program_of (T.listed self.now.tables.now) self.now.code.now) self.now.levels (T.listed self.now.tables.now) body.now)) self.now.mode state.old) }
+    fn run_turns(&self, body: &Instruction, state: &mut State) -> Result<(), Halt>
+        ensures leads { Leads result state.new (turns_of (alone (flow (program_of (T.listed self.now.tables.now) self.now.code.now) self.now.levels (T.listed self.now.tables.now) body.now)) self.now.mode state.old) }
         ensures no_more { IfOk result (λ _. state.new.steps ≤ state.old.steps) }
     {
+        let mut left = state.steps();
         loop {
             let from = state.saved_cursor();
             if !self.run_from(body, state)? {
                 state.put_back(self.mode, from)?;
-                return Ok(true);
+                return Ok(());
             }
+            if left == 0 {
+                return Err(Halt::Steps);
+            }
+            left -= 1;
         }
     }
 
+    /// Runs instructions as often as `count` says, up to the first f.
     #[cycle(run)]
     #[inline(never)]
     fn run_times(
@@ -274,6 +284,7 @@ impl<'a, T: Tables> Runner<'a, T> {
         Ok(true)
     }
 
+    /// Runs instructions as often as `count` says, up to the first f, and then again and again as `run_turns` does.
     #[cycle(run)]
     #[inline(never)]
     fn run_at_least(
@@ -288,15 +299,19 @@ impl<'a, T: Tables> Runner<'a, T> {
         if !self.run_times(count, body, state)? {
             return Ok(false);
         }
-        self.run_turns(body, state)
+        self.run_turns(body, state)?;
+        Ok(true)
     }
 
+    /// Tries instructions at the cursor and further on, up to their first t. The cursor stays after the match, or goes
+    /// before it. There are at most as many tries as steps, and one more.
     #[cycle(run)]
     #[inline(never)]
     fn run_tries(&self, past: bool, body: &Instruction, state: &mut State) -> Result<bool, Halt>
         ensures follows { Follows result state.new (seeks (suc state.old.steps) past (alone (flow (program_of (T.listed self.now.tables.now) self.now.code.now) self.now.levels (T.listed self.now.tables.now) body.now)) self.now.mode state.old) }
         ensures no_more { IfOk result (λ _. state.new.steps ≤ state.old.steps) }
     {
+        let mut left = state.steps();
         loop {
             let from = state.saved_cursor();
             if self.run_from(body, state)? {
@@ -309,9 +324,14 @@ impl<'a, T: Tables> Runner<'a, T> {
             if !state.take_next(self.mode) {
                 return Ok(false);
             }
+            if left == 0 {
+                return Err(Halt::Steps);
+            }
+            left -= 1;
         }
     }
 
+    /// Runs instructions backwards, on the text between the cursor and the limit.
     #[cycle(run)]
     #[inline(never)]
     fn run_backwards(&self, body: &Instruction, state: &mut State) -> Result<bool, Halt>
@@ -330,6 +350,7 @@ impl<'a, T: Tables> Runner<'a, T> {
         Ok(true)
     }
 
+    /// Runs instructions that set the limit, and then others within that limit, from where the cursor was before.
     #[cycle(run)]
     #[inline(never)]
     fn run_limited(
@@ -382,6 +403,7 @@ impl<'a, T: Tables> Runner<'a, T> {
         }
     }
 
+    /// Searches an among, which touches it.
     #[cycle(run)]
     #[inline(never)]
     fn run_search_all(
@@ -398,6 +420,7 @@ impl<'a, T: Tables> Runner<'a, T> {
         self.run_search(among, table, entries, state)
     }
 
+    /// Tries the strings that match, the longest first.
     #[cycle(run)]
     #[inline(always)]
     fn run_search(
@@ -426,6 +449,7 @@ impl<'a, T: Tables> Runner<'a, T> {
         Ok(false)
     }
 
+    /// Tries one string and returns whether it is taken. It is not taken if its condition signals f.
     #[cycle(run)]
     fn try_string(
         &self,
