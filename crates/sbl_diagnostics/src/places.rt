@@ -101,8 +101,8 @@ fn characters_of(alloc: Global, line: &[u8]) -> Result<Vec<char>, AllocError> {
             Ok(text) => return push_characters(characters, text),
             Err(error) => error.valid_up_to(),
         };
-        let (front, after) = split_at(rest, valid);
-        if let Ok(text) = str::from_utf8(front) {
+        let (prefix, after) = split_at(rest, valid);
+        if let Ok(text) = str::from_utf8(prefix) {
             characters = push_characters(characters, text)?;
         }
         characters.push('?')?;

@@ -6,7 +6,7 @@ ghost use Rattle.std.specs.Str.{chars};
 use sbl_token::split_first;
 
 /// Returns the part of `text` before `rest`, which is a suffix of `text`.
-pub fn front_before<'a>(text: &'a str, rest: &str) -> &'a str
+pub fn prefix_before<'a>(text: &'a str, rest: &str) -> &'a str
     requires { (x : List ℕ) × (chars text.now ≡ x ++ chars rest.now) }
     ensures characters { (x : List ℕ) → chars text.now ≡ x ++ chars rest.now → chars result.now ≡ x }
     ensures bytes { (x : List ℕ) → chars text.now ≡ x ++ chars rest.now → result.now ≡ encode_utf8_all x }
@@ -32,7 +32,7 @@ pub fn between_quotes(text: &str) -> &str
     ensures bytes { (x : List ℕ) → chars text.now ≡ 39 ∷ (x ++ 39 ∷ []) → result.now ≡ encode_utf8_all x }
 {
     match split_first(text) {
-        Some((_, tail)) => front_before(tail, "'"),
+        Some((_, tail)) => prefix_before(tail, "'"),
         None => text,
     }
 }

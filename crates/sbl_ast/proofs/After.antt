@@ -1,4 +1,4 @@
--- What stands behind a part of a tree stands behind its tokens: so a part is shallow by itself, and another may stand in its place.
+-- What follows a part of a tree follows its tokens: so a part is shallow by itself, and another may stand in its place.
 use Rattle.std.proofs.Common.{◌≡◌, ℕ, ◌+◌, true, false, List, [], ◌∷◌, ◌++◌, Some, None, refl, sym, ap, subst, ◌∙◌}
 use Rattle.sbl_token.specs.Lexemes as l
 use Rattle.sbl_token.specs.declared.words.Word.TheVariants as words
@@ -10,7 +10,7 @@ use Rattle.sbl_ast.specs.Places.{AtDepth, placed_expression, placed_sums, placed
 abbrev Ps : Type 0
 Ps = List AtDepth
 
--- tokens are put before those behind, whatever those are
+-- tokens are put before those that follow, whatever those are
 abbrev pub IsBefore : (Ps → Ps) → Type 0
 IsBefore part = (r q : Ps) → part (r ++ q) ≡ part r ++ q
 
@@ -104,9 +104,9 @@ plain_before (grouping n a xs) r q = cons (l.word words.Define, 0) (cons (l.name
 
 -- ---- shallow parts
 
-pub shallow_front : (ps qs : Ps) → AreShallow (ps ++ qs) → AreShallow ps
-shallow_front [] qs h = tt
-shallow_front (p ∷ ps) qs h = (h.0, shallow_front ps qs h.1)
+pub shallow_prefix : (ps qs : Ps) → AreShallow (ps ++ qs) → AreShallow ps
+shallow_prefix [] qs h = tt
+shallow_prefix (p ∷ ps) qs h = (h.0, shallow_prefix ps qs h.1)
 
 pub shallow_rest : (ps qs : Ps) → AreShallow (ps ++ qs) → AreShallow qs
 shallow_rest [] qs h = h
@@ -116,12 +116,12 @@ pub shallow_both : (ps qs : Ps) → AreShallow ps → AreShallow qs → AreShall
 shallow_both [] qs h g = g
 shallow_both (p ∷ ps) qs h g = (h.0, shallow_both ps qs h.1 g)
 
--- the part by itself, what stands behind it, and the part with something else behind it
+-- the part by itself, what follows it, and the part with something else after it
 pub by_itself : (part : Ps → Ps) → IsBefore part → (r : Ps) → AreShallow (part r) → AreShallow (part [])
-by_itself part before r h = shallow_front (part []) r (subst AreShallow (before [] r) h)
+by_itself part before r h = shallow_prefix (part []) r (subst AreShallow (before [] r) h)
 
-pub behind_it : (part : Ps → Ps) → IsBefore part → (r : Ps) → AreShallow (part r) → AreShallow r
-behind_it part before r h = shallow_rest (part []) r (subst AreShallow (before [] r) h)
+pub after_it : (part : Ps → Ps) → IsBefore part → (r : Ps) → AreShallow (part r) → AreShallow r
+after_it part before r h = shallow_rest (part []) r (subst AreShallow (before [] r) h)
 
-pub with_behind : (part : Ps → Ps) → IsBefore part → (r : Ps) → AreShallow (part []) → AreShallow r → AreShallow (part r)
-with_behind part before r h g = subst AreShallow (sym (before [] r)) (shallow_both (part []) r h g)
+pub with_after : (part : Ps → Ps) → IsBefore part → (r : Ps) → AreShallow (part []) → AreShallow r → AreShallow (part r)
+with_after part before r h g = subst AreShallow (sym (before [] r)) (shallow_both (part []) r h g)

@@ -2,7 +2,7 @@ use Rattle.std.proofs.Common.{ℕ, List, ◌++◌, sym, ap, ◌∙◌}
 use Rattle.std.specs.Prelude.{encode_utf8}
 use Rattle.std.proofs.lemmas.Str.{chars_past_char}
 use Rattle.sbl_token.proofs.Texts.{chars_of_empty}
-use Rattle.sbl_token.proofs.front.split_first.Goals as goal
+use Rattle.sbl_token.proofs.first_char.split_first.Goals as goal
 
 pub returns-in-Some-clause-parts : goal.returns-in-Some-clause-parts
 returns-in-Some-clause-parts c =
