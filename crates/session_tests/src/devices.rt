@@ -1,6 +1,6 @@
 //! Tests of readers and writers that fail at each of their calls, of the limit on reads, and of interruptions.
 
-use crate::tests::verbs::{Verb, written};
+use crate::verbs::{Verb, written};
 use sbl_io::{Device, Lines};
 use std::alloc::{AllocError, Global};
 use std::process::Abort;
