@@ -7,7 +7,7 @@ ghost use Rattle.sbl_bench.specs.Rows.{view_row};
 ghost use Rattle.sbl_semantics.specs.Outcome.{outcome_of};
 ghost use Rattle.sbl_semantics.specs.TouchedItems.{item_of};
 ghost use Rattle.sbl_io.specs.Records as texts;
-ghost use Rattle.sbl_formats.specs.Rows as spec;
+ghost use Rattle.sbl_formats.specs.RowRecords as spec;
 ghost use Rattle.sbl_formats.specs.RowWriter.{Writes};
 ghost use Rattle.sbl_formats.specs.Traces.{item_fields};
 

@@ -1,7 +1,7 @@
 //! Runs over files, and over standard input.
 
 use crate::blocks::{compose, line_count, point_line, script_block};
-use crate::faults::{hint, run_fault_text};
+use crate::fault_texts::{hint, run_fault_text};
 use crate::file_names::{FileNames, STANDARD_INPUT, file_name};
 use crate::messages::{FAILED, NO_KEYS, REFUSED, count_and_word, fail_memory, print_line};
 use crate::run_result::RunResult;
