@@ -1,8 +1,8 @@
 //! Laws of sbl_compiler (specs/Laws.antt), written out.
 
 ghost use Rattle.std.specs.Prelude.{◌≡◌, ℕ, false, List, []};
-ghost use Rattle.sbl_compiler.specs.{Ahead.routines_in, Laws.names_in, Laws.routine_at, NumberedAmongs.found_behind, NumberedItems.numbered_items, NumberedItems.routines_behind, NumberedNames.Names, NumberedNames.number_of};
-ghost use Rattle.sbl_semantics.specs.Items.{body_named, class_of, classes_behind};
+ghost use Rattle.sbl_compiler.specs.{Ahead.routines_in, Laws.names_in, Laws.routine_at, NumberedAmongs.found_after, NumberedItems.numbered_items, NumberedItems.routines_after, NumberedNames.Names, NumberedNames.number_of};
+ghost use Rattle.sbl_semantics.specs.Items.{body_named, class_of, classes_after};
 ghost use Rattle.sbl_char_class.specs.Terms.{class_at};
 ghost use Rattle.sbl_ast.specs.{Order.ItemInMode, Order.in_order, Tree.Item};
 
@@ -10,7 +10,7 @@ use sbl_compiler::laws::{classes_are_their_terms, own_is_made, routine_is_its_ow
 
 /// Needs the whole of the law `own_is_made`.
 pub fn needs_own_is_made()
-    ensures { (ns : Names) (items : List ItemInMode) → routines_behind ns items (record { coming = found_behind ns items []; behind = 0; waits = false }) [] ≡ routines_in ns items }
+    ensures { (ns : Names) (items : List ItemInMode) → routines_after ns items (record { coming = found_after ns items []; following = 0; waits = false }) [] ≡ routines_in ns items }
 {
     own_is_made();
 }
@@ -24,7 +24,7 @@ pub fn needs_routine_is_its_own()
 
 /// Needs the whole of the law `classes_are_their_terms`.
 pub fn needs_classes_are_their_terms()
-    ensures { (items : List Item) (external n : List ℕ) (c : ℕ) → class_at (numbered_items items external).groupings (number_of (names_in items).groupings n) c ≡ class_of (classes_behind (in_order items) []) n c }
+    ensures { (items : List Item) (external n : List ℕ) (c : ℕ) → class_at (numbered_items items external).groupings (number_of (names_in items).groupings n) c ≡ class_of (classes_after (in_order items) []) n c }
 {
     classes_are_their_terms();
 }

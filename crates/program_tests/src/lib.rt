@@ -2,4 +2,8 @@
 #![tactic(auto)]
 
 #[cfg(test)]
-mod tests;
+mod command_lines;
+#[cfg(test)]
+mod program;
+#[cfg(test)]
+mod work;

@@ -1,4 +1,4 @@
--- The search of a linked table: the last row that does not stand after a text, and the links from there, are all its fronts.
+-- The search of a linked table: the last row that does not stand after a text, and the links from there, are all its prefixes.
 use Rattle.std.proofs.Common.{◌≡◌, ℕ, zero, suc, ◌+◌, ◌<◌, ◌≤◌, Bool, true, false, List, [], ◌∷◌, ◌++◌, length, Option, Some, None, refl, sym, ap, ◌∙◌, arith, get_or}
 use Rattle.std.specs.Prelude.{nat_eq, nat_lt, slice_get, IfSome}
 use mathlib.Core.Path.{subst}
@@ -10,10 +10,10 @@ use Rattle.std.proofs.lemmas.Option.{slice_get-get_or, slice_get_within, get_or_
 use Rattle.std.proofs.lemmas.List.{get_or_append_left, get_or_push, length-append}
 use Rattle.sbl_among_search.specs.Best.{IsBest}
 use Rattle.sbl_among_search.specs.Linked.{AreLinks, AreRows, GoDown, IsCount, IsLast, Rise, StandsAt, before, upto_row}
-use Rattle.sbl_among_search.proofs.Fits.{some_text, front_length}
-use Rattle.sbl_among_search.proofs.Order.{after_front, between, itself, front_upto, nested, same_front, true_or_false}
+use Rattle.sbl_among_search.proofs.Fits.{some_text, prefix_length}
+use Rattle.sbl_among_search.proofs.Order.{prefix_not_after, between, itself, prefix_upto, nested, same_prefix, true_or_false}
 
--- all fronts of x that are looked for stand before the n-th row, which does not stand after x
+-- all prefixes of x that are looked for stand before the n-th row, which does not stand after x
 pub stands : (texts : List (List ℕ)) (x : List ℕ) (b n : ℕ) → n ≤ length texts → Rise texts → ((p : ℕ) (w : List ℕ) → p < n → slice_get texts p ≡ Some w → is_gt (slice_cmp nat_cmp w x) ≡ false) → ((j : ℕ) (v : List ℕ) → slice_get texts j ≡ Some v → starts_with nat_eq x v ≡ true → length v < b → j < n) → StandsAt texts x b (before n)
 stands texts x b zero l rise upto ahead = λ j v s f. let no : length v < b → ⊥ = λ k. omega (arith, ahead j v s f k) in omega (arith, no)
 stands texts x b (suc p) l rise upto ahead =
@@ -33,7 +33,7 @@ count_stands texts x b n rise count =
   where
     by : (j : ℕ) (v : List ℕ) → slice_get texts j ≡ Some v → starts_with nat_eq x v ≡ true → (t : Bool) → nat_lt j n ≡ t → j < n
     by j v s f true t = ltb-true j n t
-    by j v s f false t = absurd (true_or_false _ (count.behind j v (ltb-false j n t) s) (front_upto x v f))
+    by j v s f false t = absurd (true_or_false _ (count.following j v (ltb-false j n t) s) (prefix_upto x v f))
 
 -- the rows before a row's own
 pub own_stands : (texts : List (List ℕ)) (k : ℕ) (w : List ℕ) → Rise texts → slice_get texts k ≡ Some w → StandsAt texts w (length w) (before k)
@@ -43,15 +43,15 @@ own_stands texts k w rise at =
   where
     by : (j : ℕ) (v : List ℕ) → slice_get texts j ≡ Some v → starts_with nat_eq w v ≡ true → length v < length w → (t : Bool) → nat_lt j k ≡ t → j < k
     by j v s f n true t = ltb-true j k t
-    by j v s f n false t = absurd (true_or_false _ (after_front w v f n) (rise k j w v (ltb-false j k t) at s))
+    by j v s f n false t = absurd (true_or_false _ (prefix_not_after w v f n) (rise k j w v (ltb-false j k t) at s))
 
 -- a row that matches is what is looked for
 pub found : (texts : List (List ℕ)) (x : List ℕ) (b r : ℕ) (w : List ℕ) → StandsAt texts x b (Some r) → slice_get texts r ≡ Some w → starts_with nat_eq x w ≡ true → length w < b → IsLast texts x b (Some r)
-found texts x b r w stand at front short =
+found texts x b r w stand at prefix short =
     let same : stand.0 ≡ w = some_text stand.0 w (sym stand.1 ∙ at) in (
       w,
       at,
-      front,
+      prefix,
       short,
       λ j v s f n.
           let t = stand.2 j v s f n in
@@ -60,16 +60,16 @@ found texts x b r w stand at front short =
     )
   where
     long : (w v : List ℕ) → starts_with nat_eq w v ≡ true → length v ≤ length w
-    long w v h = front_length w v h
+    long w v h = prefix_length w v h
 
 -- from a row that does not, its link goes on
 shorter : (x w v : List ℕ) (b : ℕ) → starts_with nat_eq x v ≡ true → starts_with nat_eq w v ≡ true → length v < b → (starts_with nat_eq x w ≡ true → b ≤ length w) → length v < length w
 shorter x w v b f g n unmet =
-    let l : length v ≤ length w = front_length w v g in
+    let l : length v ≤ length w = prefix_length w v g in
     let other : length v ≡ length w → ⊥ = λ e.
-    let same : v ≡ w = same_front w v w g (itself w) e in
-    let front : starts_with nat_eq x w ≡ true = ap (λ y. starts_with nat_eq x y) (sym same) ∙ f in
-    omega (arith, unmet front, n, e) in
+    let same : v ≡ w = same_prefix w v w g (itself w) e in
+    let prefix : starts_with nat_eq x w ≡ true = ap (λ y. starts_with nat_eq x y) (sym same) ∙ f in
+    omega (arith, unmet prefix, n, e) in
     omega (arith, l, other)
 
 pub goes_on : (texts : List (List ℕ)) (x : List ℕ) (b r : ℕ) (w : List ℕ) (l : Option ℕ) → StandsAt texts x b (Some r) → slice_get texts r ≡ Some w → (starts_with nat_eq x w ≡ true → b ≤ length w) → IsLast texts w (length w) l → StandsAt texts x b l
@@ -114,10 +114,10 @@ best_some strings texts numbers x b k i rows at last =
           let a = rows.all j v s in
           let o = last.4 a.0 v a.1 f n in
           let other : length v ≡ length w → ⊥ = λ e.
-          let same : v ≡ w = same_front x v w f last.2 e in
-          let not_behind : k < a.0 → ⊥ = λ h. omega (arith, o.1 h, e) in
+          let same : v ≡ w = same_prefix x v w f last.2 e in
+          let not_after : k < a.0 → ⊥ = λ h. omega (arith, o.1 h, e) in
           let not_it : k ≡ a.0 → ⊥ = λ h. let q : Some i ≡ Some j = sym at ∙ ap (slice_get numbers) h ∙ a.2 in let z : i ≡ j = cc in omega (arith, z, g) in
-          let ahead : a.0 < k = omega (arith, not_behind, not_it) in
+          let ahead : a.0 < k = omega (arith, not_after, not_it) in
           let fall : i ≤ j = rows.ties a.0 k j i w ahead (a.1 ∙ ap Some same) last.1 a.2 at in
           omega (arith, fall, g) in
           omega (arith, o.0, other)),

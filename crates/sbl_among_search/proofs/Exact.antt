@@ -7,7 +7,7 @@ use Rattle.std.proofs.lemmas.Bool.{ltb-true, ltb-false}
 use Rattle.std.proofs.lemmas.Option.{get_or_from_slice_get}
 use Rattle.sbl_semantics.specs.Fitting.{below, first, fitting, length_at, onto}
 use Rattle.sbl_among_search.specs.Laws.{AllDiffer, Matches, StandsIn}
-use Rattle.sbl_among_search.proofs.Fits.{at_number, front_is, front_length, nowhere, rest_after, taken_front, taken_length}
+use Rattle.sbl_among_search.proofs.Fits.{at_number, prefix_is, prefix_length, nowhere, rest_after, taken_prefix, taken_length}
 
 -- ---- what fits matches
 
@@ -15,7 +15,7 @@ match_at : (strings : List (List ℕ)) (x : List ℕ) (l : ℕ) (p : Option ℕ)
 match_at strings x l None before rest i e h cut more = more before cut
 match_at strings x l (Some k) [] rest i e h cut more =
     let is : k ≡ i = cc in
-    (take l x, ap (slice_get strings) (sym is) ∙ at_number strings (take l x) k (sym e), taken_front x (take l x) l h refl)
+    (take l x, ap (slice_get strings) (sym is) ∙ at_number strings (take l x) k (sym e), taken_prefix x (take l x) l h refl)
 match_at strings x l (Some k) (b ∷ bs) rest i e h cut more = more bs (let r : below strings x l ≡ bs ++ (i ∷ rest) = cc in r)
 
 match_below : (strings : List (List ℕ)) (x : List ℕ) (b : ℕ) (before rest : List ℕ) (i : ℕ) → b ≤ suc (length x) → below strings x b ≡ before ++ (i ∷ rest) → Matches strings x i
@@ -41,21 +41,21 @@ here strings w i (Some k) is differ at e =
     ([], is, ap (λ n. n ∷ is) same)
 
 found_at : (strings : List (List ℕ)) (x w : List ℕ) (i l : ℕ) (t : Bool) → nat_lt (length w) l ≡ t → AllDiffer strings → slice_get strings i ≡ Some w → starts_with nat_eq x w ≡ true → length w < suc l → (length w < l → StandsIn i (below strings x l)) → StandsIn i (below strings x (suc l))
-found_at strings x w i l true t differ at front short more = later (position (pointwise nat_eq (take l x)) strings) (below strings x l) i (more (ltb-true (length w) l t))
-found_at strings x w i l false t differ at front short more =
+found_at strings x w i l true t differ at prefix short more = later (position (pointwise nat_eq (take l x)) strings) (below strings x l) i (more (ltb-true (length w) l t))
+found_at strings x w i l false t differ at prefix short more =
     let n : l ≤ length w = ltb-false (length w) l t in
     let same : length w ≡ l = omega (arith, n, short) in
-    let text : w ≡ take l x = front_is x w front ∙ ap (λ k. take k x) same in
+    let text : w ≡ take l x = prefix_is x w prefix ∙ ap (λ k. take k x) same in
     here strings w i (position (pointwise nat_eq (take l x)) strings) (below strings x l) differ at (ap (λ v. position (pointwise nat_eq v) strings) (sym text))
 
 found_below : (strings : List (List ℕ)) (x w : List ℕ) (i b : ℕ) → AllDiffer strings → slice_get strings i ≡ Some w → starts_with nat_eq x w ≡ true → length w < b → StandsIn i (below strings x b)
-found_below strings x w i zero differ at front short = absurd (omega (arith, short))
-found_below strings x w i (suc l) differ at front short = found_at strings x w i l (nat_lt (length w) l) refl differ at front short (λ h. found_below strings x w i l differ at front h)
+found_below strings x w i zero differ at prefix short = absurd (omega (arith, short))
+found_below strings x w i (suc l) differ at prefix short = found_at strings x w i l (nat_lt (length w) l) refl differ at prefix short (λ h. found_below strings x w i l differ at prefix h)
 
 pub match_fits : (strings : List (List ℕ)) (x : List ℕ) (i : ℕ) → AllDiffer strings → Matches strings x i → StandsIn i (fitting strings x)
 unfolding fitting
 match_fits strings x i differ m =
-    let short : length m.0 ≤ length x = front_length x m.0 m.2 in
+    let short : length m.0 ≤ length x = prefix_length x m.0 m.2 in
     found_below strings x m.0 i (suc (length x)) differ m.1 m.2 (omega (arith, short))
 
 -- ---- lengths fall

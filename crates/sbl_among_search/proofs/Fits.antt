@@ -20,19 +20,19 @@ same_by_test a b h = (slice_eq-Decides Decides-eqb a b (pointwise nat_eq a b) re
 test_of_same : (a b : List ℕ) → a ≡ b → pointwise nat_eq a b ≡ true
 test_of_same a b h = (slice_eq-Decides Decides-eqb a b (pointwise nat_eq a b) refl).1 h
 
--- a front is what its length takes
-pub front_is : (x w : List ℕ) → starts_with nat_eq x w ≡ true → w ≡ take (length w) x
-front_is x w h = same_by_test w (take (length w) x) h
+-- a prefix is what its length takes
+pub prefix_is : (x w : List ℕ) → starts_with nat_eq x w ≡ true → w ≡ take (length w) x
+prefix_is x w h = same_by_test w (take (length w) x) h
 
-pub front_length : (x w : List ℕ) → starts_with nat_eq x w ≡ true → length w ≤ length x
-front_length x w h = let e : length w ≡ length (take (length w) x) = ap length (front_is x w h) in omega (arith, e, length-take (length w) x)
+pub prefix_length : (x w : List ℕ) → starts_with nat_eq x w ≡ true → length w ≤ length x
+prefix_length x w h = let e : length w ≡ length (take (length w) x) = ap length (prefix_is x w h) in omega (arith, e, length-take (length w) x)
 
 pub taken_length : (l : ℕ) (x : List ℕ) → l ≤ length x → length (take l x) ≡ l
 taken_length l x h = omega (arith, length-take l x)
 
--- what is taken is a front
-pub taken_front : (x w : List ℕ) (l : ℕ) → l ≤ length x → w ≡ take l x → starts_with nat_eq x w ≡ true
-taken_front x w l h e =
+-- what is taken is a prefix
+pub taken_prefix : (x w : List ℕ) (l : ℕ) → l ≤ length x → w ≡ take l x → starts_with nat_eq x w ≡ true
+taken_prefix x w l h e =
     let n : length w ≡ l = ap length e ∙ taken_length l x h in
     test_of_same w (take (length w) x) (e ∙ ap (λ k. take k x) (sym n))
 
@@ -74,24 +74,24 @@ one_length : (strings : List (List ℕ)) (x : List ℕ) (l : ℕ) (p r : Option 
 one_length strings x l None None e h best more = more (λ j v s f. omega (arith, best j v s f))
 one_length strings x l None (Some i) e h best more =
     let w = best.0 in
-    let other : length w ≡ l → ⊥ = λ n. nowhere strings (take l x) i (sym e) (best.1 ∙ ap Some (front_is x w best.2 ∙ ap (λ k. take k x) n)) in
+    let other : length w ≡ l → ⊥ = λ n. nowhere strings (take l x) i (sym e) (best.1 ∙ ap Some (prefix_is x w best.2 ∙ ap (λ k. take k x) n)) in
     let less : length w < l = omega (arith, best.3, other) in
     more (w, best.1, best.2, less, (λ j v s f g. best.4 j v s f (omega (arith, g))), (λ j v k s f g. best.5 j v k s f (omega (arith, g))))
 one_length strings x l (Some k) None e h best more =
     let at : slice_get strings k ≡ Some (take l x) = at_number strings (take l x) k (sym e) in
-    let front : starts_with nat_eq x (take l x) ≡ true = taken_front x (take l x) l h refl in
+    let prefix : starts_with nat_eq x (take l x) ≡ true = taken_prefix x (take l x) l h refl in
     let n : length (take l x) ≡ l = taken_length l x h in
-    absurd (omega (arith, best k (take l x) at front, n))
+    absurd (omega (arith, best k (take l x) at prefix, n))
 one_length strings x l (Some k) (Some i) e h best more =
     let at : slice_get strings k ≡ Some (take l x) = at_number strings (take l x) k (sym e) in
-    let front : starts_with nat_eq x (take l x) ≡ true = taken_front x (take l x) l h refl in
+    let prefix : starts_with nat_eq x (take l x) ≡ true = taken_prefix x (take l x) l h refl in
     let n : length (take l x) ≡ l = taken_length l x h in
     let w = best.0 in
     let small : length (take l x) < suc l = omega (arith, n) in
-    let long : length (take l x) ≤ length w = best.4 k (take l x) at front small in
+    let long : length (take l x) ≤ length w = best.4 k (take l x) at prefix small in
     let same : length w ≡ l = omega (arith, long, n, best.3) in
-    let text : w ≡ take l x = front_is x w best.2 ∙ ap (λ k. take k x) same in
-    let not_after : k < i → ⊥ = λ g. let s : length (take l x) < length w = best.5 k (take l x) g at front small in omega (arith, s, n, same) in
+    let text : w ≡ take l x = prefix_is x w best.2 ∙ ap (λ k. take k x) same in
+    let not_after : k < i → ⊥ = λ g. let s : length (take l x) < length w = best.5 k (take l x) g at prefix small in omega (arith, s, n, same) in
     let not_before : i < k → ⊥ = λ g. no_smaller strings (take l x) k i (sym e) g (best.1 ∙ ap Some text) in
     let is : i ≡ k = omega (arith, not_after, not_before) in
     ap Some is
@@ -136,14 +136,14 @@ pub rest_after : (strings : List (List ℕ)) (x : List ℕ) (before rest : List 
 unfolding fitting
 rest_after strings x before rest i cut = cut_below strings x (suc (length x)) before rest i (omega arith) cut
 
--- the best of all the fronts is the first that fits
+-- the best of all the prefixes is the first that fits
 pub best_fits : (strings : List (List ℕ)) (x : List ℕ) (b : ℕ) (r : Option ℕ) (n : ℕ) → length x ≡ n → b ≡ n + 1 → IsBest strings x b r → r ≡ first (fitting strings x)
 unfolding fitting
 best_fits strings x b r n e d best =
     let s : b ≡ suc (length x) = omega (arith, e, d) in
     best_is_first strings x b r (omega (arith, s)) best ∙ ap (λ k. first (below strings x k)) s
 
--- what follows a string among those that fit, by the best of its own fronts
+-- what follows a string among those that fit, by the best of its own prefixes
 pub best_after : (strings : List (List ℕ)) (x : List ℕ) (before rest : List ℕ) (i : ℕ) (w : List ℕ) (n : ℕ) (r : Option ℕ) → fitting strings x ≡ before ++ (i ∷ rest) → slice_get strings i ≡ Some w → n ≡ length w → IsBest strings w n r → r ≡ first rest
 best_after strings x before rest i w n r cut at len best =
     let p = rest_after strings x before rest i cut in

@@ -1,4 +1,4 @@
--- Strings in the order of their characters, and their fronts.
+-- Strings in the order of their characters, and their prefixes.
 use Rattle.std.proofs.Common.{◌≡◌, ℕ, zero, suc, ◌<◌, ◌≤◌, Bool, true, false, List, [], ◌∷◌, length, take, refl, sym, ap, ◌∙◌, arith, get_or}
 use Rattle.std.specs.Prelude.{nat_eq, nat_lt}
 use Rattle.std.specs.List.{starts_with}
@@ -12,29 +12,29 @@ use Rattle.std.proofs.lemmas.List.{length-take, take_all}
 use Rattle.std.proofs.lemmas.Bool.{ltb-true, ltb-false, eqb-true, eqb-false}
 use Rattle.std.specs.Bool.{MatchBool}
 use Rattle.sbl_among_search.specs.Linked.{IsCommon}
-use Rattle.sbl_among_search.proofs.Fits.{front_is, front_length, taken_front, take_take}
+use Rattle.sbl_among_search.proofs.Fits.{prefix_is, prefix_length, taken_prefix, take_take}
 
 level : (a : ℕ) (r : Ordering) → is_gt (ordering_then (nat_cmp a a) r) ≡ is_gt r
 level a r = ap (λ o. is_gt (ordering_then o r)) (tied_itself nat_cmp_total a)
 
--- a front does not stand after what it is a front of
+-- a prefix does not stand after what it is a prefix of
 take_upto : (n : ℕ) (x : List ℕ) → is_gt (slice_cmp nat_cmp (take n x) x) ≡ false
 take_upto zero [] = refl
 take_upto zero (a ∷ x) = refl
 take_upto (suc n) [] = refl
 take_upto (suc n) (a ∷ x) = level a (slice_cmp nat_cmp (take n x) x) ∙ take_upto n x
 
-pub front_upto : (x f : List ℕ) → starts_with nat_eq x f ≡ true → is_gt (slice_cmp nat_cmp f x) ≡ false
-front_upto x f h = ap (λ t. is_gt (slice_cmp nat_cmp t x)) (front_is x f h) ∙ take_upto (length f) x
+pub prefix_upto : (x f : List ℕ) → starts_with nat_eq x f ≡ true → is_gt (slice_cmp nat_cmp f x) ≡ false
+prefix_upto x f h = ap (λ t. is_gt (slice_cmp nat_cmp t x)) (prefix_is x f h) ∙ take_upto (length f) x
 
--- and a string stands after its shorter fronts
+-- and a string stands after its shorter prefixes
 take_after : (n : ℕ) (x : List ℕ) → n < length x → is_gt (slice_cmp nat_cmp x (take n x)) ≡ true
 take_after n [] h = absurd (omega arith)
 take_after zero (a ∷ x) h = refl
 take_after (suc n) (a ∷ x) h = level a (slice_cmp nat_cmp x (take n x)) ∙ take_after n x (omega arith)
 
-pub after_front : (x f : List ℕ) → starts_with nat_eq x f ≡ true → length f < length x → is_gt (slice_cmp nat_cmp x f) ≡ true
-after_front x f h l = ap (λ t. is_gt (slice_cmp nat_cmp x t)) (front_is x f h) ∙ take_after (length f) x l
+pub prefix_not_after : (x f : List ℕ) → starts_with nat_eq x f ≡ true → length f < length x → is_gt (slice_cmp nat_cmp x f) ≡ true
+prefix_not_after x f h l = ap (λ t. is_gt (slice_cmp nat_cmp x t)) (prefix_is x f h) ∙ take_after (length f) x l
 
 pub true_or_false : (b : Bool) → b ≡ true → b ≡ false → ⊥
 true_or_false b p q = let e : true ≡ false = sym p ∙ q in cc
@@ -44,7 +44,7 @@ upto_first a b Less r e h = let l : a < b = ranked a b Less e in omega arith
 upto_first a b Equal r e h = let l : a ≡ b = ranked a b Equal e in omega arith
 upto_first a b Greater r e h = absurd (true_or_false true refl h)
 
--- what stands between a front of x and x has that front too
+-- what stands between a prefix of x and x has that prefix too
 take_between : (n : ℕ) (x p : List ℕ) → n ≤ length x → is_gt (slice_cmp nat_cmp (take n x) p) ≡ false → is_gt (slice_cmp nat_cmp p x) ≡ false → take n x ≡ take n p
 take_between zero x p l h k = refl
 take_between (suc n) [] p l h k = absurd (omega arith)
@@ -60,25 +60,25 @@ take_between (suc n) (a ∷ x) (b ∷ p) l h k =
 pub between : (x f p : List ℕ) → starts_with nat_eq x f ≡ true → is_gt (slice_cmp nat_cmp f p) ≡ false → is_gt (slice_cmp nat_cmp p x) ≡ false → starts_with nat_eq p f ≡ true
 between x f p h lower upper =
     let n = length f in
-    let l : n ≤ length x = front_length x f h in
-    let is : f ≡ take n x = front_is x f h in
+    let l : n ≤ length x = prefix_length x f h in
+    let is : f ≡ take n x = prefix_is x f h in
     let both : take n x ≡ take n p = take_between n x p l (ap (λ t. is_gt (slice_cmp nat_cmp t p)) (sym is) ∙ lower) upper in
     let e : f ≡ take n p = is ∙ both in
     let long : n ≤ length p = let m : length f ≡ length (take n p) = ap length e in omega (arith, m, length-take n p) in
-    taken_front p f n long e
+    taken_prefix p f n long e
 
--- of two fronts the shorter is a front of the longer
+-- of two prefixes the shorter is a prefix of the longer
 pub nested : (x f g : List ℕ) → starts_with nat_eq x f ≡ true → starts_with nat_eq x g ≡ true → length f ≤ length g → starts_with nat_eq g f ≡ true
 nested x f g h k l =
-    let e : f ≡ take (length f) g = front_is x f h ∙ sym (take_take (length f) (length g) x l) ∙ ap (take (length f)) (sym (front_is x g k)) in
-    taken_front g f (length f) l e
+    let e : f ≡ take (length f) g = prefix_is x f h ∙ sym (take_take (length f) (length g) x l) ∙ ap (take (length f)) (sym (prefix_is x g k)) in
+    taken_prefix g f (length f) l e
 
--- fronts of one length are the same
-pub same_front : (x f g : List ℕ) → starts_with nat_eq x f ≡ true → starts_with nat_eq x g ≡ true → length f ≡ length g → f ≡ g
-same_front x f g h k n = front_is x f h ∙ ap (λ l. take l x) n ∙ sym (front_is x g k)
+-- prefixes of one length are the same
+pub same_prefix : (x f g : List ℕ) → starts_with nat_eq x f ≡ true → starts_with nat_eq x g ≡ true → length f ≡ length g → f ≡ g
+same_prefix x f g h k n = prefix_is x f h ∙ ap (λ l. take l x) n ∙ sym (prefix_is x g k)
 
 pub itself : (x : List ℕ) → starts_with nat_eq x x ≡ true
-itself x = taken_front x x (length x) (omega arith) (sym (take_whole x))
+itself x = taken_prefix x x (length x) (omega arith) (sym (take_whole x))
   where
     take_whole : (x : List ℕ) → take (length x) x ≡ x
     take_whole [] = refl
@@ -121,15 +121,15 @@ get_or_take n (suc l) [] h = refl
 get_or_take zero (suc l) (a ∷ x) h = refl
 get_or_take (suc n) (suc l) (a ∷ x) h = get_or_take n l x (omega arith)
 
-pub front_or : (x t : List ℕ) (n below : ℕ) (b : Bool) → IsCommon x t n → length t < below → nat_eq n (length t) ≡ b → MatchBool b ((starts_with nat_eq x t ≡ true) × (length t < below)) (starts_with nat_eq x t ≡ true → below ≤ length t)
-front_or x t n below true common l e =
+pub prefix_or : (x t : List ℕ) (n below : ℕ) (b : Bool) → IsCommon x t n → length t < below → nat_eq n (length t) ≡ b → MatchBool b ((starts_with nat_eq x t ≡ true) × (length t < below)) (starts_with nat_eq x t ≡ true → below ≤ length t)
+prefix_or x t n below true common l e =
     let same : n ≡ length t = eqb-true n (length t) e in
     let is : t ≡ take n x = sym (take_all n t (omega (arith, same))) ∙ sym common.same in
-    (taken_front x t n common.in_x is, l)
-front_or x t n below false common l e = λ front.
+    (taken_prefix x t n common.in_x is, l)
+prefix_or x t n below false common l e = λ prefix.
     let other : n ≡ length t → ⊥ = eqb-false n (length t) e in
     let k : n < length t = omega (arith, common.in_text, other) in
-    let h : n < length x = omega (arith, k, front_length x t front) in
-    let is : t ≡ take (length t) x = front_is x t front in
+    let h : n < length x = omega (arith, k, prefix_length x t prefix) in
+    let is : t ≡ take (length t) x = prefix_is x t prefix in
     let reads : get_or x n 0 ≡ get_or t n 0 = sym (get_or_take n (length t) x k) ∙ ap (λ y. get_or y n 0) (sym is) in
     absurd (common.apart h k reads)

@@ -38,7 +38,7 @@ within [] v j e = let no : ⊥ = (let k : None ≡ Some v = e in cc) in absurd n
 within (s ∷ ss) v zero e = omega arith
 within (s ∷ ss) v (suc j) e = omega (arith, within ss v j e)
 
--- a string that is no front, or is too long, or no longer than the best
+-- a string that is no prefix, or is too long, or no longer than the best
 pub best_kept : (ss : List (List ℕ)) (x : List ℕ) (b : ℕ) (best : Option ℕ) (least : ℕ) (w : List ℕ) → BestSoFar ss x b best least → (starts_with nat_eq x w ≡ true → length w < b → length w < least) → BestSoFar (ss ++ (w ∷ [])) x b best least
 best_kept ss x b None least w s few =
     record {
@@ -88,15 +88,15 @@ smaller_than ss x b (Some i) least w s short long j v e f q =
     let m : length v ≤ length old.0 = old.4 j v e f q in
     omega (arith, l, m, long)
 
--- a longer front
+-- a longer prefix
 pub best_taken : (ss : List (List ℕ)) (x : List ℕ) (b : ℕ) (best : Option ℕ) (least : ℕ) (w : List ℕ) → BestSoFar ss x b best least → starts_with nat_eq x w ≡ true → length w < b → least ≤ length w → BestSoFar (ss ++ (w ∷ [])) x b (Some (length ss)) (suc (length w))
-best_taken ss x b best least w s front short long =
+best_taken ss x b best least w s prefix short long =
     let smaller : (j : ℕ) (v : List ℕ) → slice_get ss j ≡ Some v → starts_with nat_eq x v ≡ true → length v < b → length v < length w = smaller_than ss x b best least w s short long in
     record {
       is_best = (
         w,
         at_end ss w,
-        front,
+        prefix,
         short,
         (λ j v e f q. elim (in_more ss w v j e) [ inl h ↦ (let m : length v < length w = smaller j v h f q in omega (arith, m)) | inr h ↦ (let n : length v ≡ length w = ap length h.1 in omega (arith, n)) ]),
         (λ j v k e f q. elim (in_more ss w v j e) [ inl h ↦ smaller j v h f q | inr h ↦ absurd (omega (arith, h.0, k)) ]),

@@ -30,13 +30,13 @@ own_more ns i own n k l =
     let whole : length (ns ++ (i ∷ [])) ≡ length ns + 1 = length-append ns (i ∷ []) in
     own_at ns i k (nat_lt k i) own n refl (omega (arith, l, whole, n))
 
--- the row behind a part of it
-behind : {X : Type 0} (f : Row → X) (o : Option Row) (u : X) → option_map f o ≡ Some u → (r : Row) × (o ≡ Some r) × (f r ≡ u)
-behind f None u e = let no : ⊥ = cc in absurd no
-behind f (Some r) u e = (r, refl, let same : f r ≡ u = cc in same)
+-- the row from a part of it
+following : {X : Type 0} (f : Row → X) (o : Option Row) (u : X) → option_map f o ≡ Some u → (r : Row) × (o ≡ Some r) × (f r ≡ u)
+following f None u e = let no : ⊥ = cc in absurd no
+following f (Some r) u e = (r, refl, let same : f r ≡ u = cc in same)
 
 pub row_at : {X : Type 0} (f : Row → X) (rows : List Row) (k : ℕ) (u : X) → slice_get (map f rows) k ≡ Some u → (r : Row) × (slice_get rows k ≡ Some r) × (f r ≡ u)
-row_at f rows k u e = behind f (slice_get rows k) u (sym (slice_get-map f rows k) ∙ e)
+row_at f rows k u e = following f (slice_get rows k) u (sym (slice_get-map f rows k) ∙ e)
 
 pub part_at : {X : Type 0} (f : Row → X) (rows : List Row) (k : ℕ) (r : Row) → slice_get rows k ≡ Some r → slice_get (map f rows) k ≡ Some (f r)
 part_at f rows k r e = slice_get-map f rows k ∙ ap (option_map f) e
@@ -132,6 +132,6 @@ by_answer : (b : Bool) → (b ≡ false → ⊥) → b ≡ true
 by_answer true f = refl
 by_answer false f = absurd (f refl)
 
-pub behind_middle : (texts : List (List ℕ)) (x w : List ℕ) (m : ℕ) → Rise texts → slice_get texts m ≡ Some w → is_gt (slice_cmp nat_cmp w x) ≡ true → (j : ℕ) (v : List ℕ) → m ≤ j → slice_get texts j ≡ Some v → is_gt (slice_cmp nat_cmp v x) ≡ true
-behind_middle texts x w m rise at after j v l s =
+pub after_middle : (texts : List (List ℕ)) (x w : List ℕ) (m : ℕ) → Rise texts → slice_get texts m ≡ Some w → is_gt (slice_cmp nat_cmp w x) ≡ true → (j : ℕ) (v : List ℕ) → m ≤ j → slice_get texts j ≡ Some v → is_gt (slice_cmp nat_cmp v x) ≡ true
+after_middle texts x w m rise at after j v l s =
     by_answer (is_gt (slice_cmp nat_cmp v x)) (λ h. true_or_false _ after (upto nat_list_cmp_total w v x (rise m j w v l at s) h))

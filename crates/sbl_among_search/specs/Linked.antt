@@ -58,7 +58,7 @@ GoDown links = (r q : ℕ) → slice_get links r ≡ Some (Some q) → q < r
 pub record IsCount (texts : List (List ℕ)) (x : List ℕ) (n : ℕ) : Type 0 where
   pub inside : n ≤ length texts
   pub before : (j : ℕ) (v : List ℕ) → j < n → slice_get texts j ≡ Some v → is_gt (slice_cmp nat_cmp v x) ≡ false
-  pub behind : (j : ℕ) (v : List ℕ) → n ≤ j → slice_get texts j ≡ Some v → is_gt (slice_cmp nat_cmp v x) ≡ true
+  pub following : (j : ℕ) (v : List ℕ) → n ≤ j → slice_get texts j ≡ Some v → is_gt (slice_cmp nat_cmp v x) ≡ true
 
 -- n is the length of the common prefix of two strings
 pub record IsCommon (x text : List ℕ) (n : ℕ) : Type 0 where

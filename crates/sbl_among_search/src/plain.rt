@@ -47,7 +47,7 @@ fn better(
     if string.len() >= below {
         return best;
     }
-    if !is_front(direction, part, string) {
+    if !is_prefix(direction, part, string) {
         return best;
     }
     (Some(i), string.len() + 1)
@@ -118,7 +118,7 @@ pub fn ahead(direction: Mode, text: &[char], at: usize, bound: usize) -> &[char]
 }
 
 // Returns whether the string is a prefix of `part` (forward mode) or a suffix of `part` (backward mode).
-fn is_front(direction: Mode, part: &[char], string: &[char]) -> bool
+fn is_prefix(direction: Mode, part: &[char], string: &[char]) -> bool
     ensures { result ≡ starts_with nat_eq (read_as direction part.now) (read_as direction string.now) }
 {
     match direction {

@@ -1,4 +1,4 @@
--- The among with a number, part by part: those of a part come before those behind it.
+-- The among with a number, part by part: those of a part come before those after it.
 use Rattle.std.proofs.Common.{◌≡◌, ℕ, zero, suc, ◌+◌, ◌-◌, Bool, true, false, nat_eq, List, [], ◌∷◌, Some, None, if◌then◌else◌, refl, sym, ap, ◌∙◌, arith}
 use Rattle.std.proofs.lemmas.Bool.{ne_eqb}
 use Rattle.sbl_token.specs.Lexemes as lex
@@ -9,7 +9,7 @@ use Rattle.sbl_ast.specs.Counts.{count_amongs, count_in_rows, count_in_others, c
 use Rattle.sbl_amongs.specs.Amongs.{FitsAt, AmongContents, amongs, amongs_of_rows, amongs_of_others, amongs_of_starter, amongs_of_groups, amongs_of_body, nth_held, put_among, put_in_rows, put_in_others, put_in_starter, put_in_groups, put_in_body}
 use Rattle.sbl_ast.specs.Places.{placed_command, placed_rows, placed_others, placed_starter, placed_groups, placed_entry, placed_entries, placed_expression, AreShallow}
 use Rattle.sbl_ast.specs.Texts.{body, places_in}
-use Rattle.sbl_ast.proofs.Behind.{by_itself, behind_it, with_behind, entry_before, entries_before, expression_before, tree_before, rows_before, others_before, starter_before, groups_before}
+use Rattle.sbl_ast.proofs.After.{by_itself, after_it, with_after, entry_before, entries_before, expression_before, tree_before, rows_before, others_before, starter_before, groups_before}
 
 abbrev Hs : Type 0
 Hs = List AmongContents
@@ -20,7 +20,7 @@ pub none_is_first : (hs : Hs) → nth_held 0 hs ≡ None
 none_is_first [] = refl
 none_is_first (h ∷ hs) = none_is_first hs
 
--- the one with a number behind those that are so many
+-- the one with a number after those that are so many
 abbrev pub Counts : ℕ → (Hs → Hs) → Type 0
 Counts n part = (rest : Hs) (k : ℕ) → nth_held (n + (1 + k)) (part rest) ≡ nth_held (1 + k) rest
 
@@ -84,9 +84,9 @@ mutual
 
 -- ---- another in the place of the one with a number
 
--- what fits behind a part
-fits_behind : (n : ℕ) (part : Hs → Hs) → Counts n part → (k : ℕ) (rest : Hs) (a : Starter × Groups) → FitsAt k (part rest) a → FitsAt (k - n) rest a
-fits_behind n part counts k rest a fits h is = go (k - n) refl is where
+-- what fits after a part
+fits_after : (n : ℕ) (part : Hs → Hs) → Counts n part → (k : ℕ) (rest : Hs) (a : Starter × Groups) → FitsAt k (part rest) a → FitsAt (k - n) rest a
+fits_after n part counts k rest a fits h is = go (k - n) refl is where
   go : (m : ℕ) → k - n ≡ m → nth_held m rest ≡ Some h → AreShallow (placed_command (among_ a.0 a.1) h.0 [])
   go zero e there = let never : None ≡ Some h = sym (none_is_first rest) ∙ there in absurd cc
   go (suc m) e there = fits h (ap (λ (x : ℕ). nth_held x (part rest)) (omega (arith, e)) ∙ counts rest m ∙ next_is rest m ∙ there)
@@ -107,12 +107,12 @@ chosen_put s gs d k rest a h fits starts groups = go (nat_eq k 1) refl where
       let inside = fits_inside k (d, s, gs) (amongs_of_starter s d (amongs_of_groups gs d rest)) a e fits in
       let g1 = placed_groups (put_in_groups gs (k - 1 - count_in_starter s) a) d in
       let s1 = placed_starter (put_in_starter s (k - 1) a) d in
-      let tail = behind_it (placed_starter s d) (starter_before s d) (placed_groups gs d close) h.1.1 in (
+      let tail = after_it (placed_starter s d) (starter_before s d) (placed_groups gs d close) h.1.1 in (
         h.0,
         (
           h.1.0,
-          with_behind s1 (starter_before (put_in_starter s (k - 1) a) d) (g1 close) (starts inside)
-              (with_behind g1 (groups_before (put_in_groups gs (k - 1 - count_in_starter s) a) d) close (groups inside) (behind_it (placed_groups gs d) (groups_before gs d) close tail)),
+          with_after s1 (starter_before (put_in_starter s (k - 1) a) d) (g1 close) (starts inside)
+              (with_after g1 (groups_before (put_in_groups gs (k - 1 - count_in_starter s) a) d) close (groups inside) (after_it (placed_groups gs d) (groups_before gs d) close tail)),
         ),
       )
 
@@ -120,7 +120,7 @@ mutual
   pub tree_put : (c : Command) (d k : ℕ) (rest : Hs) (a : Starter × Groups) → AreShallow (placed_command c d []) → FitsAt k (amongs c d rest) a → AreShallow (placed_command (put_among c k a) d [])
   tree_put (bracket rs) d k rest a h fits =
       let close = (lex.sign signs.Close, d) ∷ [] in
-      (h.0, with_behind (placed_rows (put_in_rows rs k a) (d + 1)) (rows_before (put_in_rows rs k a) (d + 1)) close (rows_put rs (d + 1) k rest a (by_itself (placed_rows rs (d + 1)) (rows_before rs (d + 1)) close h.1) fits) (behind_it (placed_rows rs (d + 1)) (rows_before rs (d + 1)) close h.1))
+      (h.0, with_after (placed_rows (put_in_rows rs k a) (d + 1)) (rows_before (put_in_rows rs k a) (d + 1)) close (rows_put rs (d + 1) k rest a (by_itself (placed_rows rs (d + 1)) (rows_before rs (d + 1)) close h.1) fits) (after_it (placed_rows rs (d + 1)) (rows_before rs (d + 1)) close h.1))
   tree_put (simple_ x) d k rest a h fits = h
   tree_put (literal_ x) d k rest a h fits = h
   tree_put (name_ x) d k rest a h fits = h
@@ -128,17 +128,17 @@ mutual
   tree_put (prefixed p c) d k rest a h fits = (h.0, tree_put c (d + 1) k rest a h.1 fits)
   tree_put (counted n e c) d k rest a h fits =
       let whole = placed_command c (d + 1) [] in
-      (h.0, with_behind (placed_expression e d) (expression_before e d) (placed_command (put_among c k a) (d + 1) []) (by_itself (placed_expression e d) (expression_before e d) whole h.1) (tree_put c (d + 1) k rest a (behind_it (placed_expression e d) (expression_before e d) whole h.1) fits))
+      (h.0, with_after (placed_expression e d) (expression_before e d) (placed_command (put_among c k a) (d + 1) []) (by_itself (placed_expression e d) (expression_before e d) whole h.1) (tree_put c (d + 1) k rest a (after_it (placed_expression e d) (expression_before e d) whole h.1) fits))
   tree_put (move_ x y) d k rest a h fits = h
   tree_put (named x y) d k rest a h fits = h
   tree_put (splice_ x y) d k rest a h fits = h
   tree_put (setlimit_ b c) d k rest a h fits =
       let m = k - count_amongs b in
       let left = (lex.word words.For, d) ∷ placed_command c (d + 1) [] in
-      let tail = behind_it (placed_command b (d + 1)) (tree_before b (d + 1)) left h.1 in
-      let second = tree_put c (d + 1) m rest a tail.1 (fits_behind (count_amongs b) (λ r. amongs b (d + 1) r) (tree_counts b (d + 1)) k (amongs c (d + 1) rest) a fits) in
+      let tail = after_it (placed_command b (d + 1)) (tree_before b (d + 1)) left h.1 in
+      let second = tree_put c (d + 1) m rest a tail.1 (fits_after (count_amongs b) (λ r. amongs b (d + 1) r) (tree_counts b (d + 1)) k (amongs c (d + 1) rest) a fits) in
       let first = tree_put b (d + 1) k (amongs c (d + 1) rest) a (by_itself (placed_command b (d + 1)) (tree_before b (d + 1)) left h.1) fits in
-      (h.0, with_behind (placed_command (put_among b k a) (d + 1)) (tree_before (put_among b k a) (d + 1)) ((lex.word words.For, d) ∷ placed_command (put_among c m a) (d + 1) []) first (tail.0, second))
+      (h.0, with_after (placed_command (put_among b k a) (d + 1)) (tree_before (put_among b k a) (d + 1)) ((lex.word words.For, d) ∷ placed_command (put_among c m a) (d + 1) []) first (tail.0, second))
   tree_put (assign_ x y z) d k rest a h fits = h
   tree_put (compare_ x y z) d k rest a h fits = h
   tree_put (compare_values_ x y z) d k rest a h fits = h
@@ -146,9 +146,9 @@ mutual
       let close = (lex.sign signs.Close, d) ∷ [] in
       let g0 = placed_groups gs d in
       let s0 = placed_starter s d in
-      let tail = behind_it s0 (starter_before s d) (g0 close) h.1.1 in
+      let tail = after_it s0 (starter_before s d) (g0 close) h.1.1 in
       chosen_put s gs d k rest a h fits (λ inside. starter_put s d (k - 1) (amongs_of_groups gs d rest) a (by_itself s0 (starter_before s d) (g0 close) h.1.1) inside)
-      (λ inside. groups_put gs d (k - 1 - count_in_starter s) rest a (by_itself g0 (groups_before gs d) close tail) (fits_behind (count_in_starter s) (λ r. amongs_of_starter s d r) (starter_counts s d) (k - 1) (amongs_of_groups gs d rest) a inside))
+      (λ inside. groups_put gs d (k - 1 - count_in_starter s) rest a (by_itself g0 (groups_before gs d) close tail) (fits_after (count_in_starter s) (λ r. amongs_of_starter s d r) (starter_counts s d) (k - 1) (amongs_of_groups gs d rest) a inside))
 
   pub rows_put : (rs : Rows) (d k : ℕ) (rest : Hs) (a : Starter × Groups) → AreShallow (placed_rows rs d []) → FitsAt k (amongs_of_rows rs d rest) a → AreShallow (placed_rows (put_in_rows rs k a) d [])
   rows_put no_rows d k rest a h fits = h
@@ -157,14 +157,14 @@ mutual
       let n = m - count_in_others os in
       let more = placed_rows rs d [] in
       let inner = amongs_of_others os d (amongs_of_rows rs d rest) in
-      let tail = behind_it (placed_command c d) (tree_before c d) (placed_others os d more) h in
+      let tail = after_it (placed_command c d) (tree_before c d) (placed_others os d more) h in
       let first = tree_put c d k inner a (by_itself (placed_command c d) (tree_before c d) (placed_others os d more) h) fits in
-      let after = fits_behind (count_amongs c) (λ r. amongs c d r) (tree_counts c d) k inner a fits in
+      let after = fits_after (count_amongs c) (λ r. amongs c d r) (tree_counts c d) k inner a fits in
       let second = others_put os d m (amongs_of_rows rs d rest) a (by_itself (placed_others os d) (others_before os d) more tail) after in
-      let third = rows_put rs d n rest a (behind_it (placed_others os d) (others_before os d) more tail) (fits_behind (count_in_others os) (λ r. amongs_of_others os d r) (others_count os d) m (amongs_of_rows rs d rest) a after) in
+      let third = rows_put rs d n rest a (after_it (placed_others os d) (others_before os d) more tail) (fits_after (count_in_others os) (λ r. amongs_of_others os d r) (others_count os d) m (amongs_of_rows rs d rest) a after) in
       let next = put_in_rows rs n a in
       let others = put_in_others os m a in
-      with_behind (placed_command (put_among c k a) d) (tree_before (put_among c k a) d) (placed_others others d (placed_rows next d [])) first (with_behind (placed_others others d) (others_before others d) (placed_rows next d []) second third)
+      with_after (placed_command (put_among c k a) d) (tree_before (put_among c k a) d) (placed_others others d (placed_rows next d [])) first (with_after (placed_others others d) (others_before others d) (placed_rows next d []) second third)
 
   pub others_put : (os : Others) (d k : ℕ) (rest : Hs) (a : Starter × Groups) → AreShallow (placed_others os d []) → FitsAt k (amongs_of_others os d rest) a → AreShallow (placed_others (put_in_others os k a) d [])
   others_put no_others d k rest a h fits = h
@@ -172,8 +172,8 @@ mutual
       let m = k - count_amongs c in
       let more = placed_others os d [] in
       let first = tree_put c d k (amongs_of_others os d rest) a (by_itself (placed_command c d) (tree_before c d) more h.1) fits in
-      let second = others_put os d m rest a (behind_it (placed_command c d) (tree_before c d) more h.1) (fits_behind (count_amongs c) (λ r. amongs c d r) (tree_counts c d) k (amongs_of_others os d rest) a fits) in
-      (h.0, with_behind (placed_command (put_among c k a) d) (tree_before (put_among c k a) d) (placed_others (put_in_others os m a) d []) first second)
+      let second = others_put os d m rest a (after_it (placed_command c d) (tree_before c d) more h.1) (fits_after (count_amongs c) (λ r. amongs c d r) (tree_counts c d) k (amongs_of_others os d rest) a fits) in
+      (h.0, with_after (placed_command (put_among c k a) d) (tree_before (put_among c k a) d) (placed_others (put_in_others os m a) d []) first second)
 
   pub starter_put : (s : Starter) (d k : ℕ) (rest : Hs) (a : Starter × Groups) → AreShallow (placed_starter s d []) → FitsAt k (amongs_of_starter s d rest) a → AreShallow (placed_starter (put_in_starter s k a) d [])
   starter_put no_starter d k rest a h fits = h
@@ -181,7 +181,7 @@ mutual
       let close = (lex.sign signs.Close, d + 1) ∷ [] in
       let old = placed_rows rs (d + 1 + 1) in
       let new = placed_rows (put_in_rows rs k a) (d + 1 + 1) in
-      (h.0, with_behind new (rows_before (put_in_rows rs k a) (d + 1 + 1)) close (rows_put rs (d + 1 + 1) k rest a (by_itself old (rows_before rs (d + 1 + 1)) close h.1) fits) (behind_it old (rows_before rs (d + 1 + 1)) close h.1))
+      (h.0, with_after new (rows_before (put_in_rows rs k a) (d + 1 + 1)) close (rows_put rs (d + 1 + 1) k rest a (by_itself old (rows_before rs (d + 1 + 1)) close h.1) fits) (after_it old (rows_before rs (d + 1 + 1)) close h.1))
 
   pub groups_put : (gs : Groups) (d k : ℕ) (rest : Hs) (a : Starter × Groups) → AreShallow (placed_groups gs d []) → FitsAt k (amongs_of_groups gs d rest) a → AreShallow (placed_groups (put_in_groups gs k a) d [])
   groups_put (bare es) d k rest a h fits = h
@@ -192,15 +192,15 @@ mutual
       let next = put_in_groups gs m a in
       let more = (lex.sign signs.Close, d + 1) ∷ placed_groups gs d [] in
       let bracketed_ = (lex.sign signs.Open, d + 1) ∷ old more in
-      let strings = behind_it (placed_entry e d) (entry_before e d) (placed_entries es d bracketed_) h in
-      let inner = behind_it (placed_entries es d) (entries_before es d) bracketed_ strings in
-      let tail = behind_it old (rows_before rs (d + 1 + 1)) more inner.1 in
+      let strings = after_it (placed_entry e d) (entry_before e d) (placed_entries es d bracketed_) h in
+      let inner = after_it (placed_entries es d) (entries_before es d) bracketed_ strings in
+      let tail = after_it old (rows_before rs (d + 1 + 1)) more inner.1 in
       let first = rows_put rs (d + 1 + 1) k (amongs_of_groups gs d rest) a (by_itself old (rows_before rs (d + 1 + 1)) more inner.1) fits in
-      let second = groups_put gs d m rest a tail.1 (fits_behind (count_in_rows rs) (λ r. amongs_of_rows rs (d + 1 + 1) r) (rows_count rs (d + 1 + 1)) k (amongs_of_groups gs d rest) a fits) in
+      let second = groups_put gs d m rest a tail.1 (fits_after (count_in_rows rs) (λ r. amongs_of_rows rs (d + 1 + 1) r) (rows_count rs (d + 1 + 1)) k (amongs_of_groups gs d rest) a fits) in
       let now = (lex.sign signs.Open, d + 1) ∷ new ((lex.sign signs.Close, d + 1) ∷ placed_groups next d []) in
-      let whole : AreShallow now = (inner.0, with_behind new (rows_before (put_in_rows rs k a) (d + 1 + 1)) ((lex.sign signs.Close, d + 1) ∷ placed_groups next d []) first (tail.0, second)) in
-      with_behind (placed_entry e d) (entry_before e d) (placed_entries es d now) (by_itself (placed_entry e d) (entry_before e d) (placed_entries es d bracketed_) h)
-      (with_behind (placed_entries es d) (entries_before es d) now (by_itself (placed_entries es d) (entries_before es d) bracketed_ strings) whole)
+      let whole : AreShallow now = (inner.0, with_after new (rows_before (put_in_rows rs k a) (d + 1 + 1)) ((lex.sign signs.Close, d + 1) ∷ placed_groups next d []) first (tail.0, second)) in
+      with_after (placed_entry e d) (entry_before e d) (placed_entries es d now) (by_itself (placed_entry e d) (entry_before e d) (placed_entries es d bracketed_) h)
+      (with_after (placed_entries es d) (entries_before es d) now (by_itself (placed_entries es d) (entries_before es d) bracketed_ strings) whole)
 
 -- a routine's body with another among that is shallow where the old one is
 pub body_put : (b : Command × Others) (k : ℕ) (a : Starter × Groups) → AreShallow (places_in body b) → FitsAt k (amongs_of_body b) a → AreShallow (places_in body (put_in_body b k a))
@@ -208,5 +208,5 @@ body_put b k a h fits =
     let m = k - count_amongs b.0 in
     let more = placed_others b.1 1 [] in
     let first = tree_put b.0 1 k (amongs_of_others b.1 1 []) a (by_itself (placed_command b.0 1) (tree_before b.0 1) more h) fits in
-    let second = others_put b.1 1 m [] a (behind_it (placed_command b.0 1) (tree_before b.0 1) more h) (fits_behind (count_amongs b.0) (λ r. amongs b.0 1 r) (tree_counts b.0 1) k (amongs_of_others b.1 1 []) a fits) in
-    with_behind (placed_command (put_among b.0 k a) 1) (tree_before (put_among b.0 k a) 1) (placed_others (put_in_others b.1 m a) 1 []) first second
+    let second = others_put b.1 1 m [] a (after_it (placed_command b.0 1) (tree_before b.0 1) more h) (fits_after (count_amongs b.0) (λ r. amongs b.0 1 r) (tree_counts b.0 1) k (amongs_of_others b.1 1 []) a fits) in
+    with_after (placed_command (put_among b.0 k a) 1) (tree_before (put_among b.0 k a) 1) (placed_others (put_in_others b.1 m a) 1 []) first second

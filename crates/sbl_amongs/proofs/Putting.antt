@@ -55,8 +55,8 @@ pub less_three : (k a b c : ℕ) → k - (a + (b + c)) ≡ k - a - b - c
 less_three k a b c = omega arith
 
 -- the first of what is left, and where nothing is
-pub at_front : {X Y : Type 0} (f : X → Y) (xs ds : List X) (i : ℕ) (x : X) → ds ≡ xs → i < length ds → x ≡ get_or ds i x → map f (drop i xs) ≡ f x ∷ map f (drop (i + 1) xs)
-at_front f xs ds i x d lt e = ap (λ r. map f (drop i r)) (sym d) ∙ ap (map f) (drop_more ds i x lt) ∙ ap (λ y. f y ∷ map f (drop (i + 1) ds)) (sym e) ∙ ap (λ r. f x ∷ map f (drop (i + 1) r)) d
+pub at_prefix : {X Y : Type 0} (f : X → Y) (xs ds : List X) (i : ℕ) (x : X) → ds ≡ xs → i < length ds → x ≡ get_or ds i x → map f (drop i xs) ≡ f x ∷ map f (drop (i + 1) xs)
+at_prefix f xs ds i x d lt e = ap (λ r. map f (drop i r)) (sym d) ∙ ap (map f) (drop_more ds i x lt) ∙ ap (λ y. f y ∷ map f (drop (i + 1) ds)) (sym e) ∙ ap (λ r. f x ∷ map f (drop (i + 1) r)) d
 
 pub at_end : {X Y : Type 0} (f : X → Y) (xs ds : List X) (i : ℕ) → ds ≡ xs → length ds ≤ i → map f (drop i xs) ≡ []
 at_end f xs ds i d le = ap (λ r. map f (drop i r)) (sym d) ∙ ap (map f) (drop_of_length-le ds le)
@@ -96,9 +96,9 @@ pub groups_left : (x : GroupView) (whole left : List GroupView) (es : List trees
 groups_left x whole left es all rest after k w h =
     ap (λ (m : ℕ). m - count_in_groups (groups_of left es)) k ∙ sym (less_two rest (count_in_rows x.rows) (count_in_groups (groups_of left es))) ∙ ap (λ (r : List GroupView). rest - count_in_groups (groups_of r es)) (sym w) ∙ h
 
--- an among that is not the first is looked for inside: behind the starter, in the groups
-pub among_left : (at inside behind rest s gs : ℕ) → inside ≡ at - 1 → behind ≡ inside - s → rest ≡ behind - gs → rest ≡ at - (1 + (s + gs))
-among_left at inside behind rest s gs a b c = omega arith
+-- an among that is not the first is looked for inside: after the starter, in the groups
+pub among_left : (at inside following rest s gs : ℕ) → inside ≡ at - 1 → following ≡ inside - s → rest ≡ following - gs → rest ≡ at - (1 + (s + gs))
+among_left at inside following rest s gs a b c = omega arith
 
 -- where no more is left
 pub rows_done : (copies whole : List RowView) (all : trees.Rows) (rest : ℕ) (a : trees.Starter × trees.Groups) → whole ≡ [] → then_rows copies (put_in_rows (rows_of whole) rest a) ≡ all → rows_of copies ≡ all
@@ -116,12 +116,12 @@ grouped x es rs = record { first = x; others = es; rows = rs }
 pub same_group : (x y : trees.Entry) (es fs : List trees.Entry) (rs qs : trees.Rows) → x ≡ y → es ≡ fs → rs ≡ qs → grouped x es rs ≡ grouped y fs qs
 same_group x y es fs rs qs a b c = ap (λ z. grouped z es rs) a ∙ ap (λ z. grouped y z rs) b ∙ ap (λ z. grouped y fs z) c
 
-pub among_put : (at inside behind : ℕ) (one : trees.Starter × trees.Groups) (s0 s1 : trees.Starter) (g0 g1 : trees.Groups) (a : trees.Starter × trees.Groups) → nat_eq at 1 ≡ false → one ≡ (s0, g0) → inside ≡ at - 1 → behind ≡ inside - count_in_starter s0
-    → s1 ≡ put_in_starter s0 inside a → g1 ≡ put_in_groups g0 behind a → (s1, g1) ≡ put_in_among one at a
-among_put at inside behind one s0 s1 g0 g1 a ne is i b s g =
+pub among_put : (at inside following : ℕ) (one : trees.Starter × trees.Groups) (s0 s1 : trees.Starter) (g0 g1 : trees.Groups) (a : trees.Starter × trees.Groups) → nat_eq at 1 ≡ false → one ≡ (s0, g0) → inside ≡ at - 1 → following ≡ inside - count_in_starter s0
+    → s1 ≡ put_in_starter s0 inside a → g1 ≡ put_in_groups g0 following a → (s1, g1) ≡ put_in_among one at a
+among_put at inside following one s0 s1 g0 g1 a ne is i b s g =
     let both : trees.Starter × trees.Groups = (put_in_starter s0 (at - 1) a, put_in_groups g0 (at - 1 - count_in_starter s0) a) in
     ap (λ (x : trees.Starter). (x, g1)) s ∙ ap (λ (x : trees.Groups). (put_in_starter s0 inside a, x)) g ∙ ap (λ (m : ℕ). (put_in_starter s0 inside a, put_in_groups g0 m a)) b
     ∙ ap (λ (m : ℕ). (put_in_starter s0 m a, put_in_groups g0 (m - count_in_starter s0) a)) i ∙ ap (λ (t : Bool). if t then a else both) (sym ne) ∙ ap (λ (x : trees.Starter × trees.Groups). put_in_among x at a) (sym is)
 
-pub among_counted : (at inside behind rest : ℕ) (one : trees.Starter × trees.Groups) (s0 : trees.Starter) (g0 : trees.Groups) → one ≡ (s0, g0) → inside ≡ at - 1 → behind ≡ inside - count_in_starter s0 → rest ≡ behind - count_in_groups g0 → rest ≡ at - count_in_among one
-among_counted at inside behind rest one s0 g0 is i b r = among_left at inside behind rest (count_in_starter s0) (count_in_groups g0) i b r ∙ ap (λ (x : trees.Starter × trees.Groups). at - count_in_among x) (sym is)
+pub among_counted : (at inside following rest : ℕ) (one : trees.Starter × trees.Groups) (s0 : trees.Starter) (g0 : trees.Groups) → one ≡ (s0, g0) → inside ≡ at - 1 → following ≡ inside - count_in_starter s0 → rest ≡ following - count_in_groups g0 → rest ≡ at - count_in_among one
+among_counted at inside following rest one s0 g0 is i b r = among_left at inside following rest (count_in_starter s0) (count_in_groups g0) i b r ∙ ap (λ (x : trees.Starter × trees.Groups). at - count_in_among x) (sym is)

@@ -1,4 +1,4 @@
--- Part by part: with another among in the place of one, its tokens are others, and the tokens before it and behind it stay.
+-- Part by part: with another among in the place of one, its tokens are others, and the tokens before it and after it stay.
 use Rattle.std.proofs.Common.{◌≡◌, ℕ, ◌+◌, ◌-◌, Bool, true, false, nat_eq, List, [], ◌∷◌, Option, Some, None, if◌then◌else◌, refl, sym, ap, subst, ◌∙◌, arith}
 use Rattle.sbl_token.specs.Lexemes as lex
 use Rattle.sbl_token.specs.declared.words.Word.TheVariants as words
@@ -8,7 +8,7 @@ use Rattle.sbl_ast.specs.Tree.{Command, bracket, simple_, literal_, name_, non_,
 use Rattle.sbl_ast.specs.Counts.{count_amongs, count_in_rows, count_in_others, count_in_starter, count_in_groups}
 use Rattle.sbl_ast.specs.Places.{AtDepth, placed_command, placed_rows, placed_others, placed_starter, placed_groups, placed_entry, placed_entries, placed_expression}
 use Rattle.sbl_ast.specs.Texts.{body, places_in}
-use Rattle.sbl_ast.proofs.Behind.{IsBefore, entry_before, entries_before, expression_before, tree_before}
+use Rattle.sbl_ast.proofs.After.{IsBefore, entry_before, entries_before, expression_before, tree_before}
 use Rattle.sbl_amongs.specs.Amongs.{AmongContents, amongs, amongs_of_body, amongs_of_rows, amongs_of_others, amongs_of_starter, amongs_of_groups, nth_held, put_among, put_in_body, put_in_rows, put_in_others, put_in_starter, put_in_groups}
 use Rattle.sbl_amongs.specs.Replacement.{IsBetween, is_among, count_words}
 use Rattle.sbl_amongs.proofs.Held.{none_is_first}
@@ -30,11 +30,11 @@ pub record Swaps (k : ℕ) (o : Option AmongContents) (a : Starter × Groups) (o
 between : (part : Ps → Ps) → IsBefore part → IsWithout part → (k : ℕ) (h : AmongContents) (a : Starter × Groups) (r q : Ps) → IsBetween k h a r q → IsBetween k h a (part r) (part q)
 between part before without k h a r q b =
     record {
-      front = part b.front;
-      behind = b.behind;
-      number = b.number ∙ ap (λ (n : ℕ). n + 1) (sym (without b.front));
-      was = ap part b.was ∙ before b.front (placed_command (among_ h.1 h.2) h.0 b.behind);
-      is = ap part b.is ∙ before b.front (placed_command (among_ a.0 a.1) h.0 b.behind);
+      prefix = part b.prefix;
+      following = b.following;
+      number = b.number ∙ ap (λ (n : ℕ). n + 1) (sym (without b.prefix));
+      was = ap part b.was ∙ before b.prefix (placed_command (among_ h.1 h.2) h.0 b.following);
+      is = ap part b.is ∙ before b.prefix (placed_command (among_ a.0 a.1) h.0 b.following);
     }
 
 along : (part : Ps → Ps) → IsBefore part → IsWithout part → (k : ℕ) (o : Option AmongContents) (a : Starter × Groups) (r q : Ps) → Swaps k o a r q → Swaps k o a (part r) (part q)
@@ -51,9 +51,9 @@ next_number k n e = omega (arith, e)
 between_words : (d k : ℕ) (h : AmongContents) (a : Starter × Groups) (r q : Ps) → IsBetween (k - 1) h a r q → IsBetween k h a ((lex.word words.Among, d) ∷ r) ((lex.word words.Among, d) ∷ q)
 between_words d k h a r q b =
     record {
-      front = (lex.word words.Among, d) ∷ b.front;
-      behind = b.behind;
-      number = next_number k (count_words b.front) b.number;
+      prefix = (lex.word words.Among, d) ∷ b.prefix;
+      following = b.following;
+      number = next_number k (count_words b.prefix) b.number;
       was = ap (λ (z : Ps). (lex.word words.Among, d) ∷ z) b.was;
       is = ap (λ (z : Ps). (lex.word words.Among, d) ∷ z) b.is;
     }
@@ -80,14 +80,14 @@ is_first k e = go k e where
   go : (m : ℕ) → nat_eq m 1 ≡ true → m ≡ 1
   go m h = grind (arith, h)
 
--- the among with this number: what stands behind it stays
+-- the among with this number: what follows it stays
 itself : (s : Starter) (gs : Groups) (d k : ℕ) (a : Starter × Groups) (r q : Ps) → k ≡ 1 → r ≡ q → Swaps k (Some (d, s, gs)) a (placed_command (among_ s gs) d r) (placed_command (among_ a.0 a.1) d q)
 itself s gs d k a r q first same =
     record {
       there = λ h e. let is : (d, s, gs) ≡ h = cc in
           record {
-            front = [];
-            behind = r;
+            prefix = [];
+            following = r;
             number = first;
             was = ap (λ (g : AmongContents). placed_command (among_ g.1 g.2) g.0 r) is;
             is = ap (λ (z : Ps). placed_command (among_ a.0 a.1) d z) (sym same) ∙ ap (λ (g : AmongContents). placed_command (among_ a.0 a.1) g.0 r) is;
@@ -129,10 +129,10 @@ mutual
       let m = k - count_amongs b in
       let old = (lex.word words.For, d) ∷ placed_command c (d + 1) r in
       let new = (lex.word words.For, d) ∷ placed_command (put_among c m a) (d + 1) q in
-      let behind = amongs c (d + 1) rest in
+      let following = amongs c (d + 1) rest in
       let second = tree_swaps a c (d + 1) m rest r q (number (k - (count_amongs b + count_amongs c)) (m - count_amongs c) rest a r q (less_two k (count_amongs b) (count_amongs c)) s) in
-      let first = tree_swaps a b (d + 1) k behind old new (step (lex.word words.For, d) refl m (nth_held m behind) a (placed_command c (d + 1) r) (placed_command (put_among c m a) (d + 1) q) second) in
-      step (lex.word words.SetLimit, d) refl k (nth_held k (amongs b (d + 1) behind)) a (placed_command b (d + 1) old) (placed_command (put_among b k a) (d + 1) new) first
+      let first = tree_swaps a b (d + 1) k following old new (step (lex.word words.For, d) refl m (nth_held m following) a (placed_command c (d + 1) r) (placed_command (put_among c m a) (d + 1) q) second) in
+      step (lex.word words.SetLimit, d) refl k (nth_held k (amongs b (d + 1) following)) a (placed_command b (d + 1) old) (placed_command (put_among b k a) (d + 1) new) first
   tree_swaps a (assign_ x y z) d k rest r q s = plain (placed_command (assign_ x y z) d) (tree_before (assign_ x y z) d) (λ v. passed (t.assigns y) d (placed_expression z d v) (assigns_other y) ∙ expression_without z d v) k rest a r q s
   tree_swaps a (compare_ x y z) d k rest r q s = plain (placed_command (compare_ x y z) d) (tree_before (compare_ x y z) d) (λ v. passed (t.compares y) d (placed_expression z d v) (compares_other y) ∙ expression_without z d v) k rest a r q s
   tree_swaps a (compare_values_ x y z) d k rest r q s = plain (placed_command (compare_values_ x y z) d) (tree_before (compare_values_ x y z) d) (λ v. expression_without x d ((t.compares y, d) ∷ placed_expression z d ((lex.sign signs.Close, d) ∷ v)) ∙ passed (t.compares y) d (placed_expression z d ((lex.sign signs.Close, d) ∷ v)) (compares_other y) ∙ expression_without z d ((lex.sign signs.Close, d) ∷ v)) k rest a r q s
@@ -143,11 +143,11 @@ mutual
       let new = (lex.sign signs.Close, d) ∷ q in
       let g0 = placed_groups gs d old in
       let g1 = placed_groups (put_in_groups gs m a) d new in
-      let behind = amongs_of_groups gs d rest in
-      let o = nth_held (k - 1) (amongs_of_starter s0 d behind) in
+      let following = amongs_of_groups gs d rest in
+      let o = nth_held (k - 1) (amongs_of_starter s0 d following) in
       let last = number (k - (1 + (n + count_in_groups gs))) (m - count_in_groups gs) rest a r q (less_three k 1 n (count_in_groups gs)) s in
       let groups = groups_swaps a gs d m rest old new (step (lex.sign signs.Close, d) refl (m - count_in_groups gs) (nth_held (m - count_in_groups gs) rest) a r q last) in
-      let starts = starter_swaps a s0 d (k - 1) behind g0 g1 groups in
+      let starts = starter_swaps a s0 d (k - 1) following g0 g1 groups in
       let opened = step (lex.sign signs.Open, d) refl (k - 1) o a (placed_starter s0 d g0) (placed_starter (put_in_starter s0 (k - 1) a) d g1) starts in
       chosen s0 gs d k rest a r q s (word d k o a ((lex.sign signs.Open, d) ∷ placed_starter s0 d g0) ((lex.sign signs.Open, d) ∷ placed_starter (put_in_starter s0 (k - 1) a) d g1) opened)
 

@@ -16,7 +16,7 @@ use Rattle.sbl_amongs.specs.Amongs.{AmongContents, amongs, amongs_of_rows, among
 use Rattle.sbl_amongs.specs.WalkEnds.{Finds}
 use Rattle.sbl_ast.specs.Places.{AtDepth, placed_expression, placed_entry, placed_entries, placed_command, placed_rows, placed_others, placed_starter, placed_groups, AreShallow}
 use Rattle.sbl_ast.specs.View.{AmongView, RowView, NextCommandView, GroupView, among_step, command_step, group_step, next_command_step, row_step, rows_of, others_of, groups_of, view_among, view_command, view_entry, view_groups, view_others, view_row}
-use Rattle.sbl_ast.proofs.Behind.{IsBefore, by_itself, behind_it, with_behind, entry_before, entries_before, expression_before, tree_before, rows_before, others_before, starter_before, groups_before}
+use Rattle.sbl_ast.proofs.After.{IsBefore, by_itself, after_it, with_after, entry_before, entries_before, expression_before, tree_before, rows_before, others_before, starter_before, groups_before}
 
 abbrev Hs : Type 0
 Hs = List AmongContents
@@ -30,13 +30,13 @@ pub bracket_in : (c : Command) (rs : Rows) (d : ℕ) → c ≡ bracket rs → Ar
 bracket_in c rs d is h = by_itself (placed_rows rs (d + 1)) (rows_before rs (d + 1)) ((lex.sign signs.Close, d) ∷ []) (subst (λ (x : Command). AreShallow (placed_command x d [])) is h).1
 
 pub counted_in : (c b : Command) (n : Count) (e : Expression) (d : ℕ) → c ≡ counted n e b → AreShallow (placed_command c d []) → AreShallow (placed_command b (d + 1) [])
-counted_in c b n e d is h = behind_it (placed_expression e d) (expression_before e d) (placed_command b (d + 1) []) (subst (λ (x : Command). AreShallow (placed_command x d [])) is h).1
+counted_in c b n e d is h = after_it (placed_expression e d) (expression_before e d) (placed_command b (d + 1) []) (subst (λ (x : Command). AreShallow (placed_command x d [])) is h).1
 
 pub limit_in : (c a b : Command) (d : ℕ) → c ≡ setlimit_ a b → AreShallow (placed_command c d []) → AreShallow (placed_command a (d + 1) [])
 limit_in c a b d is h = by_itself (placed_command a (d + 1)) (tree_before a (d + 1)) ((lex.word words.For, d) ∷ placed_command b (d + 1) []) (subst (λ (x : Command). AreShallow (placed_command x d [])) is h).1
 
 pub limited_in : (c a b : Command) (d : ℕ) → c ≡ setlimit_ a b → AreShallow (placed_command c d []) → AreShallow (placed_command b (d + 1) [])
-limited_in c a b d is h = (behind_it (placed_command a (d + 1)) (tree_before a (d + 1)) ((lex.word words.For, d) ∷ placed_command b (d + 1) []) (subst (λ (x : Command). AreShallow (placed_command x d [])) is h).1).1
+limited_in c a b d is h = (after_it (placed_command a (d + 1)) (tree_before a (d + 1)) ((lex.word words.For, d) ∷ placed_command b (d + 1) []) (subst (λ (x : Command). AreShallow (placed_command x d [])) is h).1).1
 
 pub starter_in : (s : Starter) (gs : Groups) (d : ℕ) → AreShallow (placed_command (among_ s gs) d []) → AreShallow (placed_starter s d [])
 starter_in s gs d h = by_itself (placed_starter s d) (starter_before s d) (placed_groups gs d ((lex.sign signs.Close, d) ∷ [])) h.1.1
@@ -54,13 +54,13 @@ group_before e es rs d r q =
     ap (λ (z : Ps). placed_entry e d (placed_entries es d ((lex.sign signs.Open, d + 1) ∷ z))) (rows_before rs (d + 1 + 1) ((lex.sign signs.Close, d + 1) ∷ r) q)
     ∙ ap (placed_entry e d) (entries_before es d left q) ∙ entry_before e d (placed_entries es d left) q
 
--- the strings behind the last group do not matter
+-- the strings after the last group do not matter
 bare_in : (gs : List GroupView) (es : List Entry) (d : ℕ) → AreShallow (placed_groups (groups_of gs es) d []) → AreShallow (placed_groups (groups_of gs []) d [])
 bare_in [] es d h = tt
 bare_in (g ∷ gs) es d h =
     let part = one_group g.first g.others g.rows d in
     let before = group_before g.first g.others g.rows d in
-    with_behind part before (placed_groups (groups_of gs []) d []) (by_itself part before (placed_groups (groups_of gs es) d []) h) (bare_in gs es d (behind_it part before (placed_groups (groups_of gs es) d []) h))
+    with_after part before (placed_groups (groups_of gs []) d []) (by_itself part before (placed_groups (groups_of gs es) d []) h) (bare_in gs es d (after_it part before (placed_groups (groups_of gs es) d []) h))
 
 pub seen_groups : (a : Among) → (view_among a).1 ≡ view_groups (out-Among a).groups.items (map view_entry (out-Among a).bare.items)
 seen_groups a = ap (λ (x : AmongView). x.1) (fold_out-Among Command AmongView GroupView NextCommandView RowView command_step among_step group_step next_command_step row_step a)
@@ -71,7 +71,7 @@ seen_row r = fold_out-RowOfCommands Command AmongView GroupView NextCommandView 
 pub groups_in : (s : Starter) (all : Groups) (gs : List GroupView) (es : List Entry) (d : ℕ) → all ≡ groups_of gs es → AreShallow (placed_command (among_ s all) d []) → AreShallow (placed_groups (groups_of gs []) d [])
 groups_in s all gs es d is h =
     let close = (lex.sign signs.Close, d) ∷ [] in
-    let there = behind_it (placed_starter s d) (starter_before s d) (placed_groups all d close) h.1.1 in
+    let there = after_it (placed_starter s d) (starter_before s d) (placed_groups all d close) h.1.1 in
     bare_in gs es d (subst (λ (x : Groups). AreShallow (placed_groups x d [])) is (by_itself (placed_groups all d) (groups_before all d) close there))
 
 pub group_in : (g : GroupView) (whole left : List GroupView) (d : ℕ) → whole ≡ g ∷ left → AreShallow (placed_groups (groups_of whole []) d []) → AreShallow (placed_rows g.rows (d + 1 + 1) [])
@@ -79,48 +79,48 @@ group_in g whole left d is h =
     let after = (lex.sign signs.Close, d + 1) ∷ placed_groups (groups_of left []) d [] in
     let inner = (lex.sign signs.Open, d + 1) ∷ placed_rows g.rows (d + 1 + 1) after in
     let start = subst (λ (x : List GroupView). AreShallow (placed_groups (groups_of x []) d [])) is h in
-    let strings = behind_it (placed_entry g.first d) (entry_before g.first d) (placed_entries g.others d inner) start in
-    by_itself (placed_rows g.rows (d + 1 + 1)) (rows_before g.rows (d + 1 + 1)) after (behind_it (placed_entries g.others d) (entries_before g.others d) inner strings).1
+    let strings = after_it (placed_entry g.first d) (entry_before g.first d) (placed_entries g.others d inner) start in
+    by_itself (placed_rows g.rows (d + 1 + 1)) (rows_before g.rows (d + 1 + 1)) after (after_it (placed_entries g.others d) (entries_before g.others d) inner strings).1
 
 pub groups_on : (g : GroupView) (whole left : List GroupView) (d : ℕ) → whole ≡ g ∷ left → AreShallow (placed_groups (groups_of whole []) d []) → AreShallow (placed_groups (groups_of left []) d [])
 groups_on g whole left d is h =
-    behind_it (one_group g.first g.others g.rows d) (group_before g.first g.others g.rows d) (placed_groups (groups_of left []) d []) (subst (λ (x : List GroupView). AreShallow (placed_groups (groups_of x []) d [])) is h)
+    after_it (one_group g.first g.others g.rows d) (group_before g.first g.others g.rows d) (placed_groups (groups_of left []) d []) (subst (λ (x : List GroupView). AreShallow (placed_groups (groups_of x []) d [])) is h)
 
 pub row_in : (x : RowView) (whole left : List RowView) (d : ℕ) → whole ≡ x ∷ left → AreShallow (placed_rows (rows_of whole) d []) → AreShallow (placed_command x.0 d (placed_others x.1 d []))
 row_in x whole left d is h =
     let more = placed_rows (rows_of left) d [] in
     let start = subst (λ (z : List RowView). AreShallow (placed_rows (rows_of z) d [])) is h in
-    let tail = behind_it (placed_command x.0 d) (tree_before x.0 d) (placed_others x.1 d more) start in
-    with_behind (placed_command x.0 d) (tree_before x.0 d) (placed_others x.1 d []) (by_itself (placed_command x.0 d) (tree_before x.0 d) (placed_others x.1 d more) start) (by_itself (placed_others x.1 d) (others_before x.1 d) more tail)
+    let tail = after_it (placed_command x.0 d) (tree_before x.0 d) (placed_others x.1 d more) start in
+    with_after (placed_command x.0 d) (tree_before x.0 d) (placed_others x.1 d []) (by_itself (placed_command x.0 d) (tree_before x.0 d) (placed_others x.1 d more) start) (by_itself (placed_others x.1 d) (others_before x.1 d) more tail)
 
 pub rows_on : (x : RowView) (whole left : List RowView) (d : ℕ) → whole ≡ x ∷ left → AreShallow (placed_rows (rows_of whole) d []) → AreShallow (placed_rows (rows_of left) d [])
 rows_on x whole left d is h =
     let more = placed_rows (rows_of left) d [] in
     let start = subst (λ (z : List RowView). AreShallow (placed_rows (rows_of z) d [])) is h in
-    behind_it (placed_others x.1 d) (others_before x.1 d) more (behind_it (placed_command x.0 d) (tree_before x.0 d) (placed_others x.1 d more) start)
+    after_it (placed_others x.1 d) (others_before x.1 d) more (after_it (placed_command x.0 d) (tree_before x.0 d) (placed_others x.1 d more) start)
 
 pub joined_in : (x : NextCommandView) (whole left : List NextCommandView) (d : ℕ) → whole ≡ x ∷ left → AreShallow (placed_others (others_of whole) d []) → AreShallow (placed_command x.1 d [])
 joined_in x whole left d is h = by_itself (placed_command x.1 d) (tree_before x.1 d) (placed_others (others_of left) d []) (subst (λ (z : List NextCommandView). AreShallow (placed_others (others_of z) d [])) is h).1
 
 pub others_on : (x : NextCommandView) (whole left : List NextCommandView) (d : ℕ) → whole ≡ x ∷ left → AreShallow (placed_others (others_of whole) d []) → AreShallow (placed_others (others_of left) d [])
-others_on x whole left d is h = behind_it (placed_command x.1 d) (tree_before x.1 d) (placed_others (others_of left) d []) (subst (λ (z : List NextCommandView). AreShallow (placed_others (others_of z) d [])) is h).1
+others_on x whole left d is h = after_it (placed_command x.1 d) (tree_before x.1 d) (placed_others (others_of left) d []) (subst (λ (z : List NextCommandView). AreShallow (placed_others (others_of z) d [])) is h).1
 
 pub first_in : (b : RowView) (c : Command) (os : Others) (d : ℕ) → b ≡ (c, os) → AreShallow (placed_command b.0 d (placed_others b.1 d [])) → AreShallow (placed_command c d [])
 first_in b c os d is h = by_itself (placed_command c d) (tree_before c d) (placed_others os d []) (subst (λ (z : RowView). AreShallow (placed_command z.0 d (placed_others z.1 d []))) is h)
 
 pub others_in : (b : RowView) (c : Command) (os : Others) (d : ℕ) → b ≡ (c, os) → AreShallow (placed_command b.0 d (placed_others b.1 d [])) → AreShallow (placed_others os d [])
-others_in b c os d is h = behind_it (placed_command c d) (tree_before c d) (placed_others os d []) (subst (λ (z : RowView). AreShallow (placed_command z.0 d (placed_others z.1 d []))) is h)
+others_in b c os d is h = after_it (placed_command c d) (tree_before c d) (placed_others os d []) (subst (λ (z : RowView). AreShallow (placed_command z.0 d (placed_others z.1 d []))) is h)
 
 -- ---- what is found
 
--- behind one part, in the next
+-- after one part, in the next
 pub find_both : (r : WalkEnd) (n m : ℕ) (part next : Hs → Hs) → ((rest : Hs) → nth_held n (part rest) ≡ nth_held m rest) → Finds r m next → Finds r n (λ rest. part (next rest))
 find_both (ends.There d a) n m part next f g = (g.0, λ rest. f (next rest) ∙ g.1 rest)
-find_both (ends.Behind k) n m part next f g = λ rest. f (next rest) ∙ g rest
+find_both (ends.After k) n m part next f g = λ rest. f (next rest) ∙ g rest
 
 pub finds_there : (r : WalkEnd) (n : ℕ) (part next : Hs → Hs) → ((rest : Hs) → part rest ≡ next rest) → Finds r n part → Finds r n next
 finds_there (ends.There d a) n part next same g = (g.0, λ rest. ap (nth_held n) (sym (same rest)) ∙ g.1 rest)
-finds_there (ends.Behind k) n part next same g = λ rest. ap (nth_held n) (sym (same rest)) ∙ g rest
+finds_there (ends.After k) n part next same g = λ rest. ap (nth_held n) (sym (same rest)) ∙ g rest
 
 -- ---- one step of the walk
 
@@ -164,10 +164,10 @@ limit_finds dd p n d e c a b is deep f h =
     let same = one_deeper d e deep (first_shallow c (setlimit_ a b) d is h).0 in
     as_seen (ends.There dd p) n d c (setlimit_ a b) is (there_before dd p n (λ rest. amongs a (d + 1) rest) (λ rest. amongs b (d + 1) rest) (subst (TreeFinds (ends.There dd p) n a) same f (limit_in c a b d is h)))
 
-pub limited_finds : (r : WalkEnd) (n m d e : ℕ) (c a b : Command) → c ≡ setlimit_ a b → e ≡ min (d + 1) (2 ^ 8 - 1) → TreeFinds (ends.Behind m) n a e → TreeFinds r m b e → TreeFinds r n c d
+pub limited_finds : (r : WalkEnd) (n m d e : ℕ) (c a b : Command) → c ≡ setlimit_ a b → e ≡ min (d + 1) (2 ^ 8 - 1) → TreeFinds (ends.After m) n a e → TreeFinds r m b e → TreeFinds r n c d
 limited_finds r n m d e c a b is deep f g h =
     let same = one_deeper d e deep (first_shallow c (setlimit_ a b) d is h).0 in
-    as_seen r n d c (setlimit_ a b) is (find_both r n m (λ rest. amongs a (d + 1) rest) (λ rest. amongs b (d + 1) rest) (subst (TreeFinds (ends.Behind m) n a) same f (limit_in c a b d is h)) (subst (TreeFinds r m b) same g (limited_in c a b d is h)))
+    as_seen r n d c (setlimit_ a b) is (find_both r n m (λ rest. amongs a (d + 1) rest) (λ rest. amongs b (d + 1) rest) (subst (TreeFinds (ends.After m) n a) same f (limit_in c a b d is h)) (subst (TreeFinds r m b) same g (limited_in c a b d is h)))
 
 abbrev StarterFinds : WalkEnd → ℕ → Starter → ℕ → Type 0
 StarterFinds r n s d = AreShallow (placed_starter s d []) → Finds r n (λ rest. amongs_of_starter s d rest)
@@ -189,7 +189,7 @@ found_in_starter dd p n inside d s gs ne is f h =
 abbrev GroupsFind : WalkEnd → ℕ → List GroupView → ℕ → Type 0
 GroupsFind r n gs d = AreShallow (placed_groups (groups_of gs []) d []) → (bare : List Entry) → Finds r n (λ rest. amongs_of_groups (groups_of gs bare) d rest)
 
-pub found_in_groups : (r : WalkEnd) (n inside m d : ℕ) (s : Starter) (all : Groups) (gs : List GroupView) (bare : List Entry) → nat_eq n 1 ≡ false → inside ≡ n - 1 → all ≡ groups_of gs bare → StarterFinds (ends.Behind m) inside s d → GroupsFind r m gs d → TreeFinds r n (among_ s all) d
+pub found_in_groups : (r : WalkEnd) (n inside m d : ℕ) (s : Starter) (all : Groups) (gs : List GroupView) (bare : List Entry) → nat_eq n 1 ≡ false → inside ≡ n - 1 → all ≡ groups_of gs bare → StarterFinds (ends.After m) inside s d → GroupsFind r m gs d → TreeFinds r n (among_ s all) d
 found_in_groups r n inside m d s all gs bare ne is same f g h =
     let found_ = g (groups_in s all gs bare d same h) bare in
     let first : (rest : Hs) → nth_held n ((d, s, all) ∷ amongs_of_starter s d rest) ≡ nth_held m rest = λ rest. past_first n inside d m s all (amongs_of_starter s d rest) _ ne is (f (starter_in s all d h) rest) in
@@ -212,8 +212,8 @@ group_deep : (g : GroupView) (whole left : List GroupView) (d e : ℕ) → whole
 group_deep g whole left d e is deep h =
     let inner = (lex.sign signs.Open, d + 1) ∷ placed_rows g.rows (d + 1 + 1) ((lex.sign signs.Close, d + 1) ∷ placed_groups (groups_of left []) d []) in
     let start = subst (λ (x : List GroupView). AreShallow (placed_groups (groups_of x []) d [])) is h in
-    let strings = behind_it (placed_entry g.first d) (entry_before g.first d) (placed_entries g.others d inner) start in
-    two_deeper d e deep (behind_it (placed_entries g.others d) (entries_before g.others d) inner strings).0
+    let strings = after_it (placed_entry g.first d) (entry_before g.first d) (placed_entries g.others d inner) start in
+    two_deeper d e deep (after_it (placed_entries g.others d) (entries_before g.others d) inner strings).0
 
 pub groups_there : (dd : ℕ) (p : Place) (b n d e : ℕ) (g : GroupView) (whole left all : List GroupView) → whole ≡ g ∷ left → e ≡ min (d + 2) (2 ^ 8 - 1) → GroupsSofar b n whole all d → RowsFind (ends.There dd p) b g.rows e → GroupsFind (ends.There dd p) n all d
 groups_there dd p b n d e g whole left all is deep inv f h bare =
@@ -221,10 +221,10 @@ groups_there dd p b n d e g whole left all is deep inv f h bare =
     let found_ = subst (RowsFind (ends.There dd p) b g.rows) (group_deep g whole left d e is deep now.0) f (group_in g whole left d is now.0) in
     (found_.0, λ rest. sym (now.1 bare rest) ∙ ap (λ (x : List GroupView). nth_held b (amongs_of_groups (groups_of x bare) d rest)) is ∙ found_.1 (amongs_of_groups (groups_of left bare) d rest))
 
-pub groups_next : (b n m d e : ℕ) (g : GroupView) (whole left all : List GroupView) → whole ≡ g ∷ left → e ≡ min (d + 2) (2 ^ 8 - 1) → GroupsSofar b n whole all d → RowsFind (ends.Behind m) b g.rows e → GroupsSofar m n left all d
+pub groups_next : (b n m d e : ℕ) (g : GroupView) (whole left all : List GroupView) → whole ≡ g ∷ left → e ≡ min (d + 2) (2 ^ 8 - 1) → GroupsSofar b n whole all d → RowsFind (ends.After m) b g.rows e → GroupsSofar m n left all d
 groups_next b n m d e g whole left all is deep inv f h =
     let now = inv h in
-    let found_ = subst (RowsFind (ends.Behind m) b g.rows) (group_deep g whole left d e is deep now.0) f (group_in g whole left d is now.0) in
+    let found_ = subst (RowsFind (ends.After m) b g.rows) (group_deep g whole left d e is deep now.0) f (group_in g whole left d is now.0) in
     (groups_on g whole left d is now.0, λ bare rest. sym (found_ (amongs_of_groups (groups_of left bare) d rest)) ∙ ap (λ (x : List GroupView). nth_held b (amongs_of_groups (groups_of x bare) d rest)) (sym is) ∙ now.1 bare rest)
 
 abbrev pub RowFinds : WalkEnd → ℕ → RowView → ℕ → Type 0
@@ -236,7 +236,7 @@ rows_there dd p b n d x whole left all is inv f h =
     let found_ = f (row_in x whole left d is now.0) in
     (found_.0, λ rest. sym (now.1 rest) ∙ ap (λ (z : List RowView). nth_held b (amongs_of_rows (rows_of z) d rest)) is ∙ found_.1 (amongs_of_rows (rows_of left) d rest))
 
-pub rows_next : (b n m d : ℕ) (x : RowView) (whole left all : List RowView) → whole ≡ x ∷ left → RowsSofar b n whole all d → RowFinds (ends.Behind m) b x d → RowsSofar m n left all d
+pub rows_next : (b n m d : ℕ) (x : RowView) (whole left all : List RowView) → whole ≡ x ∷ left → RowsSofar b n whole all d → RowFinds (ends.After m) b x d → RowsSofar m n left all d
 rows_next b n m d x whole left all is inv f h =
     let now = inv h in
     let found_ = f (row_in x whole left d is now.0) in
@@ -251,7 +251,7 @@ others_there dd p b n d x whole left all is inv f h =
     let found_ = f (joined_in x whole left d is now.0) in
     (found_.0, λ rest. sym (now.1 rest) ∙ ap (λ (z : List NextCommandView). nth_held b (amongs_of_others (others_of z) d rest)) is ∙ found_.1 (amongs_of_others (others_of left) d rest))
 
-pub others_next : (b n m d : ℕ) (x : NextCommandView) (whole left all : List NextCommandView) → whole ≡ x ∷ left → OthersSofar b n whole all d → TreeFinds (ends.Behind m) b x.1 d → OthersSofar m n left all d
+pub others_next : (b n m d : ℕ) (x : NextCommandView) (whole left all : List NextCommandView) → whole ≡ x ∷ left → OthersSofar b n whole all d → TreeFinds (ends.After m) b x.1 d → OthersSofar m n left all d
 others_next b n m d x whole left all is inv f h =
     let now = inv h in
     let found_ = f (joined_in x whole left d is now.0) in
@@ -264,6 +264,6 @@ pub row_there : (dd : ℕ) (p : Place) (n d : ℕ) (b : RowView) (c : Command) (
 row_there dd p n d b c os is f h =
     row_as_seen (ends.There dd p) n d b c os is (there_before dd p n (λ rest. amongs c d rest) (λ rest. amongs_of_others os d rest) (f (first_in b c os d is h)))
 
-pub row_finds : (r : WalkEnd) (n m d : ℕ) (b : RowView) (c : Command) (os : Others) → b ≡ (c, os) → TreeFinds (ends.Behind m) n c d → OthersFind r m os d → RowFinds r n b d
+pub row_finds : (r : WalkEnd) (n m d : ℕ) (b : RowView) (c : Command) (os : Others) → b ≡ (c, os) → TreeFinds (ends.After m) n c d → OthersFind r m os d → RowFinds r n b d
 row_finds r n m d b c os is f g h =
     row_as_seen r n d b c os is (find_both r n m (λ rest. amongs c d rest) (λ rest. amongs_of_others os d rest) (f (first_in b c os d is h)) (g (others_in b c os d is h)))

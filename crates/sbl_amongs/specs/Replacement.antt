@@ -16,14 +16,14 @@ abbrev pub count_words : List AtDepth → ℕ
 count_words [] = 0
 count_words (p ∷ ps) = if is_among p.0 then count_words ps + 1 else count_words ps
 
--- The old tokens are `front`, those of the among with number k at its depth, and `behind`. The new tokens are `front`,
--- those of the new among at the same depth, and `behind`. `front` has k - 1 words `among`.
+-- The old tokens are `prefix`, those of the among with number k at its depth, and `following`. The new tokens are `prefix`,
+-- those of the new among at the same depth, and `following`. `prefix` has k - 1 words `among`.
 pub record IsBetween (k : ℕ) (h : AmongContents) (a : Starter × Groups) (old new : List AtDepth) : Type 0 where
-  pub front : List AtDepth
-  pub behind : List AtDepth
-  pub number : k ≡ count_words front + 1
-  pub was : old ≡ front ++ placed_command (among_ h.1 h.2) h.0 behind
-  pub is : new ≡ front ++ placed_command (among_ a.0 a.1) h.0 behind
+  pub prefix : List AtDepth
+  pub following : List AtDepth
+  pub number : k ≡ count_words prefix + 1
+  pub was : old ≡ prefix ++ placed_command (among_ h.1 h.2) h.0 following
+  pub is : new ≡ prefix ++ placed_command (among_ a.0 a.1) h.0 following
 
 -- this holds for each number that an among has
 abbrev pub OneIsReplaced : Type 0

@@ -9,4 +9,4 @@ use Rattle.sbl_ast.specs.View.{view_among}
 -- the among is in the part, or it has number m among those after the part
 abbrev pub Finds : WalkEnd → ℕ → (List AmongContents → List AmongContents) → Type 0
 Finds (ends.There d a) n part = (d ≤ max_depth) × ((rest : List AmongContents) → nth_held n (part rest) ≡ Some (d, (view_among a.now).0, (view_among a.now).1))
-Finds (ends.Behind m) n part = (rest : List AmongContents) → nth_held n (part rest) ≡ nth_held m rest
+Finds (ends.After m) n part = (rest : List AmongContents) → nth_held n (part rest) ≡ nth_held m rest

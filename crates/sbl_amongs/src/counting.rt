@@ -28,11 +28,11 @@ fn less_among(among: &Among, number: u64) -> u64
     ensures { result ≡ number - spec.count_in_among (view_among among.now) }
 {
     let inside = number.saturating_sub(1);
-    let behind = match &among.starter {
+    let following = match &among.starter {
         None => inside,
         Some(rows) => less_rows(rows, inside),
     };
-    less_groups(&among.groups, behind)
+    less_groups(&among.groups, following)
 }
 
 #[cycle(less)]

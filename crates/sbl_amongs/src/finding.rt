@@ -17,7 +17,7 @@ pub(crate) enum WalkEnd<'a> {
     /// The among, with its depth.
     There(u8, &'a Among),
     /// The among is not in the part. This is its number among those after the part.
-    Behind(u64),
+    After(u64),
 }
 
 /// Finds the among with this number in a command at `depth`.
@@ -31,11 +31,11 @@ fn in_command(command: &Command, depth: u8, number: u64) -> WalkEnd<'_>
         Command::Prefixed(_, inner) => in_command(inner, inside, number),
         Command::Counted(_, _, inner) => in_command(inner, inside, number),
         Command::SetLimit(limit, inner) => match in_command(limit, inside, number) {
-            WalkEnd::Behind(number) => in_command(inner, inside, number),
+            WalkEnd::After(number) => in_command(inner, inside, number),
             WalkEnd::There(depth, among) => WalkEnd::There(depth, among),
         },
         Command::Among(among) => in_among(among, depth, number),
-        _ => WalkEnd::Behind(number),
+        _ => WalkEnd::After(number),
     }
 }
 
@@ -49,7 +49,7 @@ fn in_among(among: &Among, depth: u8, number: u64) -> WalkEnd<'_>
     }
     let inside = number.saturating_sub(1);
     match in_starter(among, depth, inside) {
-        WalkEnd::Behind(number) => in_groups(&among.groups, depth, number),
+        WalkEnd::After(number) => in_groups(&among.groups, depth, number),
         WalkEnd::There(depth, among) => WalkEnd::There(depth, among),
     }
 }
@@ -59,7 +59,7 @@ fn in_starter(among: &Among, depth: u8, number: u64) -> WalkEnd<'_>
     ensures { AreShallow (placed_starter (view_among among.now).0 depth []) → Finds result number (λ rest. spec.amongs_of_starter (view_among among.now).0 depth rest) }
 {
     match &among.starter {
-        None => WalkEnd::Behind(number),
+        None => WalkEnd::After(number),
         Some(rows) => in_rows(rows, depth.saturating_add(2), number),
     }
 }
@@ -68,28 +68,28 @@ fn in_starter(among: &Among, depth: u8, number: u64) -> WalkEnd<'_>
 fn in_groups(groups: &Vec<Group>, depth: u8, number: u64) -> WalkEnd<'_>
     ensures { AreShallow (placed_groups (view_groups groups.now.items []) depth []) → (bare : List trees.Entry) → Finds result number (λ rest. spec.amongs_of_groups (view_groups groups.now.items bare) depth rest) }
 {
-    let mut behind = number;
+    let mut following = number;
     for group in groups {
-        match in_rows(&group.rows, depth.saturating_add(2), behind) {
-            WalkEnd::Behind(next) => behind = next,
+        match in_rows(&group.rows, depth.saturating_add(2), following) {
+            WalkEnd::After(next) => following = next,
             WalkEnd::There(depth, among) => return WalkEnd::There(depth, among),
         }
     }
-    WalkEnd::Behind(behind)
+    WalkEnd::After(following)
 }
 
 #[cycle(find)]
 fn in_rows(rows: &Vec<RowOfCommands>, depth: u8, number: u64) -> WalkEnd<'_>
     ensures { AreShallow (placed_rows (view_rows rows.now.items) depth []) → Finds result number (λ rest. spec.amongs_of_rows (view_rows rows.now.items) depth rest) }
 {
-    let mut behind = number;
+    let mut following = number;
     for row in rows {
-        match in_row(row, depth, behind) {
-            WalkEnd::Behind(next) => behind = next,
+        match in_row(row, depth, following) {
+            WalkEnd::After(next) => following = next,
             WalkEnd::There(depth, among) => return WalkEnd::There(depth, among),
         }
     }
-    WalkEnd::Behind(behind)
+    WalkEnd::After(following)
 }
 
 #[cycle(find)]
@@ -97,7 +97,7 @@ fn in_row(row: &RowOfCommands, depth: u8, number: u64) -> WalkEnd<'_>
     ensures { AreShallow (placed_command (view_row row.now).0 depth (placed_others (view_row row.now).1 depth [])) → Finds result number (λ rest. spec.amongs (view_row row.now).0 depth (spec.amongs_of_others (view_row row.now).1 depth rest)) }
 {
     match in_command(&row.first, depth, number) {
-        WalkEnd::Behind(number) => in_others(&row.others, depth, number),
+        WalkEnd::After(number) => in_others(&row.others, depth, number),
         WalkEnd::There(depth, among) => WalkEnd::There(depth, among),
     }
 }
@@ -106,14 +106,14 @@ fn in_row(row: &RowOfCommands, depth: u8, number: u64) -> WalkEnd<'_>
 fn in_others(others: &Vec<NextCommand>, depth: u8, number: u64) -> WalkEnd<'_>
     ensures { AreShallow (placed_others (view_others others.now.items) depth []) → Finds result number (λ rest. spec.amongs_of_others (view_others others.now.items) depth rest) }
 {
-    let mut behind = number;
+    let mut following = number;
     for joined in others {
-        match in_command(&joined.command, depth, behind) {
-            WalkEnd::Behind(next) => behind = next,
+        match in_command(&joined.command, depth, following) {
+            WalkEnd::After(next) => following = next,
             WalkEnd::There(depth, among) => return WalkEnd::There(depth, among),
         }
     }
-    WalkEnd::Behind(behind)
+    WalkEnd::After(following)
 }
 
 /// Returns the among with this number, and its depth. Amongs are numbered from 1 in the order of the words `among`.
@@ -125,6 +125,6 @@ pub fn nth_among(row: &RowOfCommands, number: u64) -> Option<(u8, &Among)>
 {
     match in_row(row, 1, number) {
         WalkEnd::There(depth, among) => Some((depth, among)),
-        WalkEnd::Behind(_) => None,
+        WalkEnd::After(_) => None,
     }
 }

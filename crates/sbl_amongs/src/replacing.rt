@@ -142,12 +142,12 @@ impl Replacement<'_> {
         ensures rest { IfOk result (λ x. x.1 ≡ at - count_amongs (view_row row.now).0 - count_in_others (view_row row.now).1) }
     {
         let (first, rest) = self.put_in_command(&row.first, at)?;
-        let (others, rest) = self.put_behind(&row.others, rest)?;
+        let (others, rest) = self.put_after(&row.others, rest)?;
         Ok((RowOfCommands { first, others }, rest))
     }
 
     #[cycle(put_among)]
-    fn put_behind(
+    fn put_after(
         &self,
         others: &Vec<NextCommand>,
         at: u64,

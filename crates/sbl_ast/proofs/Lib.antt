@@ -1,3 +1,3 @@
 pub mod Views
-pub mod Behind
+pub mod After
 pub mod Lexed

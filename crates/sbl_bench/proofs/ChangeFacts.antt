@@ -165,16 +165,16 @@ unfolding IsDistinct
 fresh_list script [] unique fresh = tt
 fresh_list script (e ∷ es) unique fresh = (
   subst (λ (b : Bool). IfSome (cond b (Some e.1) (find e.0.items es)) (λ t. IsFresh script e.0.items t)) ((bytes_eq-Decides e.0.items e.0.items).1 refl) (fresh e.0),
-  fresh_list script es unique.1 (λ w. behind w (bytes_eq w.items e.0.items) refl),
+  fresh_list script es unique.1 (λ w. following w (bytes_eq w.items e.0.items) refl),
 )
   where
     absent : (fs : List KeptWord) → AllByRecursion (λ (y : Text). bytes_eq e.0.items y.items ≡ false) (keys_of fs) → find e.0.items fs ≡ None
     absent [] a = refl
     absent (f ∷ fs) a = rw a.0 (absent fs a.1)
 
-    behind : (w : Text) (b : Bool) → bytes_eq w.items e.0.items ≡ b → IfSome (find w.items es) (λ t. IsFresh script w.items t)
-    behind w true same = subst (λ (x : Option RunTrace). IfSome x (λ t. IsFresh script w.items t)) (sym (ap (λ (x : List ℕ). find x es) ((bytes_eq-Decides w.items e.0.items).0 same) ∙ absent es unique.0)) tt
-    behind w false other = subst (λ (b : Bool). IfSome (cond b (Some e.1) (find w.items es)) (λ t. IsFresh script w.items t)) other (fresh w)
+    following : (w : Text) (b : Bool) → bytes_eq w.items e.0.items ≡ b → IfSome (find w.items es) (λ t. IsFresh script w.items t)
+    following w true same = subst (λ (x : Option RunTrace). IfSome x (λ t. IsFresh script w.items t)) (sym (ap (λ (x : List ℕ). find x es) ((bytes_eq-Decides w.items e.0.items).0 same) ∙ absent es unique.0)) tt
+    following w false other = subst (λ (b : Bool). IfSome (cond b (Some e.1) (find w.items es)) (λ t. IsFresh script w.items t)) other (fresh w)
 
 pub words_by_keys : (es : List KeptWord) → words_in es ≡ map (λ (k : Text). k.items) (keys_of es)
 words_by_keys [] = refl

@@ -59,7 +59,7 @@ has_pair : (es : List KeptWord) (s w : List ℕ) → has_stem s (find w es) ≡ 
 has_pair [] s w h = cc h
 has_pair (e ∷ es) s w h = by (bytes_eq w e.0.items) refl (has_pair es s w)
   where
-    -- behind any outcome the later pairs are there
+    -- after any outcome the later pairs are there
     later : (o : Outcome') → is_in (s, w) (pairs_of es) ≡ true → is_in (s, w) (with_pair o e.0.items (pairs_of es)) ≡ true
     later (Stem t) k = rw k (or_true (is_eq (pair_cmp (s, w) (t, e.0.items))))
       where
@@ -84,15 +84,15 @@ all_kept : (set : List Pair) (es : List KeptWord) → IsDistinct (λ (x y : Text
     → All (λ p. is_in p set ≡ true) (pairs_of es)
 unfolding IsDistinct
 all_kept set [] unique there = λ k d h. absurd (omega (arith, h))
-all_kept set (e ∷ es) unique there = by e.1.outcome refl (all_kept set es unique.1 (λ t w h. there t w (behind t w h)))
+all_kept set (e ∷ es) unique there = by e.1.outcome refl (all_kept set es unique.1 (λ t w h. there t w (following t w h)))
   where
-    -- a word is not found behind its own place
+    -- a word is not found after its own place
     absent : (fs : List KeptWord) → AllByRecursion (λ (y : Text). bytes_eq e.0.items y.items ≡ false) (keys_of fs) → find e.0.items fs ≡ None
     absent [] a = refl
     absent (f ∷ fs) a = rw a.0 (absent fs a.1)
 
-    behind : (t w : Text) → has_stem t.items (find w.items es) ≡ true → has_stem t.items (find w.items (e ∷ es)) ≡ true
-    behind t w h = at (bytes_eq w.items e.0.items) refl
+    following : (t w : Text) → has_stem t.items (find w.items es) ≡ true → has_stem t.items (find w.items (e ∷ es)) ≡ true
+    following t w h = at (bytes_eq w.items e.0.items) refl
       where
         at : (b : Bool) → bytes_eq w.items e.0.items ≡ b → has_stem t.items (find w.items (e ∷ es)) ≡ true
         at true same =

@@ -22,7 +22,7 @@ use Rattle.sbl_bench.proofs.OrderFacts.{any-in_order, in_order-sorted, one_order
 bytes_eq-self : (t : List ℕ) → bytes_eq t t ≡ true
 bytes_eq-self t = (bytes_eq-Decides t t).1 refl
 
--- ---- one more pair, behind all others
+-- ---- one more pair, after all others
 
 put_later : (c d : Class) (cs : List Class) (p : Pair) → put_last (c ∷ d ∷ cs) p ≡ c ∷ put_last (d ∷ cs) p
 put_later c d cs p = by (is_last p.0 (d ∷ cs))
@@ -46,10 +46,10 @@ module _ (t w : List ℕ) (f g : List ℕ → List (List ℕ)) (others : (s : Li
   differs : (x : List ℕ) → text_cmp t x ≡ Greater → bytes_eq x t ≡ false
   differs x e = sym (is_eq-slice_cmp x t) ∙ ap is_eq (nat_list_cmp_total.antisymm x t ∙ ap ordering_reverse e)
 
-  put_behind : (ss : List (List ℕ)) → IsStrictlySortedBy text_cmp ss → AllByRecursion Below ss → (mem text_cmp t ss ≡ false → f t ≡ []) → put_last (map before ss) (t, w) ≡ map after (insert_key text_cmp ss t)
+  put_after : (ss : List (List ℕ)) → IsStrictlySortedBy text_cmp ss → AllByRecursion Below ss → (mem text_cmp t ss ≡ false → f t ≡ []) → put_last (map before ss) (t, w) ≡ map after (insert_key text_cmp ss t)
   unfolding IsStrictlySortedBy
-  put_behind [] s below none = λ i. record { stem = t; words = sym (more ∙ ap (λ (l : List (List ℕ)). l ++ w ∷ []) (none refl)) i } ∷ []
-  put_behind (x ∷ []) s below none = by (text_cmp t x) refl
+  put_after [] s below none = λ i. record { stem = t; words = sym (more ∙ ap (λ (l : List (List ℕ)). l ++ w ∷ []) (none refl)) i } ∷ []
+  put_after (x ∷ []) s below none = by (text_cmp t x) refl
     where
       new : text_cmp t x ≡ Greater → f t ≡ []
       new e = none (ap (λ (o : Ordering). is_eq o || false) e)
@@ -59,7 +59,7 @@ module _ (t w : List ℕ) (f g : List ℕ → List (List ℕ)) (others : (s : Li
       by Equal e = rw e (subst (λ y. put_last (before y ∷ []) (t, w) ≡ after y ∷ []) (exact_bytes t x e) (rw (bytes_eq-self t) (λ i. record { stem = t; words = sym more i } ∷ [])))
       by Greater e = rw (e, differs x e)
           (λ i. record { stem = x; words = sym (others x (differs x e)) i } ∷ record { stem = t; words = sym (more ∙ ap (λ (l : List (List ℕ)). l ++ w ∷ []) (new e)) i } ∷ [])
-  put_behind (x ∷ y ∷ ss) s below none = by (text_cmp t x) refl (put_behind (y ∷ ss) s.1 below.1)
+  put_after (x ∷ y ∷ ss) s below none = by (text_cmp t x) refl (put_after (y ∷ ss) s.1 below.1)
     where
       by : (o : Ordering) → text_cmp t x ≡ o
           → ((mem text_cmp t (y ∷ ss) ≡ false → f t ≡ []) → put_last (map before (y ∷ ss)) (t, w) ≡ map after (insert_key text_cmp (y ∷ ss) t))
@@ -70,7 +70,7 @@ module _ (t w : List ℕ) (f g : List ℕ → List (List ℕ)) (others : (s : Li
           (put_later (before x) (before y) (map before ss) (t, w)
           ∙ (λ i. record { stem = x; words = sym (others x (differs x e)) i } ∷ rest (λ m. none (ap (λ (o : Ordering). is_eq o || mem text_cmp t (y ∷ ss)) e ∙ m)) i))
 
--- ---- the words and stems of the pairs, with one more behind
+-- ---- the words and stems of the pairs, with one more at the end
 
 words_more : (stem : List ℕ) (done : List Pair) (p : Pair) → words_paired stem (done ++ p ∷ []) ≡ words_paired stem done ++ cond (bytes_eq stem p.0) (p.1 ∷ []) []
 words_more stem [] p = by (bytes_eq stem p.0)
@@ -116,7 +116,7 @@ module _ (done : List Pair) (p : Pair) (below : AllByRecursion (λ q. pair_cmp q
 
   put_more : put_last (classes_paired done) p ≡ classes_paired (done ++ p ∷ [])
   put_more =
-      put_behind p.0 p.1 (λ s. words_paired s done) (λ s. words_paired s (done ++ p ∷ []))
+      put_after p.0 p.1 (λ s. words_paired s done) (λ s. words_paired s (done ++ p ∷ []))
       (λ s other. words_more s done p ∙ ap (λ (b : Bool). words_paired s done ++ cond b (p.1 ∷ []) []) other ∙ append-nil (words_paired s done))
       (words_more p.0 done p ∙ ap (λ (b : Bool). words_paired p.0 done ++ cond b (p.1 ∷ []) []) (bytes_eq-self p.0))
       (in_order (map (λ r. r.0) done)) (in_order-sorted (map (λ r. r.0) done))
@@ -124,10 +124,10 @@ module _ (done : List Pair) (p : Pair) (below : AllByRecursion (λ q. pair_cmp q
       (λ m. no_words p.0 done (sym (any-in_order (λ x. is_eq (text_cmp p.0 x)) (map (λ r. r.0) done)) ∙ m))
       ∙ ap (map (class_paired (done ++ p ∷ []))) (sym (one_order (map (λ r. r.0) (done ++ p ∷ [])) (p.0 ∷ map (λ r. r.0) done) (λ q. stems_more q done p)))
 
-front_below : (done : List Pair) (p : Pair) (ps : List Pair) → IsStrictlySortedBy pair_cmp (done ++ p ∷ ps) → AllByRecursion (λ q. pair_cmp q p ≡ Less) done
+prefix_below : (done : List Pair) (p : Pair) (ps : List Pair) → IsStrictlySortedBy pair_cmp (done ++ p ∷ ps) → AllByRecursion (λ q. pair_cmp q p ≡ Less) done
 unfolding IsStrictlySortedBy
-front_below [] p ps s = tt
-front_below (d ∷ done) p ps s = (at done s.0, front_below done p ps s.1)
+prefix_below [] p ps s = tt
+prefix_below (d ∷ done) p ps s = (at done s.0, prefix_below done p ps s.1)
   where
     at : (xs : List Pair) → AllByRecursion (λ y. pair_cmp d y ≡ Less) (xs ++ p ∷ ps) → pair_cmp d p ≡ Less
     at [] a = a.0
@@ -136,7 +136,7 @@ front_below (d ∷ done) p ps s = (at done s.0, front_below done p ps s.1)
 grouped_on : (done ps : List Pair) → IsStrictlySortedBy pair_cmp (done ++ ps) → put_pairs (classes_paired done) ps ≡ classes_paired (done ++ ps)
 grouped_on done [] s = ap classes_paired (sym (append-nil done))
 grouped_on done (p ∷ ps) s =
-    ap (λ (cs : List Class). put_pairs cs ps) (put_more done p (front_below done p ps s))
+    ap (λ (cs : List Class). put_pairs cs ps) (put_more done p (prefix_below done p ps s))
     ∙ grouped_on (done ++ p ∷ []) ps (subst (IsStrictlySortedBy pair_cmp) (sym (append_assoc done (p ∷ []) ps)) s)
     ∙ ap classes_paired (append_assoc done (p ∷ []) ps)
 

@@ -47,10 +47,10 @@ now_away : (a h x : Bool) → (h || ((a && false) || x)) ≡ (h || x)
 now_away true h x = refl
 now_away false h x = refl
 
--- a word is not found behind its own place
-not_behind : (e : KeptWord) (fs : List KeptWord) → AllByRecursion (λ (y : Text). bytes_eq e.0.items y.items ≡ false) (keys_of fs) → find e.0.items fs ≡ None
-not_behind e [] a = refl
-not_behind e (f ∷ fs) a = rw a.0 (not_behind e fs a.1)
+-- a word is not found after its own place
+not_after : (e : KeptWord) (fs : List KeptWord) → AllByRecursion (λ (y : Text). bytes_eq e.0.items y.items ≡ false) (keys_of fs) → find e.0.items fs ≡ None
+not_after e [] a = refl
+not_after e (f ∷ fs) a = rw a.0 (not_after e fs a.1)
 
 -- one more entry gives its pair
 pub paired_more : (all es rest : List KeptWord) (s n : BTreeSet Key) (e : KeptWord) → es ≡ e ∷ rest → IsDistinct (λ (x y : Text). bytes_eq x.items y.items) (keys_of es)
@@ -67,7 +67,7 @@ paired_more all es rest s n e split unique so_far put q =
         → (has_stem q.0.items (find q.1.items rest) || (is_pair_of e.0.items (outcome_of e.1.outcome) q || has s q)) ≡ (has_stem q.0.items (find q.1.items (e ∷ rest)) || has s q)
     at true h =
         let same : q.1.items ≡ e.0.items = (bytes_eq-Decides q.1.items e.0.items).0 h in
-        let gone : has_stem q.0.items (find q.1.items rest) ≡ false = ap (λ (w : List ℕ). has_stem q.0.items (find w rest)) same ∙ ap (has_stem q.0.items) (not_behind e rest distinct.0) in
+        let gone : has_stem q.0.items (find q.1.items rest) ≡ false = ap (λ (w : List ℕ). has_stem q.0.items (find w rest)) same ∙ ap (has_stem q.0.items) (not_after e rest distinct.0) in
         rw (gone, h, (bytes_eq-Decides e.0.items q.1.items).1 (sym same)) (now_here (is_stem q.0.items (outcome_of e.1.outcome)) (has s q))
     at false h =
         rw (h, other (bytes_eq e.0.items q.1.items) refl) (now_away (is_stem q.0.items (outcome_of e.1.outcome)) (has_stem q.0.items (find q.1.items rest)) (has s q))
@@ -76,10 +76,10 @@ paired_more all es rest s n e split unique so_far put q =
         other false k = k
         other true k = cc (sym h ∙ (bytes_eq-Decides q.1.items e.0.items).1 (sym ((bytes_eq-Decides e.0.items q.1.items).0 k)))
 
--- the entries behind it differ too
-pub distinct_behind : (es rest : List KeptWord) (e : KeptWord) → es ≡ e ∷ rest → IsDistinct (λ (x y : Text). bytes_eq x.items y.items) (keys_of es) → IsDistinct (λ (x y : Text). bytes_eq x.items y.items) (keys_of rest)
+-- the entries after it differ too
+pub distinct_after : (es rest : List KeptWord) (e : KeptWord) → es ≡ e ∷ rest → IsDistinct (λ (x y : Text). bytes_eq x.items y.items) (keys_of es) → IsDistinct (λ (x y : Text). bytes_eq x.items y.items) (keys_of rest)
 unfolding IsDistinct
-distinct_behind es rest e split unique = (subst (λ (l : List KeptWord). IsDistinct (λ (x y : Text). bytes_eq x.items y.items) (keys_of l)) split unique).1
+distinct_after es rest e split unique = (subst (λ (l : List KeptWord). IsDistinct (λ (x y : Text). bytes_eq x.items y.items) (keys_of l)) split unique).1
 
 -- at first the set has no pair, and at last all
 pub paired_none : (es : List KeptWord) (s : BTreeSet Key) → s.keys ≡ [] → ArePairedSoFar es es s

@@ -98,7 +98,7 @@ from_later stem ks rest k split a =
 pub one_paired : (stem : List ℕ) (ks rest : List Key) (k : Key) → ks ≡ k ∷ rest → bytes_eq stem k.0.items ≡ true → k.1.items ∷ words_paired stem (map plain rest) ≡ words_paired stem (map plain ks)
 one_paired stem ks rest k split same = sym (ap (λ (l : List Key). words_paired stem (map plain l)) split ∙ rw same refl)
 
--- behind a pair of another stem there is none of this one
+-- after a pair of another stem there is none of this one
 pub none_later : (stem : List ℕ) (ks rest : List Key) (k : Key) → ks ≡ k ∷ rest → AreFrom stem ks → bytes_eq stem k.0.items ≡ false → words_paired stem (map plain ks) ≡ []
 unfolding IsStrictlySortedBy
 none_later stem ks rest k split a other = ap (λ (l : List Key). words_paired stem (map plain l)) split ∙ rw other (later rest b.rise.0)

@@ -17,7 +17,7 @@ use Rattle.sbl_bench.specs.Edits.{Edit, Edits, Add, Remove, IsSettingAfter, cont
 use Rattle.sbl_bench.specs.Stops.{IsStop}
 use Rattle.sbl_bench.specs.Vocabulary.{is_word, without}
 
--- behind all the tests a word is not refused
+-- after all the tests a word is not refused
 accepted : (s : Contents) (word : List ℕ) → 0 < length word → length word ≤ 255 → is_word word s.words ≡ false → length s.words < 100000
     → refusal_of_add s word ≡ None
 accepted s [] h most new room = absurd (omega (arith, h))

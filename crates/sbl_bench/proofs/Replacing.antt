@@ -61,7 +61,7 @@ module _ {A : Type 0} (s : Contents) (what : ScriptEdit) (text : List ℕ) (r : 
   pub passes : (a : A) → r ≡ Ok a → PassesTests s (Replace what text)
   passes a made = λ f refused. of_its_text a refused.0 f made refused.1 refused.2
 
-  -- where memory was refused behind that
+  -- if memory was refused after that
   pub nothing_made : (a : A) → r ≡ Ok a → Edits (Err fault.OutOfMemory) s (Replace what text) s
   nothing_made a made = record { wanted = λ w same. cc same; is = inl (passes a made, refl) }
 

@@ -14,7 +14,7 @@ Traces = HashMap (Vec ℕ Global) RunTrace WordKeys
 abbrev same_word : Vec ℕ Global → Vec ℕ Global → Bool
 same_word x y = bytes_eq x.items y.items
 
--- what holds of the entries that an entry of the map leaves behind holds of the map's, once its borrow has ended
+-- what holds of the entries that are left by an entry of the map holds of the map's, once its borrow has ended
 pub comes_home : {G : Type 0} {g h : G} {left : Traces} (P : List KeptWord → Type 0) (es : List KeptWord) → g ≡ h → left.entries ≡ es → P es
     → (given : (m : Traces) × (g ≡ h → m ≡ left)) → P given.0.entries
 comes_home P es same stays p given = subst (λ (m : Traces). P m.entries) (sym (given.1 same)) (subst P (sym stays) p)

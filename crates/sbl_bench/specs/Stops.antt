@@ -2,8 +2,8 @@
 use Rattle.std.specs.Prelude.{◌≡◌, ◌⊎◌, ◌<◌, ◌≤◌, ◌+◌, ◌-◌, ℕ}
 use Rattle.sbl_text.specs.declared.fault.ScriptFault.{ScriptFault}
 use Rattle.sbl_text.specs.declared.fault.ScriptFault.TheVariants as text
-use Rattle.sbl_machine.specs.declared.fault.RunStop.{RunStop}
-use Rattle.sbl_machine.specs.declared.fault.RunStop.TheVariants as stop
+use Rattle.sbl_machine.specs.declared.run_stop.RunStop.{RunStop}
+use Rattle.sbl_machine.specs.declared.run_stop.RunStop.TheVariants as stop
 use Rattle.sbl_bench.specs.declared.fault.EditFault.{EditFault}
 use Rattle.sbl_bench.specs.declared.fault.EditFault.TheVariants as fault
 use Rattle.sbl_bench.specs.Contents.{max_runs}

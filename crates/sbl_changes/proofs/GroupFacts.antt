@@ -22,7 +22,7 @@ use Rattle.sbl_changes.proofs.OrderFacts.{any-in_order, in_order-sorted, one_ord
 bytes_eq-self : (t : List ℕ) → bytes_eq t t ≡ true
 bytes_eq-self t = (bytes_eq-Decides t t).1 refl
 
--- ---- one more pair, behind all members
+-- ---- one more pair, after all members
 
 put_later : (c d : Class) (cs : List Class) (p : Pair) → put_last (c ∷ d ∷ cs) p ≡ c ∷ put_last (d ∷ cs) p
 put_later c d cs p = by (is_last p.0 (d ∷ cs))
@@ -46,10 +46,10 @@ module _ (t w : List ℕ) (f g : List ℕ → List (List ℕ)) (members : (s : L
   differs : (x : List ℕ) → text_cmp t x ≡ Greater → bytes_eq x t ≡ false
   differs x e = sym (is_eq-slice_cmp x t) ∙ ap is_eq (nat_list_cmp_total.antisymm x t ∙ ap ordering_reverse e)
 
-  put_behind : (ss : List (List ℕ)) → IsStrictlySortedBy text_cmp ss → AllByRecursion Below ss → (mem text_cmp t ss ≡ false → f t ≡ []) → put_last (map before ss) (t, w) ≡ map after (insert_key text_cmp ss t)
+  put_after : (ss : List (List ℕ)) → IsStrictlySortedBy text_cmp ss → AllByRecursion Below ss → (mem text_cmp t ss ≡ false → f t ≡ []) → put_last (map before ss) (t, w) ≡ map after (insert_key text_cmp ss t)
   unfolding IsStrictlySortedBy
-  put_behind [] s below none = λ i. record { stem = t; members = sym (more ∙ ap (λ (l : List (List ℕ)). l ++ w ∷ []) (none refl)) i } ∷ []
-  put_behind (x ∷ []) s below none = by (text_cmp t x) refl
+  put_after [] s below none = λ i. record { stem = t; members = sym (more ∙ ap (λ (l : List (List ℕ)). l ++ w ∷ []) (none refl)) i } ∷ []
+  put_after (x ∷ []) s below none = by (text_cmp t x) refl
     where
       new : text_cmp t x ≡ Greater → f t ≡ []
       new e = none (ap (λ (o : Ordering). is_eq o || false) e)
@@ -59,7 +59,7 @@ module _ (t w : List ℕ) (f g : List ℕ → List (List ℕ)) (members : (s : L
       by Equal e = rw e (subst (λ y. put_last (before y ∷ []) (t, w) ≡ after y ∷ []) (exact_bytes t x e) (rw (bytes_eq-self t) (λ i. record { stem = t; members = sym more i } ∷ [])))
       by Greater e = rw (e, differs x e)
           (λ i. record { stem = x; members = sym (members x (differs x e)) i } ∷ record { stem = t; members = sym (more ∙ ap (λ (l : List (List ℕ)). l ++ w ∷ []) (new e)) i } ∷ [])
-  put_behind (x ∷ y ∷ ss) s below none = by (text_cmp t x) refl (put_behind (y ∷ ss) s.1 below.1)
+  put_after (x ∷ y ∷ ss) s below none = by (text_cmp t x) refl (put_after (y ∷ ss) s.1 below.1)
     where
       by : (o : Ordering) → text_cmp t x ≡ o
           → ((mem text_cmp t (y ∷ ss) ≡ false → f t ≡ []) → put_last (map before (y ∷ ss)) (t, w) ≡ map after (insert_key text_cmp (y ∷ ss) t))
@@ -70,7 +70,7 @@ module _ (t w : List ℕ) (f g : List ℕ → List (List ℕ)) (members : (s : L
           (put_later (before x) (before y) (map before ss) (t, w)
           ∙ (λ i. record { stem = x; members = sym (members x (differs x e)) i } ∷ rest (λ m. none (ap (λ (o : Ordering). is_eq o || mem text_cmp t (y ∷ ss)) e ∙ m)) i))
 
--- ---- the members and stems of the pairs, with one more behind
+-- ---- the members and stems of the pairs, with one more at the end
 
 members_more : (stem : List ℕ) (done : List Pair) (p : Pair) → members_of stem (done ++ p ∷ []) ≡ members_of stem done ++ cond (bytes_eq stem p.0) (p.1 ∷ []) []
 members_more stem [] p = by (bytes_eq stem p.0)
@@ -107,7 +107,7 @@ NotAbove stem x = text_cmp stem x ≡ Less → ⊥
 -- a pair whose stem is not below those of the pairs before it
 put_more : (done : List Pair) (p : Pair) → All (NotAbove p.0) (in_order (map (λ r. r.0) done)) → put_last (classes_sorted done) p ≡ classes_sorted (done ++ p ∷ [])
 put_more done p below =
-    put_behind p.0 p.1 (λ s. members_of s done) (λ s. members_of s (done ++ p ∷ []))
+    put_after p.0 p.1 (λ s. members_of s done) (λ s. members_of s (done ++ p ∷ []))
     (λ s other. members_more s done p ∙ ap (λ (b : Bool). members_of s done ++ cond b (p.1 ∷ []) []) other ∙ append-nil (members_of s done))
     (members_more p.0 done p ∙ ap (λ (b : Bool). members_of p.0 done ++ cond b (p.1 ∷ []) []) (bytes_eq-self p.0))
     (in_order (map (λ r. r.0) done)) (in_order-sorted (map (λ r. r.0) done))
@@ -119,9 +119,9 @@ stems_below : (stem : List ℕ) (ds : List Pair) → AllByRecursion (λ d. NotAb
 stems_below stem [] a = All-nil (NotAbove stem)
 stems_below stem (d ∷ ds) a = All-insert_key text_cmp d.0 (NotAbove stem) (in_order (map (λ r. r.0) ds)) (stems_below stem ds a.1) a.0
 
-front_below : (done : List Pair) (p : Pair) (ps : List Pair) → DoNotFall (done ++ p ∷ ps) → AllByRecursion (λ d. NotAbove p.0 d.0) done
-front_below [] p ps s = tt
-front_below (d ∷ done) p ps s = (at done s.0, front_below done p ps s.1)
+prefix_below : (done : List Pair) (p : Pair) (ps : List Pair) → DoNotFall (done ++ p ∷ ps) → AllByRecursion (λ d. NotAbove p.0 d.0) done
+prefix_below [] p ps s = tt
+prefix_below (d ∷ done) p ps s = (at done s.0, prefix_below done p ps s.1)
   where
     at : (xs : List Pair) → AllByRecursion (λ q. NotAbove q.0 d.0) (xs ++ p ∷ ps) → NotAbove p.0 d.0
     at [] a = a.0
@@ -130,7 +130,7 @@ front_below (d ∷ done) p ps s = (at done s.0, front_below done p ps s.1)
 grouped_on : (done ps : List Pair) → DoNotFall (done ++ ps) → group_pairs (classes_sorted done) ps ≡ classes_sorted (done ++ ps)
 grouped_on done [] s = ap classes_sorted (sym (append-nil done))
 grouped_on done (p ∷ ps) s =
-    ap (λ (cs : List Class). group_pairs cs ps) (put_more done p (stems_below p.0 done (front_below done p ps s)))
+    ap (λ (cs : List Class). group_pairs cs ps) (put_more done p (stems_below p.0 done (prefix_below done p ps s)))
     ∙ grouped_on (done ++ p ∷ []) ps (subst DoNotFall (sym (append_assoc done (p ∷ []) ps)) s)
     ∙ ap classes_sorted (append_assoc done (p ∷ []) ps)
 

@@ -148,21 +148,21 @@ one_counted n m differs so_is is = rw so_is is
 pub none_counted : (n m : ℕ) (differs : Bool) → differs ≡ false → m ≡ n → m ≡ n + count differs
 none_counted n m differs so_is is = let same : m ≡ n + 0 = omega arith in rw so_is same
 
--- what was written is a front of all
-front_of : (a b : List ℕ) (k : ℕ) → (n : ℕ) × (take n (a ++ b) ≡ take k a)
-front_of [] b zero = (0, refl)
-front_of [] b (suc k) = (0, refl)
-front_of (x ∷ a) b zero = (0, refl)
-front_of (x ∷ a) b (suc k) = let r = front_of a b k in (suc r.0, ap (λ (t : List ℕ). x ∷ t) r.1)
+-- what was written is a prefix of all
+prefix_of : (a b : List ℕ) (k : ℕ) → (n : ℕ) × (take n (a ++ b) ≡ take k a)
+prefix_of [] b zero = (0, refl)
+prefix_of [] b (suc k) = (0, refl)
+prefix_of (x ∷ a) b zero = (0, refl)
+prefix_of (x ∷ a) b (suc k) = let r = prefix_of a b k in (suc r.0, ap (λ (t : List ℕ). x ∷ t) r.1)
 
-front_after : (a t b : List ℕ) → (n : ℕ) × (take n b ≡ t) → (n : ℕ) × (take n (a ++ b) ≡ a ++ t)
-front_after [] t b front = front
-front_after (x ∷ a) t b front = let r = front_after a t b front in (suc r.0, ap (λ (t : List ℕ). x ∷ t) r.1)
+prefix_after : (a t b : List ℕ) → (n : ℕ) × (take n b ≡ t) → (n : ℕ) × (take n (a ++ b) ≡ a ++ t)
+prefix_after [] t b prefix = prefix
+prefix_after (x ∷ a) t b prefix = let r = prefix_after a t b prefix in (suc r.0, ap (λ (t : List ℕ). x ∷ t) r.1)
 
 module _ {script : Source} {words expected words_left expected_left : List ℕ} {n found : ℕ} {held h : Option (List ℕ)}
     (so : Progress script words expected words_left expected_left n found held h) (w e : List ℕ) (ws es : List (List ℕ))
     (word : lines_of words_left ≡ w ∷ ws) (stem : lines_of expected_left ≡ e ∷ es) (new : Option (List ℕ)) where
-  -- a front of the row in hand was written
+  -- a prefix of the row in hand was written
   breaks_off : (k : ℕ) → pair_fault w e ≡ None → Appends h new (take k (records_text (difference script n w e)))
       → (m : ℕ) × Appends held new (take m (records_text (all_differences script words expected)))
   breaks_off k none writes =
@@ -172,8 +172,8 @@ module _ {script : Source} {words expected words_left expected_left : List ℕ} 
       so.rows ∙ ap (λ (r : List (List (List ℕ))). so.done ++ r) (rw (word, stem) (one_step script n w e ws es none)) in
       let text : records_text (all_differences script words expected) ≡ records_text so.done ++ (records_text d ++ records_text rest) =
       ap records_text all ∙ texts so.done (d ++ rest) ∙ ap (λ (t : List ℕ). records_text so.done ++ t) (texts d rest) in
-      let front = front_after (records_text so.done) (take k (records_text d)) (records_text d ++ records_text rest) (front_of (records_text d) (records_text rest) k) in
-      (front.0, subst (λ (t : List ℕ). Appends held new t) (sym front.1 ∙ ap (take front.0) (sym text)) (Appends-trans held h new _ _ so.text writes))
+      let prefix = prefix_after (records_text so.done) (take k (records_text d)) (records_text d ++ records_text rest) (prefix_of (records_text d) (records_text rest) k) in
+      (prefix.0, subst (λ (t : List ℕ). Appends held new t) (sym prefix.1 ∙ ap (take prefix.0) (sym text)) (Appends-trans held h new _ _ so.text writes))
 
   -- nothing was written, and the lines have this fault
   refused_at : (f : ServeFault) → pair_fault w e ≡ Some f → Appends h new []

@@ -86,7 +86,7 @@ abbrev pub all_differences : Source → List ℕ → List ℕ → List (List (Li
 all_differences script words expected = differences script 1 (lines_of words) (lines_of expected)
 
 -- What a check writes and answers: all rows and their number; all rows up to the line at which it ends, and the fault; or, where
--- the writer failed or memory was refused, a front of the rows.
+-- the writer failed or memory was refused, a prefix of the rows.
 abbrev pub IsChecked : Source → List ℕ → List ℕ → Option (List ℕ) → Option (List ℕ) → Result ℕ ServeFault → Type 0
 IsChecked script words expected held new_held (Ok n) =
     (ending (lines_of words) (lines_of expected) ≡ None) × (n ≡ length (all_differences script words expected))

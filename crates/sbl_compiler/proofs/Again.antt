@@ -1,4 +1,4 @@
--- A term whose grouping is named again behind it changes nothing.
+-- A term whose grouping is named again after it changes nothing.
 use Rattle.std.proofs.Common.{◌≡◌, ◌∙◌, ◌<◌, ℕ, zero, suc, Bool, true, false, List, [], ◌∷◌, Option, Some, refl, sym, ap, arith, if◌then◌else◌}
 use Rattle.std.specs.Prelude.{slice_get}
 use Rattle.std.specs.Option.{unwrap_or}
@@ -24,7 +24,7 @@ module _ (ns : Names) (classes : List (ℕ → Bool)) where
   has_it (written_out q) k c h = absurd (true≢false (sym h))
   has_it (by_name n) k c h = ap (λ (i : ℕ). class_at classes i c) (eqb-true (number_of ns.groupings n) k h)
 
-  -- what a character of a grouping that is named behind was before does not matter
+  -- what a character of a grouping that is named later was before does not matter
   forgotten : (ts : List Term) (k : ℕ) (a b : ℕ → Bool) (c : ℕ) → is_named ns ts k ≡ true → class_at classes k c ≡ true → with_terms ns classes ts a c ≡ with_terms ns classes ts b c
   forgotten [] k a b c n h = absurd (true≢false (sym n))
   forgotten (term o x ∷ ts) k a b c n h = by (is_name_of ns x k) refl n (forgotten ts k (class_after o (term_class ns classes x) a) (class_after o (term_class ns classes x) b) c)

@@ -13,14 +13,14 @@ use Rattle.sbl_compiler.specs.NumberedNames.{Names}
 use Rattle.sbl_semantics.specs.Regions.{Among, among_at, mode_under, number_after, number_after_rows, number_after_others, number_after_starter, first, first_rows, first_others, waits, waits_rows, waits_others}
 use Rattle.sbl_compiler.specs.NumberedNumbers.{expression}
 use Rattle.sbl_program.specs.Chains.{join}
-use Rattle.sbl_compiler.specs.NumberedItems.{Position, next_of, inside, end_waiting, past, past_simple, past_rows, past_others, past_starter, past_groups, begin_region, region, search_next, simple, behind_prefix, behind_count, numbered_command, numbered_rows, numbered_others, numbered_starter, numbered_groups}
+use Rattle.sbl_compiler.specs.NumberedItems.{Position, next_of, inside, end_waiting, past, past_simple, past_rows, past_others, past_starter, past_groups, begin_region, region, search_next, simple, after_prefix, after_count, numbered_command, numbered_rows, numbered_others, numbered_starter, numbered_groups}
 use Rattle.sbl_program.specs.ProgramOf.{commands_of}
 use Rattle.sbl_program.specs.Program as programs
 use Rattle.sbl_ast.specs.Tree.{Command, Rows, Others, Starter, Groups, bracket, simple_, literal_, name_, non_, prefixed, counted, move_, named, splice_, setlimit_, assign_, compare_, compare_values_, among_, no_rows, row, no_others, joined, no_starter, starter, bare, group}
 
 module _ (ns : Names) where
   abbrev mutual
-    -- the amongs of a command before which there are k, in front of others
+    -- the amongs of a command with k before it, before others
     pub founds : Mode → Command → ℕ → List AmongStrings → List AmongStrings
     founds m (bracket rs) k rest = founds_rows m rs k rest
     founds m (prefixed x c) k rest = founds (mode_under x m) c k rest
@@ -54,7 +54,7 @@ module _ (ns : Names) where
     founds_groups m (bare es) k rest = rest
     founds_groups m (group e es rs gs) k rest = founds_rows m rs k (founds_groups m gs (number_after_rows rs k) rest)
 
-  -- ---- they are no fewer with a command in front
+  -- ---- they are no fewer with a command before them
 
   mutual
     longer : (t : Command) (m : Mode) (k b : ℕ) (rest : List AmongStrings) → b ≤ length rest → b ≤ length (founds m t k rest)
@@ -94,7 +94,7 @@ module _ (ns : Names) where
 
   -- ---- the next of them, if it stands in the region, is the first ahead
 
-  -- the next of some, where so many stand behind the region
+  -- the next of some, if so many follow the region
   abbrev ahead_in : ℕ → List AmongStrings → Option AmongStrings
   ahead_in b xs = if nat_lt b (length xs) then Some (next_of xs) else None
 
@@ -145,7 +145,7 @@ module _ (ns : Names) where
     head_others no_others m k b rest n l h = h
     head_others (joined j c os) m k b rest n l h = head_is c m k b _ _ (longer_others os m (number_after c k) b rest l) (head_others os m (number_after c k) b rest n l h)
 
-  -- ---- what is still to come behind a command
+  -- ---- what is still to come after a command
 
   past_simple_coming : (s : Simple) (p : Position) → (past_simple s p).coming ≡ p.coming
   past_simple_coming simples.Substring p = refl
@@ -233,52 +233,52 @@ module _ (ns : Names) where
     waits_others_is no_others p = refl
     waits_others_is (joined j c os) p = waits_others_is os (past c p) ∙ ap (waits_others os) (waits_is c p)
 
-  -- ---- and how many stand behind the region
+  -- ---- and how many follow the region
 
-  past_simple_behind : (s : Simple) (p : Position) → (past_simple s p).behind ≡ p.behind
-  past_simple_behind simples.Substring p = refl
-  past_simple_behind simples.LeftBracket p = refl
-  past_simple_behind simples.RightBracket p = refl
-  past_simple_behind simples.Next p = refl
-  past_simple_behind simples.ToLimit p = refl
-  past_simple_behind simples.AtLimit p = refl
-  past_simple_behind simples.Delete p = refl
-  past_simple_behind simples.True p = refl
-  past_simple_behind simples.False p = refl
+  past_simple_after : (s : Simple) (p : Position) → (past_simple s p).following ≡ p.following
+  past_simple_after simples.Substring p = refl
+  past_simple_after simples.LeftBracket p = refl
+  past_simple_after simples.RightBracket p = refl
+  past_simple_after simples.Next p = refl
+  past_simple_after simples.ToLimit p = refl
+  past_simple_after simples.AtLimit p = refl
+  past_simple_after simples.Delete p = refl
+  past_simple_after simples.True p = refl
+  past_simple_after simples.False p = refl
 
   mutual
-    behind_is : (t : Command) (p : Position) → (past t p).behind ≡ p.behind
-    behind_is (bracket rs) p = behind_rows_is rs p
-    behind_is (simple_ s) p = past_simple_behind s p
-    behind_is (prefixed x c) p = behind_is c p
-    behind_is (counted x n c) p = behind_is c p
-    behind_is (setlimit_ b c) p = behind_is c (past b p) ∙ behind_is b p
-    behind_is (among_ s gs) p = behind_groups_is gs (past_starter s (inside p)) ∙ behind_starter_is s (inside p)
-    behind_is (literal_ q) p = refl
-    behind_is (name_ n) p = refl
-    behind_is (non_ b n) p = refl
-    behind_is (move_ x e) p = refl
-    behind_is (named x n) p = refl
-    behind_is (splice_ x a) p = refl
-    behind_is (assign_ n o e) p = refl
-    behind_is (compare_ n o e) p = refl
-    behind_is (compare_values_ e o f) p = refl
+    after_is : (t : Command) (p : Position) → (past t p).following ≡ p.following
+    after_is (bracket rs) p = after_rows_is rs p
+    after_is (simple_ s) p = past_simple_after s p
+    after_is (prefixed x c) p = after_is c p
+    after_is (counted x n c) p = after_is c p
+    after_is (setlimit_ b c) p = after_is c (past b p) ∙ after_is b p
+    after_is (among_ s gs) p = after_groups_is gs (past_starter s (inside p)) ∙ after_starter_is s (inside p)
+    after_is (literal_ q) p = refl
+    after_is (name_ n) p = refl
+    after_is (non_ b n) p = refl
+    after_is (move_ x e) p = refl
+    after_is (named x n) p = refl
+    after_is (splice_ x a) p = refl
+    after_is (assign_ n o e) p = refl
+    after_is (compare_ n o e) p = refl
+    after_is (compare_values_ e o f) p = refl
 
-    behind_rows_is : (rs : Rows) (p : Position) → (past_rows rs p).behind ≡ p.behind
-    behind_rows_is no_rows p = refl
-    behind_rows_is (row c os rs) p = behind_rows_is rs (past_others os (past c p)) ∙ behind_others_is os (past c p) ∙ behind_is c p
+    after_rows_is : (rs : Rows) (p : Position) → (past_rows rs p).following ≡ p.following
+    after_rows_is no_rows p = refl
+    after_rows_is (row c os rs) p = after_rows_is rs (past_others os (past c p)) ∙ after_others_is os (past c p) ∙ after_is c p
 
-    behind_others_is : (os : Others) (p : Position) → (past_others os p).behind ≡ p.behind
-    behind_others_is no_others p = refl
-    behind_others_is (joined j c os) p = behind_others_is os (past c p) ∙ behind_is c p
+    after_others_is : (os : Others) (p : Position) → (past_others os p).following ≡ p.following
+    after_others_is no_others p = refl
+    after_others_is (joined j c os) p = after_others_is os (past c p) ∙ after_is c p
 
-    behind_starter_is : (s : Starter) (p : Position) → (past_starter s p).behind ≡ p.behind
-    behind_starter_is no_starter p = refl
-    behind_starter_is (starter rs) p = behind_rows_is rs p
+    after_starter_is : (s : Starter) (p : Position) → (past_starter s p).following ≡ p.following
+    after_starter_is no_starter p = refl
+    after_starter_is (starter rs) p = after_rows_is rs p
 
-    behind_groups_is : (gs : Groups) (p : Position) → (past_groups gs p).behind ≡ p.behind
-    behind_groups_is (bare es) p = refl
-    behind_groups_is (group e es rs gs) p = behind_groups_is gs (past_rows rs (end_waiting p)) ∙ behind_rows_is rs (end_waiting p)
+    after_groups_is : (gs : Groups) (p : Position) → (past_groups gs p).following ≡ p.following
+    after_groups_is (bare es) p = refl
+    after_groups_is (group e es rs gs) p = after_groups_is gs (past_rows rs (end_waiting p)) ∙ after_rows_is rs (end_waiting p)
 
   -- ---- commands
 
@@ -292,8 +292,8 @@ module _ (ns : Names) where
   searched_if false p None h = refl
   searched_if false p (Some a) h = ap (found_next) h
 
-  simple_is : (s : Simple) (p : Position) (n : Option Among) → ahead_in p.behind p.coming ≡ option_map (found_as ns) n → simple s p ≡ simple_by ns s n
-  simple_is simples.Substring p n e = searched_if (nat_lt p.behind (length p.coming)) p n e
+  simple_is : (s : Simple) (p : Position) (n : Option Among) → ahead_in p.following p.coming ≡ option_map (found_as ns) n → simple s p ≡ simple_by ns s n
+  simple_is simples.Substring p n e = searched_if (nat_lt p.following (length p.coming)) p n e
   simple_is simples.LeftBracket p n e = refl
   simple_is simples.RightBracket p n e = refl
   simple_is simples.Next p n e = refl
@@ -319,13 +319,13 @@ module _ (ns : Names) where
   join_are : (j : Joiner) (c c' d d' : programs.Node) → c ≡ c' → d ≡ d' → join j c d ≡ join j c' d'
   join_are j c c' d d' p q = ap (λ x. join j x d) p ∙ ap (join j c') q
 
-  -- A place before which there are k: behind it come these and then the rest, so many of which stand behind the region,
+  -- A place before which there are k: after it come these and then the rest, so many of which follow the region,
   -- in which n is what comes next.
   pub record At (p : Position) (xs rest : List AmongStrings) (w : Bool) (n : Option Among) : Type 0 where
     pub coming : p.coming ≡ xs
     pub waiting : p.waits ≡ w
-    pub few : p.behind ≤ length rest
-    pub next : ahead_in p.behind rest ≡ option_map (found_as ns) n
+    pub few : p.following ≤ length rest
+    pub next : ahead_in p.following rest ≡ option_map (found_as ns) n
 
   -- the beginning of a region
   pub begun_at : (p q : Position) (xs rest : List AmongStrings) → p.coming ≡ xs → q.coming ≡ rest → At (begin_region p q) xs rest false None
@@ -341,41 +341,41 @@ module _ (ns : Names) where
   nearer t p m k rest w n xs a = record {
     coming = a.coming;
     waiting = a.waiting;
-    few = longer t m k p.behind rest a.few;
-    next = head_is t m k p.behind rest n a.few a.next;
+    few = longer t m k p.following rest a.few;
+    next = head_is t m k p.following rest n a.few a.next;
   }
 
   pub nearer_others : (os : Others) (p : Position) (m : Mode) (k : ℕ) (rest : List AmongStrings) (w : Bool) (n : Option Among) (xs : List AmongStrings) → At p xs rest w n → At p xs (founds_others m os k rest) w (first_others m os k n)
   nearer_others os p m k rest w n xs a = record {
     coming = a.coming;
     waiting = a.waiting;
-    few = longer_others os m k p.behind rest a.few;
-    next = head_others os m k p.behind rest n a.few a.next;
+    few = longer_others os m k p.following rest a.few;
+    next = head_others os m k p.following rest n a.few a.next;
   }
 
   nearer_rows : (rs : Rows) (p : Position) (m : Mode) (k : ℕ) (rest : List AmongStrings) (w : Bool) (n : Option Among) (xs : List AmongStrings) → At p xs rest w n → At p xs (founds_rows m rs k rest) w (first_rows m rs k n)
   nearer_rows rs p m k rest w n xs a = record {
     coming = a.coming;
     waiting = a.waiting;
-    few = longer_rows rs m k p.behind rest a.few;
-    next = head_rows rs m k p.behind rest n a.few a.next;
+    few = longer_rows rs m k p.following rest a.few;
+    next = head_rows rs m k p.following rest n a.few a.next;
   }
 
-  -- behind a command
+  -- after a command
   pub further : (t : Command) (p : Position) (m : Mode) (k : ℕ) (xs rest : List AmongStrings) (w : Bool) (n : Option Among) → At p (founds m t k xs) rest w n → At (past t p) xs rest (waits t w) n
   further t p m k xs rest w n a = record {
     coming = coming_is t m k p xs a.coming;
     waiting = waits_is t p ∙ ap (waits t) a.waiting;
-    few = rw (behind_is t p) a.few;
-    next = ap (λ b. ahead_in b rest) (behind_is t p) ∙ a.next;
+    few = rw (after_is t p) a.few;
+    next = ap (λ b. ahead_in b rest) (after_is t p) ∙ a.next;
   }
 
   further_others : (os : Others) (p : Position) (m : Mode) (k : ℕ) (xs rest : List AmongStrings) (w : Bool) (n : Option Among) → At p (founds_others m os k xs) rest w n → At (past_others os p) xs rest (waits_others os w) n
   further_others os p m k xs rest w n a = record {
     coming = coming_others os m k p xs a.coming;
     waiting = waits_others_is os p ∙ ap (waits_others os) a.waiting;
-    few = rw (behind_others_is os p) a.few;
-    next = ap (λ b. ahead_in b rest) (behind_others_is os p) ∙ a.next;
+    few = rw (after_others_is os p) a.few;
+    next = ap (λ b. ahead_in b rest) (after_others_is os p) ∙ a.next;
   }
 
   region_at : (rs : Rows) (m : Mode) (k : ℕ) (p : Position) (rest : List AmongStrings) → p.coming ≡ founds_rows m rs k rest → At (region rs p) (founds_rows m rs k rest) rest false None
@@ -384,9 +384,9 @@ module _ (ns : Names) where
   mutual
     pub made_is : (t : Command) (m : Mode) (k : ℕ) (w : Bool) (n : Option Among) (p : Position) (rest : List AmongStrings) → At p (founds m t k rest) rest w n → numbered_command ns t p ≡ made_command ns m k w n t
     made_is (bracket rs) m k w n p rest a = ap programs.sequence (rows_is rs m k w n p rest a)
-    made_is (simple_ s) m k w n p rest a = simple_is s p n (ap (ahead_in p.behind) a.coming ∙ a.next)
-    made_is (prefixed x c) m k w n p rest a = ap (behind_prefix x) (made_is c (mode_under x m) k w n p rest a)
-    made_is (counted x e c) m k w n p rest a = ap (behind_count x (expression ns e)) (made_is c m k w n p rest a)
+    made_is (simple_ s) m k w n p rest a = simple_is s p n (ap (ahead_in p.following) a.coming ∙ a.next)
+    made_is (prefixed x c) m k w n p rest a = ap (after_prefix x) (made_is c (mode_under x m) k w n p rest a)
+    made_is (counted x e c) m k w n p rest a = ap (after_count x (expression ns e)) (made_is c m k w n p rest a)
     made_is (setlimit_ b c) m k w n p rest a =
         setlimit_are _ _ _ _ (made_is b m k w _ p _ (nearer c p m (number_after b k) rest w n _ a))
         (made_is c m (number_after b k) (waits b w) n (past b p) rest (further b p m k _ rest w n a))

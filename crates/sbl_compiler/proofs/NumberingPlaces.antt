@@ -18,7 +18,7 @@ dropped_after f zero (x ∷ xs) = refl
 dropped_after f (suc n) [] = refl
 dropped_after f (suc n) (x ∷ xs) = dropped_after f n xs
 
--- behind the next among
+-- after the next among
 pub dropped_more : {A B : Type 0} (f : A → B) (n : ℕ) (xs : List A) → map f (drop (n + 1) xs) ≡ drop 1 (map f (drop n xs))
 dropped_more f n xs = rw add-one (dropped_after f n xs)
 

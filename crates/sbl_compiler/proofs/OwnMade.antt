@@ -5,10 +5,10 @@ use Rattle.sbl_ast.specs.Order.{ItemInMode}
 use Rattle.sbl_ast.specs.declared.mode.Mode.{Mode}
 use Rattle.std.specs.Prelude.{◌-◌, None}
 use Rattle.sbl_compiler.specs.Ahead.{found_as, routine_made, routine_in, routines_in}
-use Rattle.sbl_compiler.specs.NumberedAmongs.{AmongStrings, found_of, found_command, found_rows, found_others, found_starter, found_groups, found_plain, found_behind}
+use Rattle.sbl_compiler.specs.NumberedAmongs.{AmongStrings, found_of, found_command, found_rows, found_others, found_starter, found_groups, found_plain, found_after}
 use Rattle.sbl_compiler.specs.NumberedNames.{Names}
 use Rattle.sbl_semantics.specs.Regions.{among_at, mode_under, number_after, number_after_rows, number_after_others, number_after_starter, number_after_groups, waits}
-use Rattle.sbl_compiler.specs.NumberedItems.{Position, end_waiting, past, past_body, past_plain, begin_body, routine_of, with_routine, routines_behind}
+use Rattle.sbl_compiler.specs.NumberedItems.{Position, end_waiting, past, past_body, past_plain, begin_body, routine_of, with_routine, routines_after}
 use Rattle.sbl_program.specs.Program as programs
 use Rattle.sbl_ast.specs.Tree.{Command, Rows, Others, Starter, Groups, Plain, declaration, escapes, macro, routine, grouping, bracket, simple_, literal_, name_, non_, prefixed, counted, move_, named, splice_, setlimit_, assign_, compare_, compare_values_, among_, no_rows, row, no_others, joined, no_starter, starter, bare, group}
 use Rattle.sbl_compiler.proofs.Coming.{founds, founds_rows, founds_others, founds_starter, founds_groups, coming_is, coming_others, begun_at, nearer_others, further, made_is, others_is}
@@ -123,11 +123,11 @@ module _ (ns : Names) where
   abbrev body_founds : Mode → Command → Others → List AmongStrings → List AmongStrings
   body_founds m c os rest = founds ns m c 0 (founds_others ns m os (number_after c 0) rest)
 
-  behind_body : (m : Mode) (c : Command) (os : Others) (p : Position) (rest : List AmongStrings) → p.coming ≡ body_founds m c os rest → (past_body c os p).coming ≡ rest
-  behind_body m c os p rest e = coming_others ns os m (number_after c 0) (past c (end_waiting p)) rest (coming_is ns c m 0 (end_waiting p) _ e)
+  after_body : (m : Mode) (c : Command) (os : Others) (p : Position) (rest : List AmongStrings) → p.coming ≡ body_founds m c os rest → (past_body c os p).coming ≡ rest
+  after_body m c os p rest e = coming_others ns os m (number_after c 0) (past c (end_waiting p)) rest (coming_is ns c m 0 (end_waiting p) _ e)
 
-  one_in_front : (l k r : ℕ) → l + suc k ≡ r → suc l + k ≡ r
-  one_in_front l k r e = omega (arith, e)
+  one_in_prefix : (l k r : ℕ) → l + suc k ≡ r → suc l + k ≡ r
+  one_in_prefix l k r e = omega (arith, e)
 
   mutual
     count_is : (t : Command) (m : Mode) (k : ℕ) (rest : List AmongStrings) → length (founds ns m t k rest) + k ≡ length rest + number_after t k
@@ -135,7 +135,7 @@ module _ (ns : Names) where
     count_is (prefixed x c) m k rest = count_is c (mode_under x m) k rest
     count_is (counted x e c) m k rest = count_is c m k rest
     count_is (setlimit_ b c) m k rest = count_is b m k _ ∙ count_is c m (number_after b k) rest
-    count_is (among_ s gs) m k rest = one_in_front _ k _ (count_starter s m (suc k) _ ∙ count_groups gs m (number_after_starter s (suc k)) rest)
+    count_is (among_ s gs) m k rest = one_in_prefix _ k _ (count_starter s m (suc k) _ ∙ count_groups gs m (number_after_starter s (suc k)) rest)
     count_is (literal_ q) m k rest = refl
     count_is (name_ n) m k rest = refl
     count_is (non_ b n) m k rest = refl
@@ -169,7 +169,7 @@ module _ (ns : Names) where
   pub routine_is : (m : Mode) (c : Command) (os : Others) (p : Position) (rest : List AmongStrings) → p.coming ≡ body_founds m c os rest → routine_of ns c os p ≡ routine_made ns m c os
   routine_is m c os p rest e =
       let k = number_after c 0 in
-      let b = behind_body m c os p rest e in
+      let b = after_body m c os p rest e in
       let q = begin_body c os p in
       let a = begun_at ns p (past_body c os p) _ rest e b in
       let body = others_is ns os m k (waits c false) None (past c q) rest _ _ (further ns c q m 0 _ rest false None a) (made_is ns c m 0 false _ q _ (nearer_others ns os q m k rest false None _ a)) in
@@ -200,16 +200,16 @@ module _ (ns : Names) where
   plain_is m (macro n b q) sofar rest = refl
   plain_is m (grouping n a ts) sofar rest = refl
 
-  all_is : (xs : List ItemInMode) (sofar : List AmongStrings) → found_behind ns xs sofar ≡ sofar ++ all_founds xs
+  all_is : (xs : List ItemInMode) (sofar : List AmongStrings) → found_after ns xs sofar ≡ sofar ++ all_founds xs
   all_is [] sofar = sym (append-nil sofar)
   all_is (x ∷ xs) sofar = all_is xs (found_plain ns x.mode x.plain sofar) ∙ plain_is x.mode x.plain sofar (all_founds xs)
 
-  behind_plain : (m : Mode) (x : Plain) (p : Position) (rest : List AmongStrings) → p.coming ≡ plain_founds m x rest → (past_plain x p).coming ≡ rest
-  behind_plain m (routine n c os) p rest e = behind_body m c os p rest e
-  behind_plain m (declaration k xs) p rest e = e
-  behind_plain m (escapes a b) p rest e = e
-  behind_plain m (macro n b q) p rest e = e
-  behind_plain m (grouping n a ts) p rest e = e
+  after_plain : (m : Mode) (x : Plain) (p : Position) (rest : List AmongStrings) → p.coming ≡ plain_founds m x rest → (past_plain x p).coming ≡ rest
+  after_plain m (routine n c os) p rest e = after_body m c os p rest e
+  after_plain m (declaration k xs) p rest e = e
+  after_plain m (escapes a b) p rest e = e
+  after_plain m (macro n b q) p rest e = e
+  after_plain m (grouping n a ts) p rest e = e
 
   with_is : (m : Mode) (x : Plain) (p : Position) (rest : List AmongStrings) (sofar more : List programs.Routine) → p.coming ≡ plain_founds m x rest → with_routine ns x p sofar ++ more ≡ sofar ++ routine_in ns m x more
   with_is m (routine n c os) p rest sofar more e =
@@ -219,11 +219,11 @@ module _ (ns : Names) where
   with_is m (macro n b q) p rest sofar more e = refl
   with_is m (grouping n a ts) p rest sofar more e = refl
 
-  routines_are : (xs : List ItemInMode) (p : Position) (sofar : List programs.Routine) → p.coming ≡ all_founds xs → routines_behind ns xs p sofar ≡ sofar ++ routines_in ns xs
+  routines_are : (xs : List ItemInMode) (p : Position) (sofar : List programs.Routine) → p.coming ≡ all_founds xs → routines_after ns xs p sofar ≡ sofar ++ routines_in ns xs
   routines_are [] p sofar e = sym (append-nil sofar)
   routines_are (x ∷ xs) p sofar e =
-      routines_are xs (past_plain x.plain p) (with_routine ns x.plain p sofar) (behind_plain x.mode x.plain p (all_founds xs) e)
+      routines_are xs (past_plain x.plain p) (with_routine ns x.plain p sofar) (after_plain x.mode x.plain p (all_founds xs) e)
       ∙ with_is x.mode x.plain p (all_founds xs) sofar (routines_in ns xs) e
 
 pub own_is_made : OwnIsMade
-own_is_made ns xs = routines_are ns xs (record { coming = found_behind ns xs []; behind = 0; waits = false }) [] (all_is ns xs [])
+own_is_made ns xs = routines_are ns xs (record { coming = found_after ns xs []; following = 0; waits = false }) [] (all_is ns xs [])

@@ -8,8 +8,8 @@ use Rattle.sbl_ast.specs.declared.tree.Additive.TheVariants.{Plus, Minus}
 use Rattle.sbl_ast.specs.declared.tree.DeclarationKind.TheVariants as kinds
 use Rattle.sbl_ast.specs.Tree.{Argument, written_out, by_name, Term, term, Plain, declaration, escapes, macro, routine, grouping}
 use Rattle.sbl_compiler.specs.Ahead.{routine_made, routine_in, routines_in}
-use Rattle.sbl_semantics.specs.Items.{is_among, place_of, names_by, known_in, Grouping, class_of, term_has, terms_have, and_grouping, classes_behind, Body, body_or, body_named}
-use Rattle.sbl_compiler.specs.NumberedNames.{Names, naming, names_behind, number_from, number_of, is_one_of}
+use Rattle.sbl_semantics.specs.Items.{is_among, place_of, names_by, known_in, Grouping, class_of, term_has, terms_have, and_grouping, classes_after, Body, body_or, body_named}
+use Rattle.sbl_compiler.specs.NumberedNames.{Names, naming, names_after, number_from, number_of, is_one_of}
 use Rattle.sbl_compiler.specs.NumberedClasses.{numbered_classes, term_class, with_class, with_terms}
 use Rattle.sbl_program.specs.Program as programs
 use Rattle.sbl_char_class.specs.Terms.{class_after, class_at, no_character}
@@ -29,7 +29,7 @@ strings_more (macro n b q) all more = refl
 strings_more (routine n c os) all more = refl
 strings_more (grouping n a ts) all more = refl
 
-pub strings_are : (xs : List ItemInMode) (all : Names) → (names_behind xs all).strings ≡ all.strings ++ known_in xs kinds.Strings
+pub strings_are : (xs : List ItemInMode) (all : Names) → (names_after xs all).strings ≡ all.strings ++ known_in xs kinds.Strings
 strings_are [] all = sym (append-nil all.strings)
 strings_are (x ∷ xs) all = strings_are xs (naming x.plain all) ∙ strings_more x.plain all (known_in xs kinds.Strings)
 
@@ -45,7 +45,7 @@ integers_more (macro n b q) all more = refl
 integers_more (routine n c os) all more = refl
 integers_more (grouping n a ts) all more = refl
 
-pub integers_are : (xs : List ItemInMode) (all : Names) → (names_behind xs all).integers ≡ all.integers ++ known_in xs kinds.Integers
+pub integers_are : (xs : List ItemInMode) (all : Names) → (names_after xs all).integers ≡ all.integers ++ known_in xs kinds.Integers
 integers_are [] all = sym (append-nil all.integers)
 integers_are (x ∷ xs) all = integers_are xs (naming x.plain all) ∙ integers_more x.plain all (known_in xs kinds.Integers)
 
@@ -61,7 +61,7 @@ booleans_more (macro n b q) all more = refl
 booleans_more (routine n c os) all more = refl
 booleans_more (grouping n a ts) all more = refl
 
-pub booleans_are : (xs : List ItemInMode) (all : Names) → (names_behind xs all).booleans ≡ all.booleans ++ known_in xs kinds.Booleans
+pub booleans_are : (xs : List ItemInMode) (all : Names) → (names_after xs all).booleans ≡ all.booleans ++ known_in xs kinds.Booleans
 booleans_are [] all = sym (append-nil all.booleans)
 booleans_are (x ∷ xs) all = booleans_are xs (naming x.plain all) ∙ booleans_more x.plain all (known_in xs kinds.Booleans)
 
@@ -77,7 +77,7 @@ groupings_more (macro n b q) all more = refl
 groupings_more (routine n c os) all more = refl
 groupings_more (grouping n a ts) all more = append_assoc all.groupings (n ∷ []) more
 
-pub groupings_are : (xs : List ItemInMode) (all : Names) → (names_behind xs all).groupings ≡ all.groupings ++ known_in xs kinds.Groupings
+pub groupings_are : (xs : List ItemInMode) (all : Names) → (names_after xs all).groupings ≡ all.groupings ++ known_in xs kinds.Groupings
 groupings_are [] all = sym (append-nil all.groupings)
 groupings_are (x ∷ xs) all = groupings_are xs (naming x.plain all) ∙ groupings_more x.plain all (known_in xs kinds.Groupings)
 
@@ -93,7 +93,7 @@ routines_more (macro n b q) all more = refl
 routines_more (routine n c os) all more = append_assoc all.routines (n ∷ []) more
 routines_more (grouping n a ts) all more = refl
 
-pub routines_are : (xs : List ItemInMode) (all : Names) → (names_behind xs all).routines ≡ all.routines ++ known_in xs kinds.Routines
+pub routines_are : (xs : List ItemInMode) (all : Names) → (names_after xs all).routines ≡ all.routines ++ known_in xs kinds.Routines
 routines_are [] all = sym (append-nil all.routines)
 routines_are (x ∷ xs) all = routines_are xs (naming x.plain all) ∙ routines_more x.plain all (known_in xs kinds.Routines)
 
@@ -228,15 +228,15 @@ module _ (ns : Names) where
   far_more (macro n b q) ks gs rest f = f
   far_more (routine n c os) ks gs rest f = f
 
-  pub far_all : (xs : List ItemInMode) (ks : List (ℕ → Bool)) (gs : List Grouping) → Far ks gs (known_in xs kinds.Groupings) → Far (numbered_classes ns xs ks) (classes_behind xs gs) []
+  pub far_all : (xs : List ItemInMode) (ks : List (ℕ → Bool)) (gs : List Grouping) → Far ks gs (known_in xs kinds.Groupings) → Far (numbered_classes ns xs ks) (classes_after xs gs) []
   far_all [] ks gs f = f
   far_all (x ∷ xs) ks gs f = far_all xs (with_class ns x.plain ks) (and_grouping x.plain gs) (far_more x.plain ks gs (known_in xs kinds.Groupings) f)
 
   -- a grouping's class has what its terms say
-  pub classes_are : (xs : List ItemInMode) → ns.groupings ≡ known_in xs kinds.Groupings → (n : List ℕ) (c : ℕ) → class_at (numbered_classes ns xs []) (number_of ns.groupings n) c ≡ class_of (classes_behind xs []) n c
+  pub classes_are : (xs : List ItemInMode) → ns.groupings ≡ known_in xs kinds.Groupings → (n : List ℕ) (c : ℕ) → class_at (numbered_classes ns xs []) (number_of ns.groupings n) c ≡ class_of (classes_after xs []) n c
   classes_are xs e n c =
       let f = far_all xs [] [] (record { same = tt; names = e }) in
-      class_is (numbered_classes ns xs []) (classes_behind xs []) [] f.names f.same n c
+      class_is (numbered_classes ns xs []) (classes_after xs []) [] f.names f.same n c
 
   -- ---- routines
 

@@ -8,8 +8,8 @@ use Rattle.sbl_ast.specs.Tree as trees
 use Rattle.sbl_ast.specs.Tree.{bracket, simple_, literal_, name_, non_, prefixed, counted, move_, named, splice_, setlimit_, assign_, compare_, compare_values_, among_, no_rows, row, no_others, joined, no_starter, starter, bare, group, declaration, escapes, macro, routine, grouping}
 use Rattle.sbl_program.specs.AmongStrings.{listing}
 use Rattle.sbl_program.specs.Chains.{join}
-use Rattle.sbl_compiler.specs.NumberedItems.{name_alone, behind_prefix, behind_count, move, change_named, edit, change_of, relation_of}
-use Rattle.sbl_compiler.specs.NumberedAmongs.{AmongStrings, strings_behind, entries_behind}
+use Rattle.sbl_compiler.specs.NumberedItems.{name_alone, after_prefix, after_count, move, change_named, edit, change_of, relation_of}
+use Rattle.sbl_compiler.specs.NumberedAmongs.{AmongStrings, strings_after, entries_after}
 use Rattle.sbl_compiler.specs.NumberedNames.{Names, number_of}
 use Rattle.sbl_compiler.specs.NumberedNumbers.{expression, text}
 use Rattle.sbl_program.specs.Program as programs
@@ -17,7 +17,7 @@ use Rattle.sbl_semantics.specs.Regions.{Among, among_at, number_after, number_af
 use Rattle.sbl_ast.specs.declared.mode.Mode.{Mode}
 
 abbrev pub found_as : Names → Among → AmongStrings
-found_as ns a = record { number = a.number; strings = listing a.mode (strings_behind a.groups []); entries = entries_behind ns 0 a.groups [] }
+found_as ns a = record { number = a.number; strings = listing a.mode (strings_after a.groups []); entries = entries_after ns 0 a.groups [] }
 
 abbrev pub search_of : AmongStrings → programs.Node
 search_of f = programs.search f.number f.strings f.entries
@@ -51,8 +51,8 @@ module _ (ns : Names) where
     made_command m k w next (literal_ q) = programs.act (programs.match (programs.literal q.value))
     made_command m k w next (name_ n) = name_alone ns n
     made_command m k w next (non_ b n) = programs.act (programs.non (number_of ns.groupings n))
-    made_command m k w next (prefixed x c) = behind_prefix x (made_command (mode_under x m) k w next c)
-    made_command m k w next (counted x e c) = behind_count x (expression ns e) (made_command m k w next c)
+    made_command m k w next (prefixed x c) = after_prefix x (made_command (mode_under x m) k w next c)
+    made_command m k w next (counted x e c) = after_count x (expression ns e) (made_command m k w next c)
     made_command m k w next (move_ x e) = programs.act (move x (expression ns e))
     made_command m k w next (named x n) = programs.act (change_named ns x n)
     made_command m k w next (splice_ x a) = programs.act (edit x (text ns a))

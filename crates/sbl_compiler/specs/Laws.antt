@@ -1,10 +1,10 @@
 -- Laws of the compiler.
 use Rattle.std.specs.Prelude.{◌≡◌, ℕ, false, List, [], Option, slice_get}
 use Rattle.sbl_compiler.specs.Ahead.{routines_in}
-use Rattle.sbl_semantics.specs.Items.{body_named, class_of, classes_behind}
-use Rattle.sbl_compiler.specs.NumberedItems.{numbered_items, routines_behind}
-use Rattle.sbl_compiler.specs.NumberedAmongs.{found_behind}
-use Rattle.sbl_compiler.specs.NumberedNames.{Names, names_behind, no_names, number_of}
+use Rattle.sbl_semantics.specs.Items.{body_named, class_of, classes_after}
+use Rattle.sbl_compiler.specs.NumberedItems.{numbered_items, routines_after}
+use Rattle.sbl_compiler.specs.NumberedAmongs.{found_after}
+use Rattle.sbl_compiler.specs.NumberedNames.{Names, names_after, no_names, number_of}
 use Rattle.sbl_program.specs.Program.{Routine}
 use Rattle.sbl_char_class.specs.Terms.{class_at}
 use Rattle.sbl_ast.specs.Order.{ItemInMode, in_order}
@@ -12,10 +12,10 @@ use Rattle.sbl_ast.specs.Tree.{Item}
 
 -- each routine is compiled by itself
 abbrev pub OwnIsMade : Type 0
-OwnIsMade = (ns : Names) (items : List ItemInMode) → routines_behind ns items (record { coming = found_behind ns items []; behind = 0; waits = false }) [] ≡ routines_in ns items
+OwnIsMade = (ns : Names) (items : List ItemInMode) → routines_after ns items (record { coming = found_after ns items []; following = 0; waits = false }) [] ≡ routines_in ns items
 
 abbrev pub names_in : List Item → Names
-names_in items = names_behind (in_order items) no_names
+names_in items = names_after (in_order items) no_names
 
 -- the program of the routine with this name, in the program of these items and an external
 abbrev pub routine_at : List Item → List ℕ → List ℕ → Option Routine
@@ -32,4 +32,4 @@ RoutineIsItsOwn =
 abbrev pub ClassesAreTheirTerms : Type 0
 ClassesAreTheirTerms =
     (items : List Item) (external n : List ℕ) (c : ℕ) →
-    class_at (numbered_items items external).groupings (number_of (names_in items).groupings n) c ≡ class_of (classes_behind (in_order items) []) n c
+    class_at (numbered_items items external).groupings (number_of (names_in items).groupings n) c ≡ class_of (classes_after (in_order items) []) n c

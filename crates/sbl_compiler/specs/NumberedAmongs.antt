@@ -22,9 +22,9 @@ abbrev pub strings_in : List trees.Entry → List (List ℕ) → List (List ℕ)
 strings_in [] sofar = sofar
 strings_in (trees.entry q c ∷ es) sofar = strings_in es (sofar ++ q.value ∷ [])
 
-abbrev pub strings_behind : trees.Groups → List (List ℕ) → List (List ℕ)
-strings_behind (bare es) sofar = strings_in es sofar
-strings_behind (group e es rs gs) sofar = strings_behind gs (strings_in es (strings_in (e ∷ []) sofar))
+abbrev pub strings_after : trees.Groups → List (List ℕ) → List (List ℕ)
+strings_after (bare es) sofar = strings_in es sofar
+strings_after (group e es rs gs) sofar = strings_after gs (strings_in es (strings_in (e ∷ []) sofar))
 
 -- the candidate of a string in the g-th group: the routine that has to signal t, and the length of the string
 abbrev pub condition_of : Names → Option (List ℕ) → Option ℕ
@@ -39,14 +39,14 @@ entries_in ns g [] sofar = sofar
 entries_in ns g (e ∷ es) sofar = entries_in ns g es (sofar ++ entry_of ns g e ∷ [])
 
 -- the groups are counted from 0; the strings of a last group without a command have the number of groups
-abbrev pub entries_behind : Names → ℕ → trees.Groups → List Candidate → List Candidate
-entries_behind ns g (bare es) sofar = entries_in ns g es sofar
-entries_behind ns g (group e es rs gs) sofar = entries_behind ns (g + 1) gs (entries_in ns g es (entries_in ns g (e ∷ []) sofar))
+abbrev pub entries_after : Names → ℕ → trees.Groups → List Candidate → List Candidate
+entries_after ns g (bare es) sofar = entries_in ns g es sofar
+entries_after ns g (group e es rs gs) sofar = entries_after ns (g + 1) gs (entries_in ns g es (entries_in ns g (e ∷ []) sofar))
 
 -- an among of a routine that has this many amongs of other routines before it
 abbrev pub found_of : Names → ℕ → Mode → trees.Groups → List AmongStrings → AmongStrings
 found_of ns first m gs sofar =
-    record { number = length sofar - first; strings = listing m (strings_behind gs []); entries = entries_behind ns 0 gs [] }
+    record { number = length sofar - first; strings = listing m (strings_after gs []); entries = entries_after ns 0 gs [] }
 
 abbrev mutual
   -- the amongs of a command
@@ -92,6 +92,6 @@ found_plain ns m (escapes a b) sofar = sofar
 found_plain ns m (macro n b q) sofar = sofar
 found_plain ns m (grouping n a ts) sofar = sofar
 
-abbrev pub found_behind : Names → List ItemInMode → List AmongStrings → List AmongStrings
-found_behind ns [] sofar = sofar
-found_behind ns (x ∷ xs) sofar = found_behind ns xs (found_plain ns x.mode x.plain sofar)
+abbrev pub found_after : Names → List ItemInMode → List AmongStrings → List AmongStrings
+found_after ns [] sofar = sofar
+found_after ns (x ∷ xs) sofar = found_after ns xs (found_plain ns x.mode x.plain sofar)

@@ -26,8 +26,8 @@ use Rattle.sbl_program.specs.declared.action.Relation.{Relation}
 use Rattle.sbl_program.specs.declared.action.Relation.TheVariants as relations
 use Rattle.sbl_program.specs.Chains.{JoinedView, join_all}
 use Rattle.sbl_program.specs.AmongStrings.{listing}
-use Rattle.sbl_compiler.specs.NumberedAmongs.{AmongStrings, found_behind}
-use Rattle.sbl_compiler.specs.NumberedNames.{Names, is_one_of, names_behind, no_names, number_of}
+use Rattle.sbl_compiler.specs.NumberedAmongs.{AmongStrings, found_after}
+use Rattle.sbl_compiler.specs.NumberedNames.{Names, is_one_of, names_after, no_names, number_of}
 use Rattle.sbl_compiler.specs.NumberedNumbers.{expression, text}
 use Rattle.sbl_compiler.specs.NumberedClasses.{numbered_classes}
 use Rattle.sbl_program.specs.Program as programs
@@ -38,7 +38,7 @@ use Rattle.sbl_program.specs.ProgramOf.{commands_of}
 -- each.
 pub record Position : Type 0 where
   pub coming : List AmongStrings
-  pub behind : ℕ
+  pub following : ℕ
   pub waits : Bool
 
 -- the next among
@@ -103,7 +103,7 @@ abbrev mutual
 
 -- at the beginning of a region, if q is the position after the region
 abbrev pub begin_region : Position → Position → Position
-begin_region p q = record { coming = p.coming; behind = length q.coming; waits = false }
+begin_region p q = record { coming = p.coming; following = length q.coming; waits = false }
 
 -- inside parentheses that are a region of their own
 abbrev pub region : trees.Rows → Position → Position
@@ -117,7 +117,7 @@ search_next p = programs.search (next_of p.coming).number (next_of p.coming).str
 
 -- the search for a `substring`: f if its region has no among ahead
 abbrev pub search_ahead : Position → programs.Node
-search_ahead p = if nat_lt p.behind (length p.coming) then search_next p else programs.act programs.f
+search_ahead p = if nat_lt p.following (length p.coming) then search_next p else programs.act programs.f
 
 abbrev pub simple : Simple → Position → programs.Node
 simple simples.LeftBracket p = programs.act programs.left_bracket
@@ -138,20 +138,20 @@ name_alone ns n =
     if is_one_of ns.groupings n then programs.act (programs.grouping (number_of ns.groupings n)) else
     programs.call (number_of ns.routines n)
 
-abbrev pub behind_prefix : Prefix → programs.Node → programs.Node
-behind_prefix prefixes.Not c = programs.not c
-behind_prefix prefixes.Test c = programs.test c
-behind_prefix prefixes.Try c = programs.try c
-behind_prefix prefixes.Do c = programs.do_ c
-behind_prefix prefixes.Fail c = programs.fail c
-behind_prefix prefixes.Repeat c = programs.repeat c
-behind_prefix prefixes.GoTo c = programs.goto c
-behind_prefix prefixes.GoPast c = programs.gopast c
-behind_prefix prefixes.Backwards c = programs.backwards c
+abbrev pub after_prefix : Prefix → programs.Node → programs.Node
+after_prefix prefixes.Not c = programs.not c
+after_prefix prefixes.Test c = programs.test c
+after_prefix prefixes.Try c = programs.try c
+after_prefix prefixes.Do c = programs.do_ c
+after_prefix prefixes.Fail c = programs.fail c
+after_prefix prefixes.Repeat c = programs.repeat c
+after_prefix prefixes.GoTo c = programs.goto c
+after_prefix prefixes.GoPast c = programs.gopast c
+after_prefix prefixes.Backwards c = programs.backwards c
 
-abbrev pub behind_count : Count → programs.Arithmetic → programs.Node → programs.Node
-behind_count counts.Loop n c = programs.loop n c
-behind_count counts.AtLeast n c = programs.atleast n c
+abbrev pub after_count : Count → programs.Arithmetic → programs.Node → programs.Node
+after_count counts.Loop n c = programs.loop n c
+after_count counts.AtLeast n c = programs.atleast n c
 
 abbrev pub move : Move → programs.Arithmetic → programs.Action
 move moves.Hop n = programs.hop n
@@ -197,8 +197,8 @@ abbrev mutual
   numbered_command ns (literal_ q) p = programs.act (programs.match (programs.literal q.value))
   numbered_command ns (name_ n) p = name_alone ns n
   numbered_command ns (non_ b n) p = programs.act (programs.non (number_of ns.groupings n))
-  numbered_command ns (prefixed x c) p = behind_prefix x (numbered_command ns c p)
-  numbered_command ns (counted x e c) p = behind_count x (expression ns e) (numbered_command ns c p)
+  numbered_command ns (prefixed x c) p = after_prefix x (numbered_command ns c p)
+  numbered_command ns (counted x e c) p = after_count x (expression ns e) (numbered_command ns c p)
   numbered_command ns (move_ x e) p = programs.act (move x (expression ns e))
   numbered_command ns (named x n) p = programs.act (change_named ns x n)
   numbered_command ns (splice_ x a) p = programs.act (edit x (text ns a))
@@ -264,9 +264,9 @@ with_routine ns (escapes a b) p sofar = sofar
 with_routine ns (macro n b q) p sofar = sofar
 with_routine ns (grouping n a ts) p sofar = sofar
 
-abbrev pub routines_behind : Names → List ItemInMode → Position → List programs.Routine → List programs.Routine
-routines_behind ns [] p sofar = sofar
-routines_behind ns (x ∷ xs) p sofar = routines_behind ns xs (past_plain x.plain p) (with_routine ns x.plain p sofar)
+abbrev pub routines_after : Names → List ItemInMode → Position → List programs.Routine → List programs.Routine
+routines_after ns [] p sofar = sofar
+routines_after ns (x ∷ xs) p sofar = routines_after ns xs (past_plain x.plain p) (with_routine ns x.plain p sofar)
 
 -- ---- a script
 
@@ -277,15 +277,15 @@ program_by ns items amongs external = record {
   booleans = length ns.booleans;
   strings = length ns.strings;
   groupings = numbered_classes ns items [];
-  routines = routines_behind ns items (record { coming = amongs; behind = 0; waits = false }) [];
+  routines = routines_after ns items (record { coming = amongs; following = 0; waits = false }) [];
   external = number_of ns.routines external;
 }
 
 abbrev pub plan_with : Names → List ItemInMode → List ℕ → programs.Program
-plan_with ns items external = program_by ns items (found_behind ns items []) external
+plan_with ns items external = program_by ns items (found_after ns items []) external
 
 abbrev pub plan_in : List ItemInMode → List ℕ → programs.Program
-plan_in items external = plan_with (names_behind items no_names) items external
+plan_in items external = plan_with (names_after items no_names) items external
 
 unfoldable pub numbered_items : List trees.Item → List ℕ → programs.Program
 numbered_items items external = plan_in (in_order items) external

@@ -33,9 +33,9 @@ naming (macro n b q) all = all
 naming (routine n c os) all = record all { routines = all.routines ++ n ∷ [] }
 naming (grouping n a ts) all = record all { groupings = all.groupings ++ n ∷ [] }
 
-abbrev pub names_behind : List ItemInMode → Names → Names
-names_behind [] all = all
-names_behind (x ∷ xs) all = names_behind xs (naming x.plain all)
+abbrev pub names_after : List ItemInMode → Names → Names
+names_after [] all = all
+names_after (x ∷ xs) all = names_after xs (naming x.plain all)
 
 -- the number of a name in a list whose first name has number i; the next number after the list if it is not there
 abbrev pub number_from : ℕ → List (List ℕ) → List ℕ → ℕ

@@ -28,7 +28,7 @@ abbrev pub view_found : AmongStrings → amongs.AmongStrings
 view_found f = record { number = f.number; strings = listing_found f; entries = f.entries.items }
 
 abbrev pub view_place : List AmongStrings → Position → numbered.Position
-view_place fs p = record { coming = map view_found (drop p.next fs); behind = p.behind; waits = p.waits }
+view_place fs p = record { coming = map view_found (drop p.next fs); following = p.following; waits = p.waits }
 
 -- the new amongs are what a function of the definitions makes of the old ones
 abbrev pub Finds : List AmongStrings → List AmongStrings → (List amongs.AmongStrings → List amongs.AmongStrings) → Type 0

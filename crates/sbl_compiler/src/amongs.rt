@@ -7,7 +7,7 @@ ghost use Rattle.sbl_ast.specs.Tree as trees;
 ghost use Rattle.sbl_compiler.specs.NumberedAmongs as spec;
 ghost use Rattle.sbl_program.specs.FoundView.{texts};
 ghost use Rattle.sbl_compiler.specs.NumberedView.{Finds, view_found, view_names};
-ghost use Rattle.sbl_semantics.specs.Regions.{mode_under as spec_mode_behind};
+ghost use Rattle.sbl_semantics.specs.Regions.{mode_under as spec_mode_after};
 
 use crate::names::SymbolTable;
 use sbl_ast::{
@@ -57,7 +57,7 @@ fn strings_of(
     groups: &Vec<Group>,
     bare: &Vec<Entry>,
 ) -> Result<Vec<Vec<char>>, AllocError>
-    ensures { IfOk result (λ v. texts v.items ≡ spec.strings_behind (view_groups groups.now.items (map view_entry bare.now.items)) []) }
+    ensures { IfOk result (λ v. texts v.items ≡ spec.strings_after (view_groups groups.now.items (map view_entry bare.now.items)) []) }
 {
     let mut strings = Vec::with_capacity(alloc, count_of(groups, bare))?;
     for group in groups {
@@ -112,7 +112,7 @@ fn add_group_entries(
     groups: &Vec<Group>,
     entries: &mut Vec<Candidate>,
 ) -> Result<(), AllocError>
-    ensures { OnOk result ((bare : List trees.Entry) → spec.entries_in (view_names names.now) (length groups.now.items) bare entries.new.items ≡ spec.entries_behind (view_names names.now) 0 (view_groups groups.now.items bare) entries.old.items) }
+    ensures { OnOk result ((bare : List trees.Entry) → spec.entries_in (view_names names.now) (length groups.now.items) bare entries.new.items ≡ spec.entries_after (view_names names.now) 0 (view_groups groups.now.items bare) entries.old.items) }
 {
     for (number, group) in groups.iter().enumerate() {
         add_entry(names, number, &group.first, entries)?;
@@ -127,7 +127,7 @@ fn entries_of(
     groups: &Vec<Group>,
     bare: &Vec<Entry>,
 ) -> Result<Vec<Candidate>, AllocError>
-    ensures { IfOk result (λ v. v.items ≡ spec.entries_behind (view_names names.now) 0 (view_groups groups.now.items (map view_entry bare.now.items)) []) }
+    ensures { IfOk result (λ v. v.items ≡ spec.entries_after (view_names names.now) 0 (view_groups groups.now.items (map view_entry bare.now.items)) []) }
 {
     let mut entries = Vec::with_capacity(alloc, count_of(groups, bare))?;
     add_group_entries(names, groups, &mut entries)?;
@@ -136,8 +136,8 @@ fn entries_of(
 }
 
 // Returns the mode of a command after a prefix.
-fn mode_behind(prefix: Prefix, mode: Mode) -> Mode
-    ensures { result ≡ spec_mode_behind prefix mode }
+fn mode_after(prefix: Prefix, mode: Mode) -> Mode
+    ensures { result ≡ spec_mode_after prefix mode }
 {
     match prefix {
         Prefix::Backwards => Mode::Backward,
@@ -164,11 +164,11 @@ struct Finder<'a> {
 
 impl<'a> Finder<'a> {
     // Returns the finder for a command after a prefix.
-    fn behind(&self, prefix: Prefix) -> Finder<'a>
-        ensures { result ≡ record self.now { mode = spec_mode_behind prefix self.now.mode } }
+    fn following(&self, prefix: Prefix) -> Finder<'a>
+        ensures { result ≡ record self.now { mode = spec_mode_after prefix self.now.mode } }
     {
         Finder {
-            mode: mode_behind(prefix, self.mode),
+            mode: mode_after(prefix, self.mode),
             ..*self
         }
     }
@@ -196,7 +196,7 @@ impl<'a> Finder<'a> {
     {
         match command {
             Command::Bracket(rows) => self.find_rows(rows, all),
-            Command::Prefixed(prefix, inner) => self.behind(*prefix).find(inner, all),
+            Command::Prefixed(prefix, inner) => self.following(*prefix).find(inner, all),
             Command::Counted(_, _, inner) => self.find(inner, all),
             Command::SetLimit(limit, inner) => {
                 self.find(limit, all)?;
@@ -296,7 +296,7 @@ pub fn amongs_of(
     names: &SymbolTable,
     items: &[ItemInMode],
 ) -> Result<Vec<AmongStrings>, AllocError>
-    ensures { IfOk result (λ v. map view_found v.items ≡ spec.found_behind (view_names names.now) (map view_in_mode items.now) []) }
+    ensures { IfOk result (λ v. map view_found v.items ≡ spec.found_after (view_names names.now) (map view_in_mode items.now) []) }
 {
     let mut all = Vec::new(alloc);
     for item in items {

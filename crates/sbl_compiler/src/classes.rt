@@ -75,17 +75,17 @@ fn is_name_of(names: &SymbolTable, argument: &Argument, number: usize) -> bool
     }
 }
 
-// Returns whether the term `behind[distance]` names the grouping that `argument` names. `behind` has the terms after
+// Returns whether the term `following[distance]` names the grouping that `argument` names. `following` has the terms after
 // `argument`.
 fn is_named_again(
     names: &SymbolTable,
     argument: &Argument,
-    behind: &[Term],
+    following: &[Term],
     distance: usize,
 ) -> bool
-    ensures { result ≡ true → is_named_again (view_names names.now) (view_argument argument.now) (map view_term behind.now) ≡ true }
+    ensures { result ≡ true → is_named_again (view_names names.now) (view_argument argument.now) (map view_term following.now) ≡ true }
 {
-    match (argument, behind.get(distance)) {
+    match (argument, following.get(distance)) {
         (Argument::Name(name), Some(term)) => {
             is_name_of(
                 names,
@@ -112,9 +112,9 @@ fn class_of(
     let none = CharacterClass::new(alloc);
     let mut class = with_term(alloc, names, classes, none, Additive::Plus, first)?;
     for (place, term) in others.iter().enumerate() {
-        let behind = &others[place + 1..];
+        let following = &others[place + 1..];
         let distance = last_place(names, &last, &term.argument).saturating_sub(place + 1);
-        if !is_named_again(names, &term.argument, behind, distance) {
+        if !is_named_again(names, &term.argument, following, distance) {
             class = with_term(alloc, names, classes, class, term.operator, &term.argument)?;
         }
     }

@@ -116,7 +116,7 @@ impl Compiler<'_> {
     fn search_ahead(&self, place: CommandPosition) -> CompileResult<Node>
         ensures { IfOk result (λ n. node_in self.now n ≡ spec.search_ahead (place_in self.now place)) }
     {
-        if place.behind < left_of(self.amongs, place) {
+        if place.following < left_of(self.amongs, place) {
             self.search_next(place)
         } else {
             Ok(Node::Act(Action::False))
@@ -125,7 +125,7 @@ impl Compiler<'_> {
 
     fn simple(&self, word: Simple, place: &mut CommandPosition) -> CompileResult<Node>
         ensures made { IfOk result (λ n. node_in self.now n ≡ spec.simple word (place_in self.now place.old)) }
-        ensures behind { OnOk result (place_in self.now place.new ≡ spec.past_simple word (place_in self.now place.old)) }
+        ensures following { OnOk result (place_in self.now place.new ≡ spec.past_simple word (place_in self.now place.old)) }
     {
         match word {
             Simple::LeftBracket => Ok(Node::Act(Action::LeftBracket)),
@@ -159,8 +159,8 @@ impl Compiler<'_> {
         }
     }
 
-    fn behind_prefix(&self, prefix: Prefix, inner: Node) -> CompileResult<Node>
-        ensures { IfOk result (λ n. node_in self.now n ≡ spec.behind_prefix prefix (node_in self.now inner)) }
+    fn after_prefix(&self, prefix: Prefix, inner: Node) -> CompileResult<Node>
+        ensures { IfOk result (λ n. node_in self.now n ≡ spec.after_prefix prefix (node_in self.now inner)) }
     {
         let inner = Box::new(self.alloc, inner)?;
         Ok(match prefix {
@@ -176,8 +176,8 @@ impl Compiler<'_> {
         })
     }
 
-    fn behind_count(&self, count: Count, number: Arithmetic, inner: Node) -> CompileResult<Node>
-        ensures { IfOk result (λ n. node_in self.now n ≡ spec.behind_count count (view_number number) (node_in self.now inner)) }
+    fn after_count(&self, count: Count, number: Arithmetic, inner: Node) -> CompileResult<Node>
+        ensures { IfOk result (λ n. node_in self.now n ≡ spec.after_count count (view_number number) (node_in self.now inner)) }
     {
         let inner = Box::new(self.alloc, inner)?;
         Ok(match count {
@@ -284,7 +284,7 @@ impl Compiler<'_> {
     #[cycle(commands)]
     fn node_of(&self, command: &Command, place: &mut CommandPosition) -> CompileResult<Node>
         ensures made { IfOk result (λ n. node_in self.now n ≡ spec.numbered_command (names_in self.now) (view_command command.now) (place_in self.now place.old)) }
-        ensures behind { OnOk result (place_in self.now place.new ≡ spec.past (view_command command.now) (place_in self.now place.old)) }
+        ensures following { OnOk result (place_in self.now place.new ≡ spec.past (view_command command.now) (place_in self.now place.old)) }
     {
         match command {
             Command::Bracket(rows) => Ok(Node::Sequence(self.rows_of(rows, place)?)),
@@ -297,12 +297,12 @@ impl Compiler<'_> {
             } => Ok(Node::Act(Action::NonGrouping(self.names.groupings.number_of(name.as_str())))),
             Command::Prefixed(prefix, inner) => {
                 let inner = self.node_of(inner, place)?;
-                self.behind_prefix(*prefix, inner)
+                self.after_prefix(*prefix, inner)
             }
             Command::Counted(count, number, inner) => {
                 let number = self.number_of_expression(number)?;
                 let inner = self.node_of(inner, place)?;
-                self.behind_count(*count, number, inner)
+                self.after_count(*count, number, inner)
             }
             Command::Move(movement, number) => Ok(Node::Act(self.move_to(*movement, number)?)),
             Command::Named(naming, name) => Ok(Node::Act(self.change_named(
@@ -335,7 +335,7 @@ impl Compiler<'_> {
         place: &mut CommandPosition,
     ) -> CompileResult<Vec<Node>>
         ensures made { IfOk result (λ ns. map (node_in self.now) ns.items ≡ spec.numbered_rows (names_in self.now) (view_rows rows.now.items) (place_in self.now place.old)) }
-        ensures behind { OnOk result (place_in self.now place.new ≡ spec.past_rows (view_rows rows.now.items) (place_in self.now place.old)) }
+        ensures following { OnOk result (place_in self.now place.new ≡ spec.past_rows (view_rows rows.now.items) (place_in self.now place.old)) }
     {
         collect!(self.alloc; nodes: row in rows => self.row_of(row, place)?)
     }
@@ -344,7 +344,7 @@ impl Compiler<'_> {
     #[cycle(commands)]
     pub fn row_of(&self, row: &RowOfCommands, place: &mut CommandPosition) -> CompileResult<Node>
         ensures made { IfOk result (λ n. node_in self.now n ≡ spec.numbered_others (names_in self.now) (view_row row.now).1 (spec.past (view_row row.now).0 (place_in self.now place.old)) (spec.numbered_command (names_in self.now) (view_row row.now).0 (place_in self.now place.old))) }
-        ensures behind { OnOk result (place_in self.now place.new ≡ spec.past_others (view_row row.now).1 (spec.past (view_row row.now).0 (place_in self.now place.old))) }
+        ensures following { OnOk result (place_in self.now place.new ≡ spec.past_others (view_row row.now).1 (spec.past (view_row row.now).0 (place_in self.now place.old))) }
     {
         let first = self.node_of(&row.first, place)?;
         let others = self.others_of(&row.others, place)?;
@@ -358,7 +358,7 @@ impl Compiler<'_> {
         place: &mut CommandPosition,
     ) -> CompileResult<Vec<JoinedNode>>
         ensures made { IfOk result (λ v. map (joined_in self.now) v.items ≡ spec.joins_in (names_in self.now) (view_others others.now.items) (place_in self.now place.old)) }
-        ensures behind { OnOk result (place_in self.now place.new ≡ spec.past_others (view_others others.now.items) (place_in self.now place.old)) }
+        ensures following { OnOk result (place_in self.now place.new ≡ spec.past_others (view_others others.now.items) (place_in self.now place.old)) }
     {
         collect!(self.alloc; joins: other in others => {
             self.joined_command(other.joiner, self.node_of(&other.command, place)?)
@@ -368,7 +368,7 @@ impl Compiler<'_> {
     #[cycle(commands)]
     fn among_of(&self, among: &Among, place: &mut CommandPosition) -> CompileResult<Node>
         ensures made { IfOk result (λ n. node_in self.now n ≡ spec.numbered_command (names_in self.now) (trees.among_ (view_among among.now).0 (view_among among.now).1) (place_in self.now place.old)) }
-        ensures behind { OnOk result (place_in self.now place.new ≡ spec.past (trees.among_ (view_among among.now).0 (view_among among.now).1) (place_in self.now place.old)) }
+        ensures following { OnOk result (place_in self.now place.new ≡ spec.past (trees.among_ (view_among among.now).0 (view_among among.now).1) (place_in self.now place.old)) }
     {
         let number = self.next_number(*place);
         let waits = place.waits;
@@ -401,11 +401,11 @@ impl Compiler<'_> {
         place: &mut CommandPosition,
     ) -> CompileResult<Vec<Node>>
         ensures made { IfOk result (λ ns. map (node_in self.now) ns.items ≡ spec.numbered_rows (names_in self.now) (view_rows rows.now.items) (spec.region (view_rows rows.now.items) (place_in self.now place.old))) }
-        ensures behind { OnOk result (place_in self.now place.new ≡ spec.past_rows (view_rows rows.now.items) (spec.end_waiting (place_in self.now place.old))) }
+        ensures following { OnOk result (place_in self.now place.new ≡ spec.past_rows (view_rows rows.now.items) (spec.end_waiting (place_in self.now place.old))) }
     {
-        let behind = past_rows(self.amongs, rows, end_waiting(self.amongs, *place));
-        let mut inner = begin_region(self.amongs, *place, behind);
-        *place = behind;
+        let following = past_rows(self.amongs, rows, end_waiting(self.amongs, *place));
+        let mut inner = begin_region(self.amongs, *place, following);
+        *place = following;
         self.rows_of(rows, &mut inner)
     }
 
@@ -416,7 +416,7 @@ impl Compiler<'_> {
         place: &mut CommandPosition,
     ) -> CompileResult<Vec<Node>>
         ensures made { IfOk result (λ ns. (bare : List trees.Entry) → map (node_in self.now) ns.items ≡ spec.numbered_groups (names_in self.now) (view_groups groups.now.items bare) (place_in self.now place.old)) }
-        ensures behind { OnOk result ((bare : List trees.Entry) → place_in self.now place.new ≡ spec.past_groups (view_groups groups.now.items bare) (place_in self.now place.old)) }
+        ensures following { OnOk result ((bare : List trees.Entry) → place_in self.now place.new ≡ spec.past_groups (view_groups groups.now.items bare) (place_in self.now place.old)) }
     {
         collect!(self.alloc; bodies: group in groups => {
             Node::Sequence(self.region(&group.rows, place)?)

@@ -68,7 +68,7 @@ fn name_item(alloc: Global, plain: &Plain, names: &mut SymbolTable) -> Result<()
 
 /// Returns the names of a script. Returns `AllocError` if an allocation fails.
 pub fn names_of(alloc: Global, items: &[ItemInMode]) -> Result<SymbolTable, AllocError>
-    ensures { IfOk result (λ names. view_names names ≡ spec.names_behind (map view_in_mode items.now) spec.no_names) }
+    ensures { IfOk result (λ names. view_names names ≡ spec.names_after (map view_in_mode items.now) spec.no_names) }
 {
     let mut names = SymbolTable {
         strings: NameList::new(alloc),

@@ -15,7 +15,7 @@ pub struct CommandPosition {
     /// The number of the next among in the script.
     pub next: usize,
     /// The number of the amongs still to come that are after its region.
-    pub behind: usize,
+    pub following: usize,
     /// Whether a `substring` waits for the next among.
     pub waits: bool,
 }
@@ -37,7 +37,7 @@ pub fn inside(amongs: &Vec<AmongStrings>, place: CommandPosition) -> CommandPosi
         } else {
             place.next
         },
-        behind: place.behind,
+        following: place.following,
         waits: false,
     }
 }
@@ -52,17 +52,17 @@ pub fn end_waiting(_amongs: &Vec<AmongStrings>, place: CommandPosition) -> Comma
     }
 }
 
-/// Returns the position at the beginning of a region; `behind` is the position after the region.
+/// Returns the position at the beginning of a region; `following` is the position after the region.
 pub fn begin_region(
     amongs: &Vec<AmongStrings>,
     place: CommandPosition,
-    behind: CommandPosition,
+    following: CommandPosition,
 ) -> CommandPosition
-    ensures { view_place amongs.now.items result ≡ spec.begin_region (view_place amongs.now.items place) (view_place amongs.now.items behind) }
+    ensures { view_place amongs.now.items result ≡ spec.begin_region (view_place amongs.now.items place) (view_place amongs.now.items following) }
 {
     CommandPosition {
         next: place.next,
-        behind: left_of(amongs, behind),
+        following: left_of(amongs, following),
         waits: false,
     }
 }
@@ -114,11 +114,11 @@ pub fn past_rows(
 ) -> CommandPosition
     ensures { view_place amongs.now.items result ≡ spec.past_rows (view_rows rows.now.items) (view_place amongs.now.items place) }
 {
-    let mut behind = place;
+    let mut following = place;
     for row in rows {
-        behind = past_row(amongs, row, behind);
+        following = past_row(amongs, row, following);
     }
-    behind
+    following
 }
 
 /// Returns the position after a row.
@@ -142,22 +142,22 @@ fn past_others(
 ) -> CommandPosition
     ensures { view_place amongs.now.items result ≡ spec.past_others (view_others others.now.items) (view_place amongs.now.items place) }
 {
-    let mut behind = place;
+    let mut following = place;
     for joined in others {
-        behind = past(amongs, &joined.command, behind);
+        following = past(amongs, &joined.command, following);
     }
-    behind
+    following
 }
 
 #[cycle(passing)]
 fn past_among(amongs: &Vec<AmongStrings>, among: &Among, place: CommandPosition) -> CommandPosition
     ensures { view_place amongs.now.items result ≡ spec.past (trees.among_ (view_among among.now).0 (view_among among.now).1) (view_place amongs.now.items place) }
 {
-    let mut behind = inside(amongs, place);
+    let mut following = inside(amongs, place);
     if let Some(rows) = &among.starter {
-        behind = past_rows(amongs, rows, behind);
+        following = past_rows(amongs, rows, following);
     }
-    end_waiting(amongs, past_groups(amongs, &among.groups, behind))
+    end_waiting(amongs, past_groups(amongs, &among.groups, following))
 }
 
 #[cycle(passing)]
@@ -168,9 +168,9 @@ fn past_groups(
 ) -> CommandPosition
     ensures { (bare : List trees.Entry) → view_place amongs.now.items result ≡ spec.past_groups (view_groups groups.now.items bare) (view_place amongs.now.items place) }
 {
-    let mut behind = place;
+    let mut following = place;
     for group in groups {
-        behind = past_rows(amongs, &group.rows, end_waiting(amongs, behind));
+        following = past_rows(amongs, &group.rows, end_waiting(amongs, following));
     }
-    behind
+    following
 }

@@ -25,13 +25,13 @@ impl Compiler<'_> {
         place: &mut CommandPosition,
     ) -> CompileResult<Routine>
         ensures made { IfOk result (λ r. routine_in self.now r ≡ spec.routine_of (names_in self.now) (view_row body.now).0 (view_row body.now).1 (place_in self.now place.old)) }
-        ensures behind { OnOk result (place_in self.now place.new ≡ spec.past_body (view_row body.now).0 (view_row body.now).1 (place_in self.now place.old)) }
+        ensures following { OnOk result (place_in self.now place.new ≡ spec.past_body (view_row body.now).0 (view_row body.now).1 (place_in self.now place.old)) }
     {
-        let behind = past_row(self.amongs, body, end_waiting(self.amongs, *place));
+        let following = past_row(self.amongs, body, end_waiting(self.amongs, *place));
         let left = left_of(self.amongs, *place);
-        let count = left.saturating_sub(left_of(self.amongs, behind));
-        let mut inner = begin_region(self.amongs, *place, behind);
-        *place = behind;
+        let count = left.saturating_sub(left_of(self.amongs, following));
+        let mut inner = begin_region(self.amongs, *place, following);
+        *place = following;
         Ok(Routine {
             body: self.row_of(body, &mut inner)?,
             amongs: count,
@@ -45,7 +45,7 @@ impl Compiler<'_> {
         routines: &mut Vec<Routine>,
     ) -> CompileResult<()>
         ensures made { OnOk result (map (routine_in self.now) routines.new.items ≡ spec.with_routine (names_in self.now) (view_plain plain.now) (place_in self.now place.old) (map (routine_in self.now) routines.old.items)) }
-        ensures behind { OnOk result (place_in self.now place.new ≡ spec.past_plain (view_plain plain.now) (place_in self.now place.old)) }
+        ensures following { OnOk result (place_in self.now place.new ≡ spec.past_plain (view_plain plain.now) (place_in self.now place.old)) }
     {
         if let Plain::Routine { name: _, body } = plain {
             let routine = self.routine_of(body, place)?;
@@ -55,11 +55,11 @@ impl Compiler<'_> {
     }
 
     fn routines_of(&self, items: &[ItemInMode]) -> CompileResult<Vec<Routine>>
-        ensures { IfOk result (λ v. map (routine_in self.now) v.items ≡ spec.routines_behind (names_in self.now) (map view_in_mode items.now) (place_in self.now (record { next = 0; behind = 0; waits = false })) []) }
+        ensures { IfOk result (λ v. map (routine_in self.now) v.items ≡ spec.routines_after (names_in self.now) (map view_in_mode items.now) (place_in self.now (record { next = 0; following = 0; waits = false })) []) }
     {
         let mut place = CommandPosition {
             next: 0,
-            behind: 0,
+            following: 0,
             waits: false,
         };
         let mut routines = Vec::new(self.alloc);

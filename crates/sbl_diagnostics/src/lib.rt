@@ -9,12 +9,12 @@ mod encodings;
 mod expectations;
 mod foreign;
 mod grammar;
-mod lines;
 mod near;
 mod places;
 mod reasons;
 mod sentences;
 mod sites;
+mod text_lines;
 
 pub use block_faults::{TypedBlock, part_text, whole_text};
 pub use characters::{plain_text, push_named};

@@ -6,8 +6,8 @@ ghost use Rattle.sbl_ast.specs.Source.{Source};
 ghost use Rattle.sbl_script.specs.Reading.{IsFaultOf, IsScriptOf};
 
 use crate::characters::{plain, push_named, width};
-use crate::lines::line_at;
 use crate::sentences::{Faulty, Place, Spot, is_blank, push_reason, push_sentence};
+use crate::text_lines::line_at;
 use sbl_places::{Position, ScriptFault, offset_of_fault, position_of};
 use sbl_script::Script;
 use sbl_text::Lexer;
@@ -101,8 +101,8 @@ fn characters_of(alloc: Global, line: &[u8]) -> Result<Vec<char>, AllocError> {
             Ok(text) => return push_characters(characters, text),
             Err(error) => error.valid_up_to(),
         };
-        let (front, after) = split_at(rest, valid);
-        if let Ok(text) = str::from_utf8(front) {
+        let (prefix, after) = split_at(rest, valid);
+        if let Ok(text) = str::from_utf8(prefix) {
             characters = push_characters(characters, text)?;
         }
         characters.push('?')?;

@@ -80,11 +80,11 @@ fn open_in(alloc: Global, tokens: &[Token<'_>]) -> Result<Option<usize>, AllocEr
 
 /// Returns the tokens before an offset in a text, or `None` if they cannot be read.
 fn tokens_before(alloc: Global, text: &[u8], offset: usize) -> Option<Vec<Token<'_>>> {
-    let front = text.get(..offset).unwrap_or(text);
-    let Ok(front) = str::from_utf8(front) else {
+    let prefix = text.get(..offset).unwrap_or(text);
+    let Ok(prefix) = str::from_utf8(prefix) else {
         return None;
     };
-    match tokens(alloc, front) {
+    match tokens(alloc, prefix) {
         Ok(tokens) => Some(tokens),
         Err(_) => None,
     }

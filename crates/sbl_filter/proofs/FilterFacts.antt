@@ -29,7 +29,7 @@ use Rattle.sbl_bench.specs.Contents.{Contents}
 use Rattle.sbl_bench.specs.Rows.{row_of}
 use Rattle.sbl_bench.specs.Setting.{under}
 use Rattle.sbl_bench.specs.declared.fault.EditFault.TheVariants as edit
-use Rattle.sbl_formats.specs.Rows.{row_fields}
+use Rattle.sbl_formats.specs.RowRecords.{row_fields}
 
 all_short-push : (lines : List (List ℕ)) (l : List ℕ) → AllShort lines → length (chars l) ≤ 255 → AllShort (lines ++ l ∷ [])
 all_short-push [] l h short = (short, tt)

@@ -23,7 +23,7 @@ use Rattle.sbl_io.specs.Records.{records_text}
 use Rattle.sbl_ast.specs.Source.{Source}
 use Rattle.sbl_formats.specs.Loading.{IsInput, IsLoaded}
 use Rattle.sbl_formats.specs.OneLoading.{IsToldByBytes, LoadingIsOne}
-use Rattle.sbl_formats.specs.Rows.{row_fields, stems_text}
+use Rattle.sbl_formats.specs.RowRecords.{row_fields, stems_text}
 use Rattle.sbl_formats.specs.declared.faults.LoadFault.{LoadFault}
 use Rattle.sbl_formats.specs.declared.faults.LoadFault.TheVariants.{Open}
 

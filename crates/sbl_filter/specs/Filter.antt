@@ -14,7 +14,7 @@ use Rattle.sbl_io.specs.Records.{records_text}
 use Rattle.sbl_ast.specs.Source.{Source}
 use Rattle.sbl_formats.specs.Block.{point}
 use Rattle.sbl_formats.specs.Loading.{IsInput, ReadsScript, TookFault, TookSource, TookWords, WordLines}
-use Rattle.sbl_formats.specs.Rows.{row_fields}
+use Rattle.sbl_formats.specs.RowRecords.{row_fields}
 use Rattle.sbl_formats.specs.declared.faults.LoadFault.{LoadFault}
 use Rattle.sbl_formats.specs.declared.faults.LoadFault.TheVariants.{Input, Script, Open}
 

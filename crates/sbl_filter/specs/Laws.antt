@@ -6,7 +6,7 @@ use Rattle.sbl_filter.specs.Filter.{IsFiltered, filter_output, is_filled}
 use Rattle.sbl_io.specs.declared.faults.ServeFault.TheVariants as fault
 use Rattle.sbl_ast.specs.Source.{Source}
 use Rattle.sbl_formats.specs.Loading.{IsLoaded}
-use Rattle.sbl_formats.specs.Rows.{stems_text}
+use Rattle.sbl_formats.specs.RowRecords.{stems_text}
 use Rattle.sbl_formats.specs.declared.faults.LoadFault.{LoadFault}
 use Rattle.sbl_formats.specs.declared.faults.LoadFault.TheVariants.{Input, Script}
 use Rattle.sbl_text.specs.declared.fault.ScriptFault.TheVariants as script

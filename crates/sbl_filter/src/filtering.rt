@@ -13,7 +13,7 @@ ghost use Rattle.sbl_script.specs.ParsedScript.{source_of};
 ghost use Rattle.sbl_formats.specs.Faults.{left_by_load};
 ghost use Rattle.sbl_formats.specs.Loading.{HasReason};
 
-use crate::rows::{RowWriter, row_text};
+use crate::row_writer::{RowWriter, row_text};
 use sbl_bench::{EditFault, MAX_WORD_LENGTH};
 use sbl_formats::{LoadFault, read_script};
 use sbl_io::{Lines, ServeFault, Sink, Source, write_all};

@@ -4,6 +4,6 @@
 mod filtering;
 pub mod laws;
 mod lines;
-mod rows;
+mod row_writer;
 
 pub use filtering::filter;

@@ -1,4 +1,4 @@
--- What stands at the front of an input is one.
+-- What stands at the start of an input is one.
 use Rattle.std.proofs.Common.{◌≡◌, ◌≢◌, ◌⊎◌, inl, inr, ◌∙◌, ◌++◌, ◌<◌, ◌≤◌, ◌==◌, ℕ, zero, suc, Bool, true, false, List, [], ◌∷◌, refl, sym, ap, length, nat_lt, if◌then◌else◌, arith}
 use Rattle.std.proofs.lemmas.List.{append-nil, length-map}
 use Rattle.std.proofs.lemmas.Slice.Eq.{bytes_eq-Decides}
@@ -9,7 +9,7 @@ use Rattle.sbl_io.specs.HeldInput.{StandFirst}
 use Rattle.sbl_io.specs.LinesOf.{AreWhole, without_carriage_return, max_line, onto_first, raw_lines}
 use Rattle.sbl_io.proofs.Bytes.{raw-feed, raw-other, raw-some}
 
--- ---- the bytes behind some lines
+-- ---- the bytes after some lines
 
 -- the bytes without so many lines
 abbrev drop_lines : ℕ → List ℕ → List ℕ
@@ -35,23 +35,23 @@ some-lines : (lines : List (List ℕ)) → lines ≢ [] → (n : ℕ) × (length
 some-lines [] some = absurd (some refl)
 some-lines (line ∷ lines) some = (length lines, refl)
 
-drop-whole : (front rest : List ℕ) → AreWhole front → drop_lines (length (raw_lines front)) (front ++ rest) ≡ rest
+drop-whole : (prefix rest : List ℕ) → AreWhole prefix → drop_lines (length (raw_lines prefix)) (prefix ++ rest) ≡ rest
 unfolding raw_lines
 drop-whole [] rest whole = drop-none rest
 drop-whole (b ∷ []) rest whole =
     let feed : (b == 10) ≡ true = rw whole refl in
     ap (λ (n : ℕ). drop_lines n (b ∷ rest)) (ap length (raw-feed b [] feed)) ∙ drop-feed 0 b rest feed ∙ drop-none rest
-drop-whole (b ∷ c ∷ front) rest whole = by (drop-whole (c ∷ front) rest whole) (b == 10) refl
+drop-whole (b ∷ c ∷ prefix) rest whole = by (drop-whole (c ∷ prefix) rest whole) (b == 10) refl
   where
-    by : drop_lines (length (raw_lines (c ∷ front))) ((c ∷ front) ++ rest) ≡ rest → (t : Bool) → (b == 10) ≡ t
-        → drop_lines (length (raw_lines (b ∷ c ∷ front))) ((b ∷ c ∷ front) ++ rest) ≡ rest
+    by : drop_lines (length (raw_lines (c ∷ prefix))) ((c ∷ prefix) ++ rest) ≡ rest → (t : Bool) → (b == 10) ≡ t
+        → drop_lines (length (raw_lines (b ∷ c ∷ prefix))) ((b ∷ c ∷ prefix) ++ rest) ≡ rest
     by more true e =
-        ap (λ (n : ℕ). drop_lines n ((b ∷ c ∷ front) ++ rest)) (ap length (raw-feed b (c ∷ front) e)) ∙ drop-feed (length (raw_lines (c ∷ front))) b ((c ∷ front) ++ rest) e ∙ more
+        ap (λ (n : ℕ). drop_lines n ((b ∷ c ∷ prefix) ++ rest)) (ap length (raw-feed b (c ∷ prefix) e)) ∙ drop-feed (length (raw_lines (c ∷ prefix))) b ((c ∷ prefix) ++ rest) e ∙ more
     by more false e =
-        let some = some-lines (raw_lines (c ∷ front)) (raw-some c front) in
-        let count : length (raw_lines (b ∷ c ∷ front)) ≡ suc some.0 = ap length (raw-other b (c ∷ front) e) ∙ length-onto b (raw_lines (c ∷ front)) some.0 some.1 in
-        ap (λ (n : ℕ). drop_lines n ((b ∷ c ∷ front) ++ rest)) count ∙ drop-other some.0 b ((c ∷ front) ++ rest) e
-        ∙ ap (λ (n : ℕ). drop_lines n ((c ∷ front) ++ rest)) (sym some.1) ∙ more
+        let some = some-lines (raw_lines (c ∷ prefix)) (raw-some c prefix) in
+        let count : length (raw_lines (b ∷ c ∷ prefix)) ≡ suc some.0 = ap length (raw-other b (c ∷ prefix) e) ∙ length-onto b (raw_lines (c ∷ prefix)) some.0 some.1 in
+        ap (λ (n : ℕ). drop_lines n ((b ∷ c ∷ prefix) ++ rest)) count ∙ drop-other some.0 b ((c ∷ prefix) ++ rest) e
+        ∙ ap (λ (n : ℕ). drop_lines n ((c ∷ prefix) ++ rest)) (sym some.1) ∙ more
 
 drop-all : (bytes : List ℕ) → drop_lines (length (raw_lines bytes)) bytes ≡ []
 unfolding raw_lines
@@ -89,24 +89,24 @@ stand-one bytes a b lines p q = sym (stand-rest bytes a lines p) ∙ stand-rest 
 
 -- ---- the first point, the first line that is too long, the first that is no text
 
--- what ends some lines, and the lines before it and behind it: a point, a line that is too long, one that is no text, or their end
+-- what ends some lines, and the lines before it and after it: a point, a line that is too long, one that is no text, or their end
 pub data LinesEnd : Type 0 where
   AtPoint : List (List ℕ) → List (List ℕ) → LinesEnd
   AtLong : LinesEnd
   AtNoText : LinesEnd
   AtEnd : List (List ℕ) → LinesEnd
 
-abbrev pub behind : List ℕ → LinesEnd → LinesEnd
-behind line (AtPoint lines rest) = AtPoint (line ∷ lines) rest
-behind line AtLong = AtLong
-behind line AtNoText = AtNoText
-behind line (AtEnd lines) = AtEnd (line ∷ lines)
+abbrev pub following : List ℕ → LinesEnd → LinesEnd
+following line (AtPoint lines rest) = AtPoint (line ∷ lines) rest
+following line AtLong = AtLong
+following line AtNoText = AtNoText
+following line (AtEnd lines) = AtEnd (line ∷ lines)
 
 abbrev pub one_end : Bool → Bool → Bool → List ℕ → List (List ℕ) → LinesEnd → LinesEnd
 one_end true long bad line lines more = AtPoint [] lines
 one_end false true bad line lines more = AtLong
 one_end false false true line lines more = AtNoText
-one_end false false false line lines more = behind line more
+one_end false false false line lines more = following line more
 
 abbrev pub is_bad : Bool → List ℕ → Bool
 is_bad false line = false
@@ -144,7 +144,7 @@ text-rest false line lines are = tt
 text-rest true line lines are = are.1
 
 good-first : (text : Bool) (line : List ℕ) (lines more : List (List ℕ)) → BlockLines (line ∷ lines) → AreText text (line ∷ lines)
-    → lines_end text (line ∷ more) ≡ behind line (lines_end text more)
+    → lines_end text (line ∷ more) ≡ following line (lines_end text more)
 good-first text line lines more good are = rw (no_bytes_eq line point good.0.0, fits (length line) good.1.0, text-first text line lines are) refl
 
 good-rest : (line : List ℕ) (lines : List (List ℕ)) → BlockLines (line ∷ lines) → BlockLines lines
@@ -156,11 +156,11 @@ point-end text rest = refl
 pub end-point : (text : Bool) (lines rest : List (List ℕ)) → BlockLines lines → AreText text lines → lines_end text (lines ++ point ∷ rest) ≡ AtPoint lines rest
 end-point text [] rest good are = point-end text rest
 end-point text (line ∷ lines) rest good are =
-    good-first text line lines (lines ++ point ∷ rest) good are ∙ ap (behind line) (end-point text lines rest (good-rest line lines good) (text-rest text line lines are))
+    good-first text line lines (lines ++ point ∷ rest) good are ∙ ap (following line) (end-point text lines rest (good-rest line lines good) (text-rest text line lines are))
 
 pub end-end : (text : Bool) (lines : List (List ℕ)) → BlockLines lines → AreText text lines → lines_end text lines ≡ AtEnd lines
 end-end text [] good are = refl
-end-end text (line ∷ lines) good are = good-first text line lines lines good are ∙ ap (behind line) (end-end text lines (good-rest line lines good) (text-rest text line lines are))
+end-end text (line ∷ lines) good are = good-first text line lines lines good are ∙ ap (following line) (end-end text lines (good-rest line lines good) (text-rest text line lines are))
 
 no_long_point : (line : List ℕ) → max_line < length line → line ≢ point
 no_long_point line long e = let one : length line ≡ 1 = ap length e in grind (arith, one, long)
@@ -169,10 +169,10 @@ pub end-long : (text : Bool) (lines : List (List ℕ)) (line : List ℕ) (rest :
     → lines_end text (lines ++ line ∷ rest) ≡ AtLong
 end-long text [] line rest good are long = rw (no_bytes_eq line point (no_long_point line long), too_long (length line) long) refl
 end-long text (l ∷ lines) line rest good are long =
-    good-first text l lines (lines ++ line ∷ rest) good are ∙ ap (behind l) (end-long text lines line rest (good-rest l lines good) (text-rest text l lines are) long)
+    good-first text l lines (lines ++ line ∷ rest) good are ∙ ap (following l) (end-long text lines line rest (good-rest l lines good) (text-rest text l lines are) long)
 
 pub end-no_text : (lines : List (List ℕ)) (line : List ℕ) (rest : List (List ℕ)) → BlockLines lines → AllText lines → line ≢ point → length line ≤ max_line → is_utf8 line ≡ false
     → lines_end true (lines ++ line ∷ rest) ≡ AtNoText
 end-no_text [] line rest good are other fit bad = rw (no_bytes_eq line point other, fits (length line) fit, bad) refl
 end-no_text (l ∷ lines) line rest good are other fit bad =
-    good-first true l lines (lines ++ line ∷ rest) good are ∙ ap (behind l) (end-no_text lines line rest (good-rest l lines good) are.1 other fit bad)
+    good-first true l lines (lines ++ line ∷ rest) good are ∙ ap (following l) (end-no_text lines line rest (good-rest l lines good) are.1 other fit bad)

@@ -64,7 +64,7 @@ word_unread a b taken line fault free fit text other fits took (inl bad) =
 word_unread a b taken line fault free fit text other fits took (inr bad) =
     subst (λ (f : LoadFault). ReadsWords a b (Err f)) (sym bad) (words_stopped a b taken line free fit other fits took)
 
--- ---- behind the block
+-- ---- after the block
 
 -- a script that was parsed from a block
 pub script_parsed : (old new : Option (List ℕ)) (text : Vec ℕ Global) (bytes external : List ℕ) (p : ParsedScript) → ReadsScript old new (Ok text) → bytes ≡ text.items

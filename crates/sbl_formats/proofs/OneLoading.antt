@@ -72,7 +72,7 @@ block_end bytes rest lines good stand =
     let all : lines_of bytes ≡ lines ++ point ∷ lines_of rest = stand_lines bytes rest (lines ++ point ∷ []) stand ∙ append_assoc lines (point ∷ []) (lines_of rest) in
     ap (lines_end false) all ∙ end-point false lines (lines_of rest) good tt
 
--- words stand first, behind which is this ending
+-- words stand first, and then comes this ending
 words_end : (s : Source) (rest : List ℕ) (new : Option (List ℕ)) (words : List (List ℕ)) → TookWords (Some rest) new words
     → words_ending s (lines_end true (lines_of rest)) ≡ by_words s words
 words_end s rest None words took = by took.1
@@ -98,11 +98,11 @@ after_source bytes external None s r took ends = absurd took.1.1
 after_source bytes external (Some rest) s r took ends =
     subst (λ (e : LinesEnd). IsEnding external e r) (sym (block_end bytes rest took.0 took.1.0 took.1.1)) (inl (s, took.2, ends rest refl))
 
--- lines that are good stand first, and one behind them that is too long
-abbrev LongBehind : (List (List ℕ) → Type 0) → Option (List ℕ) → Type 0
-LongBehind Good old = (lines : List (List ℕ)) × (next : Option (List ℕ)) × Good lines × Took old next lines × BeginsLong next
+-- lines that are good stand first, and one after them that is too long
+abbrev LongAfter : (List (List ℕ) → Type 0) → Option (List ℕ) → Type 0
+LongAfter Good old = (lines : List (List ℕ)) × (next : Option (List ℕ)) × Good lines × Took old next lines × BeginsLong next
 
-long_end : (bytes : List ℕ) → LongBehind BlockLines (Some bytes) → lines_end false (lines_of bytes) ≡ AtLong
+long_end : (bytes : List ℕ) → LongAfter BlockLines (Some bytes) → lines_end false (lines_of bytes) ≡ AtLong
 long_end bytes long = by long.1 long.3 long.4
   where
     by : (next : Option (List ℕ)) → Took (Some bytes) next long.0 → BeginsLong next → lines_end false (lines_of bytes) ≡ AtLong
@@ -110,7 +110,7 @@ long_end bytes long = by long.1 long.3 long.4
     by (Some y) stand begins =
         ap (lines_end false) (stand_lines bytes y long.0 stand ∙ ap (λ (x : List (List ℕ)). long.0 ++ x) begins.2) ∙ end-long false long.0 begins.0 begins.1 long.2 tt begins.3
 
-long_words : (bytes : List ℕ) → LongBehind WordLines (Some bytes) → lines_end true (lines_of bytes) ≡ AtLong
+long_words : (bytes : List ℕ) → LongAfter WordLines (Some bytes) → lines_end true (lines_of bytes) ≡ AtLong
 long_words bytes long = by long.1 long.3 long.4
   where
     by : (next : Option (List ℕ)) → Took (Some bytes) next long.0 → BeginsLong next → lines_end true (lines_of bytes) ≡ AtLong
@@ -194,7 +194,7 @@ loaded_ending bytes external new (Err (Input fault.LineTooLong)) told (inl p) =
 loaded_ending bytes external new (Err (Input fault.LineTooLong)) told (inr p) = after_source bytes external p.1 p.0 (Err (Input fault.LineTooLong)) p.2 ends
   where
     ends : (rest : List ℕ) → p.1 ≡ Some rest → Err (Input fault.LineTooLong) ≡ words_ending p.0 (lines_end true (lines_of rest))
-    ends rest e = sym (ap (words_ending p.0) (long_words rest (subst (λ (x : Option (List ℕ)). LongBehind WordLines x) e p.3)))
+    ends rest e = sym (ap (words_ending p.0) (long_words rest (subst (λ (x : Option (List ℕ)). LongAfter WordLines x) e p.3)))
 loaded_ending bytes external new (Err (Input fault.NotText)) told p = after_source bytes external p.1 p.0 (Err (Input fault.NotText)) p.2 ends
   where
     ends : (rest : List ℕ) → p.1 ≡ Some rest → Err (Input fault.NotText) ≡ words_ending p.0 (lines_end true (lines_of rest))
@@ -204,7 +204,7 @@ pub loading-one : ScriptIsOne → FaultIsOne → ScriptOrFault → LoadingIsOne
 loading-one one fault_one either bytes external a b r q told told' p o =
     ending-one one fault_one either external (lines_end false (lines_of bytes)) r q (loaded_ending bytes external a r told p) (loaded_ending bytes external b q told' o)
 
--- ---- what stands behind the words
+-- ---- what follows the words
 
 point_lines : (a b c d : List (List ℕ)) → AtPoint a b ≡ AtPoint c d → a ≡ c
 point_lines a b c d e = cc e

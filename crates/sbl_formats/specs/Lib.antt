@@ -3,7 +3,7 @@ pub mod Faults
 pub mod Block
 pub mod Loading
 pub mod OneLoading
-pub mod Rows
+pub mod RowRecords
 pub mod Traces
 pub mod RowWriter
 -- what the functions inside the crate promise each other: nothing in these need be believed

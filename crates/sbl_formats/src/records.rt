@@ -7,7 +7,7 @@ ghost use Rattle.sbl_bench.specs.Rows.{view_row};
 ghost use Rattle.sbl_semantics.specs.Outcome.{outcome_of};
 ghost use Rattle.sbl_semantics.specs.TouchedItems.{item_of};
 ghost use Rattle.sbl_io.specs.Records as texts;
-ghost use Rattle.sbl_formats.specs.Rows as spec;
+ghost use Rattle.sbl_formats.specs.RowRecords as spec;
 ghost use Rattle.sbl_formats.specs.RowWriter.{Writes};
 ghost use Rattle.sbl_formats.specs.Traces.{item_fields};
 
@@ -40,7 +40,7 @@ pub trait Record {
 impl Record for Row<'_> {
     ghost fields = { λ row. spec.row_fields (view_row row) };
 
-    #[tactic(auto, unfolding(crate::specs::Rows::row_fields))]
+    #[tactic(auto, unfolding(crate::specs::RowRecords::row_fields))]
     fn write(&self, records: &mut RecordWriter) -> Result<(), AllocError> {
         let word = records.word.encode(self.word)?;
         let (kind, text) = outcome_fields(&mut records.stem, self.outcome)?;
@@ -51,7 +51,7 @@ impl Record for Row<'_> {
 impl Record for Class {
     ghost fields = { λ class. spec.class_fields (view_class class) };
 
-    #[tactic(auto, unfolding(crate::specs::Rows::class_fields))]
+    #[tactic(auto, unfolding(crate::specs::RowRecords::class_fields))]
     fn write(&self, records: &mut RecordWriter) -> Result<(), AllocError> {
         let csv_record = &mut records.csv_record;
         csv_record.clear();

@@ -23,9 +23,9 @@ pub take_one : (xs : List ℕ) (a b byte : ℕ) (known : Option (List ℕ)) → 
 take_one xs a b byte None lt le is = tt
 take_one xs a b byte (Some ys) lt le is =
     let more : drop a xs ≡ slice_index_or xs a byte ∷ drop (suc a) xs = drop-cons xs a byte (omega arith) in
-    let front : drop a xs ≡ byte ∷ drop (suc a) xs = more ∙ ap (λ (b : ℕ). b ∷ drop (suc a) xs) (sym is) in
+    let prefix : drop a xs ≡ byte ∷ drop (suc a) xs = more ∙ ap (λ (b : ℕ). b ∷ drop (suc a) xs) (sym is) in
     let count : b - a ≡ suc (b - suc a) = omega arith in
-    rw (add-one, front, count) refl
+    rw (add-one, prefix, count) refl
 
 -- so many bytes of the range are taken
 pub take_many : (xs : List ℕ) (a b n : ℕ) (known : Option (List ℕ)) → a + n ≤ b
@@ -54,12 +54,12 @@ pub no_feed_append : (bytes more : List ℕ) → NoFeed bytes → NoFeed more �
 no_feed_append [] more h m = m
 no_feed_append (x ∷ bytes) more h m = (h.0, no_feed_append bytes more h.1 m)
 
--- a front of bytes without a line feed has none
-pub no_feed_front : (n m : ℕ) (bytes : List ℕ) → n ≤ m → NoFeed (take m bytes) → NoFeed (take n bytes)
-no_feed_front zero m bytes le h = tt
-no_feed_front (suc n) m [] le h = tt
-no_feed_front (suc n) zero (x ∷ bytes) le h = absurd (omega (arith, le))
-no_feed_front (suc n) (suc m) (x ∷ bytes) le h = (h.0, no_feed_front n m bytes (omega (arith, le)) h.1)
+-- a prefix of bytes without a line feed has none
+pub no_feed_prefix : (n m : ℕ) (bytes : List ℕ) → n ≤ m → NoFeed (take m bytes) → NoFeed (take n bytes)
+no_feed_prefix zero m bytes le h = tt
+no_feed_prefix (suc n) m [] le h = tt
+no_feed_prefix (suc n) zero (x ∷ bytes) le h = absurd (omega (arith, le))
+no_feed_prefix (suc n) (suc m) (x ∷ bytes) le h = (h.0, no_feed_prefix n m bytes (omega (arith, le)) h.1)
 
 -- the lines of an input whose first line a line feed ends
 pub lines-feed : (line rest : List ℕ) → NoFeed line → raw_lines (line ++ 10 ∷ rest) ≡ line ∷ raw_lines rest
@@ -106,29 +106,29 @@ onto-append : (b : ℕ) (lines more : List (List ℕ)) → lines ≢ [] → onto
 onto-append b [] more some = absurd (some refl)
 onto-append b (line ∷ lines) more some = refl
 
-raw-append : (front rest : List ℕ) → AreWhole front → raw_lines (front ++ rest) ≡ raw_lines front ++ raw_lines rest
+raw-append : (prefix rest : List ℕ) → AreWhole prefix → raw_lines (prefix ++ rest) ≡ raw_lines prefix ++ raw_lines rest
 raw-append [] rest whole = ap (λ (ls : List (List ℕ)). ls ++ raw_lines rest) (sym no_lines)
 raw-append (b ∷ []) rest whole =
     let feed : (b == 10) ≡ true = rw whole refl in
     raw-feed b rest feed ∙ ap (λ (ls : List (List ℕ)). [] ∷ (ls ++ raw_lines rest)) (sym no_lines) ∙ sym (ap (λ (ls : List (List ℕ)). ls ++ raw_lines rest) (raw-feed b [] feed))
-raw-append (b ∷ c ∷ front) rest whole = by (raw-append (c ∷ front) rest whole) (b == 10) refl
+raw-append (b ∷ c ∷ prefix) rest whole = by (raw-append (c ∷ prefix) rest whole) (b == 10) refl
   where
-    by : raw_lines ((c ∷ front) ++ rest) ≡ raw_lines (c ∷ front) ++ raw_lines rest → (t : Bool) → (b == 10) ≡ t
-        → raw_lines ((b ∷ c ∷ front) ++ rest) ≡ raw_lines (b ∷ c ∷ front) ++ raw_lines rest
+    by : raw_lines ((c ∷ prefix) ++ rest) ≡ raw_lines (c ∷ prefix) ++ raw_lines rest → (t : Bool) → (b == 10) ≡ t
+        → raw_lines ((b ∷ c ∷ prefix) ++ rest) ≡ raw_lines (b ∷ c ∷ prefix) ++ raw_lines rest
     by more true e =
-        raw-feed b ((c ∷ front) ++ rest) e ∙ ap (λ (ls : List (List ℕ)). [] ∷ ls) more ∙ sym (ap (λ (ls : List (List ℕ)). ls ++ raw_lines rest) (raw-feed b (c ∷ front) e))
+        raw-feed b ((c ∷ prefix) ++ rest) e ∙ ap (λ (ls : List (List ℕ)). [] ∷ ls) more ∙ sym (ap (λ (ls : List (List ℕ)). ls ++ raw_lines rest) (raw-feed b (c ∷ prefix) e))
     by more false e =
-        raw-other b ((c ∷ front) ++ rest) e ∙ ap (onto_first b) more ∙ onto-append b (raw_lines (c ∷ front)) (raw_lines rest) (raw-some c front)
-        ∙ sym (ap (λ (ls : List (List ℕ)). ls ++ raw_lines rest) (raw-other b (c ∷ front) e))
+        raw-other b ((c ∷ prefix) ++ rest) e ∙ ap (onto_first b) more ∙ onto-append b (raw_lines (c ∷ prefix)) (raw_lines rest) (raw-some c prefix)
+        ∙ sym (ap (λ (ls : List (List ℕ)). ls ++ raw_lines rest) (raw-other b (c ∷ prefix) e))
 
-pub lines-append : (front rest : List ℕ) → AreWhole front → lines_of (front ++ rest) ≡ lines_of front ++ lines_of rest
-lines-append front rest whole = ap (map without_carriage_return) (raw-append front rest whole) ∙ map-append without_carriage_return (raw_lines front) (raw_lines rest)
+pub lines-append : (prefix rest : List ℕ) → AreWhole prefix → lines_of (prefix ++ rest) ≡ lines_of prefix ++ lines_of rest
+lines-append prefix rest whole = ap (map without_carriage_return) (raw-append prefix rest whole) ∙ map-append without_carriage_return (raw_lines prefix) (raw_lines rest)
 
-whole-append : (front more : List ℕ) → AreWhole front → AreWhole more → AreWhole (front ++ more)
+whole-append : (prefix more : List ℕ) → AreWhole prefix → AreWhole more → AreWhole (prefix ++ more)
 whole-append [] more w v = v
 whole-append (b ∷ []) [] w v = w
 whole-append (b ∷ []) (c ∷ more) w v = v
-whole-append (b ∷ c ∷ front) more w v = whole-append (c ∷ front) more w v
+whole-append (b ∷ c ∷ prefix) more w v = whole-append (c ∷ prefix) more w v
 
 whole-feed : (line : List ℕ) → AreWhole (line ++ 10 ∷ [])
 whole-feed [] = refl
@@ -230,7 +230,7 @@ pub whole_trans : (a b c : Option (List ℕ)) → TookWhole a b → TookWhole b 
 whole_trans a b c p q = (p.0 ++ q.0, Consumes-trans a b c p.0 q.0 p.1 q.1, whole-append p.0 q.0 p.2 q.2)
 
 -- the first of the lines begins with whatever stands before the first line feed
-begins-with : (front rest : List ℕ) → NoFeed front → front ≢ [] → (more : List ℕ) × (others : List (List ℕ)) × (raw_lines (front ++ rest) ≡ (front ++ more) ∷ others)
+begins-with : (prefix rest : List ℕ) → NoFeed prefix → prefix ≢ [] → (more : List ℕ) × (others : List (List ℕ)) × (raw_lines (prefix ++ rest) ≡ (prefix ++ more) ∷ others)
 unfolding raw_lines
 begins-with [] rest free some = absurd (some refl)
 begins-with (b ∷ []) rest free some =
@@ -240,9 +240,9 @@ begins-with (b ∷ []) rest free some =
     by : (lines : List (List ℕ)) → (b == 10) ≡ false → raw_lines rest ≡ lines → (more : List ℕ) × (others : List (List ℕ)) × (raw_lines (b ∷ rest) ≡ (b ∷ more) ∷ others)
     by [] other e = ([], [], rw (other, e) refl)
     by (line ∷ lines) other e = (line, lines, rw (other, e) refl)
-begins-with (b ∷ c ∷ front) rest free some =
+begins-with (b ∷ c ∷ prefix) rest free some =
     let other : (b == 10) ≡ false = ne_eqb b 10 free.0 in
-    let tail = begins-with (c ∷ front) rest free.1 (λ e. cc) in
+    let tail = begins-with (c ∷ prefix) rest free.1 (λ e. cc) in
     (tail.0, tail.1, rw (other, tail.2) refl)
 
 chomped-length : (line : List ℕ) → length line ≤ length (without_carriage_return line) + 1
@@ -252,19 +252,19 @@ chomped-length line = by (slice_index_or line (length line - 1) 0 == 13) refl
     by true e = rw e (rw length-take (omega arith))
     by false e = rw e (omega arith)
 
-longer : (front more : List ℕ) → length front ≤ length (front ++ more)
-longer front more = rw length-append (omega arith)
+longer : (prefix more : List ℕ) → length prefix ≤ length (prefix ++ more)
+longer prefix more = rw length-append (omega arith)
 
 -- a line of which more than fits was taken is too long
 pub begins_long : (a b : Option (List ℕ)) (line : List ℕ) → TakesLine a b line Beyond → NoFeed line → BeginsLong a
 begins_long None b line takes free = tt
 begins_long (Some xs) None line takes free = absurd takes.3
 begins_long (Some xs) (Some ys) line takes free =
-    let front = line ++ takes.1 ∷ [] in
-    let whole = begins-with front ys (no_feed_push line takes.1 free takes.2) (λ e. absurd (ends_in line takes.1 e)) in
-    let long : 65537 < length front = rw (length-append, takes.0) (lit< tt) in
-    let least : length front ≤ length (front ++ whole.0) = longer front whole.0 in
-    (without_carriage_return (front ++ whole.0), map without_carriage_return whole.1, ap (map without_carriage_return) (ap raw_lines takes.3 ∙ whole.2), omega (arith, chomped-length (front ++ whole.0)))
+    let prefix = line ++ takes.1 ∷ [] in
+    let whole = begins-with prefix ys (no_feed_push line takes.1 free takes.2) (λ e. absurd (ends_in line takes.1 e)) in
+    let long : 65537 < length prefix = rw (length-append, takes.0) (lit< tt) in
+    let least : length prefix ≤ length (prefix ++ whole.0) = longer prefix whole.0 in
+    (without_carriage_return (prefix ++ whole.0), map without_carriage_return whole.1, ap (map without_carriage_return) (ap raw_lines takes.3 ∙ whole.2), omega (arith, chomped-length (prefix ++ whole.0)))
   where
     ends_in : (line : List ℕ) (b : ℕ) → line ++ b ∷ [] ≡ [] → ⊥
     ends_in [] b e = cc

@@ -16,7 +16,7 @@ use Rattle.sbl_io.specs.declared.faults.ServeFault.TheVariants as serve
 
 -- the bytes that were taken are whole lines, if they are known
 abbrev pub TookWhole : Option (List ℕ) → Option (List ℕ) → Type 0
-TookWhole old new = (front : List ℕ) × Consumes old new front × AreWhole front
+TookWhole old new = (prefix : List ℕ) × Consumes old new prefix × AreWhole prefix
 
 module _ {R : Type 0} where
   -- the bytes that were read but not taken yet
@@ -112,7 +112,7 @@ abbrev pub Took : Option (List ℕ) → Option (List ℕ) → List (List ℕ) �
 Took None new lines = ⊤
 Took (Some bytes) None lines = ⊥
 Took (Some bytes) (Some rest) lines =
-    (front : List ℕ) × (bytes ≡ front ++ rest) × (AreWhole front ⊎ (rest ≡ [])) × (lines_of front ≡ lines)
+    (prefix : List ℕ) × (bytes ≡ prefix ++ rest) × (AreWhole prefix ⊎ (rest ≡ [])) × (lines_of prefix ≡ lines)
 
 -- the first line was taken
 abbrev pub GivesLine : Option (List ℕ) → Option (List ℕ) → List ℕ → Type 0

@@ -33,7 +33,7 @@ fn write_some<W: Sink>(writer: &mut W, bytes: &[u8]) -> Result<usize, ServeFault
 /// prefix of the bytes is written.
 pub fn write_all<W: Sink>(writer: &mut W, bytes: &[u8]) -> Result<(), ServeFault>
     ensures all { OnOk result (Appends (W.held writer.old) (W.held writer.new) bytes.now) }
-    ensures front { (n : ℕ) × Appends (W.held writer.old) (W.held writer.new) (take n bytes.now) }
+    ensures prefix { (n : ℕ) × Appends (W.held writer.old) (W.held writer.new) (take n bytes.now) }
     ensures later { (W.tally writer.old).failures ≤ (W.tally writer.new).failures }
     ensures steady { OnOk result ((W.tally writer.new).failures ≡ (W.tally writer.old).failures) }
     ensures why { IfErr result (λ fault. (fault ≡ ServeFault.Write) × HasStopped W.tally writer.old writer.new) }

@@ -13,7 +13,7 @@ use Rattle.sbl_ast.specs.Tree.{Argument, written_out, by_name, Term, term, Plain
 use Rattle.sbl_resolver.specs.Laws.{WellDeclaredPasses}
 use Rattle.sbl_resolver.specs.Occurrences.{occurrences_of}
 use Rattle.sbl_semantics.specs.Items.{known_in, names_by, is_among}
-use Rattle.sbl_machine.specs.BuiltFrom.{names, any_names, built_on, IsClosed, IsClosedAt, and_built, built_behind, is_affected_by, AffectedIsClosed}
+use Rattle.sbl_machine.specs.BuiltFrom.{names, any_names, built_on, IsClosed, IsClosedAt, and_built, built_after, is_affected_by, AffectedIsClosed}
 use Rattle.sbl_semantics.specs.TouchedItems.{Item', Routine, Among, Grouping}
 use Rattle.sbl_machine.proofs.GroupingNames.{IsKnown, AreKnown, names_are}
 use Rattle.sbl_machine.proofs.NamesStand.{Passing}
@@ -80,9 +80,9 @@ known_split (x ∷ xs) ys =
     ap (λ (l : List (List ℕ)). names_by kinds.Groupings x.plain ++ l) (known_split xs ys)
     ∙ sym (append_assoc (names_by kinds.Groupings x.plain) (known_in xs kinds.Groupings) (known_in ys kinds.Groupings))
 
--- ---- what is built behind some items
+-- ---- what is built after some items
 
-built_split : (xs ys : List ItemInMode) (ns : List (List ℕ)) → built_behind (xs ++ ys) ns ≡ built_behind ys (built_behind xs ns)
+built_split : (xs ys : List ItemInMode) (ns : List (List ℕ)) → built_after (xs ++ ys) ns ≡ built_after ys (built_after xs ns)
 built_split [] ys ns = refl
 built_split (x ∷ xs) ys ns = built_split xs ys (and_built x.plain ns)
 
@@ -98,7 +98,7 @@ and_more (macro m b q) n ns h = h
 and_more (routine r c os) n ns h = h
 
 -- names stay
-pub built_more : (xs : List ItemInMode) (ns : List (List ℕ)) (n : List ℕ) → is_among ns n ≡ true → is_among (built_behind xs ns) n ≡ true
+pub built_more : (xs : List ItemInMode) (ns : List (List ℕ)) (n : List ℕ) → is_among ns n ≡ true → is_among (built_after xs ns) n ≡ true
 built_more [] ns n h = h
 built_more (x ∷ xs) ns n h = built_more xs (and_built x.plain ns) n (and_more x.plain n ns h)
 
@@ -106,7 +106,7 @@ either_back : (b : Bool) (r n : List ℕ) (ns : List (List ℕ)) → bytes_eq r 
 either_back true r n ns e h = not_last ns r n e h
 either_back false r n ns e h = h
 
--- an item that does not define a name, and the names behind it
+-- an item that does not define a name, and the names after it
 apart : (r n : List ℕ) (rest : List (List ℕ)) → is_among (r ∷ rest) n ≡ false → (bytes_eq r n ≡ false) × (is_among rest n ≡ false)
 apart r n rest h = at (bytes_eq r n) h
   where
@@ -124,7 +124,7 @@ item_back (macro m b q) n rest ns h = (h, λ e. e)
 item_back (routine r c os) n rest ns h = (h, λ e. e)
 
 -- none comes that is not defined there
-pub built_back : (xs : List ItemInMode) (ns : List (List ℕ)) (n : List ℕ) → is_among (known_in xs kinds.Groupings) n ≡ false → is_among (built_behind xs ns) n ≡ true → is_among ns n ≡ true
+pub built_back : (xs : List ItemInMode) (ns : List (List ℕ)) (n : List ℕ) → is_among (known_in xs kinds.Groupings) n ≡ false → is_among (built_after xs ns) n ≡ true → is_among ns n ≡ true
 built_back [] ns n h e = e
 built_back (x ∷ xs) ns n h e =
     let d = item_back x.plain n (known_in xs kinds.Groupings) ns h in
@@ -173,20 +173,20 @@ module _ (items : List Item) (passing : Passing (occurrences_of items)) (g : Lis
   one_fresh bs rest m (macro x b q) p n h k = k
   one_fresh bs rest m (routine r c os) p n h k = k
 
-  -- a grouping of some items is not defined again behind them
+  -- a grouping of some items is not defined again after them
   fresh : (rest bs : List ItemInMode) → Parts bs rest → (n : List ℕ) → is_among (known_in bs kinds.Groupings) n ≡ true → is_among (known_in rest kinds.Groupings) n ≡ false
   fresh [] bs p n h = refl
   fresh (x ∷ rest) bs p n h = one_fresh bs rest x.mode x.plain p n h (fresh rest (bs ++ x ∷ []) (further bs x rest p) n (known_further bs x n h))
 
   abbrev whole : List (List ℕ)
-  whole = built_behind (in_order items) (g ∷ [])
+  whole = built_after (in_order items) (g ∷ [])
 
   built_item : (bs rest : List ItemInMode) (m : Mode) (n : List ℕ) (a : Argument) (ts : List Term) → Parts bs ((record { mode = m; plain = grouping n a ts }) ∷ rest) → built_on (is_among whole) a ts ≡ true → is_among whole n ≡ true
   built_item bs rest m n a ts p h =
       let x : ItemInMode = record { mode = m; plain = grouping n a ts } in
-      let ns = built_behind bs (g ∷ []) in
+      let ns = built_after bs (g ∷ []) in
       let are = names_are items passing bs rest m n a ts p in
-      let is : whole ≡ built_behind (x ∷ rest) ns = ap (λ l. built_behind l (g ∷ [])) p ∙ built_split bs (x ∷ rest) (g ∷ []) in
+      let is : whole ≡ built_after (x ∷ rest) ns = ap (λ l. built_after l (g ∷ [])) p ∙ built_split bs (x ∷ rest) (g ∷ []) in
       let back : (k : List ℕ) → is_among (known_in bs kinds.Groupings) k ≡ true → is_among whole k ≡ true → is_among ns k ≡ true = λ k e there. built_back (x ∷ rest) ns k (fresh (x ∷ rest) bs p k e) (sym (ap (λ l. is_among l k) is) ∙ there) in
       let here : built_on (is_among ns) a ts ≡ true = built_on_back (known_in bs kinds.Groupings) (is_among whole) (is_among ns) back a ts are.first are.others h in
       let added : is_among (and_built (grouping n a ts) ns) n ≡ true = ap (λ (b : Bool). is_among (if b then ns ++ n ∷ [] else ns) n) here ∙ last_among ns n in

@@ -21,7 +21,7 @@ use Rattle.sbl_semantics.specs.Same.{same_argument, same_term}
 use Rattle.sbl_semantics.specs.TouchedItems.{Item', Routine, Among, Grouping}
 use Rattle.sbl_parser.proofs.OneTree.{trees_are_one}
 use Rattle.sbl_semantics.proofs.ByParts.{by_parts}
-use Rattle.sbl_semantics.proofs.NumberAfter.{behind_is}
+use Rattle.sbl_semantics.proofs.NumberAfter.{after_is}
 use Rattle.sbl_machine.proofs.EditsAgree.{unmet_by_one_stay}
 use Rattle.sbl_machine.proofs.HoledPuts.{hole_same}
 use Rattle.sbl_machine.proofs.Several.{all_affected, several_closed}
@@ -67,10 +67,10 @@ module _ (holes : ℕ → Bool) where
   Alike k l c d = (with_holes holes k c ≡ with_holes holes l d) × (number_after c k ≡ number_after d l)
 
   as_many : (s t : Starter) (gs hs : Groups) (k l : ℕ) → k ≡ l → number_after (among_ s gs) k ≡ number_after (among_ t hs) l → count_in_among (s, gs) ≡ count_in_among (t, hs)
-  as_many s t gs hs k l p e = let x = behind_is (among_ s gs) k in let y = behind_is (among_ t hs) l in omega (arith, x, y, p, e)
+  as_many s t gs hs k l p e = let x = after_is (among_ s gs) k in let y = after_is (among_ t hs) l in omega (arith, x, y, p, e)
 
-  behind_same : (s t : Starter) (gs hs : Groups) (k l : ℕ) → k ≡ l → count_in_among (s, gs) ≡ count_in_among (t, hs) → number_after (among_ s gs) k ≡ number_after (among_ t hs) l
-  behind_same s t gs hs k l p e = let x = behind_is (among_ s gs) k in let y = behind_is (among_ t hs) l in omega (arith, x, y, p, e)
+  after_same : (s t : Starter) (gs hs : Groups) (k l : ℕ) → k ≡ l → count_in_among (s, gs) ≡ count_in_among (t, hs) → number_after (among_ s gs) k ≡ number_after (among_ t hs) l
+  after_same s t gs hs k l p e = let x = after_is (among_ s gs) k in let y = after_is (among_ t hs) l in omega (arith, x, y, p, e)
 
   -- an among that stands for itself
   itself : (s t : Starter) (gs hs : Groups) (k l : ℕ) → k ≡ l → (ks : List ℕ) (b : Bool) → nat_eq (count_in_among (s, gs)) (count_in_among (t, hs)) ≡ b → (if b then Some (suc k ∷ []) else None) ≡ Some ks → All ks → Alike k l (among_ s gs) (among_ t hs)
@@ -82,7 +82,7 @@ module _ (holes : ℕ → Bool) where
         ap (λ b. if b then hole s gs else among_ (starter_with_holes holes (suc k) s) (groups_with_holes holes (number_after_starter s (suc k)) gs)) at
             ∙ hole_same t s hs gs n
             ∙ sym (ap (λ b. if b then hole t hs else among_ (starter_with_holes holes (suc l) t) (groups_with_holes holes (number_after_starter t (suc l)) hs)) also),
-        behind_same s t gs hs k l p n,
+        after_same s t gs hs k l p n,
       )
 
   -- an among in which only amongs inside it differ

@@ -9,7 +9,7 @@ use Rattle.sbl_ast.specs.declared.tree.DeclarationKind.TheVariants as kinds
 use Rattle.sbl_ast.specs.Tree.{bracket, no_rows, no_others}
 use Rattle.sbl_ast.specs.declared.mode.Mode.{Mode}
 use Rattle.sbl_ast.specs.declared.mode.Mode.TheVariants.{Forward}
-use Rattle.sbl_semantics.specs.Items.{DeclaredNames, known_in, class_of, classes_behind, is_among, place_of, Body, body_named}
+use Rattle.sbl_semantics.specs.Items.{DeclaredNames, known_in, class_of, classes_after, is_among, place_of, Body, body_named}
 use Rattle.sbl_semantics.specs.Regions.{number_after, number_after_others}
 use Rattle.sbl_semantics.specs.declared.fault.RunFault.TheVariants.{Depth}
 use Rattle.sbl_semantics.specs.declared.touch.Touch.{Touch}
@@ -27,7 +27,7 @@ use Rattle.sbl_machine.proofs.Touching.{with_chosen, with_grows, not_then, fille
 use Rattle.sbl_machine.proofs.Stays.{ended, pay_same}
 use Rattle.sbl_machine.proofs.FramePairs.{dirty, dirty_at, Grown, Within, WithinAt, Pair, Alike, grown_after, same_grown, same_pair, signals_pair, spoiled_pair, paid_alike}
 use Rattle.sbl_machine.proofs.FrameRuns.{row_alike}
-use Rattle.sbl_machine.proofs.HoledTrees.{behind_same, behind_others_same}
+use Rattle.sbl_machine.proofs.HoledTrees.{after_same, after_others_same}
 use Rattle.sbl_machine.proofs.HoledScripts.{holed_items, order_holed, known_same, names_same, closed_holed, closed_of_holed, hole_of, holed_body, bodies_holed, name_stands, place_names}
 use Rattle.sbl_machine.proofs.HoledClasses.{classes_same, no_class}
 use Rattle.sbl_ast.specs.Source.{Source}
@@ -95,11 +95,11 @@ module _ (picked : Item' → Bool) (items : List ItemInMode) (closed : AllByRecu
   ns = known_in items
 
   abbrev class : List ℕ → ℕ → Bool
-  class = class_of (classes_behind items [])
+  class = class_of (classes_after items [])
 
   -- the same with holes
   abbrev class' : List ℕ → ℕ → Bool
-  class' = class_of (classes_behind (holed_items picked items) [])
+  class' = class_of (classes_after (holed_items picked items) [])
 
   abbrev marked : Touch → Bool
   marked = marked_by picked (record { routines = known_in items kinds.Routines; groupings = known_in items kinds.Groupings })
@@ -127,7 +127,7 @@ module _ (picked : Item' → Bool) (items : List ItemInMode) (closed : AllByRecu
       let d = pay_first (row_does ns class call body.mode body.first body.others) in
       let d' = pay_first (row_does ns class' call' body.mode (with_holes holes 0 body.first) (others_with_holes holes (number_after body.first 0) body.others)) in
       let amongs = number_after_others body.others (number_after body.first 0) in
-      subst (λ l. Pair marked i (called j amongs d m) (called j l d' m)) (sym (behind_others_same holes body.others (number_after body.first 0) _ (behind_same holes body.first 0 0 refl)))
+      subst (λ l. Pair marked i (called j amongs d m) (called j l d' m)) (sym (after_others_same holes body.others (number_after body.first 0) _ (after_same holes body.first 0 0 refl)))
       (called_pair marked i j amongs d d' m a)
 
   body_pair : (i : ℕ) (n : List ℕ) (call call' : List ℕ → Doing) (m : Mode) → ((j : ℕ) (x : List ℕ) → Alike marked j (call x) (call' x)) → (o : Option Body) → body_named items n ≡ o
@@ -161,14 +161,14 @@ module _ (picked : Item' → Bool) (items : List ItemInMode) (closed : AllByRecu
 
 -- a run on so many levels
 abbrev run_on : ℕ → List ItemInMode → List ℕ → List ℕ → ℕ → Ending
-run_on l items external word limit = calls (known_in items) (class_of (classes_behind items [])) (body_named items) l external Forward (start (known_in items) word limit)
+run_on l items external word limit = calls (known_in items) (class_of (classes_after items [])) (body_named items) l external Forward (start (known_in items) word limit)
 
 holed_run : (picked : Item' → Bool) (l : ℕ) (items : List ItemInMode) (external word : List ℕ) (limit : ℕ) →
     run_on l (holed_items picked items) external word limit
-    ≡ calls (known_in items) (class_of (classes_behind (holed_items picked items) [])) (body_named (holed_items picked items)) l external Forward (start (known_in items) word limit)
+    ≡ calls (known_in items) (class_of (classes_after (holed_items picked items) [])) (body_named (holed_items picked items)) l external Forward (start (known_in items) word limit)
 holed_run picked l items external word limit =
     let bodies = body_named (holed_items picked items) in
-    ap (λ ns. calls ns (class_of (classes_behind (holed_items picked items) [])) bodies l external Forward (start ns word limit)) (known_same picked items)
+    ap (λ ns. calls ns (class_of (classes_after (holed_items picked items) [])) bodies l external Forward (start ns word limit)) (known_same picked items)
 
 -- two endings are the same, or something that is picked was touched in both
 abbrev Kin : (Touch → Bool) → Ending → Ending → Type 0

@@ -19,7 +19,7 @@ use Rattle.sbl_semantics.specs.State.{State, Signals, Doing, pay}
 use Rattle.sbl_machine.proofs.Stays.{pay_same, match_same, class_same, moves_same, assigned_same, compared_same, named_same, edited_same}
 use Rattle.sbl_machine.proofs.FramePairs.{Grown, Pair, Alike, grown_after, after_pair, from_pair, if_pair, same_grown, same_pair, signals_pair, paid_alike, prefixed_pair, counted_pair, joined_alike, limited_pair, simple_pair, touched_pair, touched_spoiled, touching}
 use Rattle.sbl_machine.proofs.FrameSearches.{finds, finds_grown, finds_alike, finds_spoiled, grown_call', choosing_grown, choosing_pair, hole_pair}
-use Rattle.sbl_machine.proofs.HoledTrees.{behind_same, behind_rows_same, behind_others_same, behind_starter_same, waits_same, waits_others_same, offers_same}
+use Rattle.sbl_machine.proofs.HoledTrees.{after_same, after_rows_same, after_others_same, after_starter_same, waits_same, waits_others_same, offers_same}
 
 -- ---- what stands in a hole, alone
 
@@ -129,7 +129,7 @@ module _ (picked : Touch → Bool) (ns : DeclaredNames) (class class' : List ℕ
     first_like (move_ x y) r k k' n n' p h = h
     first_like (named x y) r k k' n n' p h = h
     first_like (splice_ x y) r k k' n n' p h = h
-    first_like (setlimit_ b c) r k k' n n' p h = first_like b r k k' _ _ p (first_like c r (number_after b k) _ n n' (behind_same holes b k k' p) h)
+    first_like (setlimit_ b c) r k k' n n' p h = first_like b r k k' _ _ p (first_like c r (number_after b k) _ n n' (after_same holes b k k' p) h)
     first_like (assign_ x y z) r k k' n n' p h = h
     first_like (compare_ x y z) r k k' n n' p h = h
     first_like (compare_values_ x y z) r k k' n n' p h = h
@@ -138,14 +138,14 @@ module _ (picked : Touch → Bool) (ns : DeclaredNames) (class class' : List ℕ
     first_rows_like : (rs : trees.Rows) (r : Mode) (k k' : ℕ) (n n' : Option Among) → k' ≡ k → Like n n' → Like (first_rows r rs k n) (first_rows r (rows_with_holes holes k rs) k' n')
     first_rows_like no_rows r k k' n n' p h = h
     first_rows_like (row c os rs) r k k' n n' p h =
-        let p1 = behind_same holes c k k' p in
-        let p2 = behind_others_same holes os (number_after c k) _ p1 in
+        let p1 = after_same holes c k k' p in
+        let p2 = after_others_same holes os (number_after c k) _ p1 in
         first_like c r k k' _ _ p (first_others_like os r (number_after c k) _ _ _ p1 (first_rows_like rs r (number_after_others os (number_after c k)) _ n n' p2 h))
 
     pub first_others_like : (os : trees.Others) (r : Mode) (k k' : ℕ) (n n' : Option Among) → k' ≡ k → Like n n' → Like (first_others r os k n) (first_others r (others_with_holes holes k os) k' n')
     first_others_like no_others r k k' n n' p h = h
     first_others_like (joined j c os) r k k' n n' p h =
-        first_like c r k k' _ _ p (first_others_like os r (number_after c k) _ n n' (behind_same holes c k k' p) h)
+        first_like c r k k' _ _ p (first_others_like os r (number_after c k) _ n n' (after_same holes c k k' p) h)
 
   -- the test of a grouping
   one_of_grown : (w : Bool) (has : ℕ → Bool) (m : Mode) (s : State) → Grown picked s (one_of w has m s)
@@ -217,7 +217,7 @@ module _ (picked : Touch → Bool) (ns : DeclaredNames) (class class' : List ℕ
     act_alike (named x y) r k k' w w' n n' p q h = record { in_mode = λ m. same_pair picked i _ (named_same ns x y m) }
     act_alike (splice_ x a) r k k' w w' n n' p q h = record { in_mode = λ m. same_pair picked i _ (λ s. edited_same x (text ns a s) m s) }
     act_alike (setlimit_ b c) r k k' w w' n n' p q h =
-        let p1 = behind_same holes b k k' p in
+        let p1 = after_same holes b k k' p in
         let ahead = first_like c r (number_after b k) _ n n' p1 h in
         record {
           in_mode = λ m.
@@ -232,13 +232,13 @@ module _ (picked : Touch → Bool) (ns : DeclaredNames) (class class' : List ℕ
         subst (λ j. Alike picked i (does r k w n t) (does' r j w' n' (with_holes holes k t))) (sym p)
         (subst (λ v. Alike picked i (does r k w n t) (does' r k v n' (with_holes holes k t))) (sym q)
         (among_alike r k w n n' st gs (holes (suc k)) refl (starter_alike st r (suc k) (suc k) refl)
-        (λ g. groups_alike gs g r (number_after_starter st (suc k)) _ (behind_starter_same holes st (suc k) (suc k) refl))))
+        (λ g. groups_alike gs g r (number_after_starter st (suc k)) _ (after_starter_same holes st (suc k) (suc k) refl))))
 
     rows_alike : (rs : trees.Rows) (r : Mode) (k k' : ℕ) (w w' : Bool) (n n' : Option Among) → k' ≡ k → w' ≡ w → Like n n' → Alike picked i (meaning.rows_do ns class call r k w n rs) (meaning.rows_do ns class' call' r k' w' n' (rows_with_holes holes k rs))
     rows_alike no_rows r k k' w w' n n' p q h = record { in_mode = λ m. signals_pair picked i true }
     rows_alike (row c os rs) r k k' w w' n n' p q h =
-        let p1 = behind_same holes c k k' p in
-        let p2 = behind_others_same holes os (number_after c k) _ p1 in
+        let p1 = after_same holes c k k' p in
+        let p2 = after_others_same holes os (number_after c k) _ p1 in
         let q1 = waits_same holes c k w w' q in
         let q2 = waits_others_same holes os (number_after c k) _ _ q1 in
         let h2 = first_rows_like rs r (number_after_others os (number_after c k)) _ n n' p2 h in
@@ -254,7 +254,7 @@ module _ (picked : Touch → Bool) (ns : DeclaredNames) (class class' : List ℕ
     pub others_alike : (os : trees.Others) (r : Mode) (k k' : ℕ) (w w' : Bool) (n n' : Option Among) (d d' : Doing) → k' ≡ k → w' ≡ w → Like n n' → Alike picked i d d' → Alike picked i (meaning.others_do ns class call r k w n os d) (meaning.others_do ns class' call' r k' w' n' (others_with_holes holes k os) d')
     others_alike no_others r k k' w w' n n' d d' p q h a = a
     others_alike (joined j c os) r k k' w w' n n' d d' p q h a =
-        let p1 = behind_same holes c k k' p in
+        let p1 = after_same holes c k k' p in
         let h1 = first_others_like os r (number_after c k) _ n n' p1 h in
         others_alike os r (number_after c k) _ (waits c w) _ n n' _ _ p1 (waits_same holes c k w w' q) h
         (joined_alike picked i j _ _ _ _ (paid_alike picked i d d' a) (paid_alike picked i _ _ (act_alike c r k k' w w' _ _ p q h1)))
@@ -266,11 +266,11 @@ module _ (picked : Touch → Bool) (ns : DeclaredNames) (class class' : List ℕ
     groups_alike : (gs : trees.Groups) (g : ℕ) (r : Mode) (k k' : ℕ) → k' ≡ k → Alike picked i (meaning.group_does ns class call r k gs g) (meaning.group_does ns class' call' r k' (groups_with_holes holes k gs) g)
     groups_alike (bare es) g r k k' p = record { in_mode = λ m. signals_pair picked i true }
     groups_alike (group e es rs gs) zero r k k' p = paid_alike picked i _ _ (rows_alike rs r k k' false false None None p refl none_like)
-    groups_alike (group e es rs gs) (suc g) r k k' p = groups_alike gs g r (number_after_rows rs k) _ (behind_rows_same holes rs k k' p)
+    groups_alike (group e es rs gs) (suc g) r k k' p = groups_alike gs g r (number_after_rows rs k) _ (after_rows_same holes rs k k' p)
 
   -- a routine's row
   pub row_alike : (r : Mode) (c : trees.Command) (os : trees.Others) → Alike picked i (meaning.row_does ns class call r c os) (meaning.row_does ns class' call' r (with_holes holes 0 c) (others_with_holes holes (number_after c 0) os))
   row_alike r c os =
-      let p1 = behind_same holes c 0 0 refl in
+      let p1 = after_same holes c 0 0 refl in
       let h1 = first_others_like os r (number_after c 0) _ None None p1 none_like in
       others_alike os r (number_after c 0) _ (waits c false) _ None None _ _ p1 (waits_same holes c 0 false false refl) none_like (act_alike c r 0 0 false false _ _ refl refl h1)

@@ -1,4 +1,4 @@
--- Searches, and the among behind one, in two ways that are the same unless something that is picked is touched.
+-- Searches, and the among after one, in two ways that are the same unless something that is picked is touched.
 use Rattle.std.proofs.Common.{◌≡◌, ℕ, zero, suc, Bool, true, false, List, length, refl, sym, ap, ◌∙◌, subst, inl, inr, Option, Some, None}
 use Rattle.std.specs.Prelude.{take, ◌≢◌}
 use Rattle.std.proofs.lemmas.Bool.{true≢false}
@@ -191,9 +191,9 @@ module _ (picked : Touch → Bool) where
           at = λ s w. quiet_kept k c go go' h h' s w _ refl;
         }
 
-    -- where something that is picked is touched in the search, so it is behind the choice
-    behind_dirty : (k : ℕ) (b : Doing) (go : ℕ → State → Ending) (m : Mode) → ((s : State) → Grown picked s (b m s)) → ((g : ℕ) (s : State) → Grown picked s (go g s)) → (e : Ending) → dirty_at picked e ≡ true → dirty_at picked (choosing k (after e (b m) (Signals false)) go) ≡ true
-    behind_dirty k b go m h l e d =
+    -- if something that is picked is touched in the search, it is also after the choice
+    after_dirty : (k : ℕ) (b : Doing) (go : ℕ → State → Ending) (m : Mode) → ((s : State) → Grown picked s (b m s)) → ((g : ℕ) (s : State) → Grown picked s (go g s)) → (e : Ending) → dirty_at picked e ≡ true → dirty_at picked (choosing k (after e (b m) (Signals false)) go) ≡ true
+    after_dirty k b go m h l e d =
         dirty_after picked (after e (b m) (Signals false)) (λ t. with_group (choice k t) t (λ g. go g t)) (Signals false)
         (dirty_after picked e (b m) (Signals false) d h (λ t. same_grown picked t _ refl)) (λ t. chosen_grown (choice k t) go l t) (λ t. same_grown picked t _ refl)
 
@@ -206,8 +206,8 @@ module _ (picked : Touch → Bool) where
       paid_kept (suc n) s w here =
           let t = record s { steps = n } in
           let v : Within picked i t = record { here = w.here; quiet = w.quiet } in
-          let d = behind_dirty k b go m h l (finds call k os r m t) (finds_dirty call grown_call i k c os r m t v) in
-          let d' = behind_dirty k b' go' m h' l' (finds call' k os' r' m t) (finds_dirty call' grown_call' i k c os' r' m t v) in
+          let d = after_dirty k b go m h l (finds call k os r m t) (finds_dirty call grown_call i k c os r m t v) in
+          let d' = after_dirty k b' go' m h' l' (finds call' k os' r' m t) (finds_dirty call' grown_call' i k c os' r' m t v) in
           record { kin = inr (d, d'); within = within_dirty picked i _ (here_from picked i s.routine _ w.here here) d }
 
       pub hole_pair : (w : Bool) → Pair picked i (λ s. choosing k (begins w (finds call k os r) b m s) go) (λ s. choosing k (begins w (finds call' k os' r') b' m s) go')

@@ -25,13 +25,13 @@ use Rattle.sbl_machine.proofs.NamesStand.{names_site, site_put, Passing, at_mark
 abbrev place_of : ℕ → ItemInMode → Site
 place_of i x = record { item = i; mode = x.mode }
 
--- the occurrences behind an item
-abbrev behind : ItemInMode → ℕ → List Occurrence → List Occurrence
-behind x i s = noted_plain x.plain (place_of i x) s
+-- the occurrences after an item
+abbrev following : ItemInMode → ℕ → List Occurrence → List Occurrence
+following x i s = noted_plain x.plain (place_of i x) s
 
 noted_split : (xs ys : List ItemInMode) (i : ℕ) (s : List Occurrence) → noted_items (xs ++ ys) i s ≡ noted_items ys (i + length xs) (noted_items xs i s)
 noted_split [] ys i s = ap (λ k. noted_items ys k s) (omega arith)
-noted_split (x ∷ xs) ys i s = noted_split xs ys (i + 1) (behind x i s) ∙ ap (λ k. noted_items ys k (noted_items xs (i + 1) (behind x i s))) (omega arith)
+noted_split (x ∷ xs) ys i s = noted_split xs ys (i + 1) (following x i s) ∙ ap (λ k. noted_items ys k (noted_items xs (i + 1) (following x i s))) (omega arith)
 
 -- ---- where a name is defined
 
@@ -42,11 +42,11 @@ site_in n s = look (defined_at n) s
 abbrev IsPlaced : List ℕ → Site → List Occurrence → Type 0
 IsPlaced n p t = (site_in n t ≡ None) ⊎ (site_in n t ≡ Some p)
 
-place_behind : (y : Plain) (p : Site) (s : List Occurrence) (n : List ℕ) → site_in n s ≡ None → IsPlaced n p (noted_plain y p s)
-place_behind (declaration k ns) p s n e = inl (names_site k ns p s n e)
-place_behind (escapes a b) p s n e = inl e
-place_behind (macro m b q) p s n e = inl e
-place_behind (routine r c os) p s n e = at (bytes_eq n r) refl
+place_after : (y : Plain) (p : Site) (s : List Occurrence) (n : List ℕ) → site_in n s ≡ None → IsPlaced n p (noted_plain y p s)
+place_after (declaration k ns) p s n e = inl (names_site k ns p s n e)
+place_after (escapes a b) p s n e = inl e
+place_after (macro m b q) p s n e = inl e
+place_after (routine r c os) p s n e = at (bytes_eq n r) refl
   where
     still : site_in n (noted_plain (routine r c os) p s) ≡ site_in n (put (defines_routine r) p s)
     still = routine_still (defined_at n) (sites_quiet n) r c os p s
@@ -54,7 +54,7 @@ place_behind (routine r c os) p s n e = at (bytes_eq n r) refl
     at : (b : Bool) → bytes_eq n r ≡ b → IsPlaced n p (noted_plain (routine r c os) p s)
     at true h = inr (still ∙ site_put n (defines_routine r) p s (Some p) e (ap (λ k. cond k (Some p) None) h))
     at false h = inl (still ∙ site_put n (defines_routine r) p s None e (ap (λ k. cond k (Some p) None) h))
-place_behind (grouping r a ts) p s n e = at (bytes_eq n r) refl
+place_after (grouping r a ts) p s n e = at (bytes_eq n r) refl
   where
     still : site_in n (noted_plain (grouping r a ts) p s) ≡ site_in n (put (defines_grouping r) p s)
     still = grouping_still (defined_at n) (sites_quiet n) r a ts p s
@@ -69,12 +69,12 @@ same_item p d o h k = let same : p ≡ d = cc in ap (λ (z : Site). z.item) same
 -- the place of what some items define is not before the first of them
 not_before : (xs : List ItemInMode) (i : ℕ) (s : List Occurrence) (n : List ℕ) (d : Site) → site_in n s ≡ None → site_in n (noted_items xs i s) ≡ Some d → i ≤ d.item
 not_before [] i s n d e h = let none : ⊥ = cc in absurd none
-not_before (x ∷ xs) i s n d e h = at (place_behind x.plain (place_of i x) s n e) (λ none. not_before xs (i + 1) (behind x i s) n d none h)
+not_before (x ∷ xs) i s n d e h = at (place_after x.plain (place_of i x) s n e) (λ none. not_before xs (i + 1) (following x i s) n d none h)
   where
-    at : IsPlaced n (place_of i x) (behind x i s) → (site_in n (behind x i s) ≡ None → i + 1 ≤ d.item) → i ≤ d.item
+    at : IsPlaced n (place_of i x) (following x i s) → (site_in n (following x i s) ≡ None → i + 1 ≤ d.item) → i ≤ d.item
     at (inl none) rest = let later = rest none in omega arith
     at (inr there) rest =
-        let is : i ≡ d.item = same_item (place_of i x) d (site_in n (noted_items (x ∷ xs) i s)) (look_kept (defined_at n) (behind x i s) (noted_items xs (i + 1) (behind x i s)) (place_of i x) (items_more xs (i + 1) (behind x i s)) there) h in
+        let is : i ≡ d.item = same_item (place_of i x) d (site_in n (noted_items (x ∷ xs) i s)) (look_kept (defined_at n) (following x i s) (noted_items xs (i + 1) (following x i s)) (place_of i x) (items_more xs (i + 1) (following x i s)) there) h in
         omega arith
 
 -- a grouping that is not that of an item is one of the others
@@ -99,12 +99,12 @@ others_have (grouping r a ts) p s n rest h e none = at (bytes_eq r n) refl h
 -- a grouping that some items define is defined in one of them
 defined_in : (xs : List ItemInMode) (i : ℕ) (s : List Occurrence) (n : List ℕ) → is_among (known_in xs kinds.Groupings) n ≡ true → site_in n s ≡ None → (d : Site) × (site_in n (noted_items xs i s) ≡ Some d) × (d.item < i + length xs)
 defined_in [] i s n h e = let none : ⊥ = cc in absurd none
-defined_in (x ∷ xs) i s n h e = at (place_behind x.plain (place_of i x) s n e) (λ none. defined_in xs (i + 1) (behind x i s) n (others_have x.plain (place_of i x) s n (known_in xs kinds.Groupings) h e none) none)
+defined_in (x ∷ xs) i s n h e = at (place_after x.plain (place_of i x) s n e) (λ none. defined_in xs (i + 1) (following x i s) n (others_have x.plain (place_of i x) s n (known_in xs kinds.Groupings) h e none) none)
   where
-    at : IsPlaced n (place_of i x) (behind x i s) → (site_in n (behind x i s) ≡ None → (d : Site) × (site_in n (noted_items xs (i + 1) (behind x i s)) ≡ Some d) × (d.item < i + 1 + length xs))
+    at : IsPlaced n (place_of i x) (following x i s) → (site_in n (following x i s) ≡ None → (d : Site) × (site_in n (noted_items xs (i + 1) (following x i s)) ≡ Some d) × (d.item < i + 1 + length xs))
         → (d : Site) × (site_in n (noted_items (x ∷ xs) i s) ≡ Some d) × (d.item < i + length (x ∷ xs))
     at (inl none) rest = let r = rest none in let low = r.2 in (r.0, r.1, omega arith)
-    at (inr there) rest = (place_of i x, look_kept (defined_at n) (behind x i s) (noted_items xs (i + 1) (behind x i s)) (place_of i x) (items_more xs (i + 1) (behind x i s)) there, omega arith)
+    at (inr there) rest = (place_of i x, look_kept (defined_at n) (following x i s) (noted_items xs (i + 1) (following x i s)) (place_of i x) (items_more xs (i + 1) (following x i s)) there, omega arith)
 
 -- ---- names in a script that passes
 
@@ -133,7 +133,7 @@ module _ (all : List Occurrence) (passing : Passing all) where
   -- what some items define is a grouping of theirs, if its name is a grouping's
   grouping_in : (xs : List ItemInMode) (i : ℕ) (s : List Occurrence) (n : List ℕ) (d : Site) → is_grouping_name n → Extends (noted_items xs i s) all → site_in n s ≡ None → site_in n (noted_items xs i s) ≡ Some d → is_among (known_in xs kinds.Groupings) n ≡ true
   grouping_in [] i s n d g more e h = let none : ⊥ = cc in absurd none
-  grouping_in (x ∷ xs) i s n d g more e h = at x.plain (then_ (items_more xs (i + 1) (behind x i s)) more) (λ none. grouping_in xs (i + 1) (behind x i s) n d g more none h)
+  grouping_in (x ∷ xs) i s n d g more e h = at x.plain (then_ (items_more xs (i + 1) (following x i s)) more) (λ none. grouping_in xs (i + 1) (following x i s) n d g more none h)
     where
       at : (y : Plain) → Extends (noted_plain y (place_of i x) s) all → (site_in n (noted_plain y (place_of i x) s) ≡ None → is_among (known_in xs kinds.Groupings) n ≡ true) → is_among (names_by kinds.Groupings y ++ known_in xs kinds.Groupings) n ≡ true
       at (declaration k ns) ext rest = rest (names_site k ns (place_of i x) s n e)
@@ -201,10 +201,10 @@ module _ (all : List Occurrence) (passing : Passing all) where
         let h = (at_mark all s mark passing e).1 in
         let declared = rest_fails (not (is_some (kind_of n s))) (fault.Undeclared p.item) _ h in
         let allowed = not_false (is_some_and is_grouping (kind_of n s)) (test_fails (not (is_some_and is_grouping (kind_of n s))) (fault.WrongKind p.item) _ declared) in
-        let behind_kind = rest_fails (not (is_some_and is_grouping (kind_of n s))) (fault.WrongKind p.item) _ declared in
+        let after_kind = rest_fails (not (is_some_and is_grouping (kind_of n s))) (fault.WrongKind p.item) _ declared in
         earlier_in n
         (kind_kept is_grouping n s all (kind_of n s) refl (then_ (put_more (uses use_as.Term n) p s) e) allowed)
-        (not_false (is_earlier p.item (definition_of n all)) (test_fails (not (is_earlier p.item (definition_of n all))) (fault.Undefined p.item) _ behind_kind))
+        (not_false (is_earlier p.item (definition_of n all)) (test_fails (not (is_earlier p.item (definition_of n all))) (fault.Undefined p.item) _ after_kind))
 
     term_known : (a : Argument) (m : Mode) (s : List Occurrence) → Extends (noted_name use_as.Term a (record { item = 1 + length bs; mode = m }) s) all → IsKnown (known_in bs kinds.Groupings) a
     term_known (written_out q) m s e = tt
@@ -234,9 +234,9 @@ names_are items passing bs after m n a ts parts =
     let mark : Occurrence = record { site = p; notice = defines_grouping n } in
     let h = (at_mark all s mark passing (then_ (grouping_after n a ts p s) more)).1 in
     let declared = rest_fails (not (is_some (kind_of n s))) (fault.Undeclared p.item) _ h in
-    let behind_kind = rest_fails (not (is_some_and is_grouping (kind_of n s))) (fault.WrongKind p.item) _ declared in
+    let after_kind = rest_fails (not (is_some_and is_grouping (kind_of n s))) (fault.WrongKind p.item) _ declared in
     record {
-      once = not_in all passing bs (x ∷ after) split n (test_fails (is_earlier p.item (definition_of n all)) (fault.DefinedTwice p.item) _ behind_kind);
+      once = not_in all passing bs (x ∷ after) split n (test_fails (is_earlier p.item (definition_of n all)) (fault.DefinedTwice p.item) _ after_kind);
       first = term_known all passing bs (x ∷ after) split a m t (then_ (terms_extend ts p (noted_name use_as.Term a p t)) more);
       others = terms_known all passing bs (x ∷ after) split ts m (noted_name use_as.Term a p t) more;
     }

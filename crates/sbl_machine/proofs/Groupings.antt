@@ -12,7 +12,7 @@ use Rattle.sbl_ast.specs.declared.tree.Additive.TheVariants.{Plus, Minus}
 use Rattle.sbl_ast.specs.declared.tree.DeclarationKind.TheVariants as kinds
 use Rattle.sbl_ast.specs.Tree.{Argument, written_out, by_name, Term, term, Plain, declaration, escapes, macro, routine, grouping}
 use Rattle.sbl_resolver.specs.Laws.{WellDeclaredPasses}
-use Rattle.sbl_semantics.specs.Items.{Grouping, and_grouping, class_of, classes_behind, known_in, names_by, is_among, term_has, terms_have}
+use Rattle.sbl_semantics.specs.Items.{Grouping, and_grouping, class_of, classes_after, known_in, names_by, is_among, term_has, terms_have}
 use Rattle.sbl_machine.specs.Groupings.{groupings_of, Has, Leaves, IsOfTerms, GroupingsAreTheirTerms, GroupingsHaveTheirTerms}
 use Rattle.sbl_machine.proofs.GroupingNames.{IsKnown, AreKnown, AreNames, names_are}
 
@@ -32,14 +32,14 @@ and_more (escapes a b) gs = ([], sym (append-nil gs))
 and_more (macro m b q) gs = ([], sym (append-nil gs))
 and_more (routine r c os) gs = ([], sym (append-nil gs))
 
-classes_more : (xs : List ItemInMode) (gs : List Grouping) → More gs (classes_behind xs gs)
+classes_more : (xs : List ItemInMode) (gs : List Grouping) → More gs (classes_after xs gs)
 classes_more [] gs = ([], sym (append-nil gs))
 classes_more (x ∷ xs) gs =
     let one = and_more x.plain gs in
     let rest = classes_more xs (and_grouping x.plain gs) in
     (one.0 ++ rest.0, rest.1 ∙ ap (λ l. l ++ rest.0) one.1 ∙ append_assoc gs one.0 rest.0)
 
-classes_split : (xs ys : List ItemInMode) (gs : List Grouping) → classes_behind (xs ++ ys) gs ≡ classes_behind ys (classes_behind xs gs)
+classes_split : (xs ys : List ItemInMode) (gs : List Grouping) → classes_after (xs ++ ys) gs ≡ classes_after ys (classes_after xs gs)
 classes_split [] ys gs = refl
 classes_split (x ∷ xs) ys gs = classes_split xs ys (and_grouping x.plain gs)
 
@@ -52,7 +52,7 @@ names_more (escapes a b) gs rest = refl
 names_more (macro m b q) gs rest = refl
 names_more (routine r c os) gs rest = refl
 
-pub class_names : (xs : List ItemInMode) (gs : List Grouping) → map name_of (classes_behind xs gs) ≡ map name_of gs ++ known_in xs kinds.Groupings
+pub class_names : (xs : List ItemInMode) (gs : List Grouping) → map name_of (classes_after xs gs) ≡ map name_of gs ++ known_in xs kinds.Groupings
 class_names [] gs = sym (append-nil (map name_of gs))
 class_names (x ∷ xs) gs = class_names xs (and_grouping x.plain gs) ∙ names_more x.plain gs (known_in xs kinds.Groupings)
 
@@ -67,10 +67,10 @@ class_kept (g ∷ gs) more n c h = at (bytes_eq g.name n) h (class_kept gs more 
     at true k rest = refl
     at false k rest = rest k
 
--- one that is none of some stands for the grouping behind them, if it is that one's
-class_behind : (gs : List Grouping) (g : Grouping) (more : List Grouping) (n : List ℕ) (c : ℕ) → is_among (map name_of gs) n ≡ false → bytes_eq g.name n ≡ true → class_of (gs ++ g ∷ more) n c ≡ g.has c
-class_behind [] g more n c h k = ap (λ b. cond b (g.has c) (class_of more n c)) k
-class_behind (f ∷ gs) g more n c h k = at (bytes_eq f.name n) h (λ e. class_behind gs g more n c e k)
+-- one that is none of some stands for the grouping after them, if it is that one's
+class_after : (gs : List Grouping) (g : Grouping) (more : List Grouping) (n : List ℕ) (c : ℕ) → is_among (map name_of gs) n ≡ false → bytes_eq g.name n ≡ true → class_of (gs ++ g ∷ more) n c ≡ g.has c
+class_after [] g more n c h k = ap (λ b. cond b (g.has c) (class_of more n c)) k
+class_after (f ∷ gs) g more n c h k = at (bytes_eq f.name n) h (λ e. class_after gs g more n c e k)
   where
     at : (b : Bool) → cond b true (is_among (map name_of gs) n) ≡ false → (is_among (map name_of gs) n ≡ false → class_of (gs ++ g ∷ more) n c ≡ g.has c) → cond b (f.has c) (class_of (gs ++ g ∷ more) n c) ≡ g.has c
     at true e rest = absurd cc
@@ -94,7 +94,7 @@ same_name n = (bytes_eq-Decides n n).1 refl
 
 module _ (bs after : List ItemInMode) (m : Mode) (n : List ℕ) (a : Argument) (ts : List Term) (names : AreNames bs n a ts) where
   abbrev gs : List Grouping
-  gs = classes_behind bs []
+  gs = classes_after bs []
 
   abbrev g : Grouping
   g = record { name = n; has = λ c. terms_have gs ts (term_has gs a c) c }
@@ -103,7 +103,7 @@ module _ (bs after : List ItemInMode) (m : Mode) (n : List ℕ) (a : Argument) (
   ours = bs ++ (record { mode = m; plain = grouping n a ts }) ∷ after
 
   abbrev all : List Grouping
-  all = classes_behind ours []
+  all = classes_after ours []
 
   known : map name_of gs ≡ known_in bs kinds.Groupings
   known = class_names bs []
@@ -117,7 +117,7 @@ module _ (bs after : List ItemInMode) (m : Mode) (n : List ℕ) (a : Argument) (
   class_is c =
       let more = g ∷ whole.0 in
       ap (λ l. class_of l n c) whole.1
-      ∙ class_behind gs g whole.0 n c (ap (λ l. is_among l n) known ∙ names.once) (same_name n)
+      ∙ class_after gs g whole.0 n c (ap (λ l. is_among l n) known ∙ names.once) (same_name n)
       ∙ sym (
       ap (λ l. terms_have l ts (term_has l a c) c) whole.1
       ∙ terms_kept gs more ts (term_has (gs ++ more) a c) c (subst (λ l. AreKnown l ts) (sym known) names.others)
@@ -127,7 +127,7 @@ module _ (bs after : List ItemInMode) (m : Mode) (n : List ℕ) (a : Argument) (
 pub groupings_are : WellDeclaredPasses → GroupingsAreTheirTerms
 groupings_are passes script well n a ts defined c =
     let names = names_are script.items (record { each = (passes script.items script.external well).0 }) defined.0 defined.2 defined.1 n a ts defined.3 in
-    let law : (items : List ItemInMode) → in_order script.items ≡ items → class_of (classes_behind items []) n c ≡ terms_have (classes_behind items []) ts (term_has (classes_behind items []) a c) c → class_of (groupings_of script) n c ≡ terms_have (groupings_of script) ts (term_has (groupings_of script) a c) c = λ items e h. subst (λ l. class_of (classes_behind l []) n c ≡ terms_have (classes_behind l []) ts (term_has (classes_behind l []) a c) c) (sym e) h in
+    let law : (items : List ItemInMode) → in_order script.items ≡ items → class_of (classes_after items []) n c ≡ terms_have (classes_after items []) ts (term_has (classes_after items []) a c) c → class_of (groupings_of script) n c ≡ terms_have (groupings_of script) ts (term_has (groupings_of script) a c) c = λ items e h. subst (λ l. class_of (classes_after l []) n c ≡ terms_have (classes_after l []) ts (term_has (classes_after l []) a c) c) (sym e) h in
     law _ defined.3 (class_is defined.0 defined.2 defined.1 n a ts names c)
 
 -- ---- what the terms give

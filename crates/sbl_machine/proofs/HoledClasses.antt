@@ -10,7 +10,7 @@ use Rattle.sbl_ast.specs.Order.{ItemInMode}
 use Rattle.sbl_ast.specs.declared.tree.Additive.TheVariants.{Plus, Minus}
 use Rattle.sbl_ast.specs.declared.tree.DeclarationKind.TheVariants as kinds
 use Rattle.sbl_ast.specs.Tree.{Command, Others, Argument, written_out, by_name, Term, term, Plain, declaration, escapes, macro, routine, grouping}
-use Rattle.sbl_semantics.specs.Items.{Grouping, and_grouping, class_of, classes_behind, is_among, known_in, term_has, terms_have}
+use Rattle.sbl_semantics.specs.Items.{Grouping, and_grouping, class_of, classes_after, is_among, known_in, term_has, terms_have}
 use Rattle.sbl_machine.specs.BuiltFrom.{names, any_names, built_on, IsClosedAt}
 use Rattle.sbl_machine.specs.Holes.{nothing, holed_plain}
 use Rattle.sbl_semantics.specs.TouchedItems.{Item', Routine}
@@ -36,8 +36,8 @@ none_has (g ∷ gs) n c h = at (bytes_eq g.name n) h (none_has gs n c)
     at true k rest = absurd (true≢false k)
     at false k rest = rest k
 
-pub no_class : (xs : List ItemInMode) (n : List ℕ) (c : ℕ) → is_among (known_in xs kinds.Groupings) n ≡ false → class_of (classes_behind xs []) n c ≡ false
-no_class xs n c h = none_has (classes_behind xs []) n c (ap (λ l. is_among l n) (class_names xs []) ∙ h)
+pub no_class : (xs : List ItemInMode) (n : List ℕ) (c : ℕ) → is_among (known_in xs kinds.Groupings) n ≡ false → class_of (classes_after xs []) n c ≡ false
+no_class xs n c h = none_has (classes_after xs []) n c (ap (λ l. is_among l n) (class_names xs []) ∙ h)
 
 -- ---- groupings beside those of the same items with holes
 
@@ -125,7 +125,7 @@ module _ (picked : Item' → Bool) where
   plain_like gs gs' h (escapes a b) closed = h
   plain_like gs gs' h (macro n b q) closed = h
 
-  items_like : (xs : List ItemInMode) (gs gs' : List Grouping) → AllLike gs gs' → AllByRecursion (λ x. IsClosedAt picked x.plain) xs → AllLike (classes_behind xs gs) (classes_behind (holed_items picked xs) gs')
+  items_like : (xs : List ItemInMode) (gs gs' : List Grouping) → AllLike gs gs' → AllByRecursion (λ x. IsClosedAt picked x.plain) xs → AllLike (classes_after xs gs) (classes_after (holed_items picked xs) gs')
   items_like [] gs gs' h closed = h
   items_like (x ∷ xs) gs gs' h closed = items_like xs (and_grouping x.plain gs) (and_grouping (holed_plain picked x.plain) gs') (plain_like gs gs' h x.plain closed.0) closed.1
 
@@ -133,5 +133,5 @@ module _ (picked : Item' → Bool) where
   unfolding AllLike
   none_like = tt
 
-  pub classes_same : (xs : List ItemInMode) → AllByRecursion (λ x. IsClosedAt picked x.plain) xs → (n : List ℕ) → picked (items.Grouping n) ≡ false → class_of (classes_behind (holed_items picked xs) []) n ≡ class_of (classes_behind xs []) n
-  classes_same xs closed n e = fun_ext (class_like (classes_behind xs []) (classes_behind (holed_items picked xs) []) (items_like xs [] [] none_like closed) n e)
+  pub classes_same : (xs : List ItemInMode) → AllByRecursion (λ x. IsClosedAt picked x.plain) xs → (n : List ℕ) → picked (items.Grouping n) ≡ false → class_of (classes_after (holed_items picked xs) []) n ≡ class_of (classes_after xs []) n
+  classes_same xs closed n e = fun_ext (class_like (classes_after xs []) (classes_after (holed_items picked xs) []) (items_like xs [] [] none_like closed) n e)

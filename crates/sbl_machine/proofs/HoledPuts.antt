@@ -6,7 +6,7 @@ use Rattle.sbl_ast.specs.Counts.{count_amongs, count_in_rows, count_in_others, c
 use Rattle.sbl_amongs.specs.Amongs.{AmongContents, amongs, amongs_of_body, amongs_of_rows, amongs_of_others, amongs_of_starter, amongs_of_groups, nth_held, put_among, put_in_rows, put_in_others, put_in_starter, put_in_groups}
 use Rattle.sbl_amongs.proofs.Held.{Counts, none_is_first, tree_counts, rows_count, others_count, starter_counts}
 use Rattle.sbl_semantics.specs.Regions.{number_after, number_after_rows, number_after_others, number_after_starter}
-use Rattle.sbl_semantics.proofs.NumberAfter.{behind_is, behind_rows_is, behind_others_is, behind_starter_is}
+use Rattle.sbl_semantics.proofs.NumberAfter.{after_is, after_rows_is, after_others_is, after_starter_is}
 use Rattle.sbl_machine.specs.Holes.{blank, blanks, blanks_rows, blanks_others, blanks_starter, blanks_groups, nothing, hole, with_holes, rows_with_holes, others_with_holes, starter_with_holes, groups_with_holes}
 
 -- ---- blanks are as many as there are amongs
@@ -86,8 +86,8 @@ module _ (k : ℕ) (a : Starter × Groups) (holes : ℕ → Bool) (only : (j : �
   record AsMany (l : ℕ) (hs : List AmongContents) : Type 0 where
     is : (h : AmongContents) → nth_held l hs ≡ Some h → count_in_among a ≡ count_in_among (h.1, h.2)
 
-  many_behind : (n : ℕ) (part : List AmongContents → List AmongContents) → Counts n part → (l : ℕ) (rest : List AmongContents) → AsMany l (part rest) → AsMany (l - n) rest
-  many_behind n part counts l rest many = record { is = λ h there. go h (l - n) refl there }
+  many_after : (n : ℕ) (part : List AmongContents → List AmongContents) → Counts n part → (l : ℕ) (rest : List AmongContents) → AsMany l (part rest) → AsMany (l - n) rest
+  many_after n part counts l rest many = record { is = λ h there. go h (l - n) refl there }
     where
       go : (h : AmongContents) (m : ℕ) → l - n ≡ m → nth_held m rest ≡ Some h → count_in_among a ≡ count_in_among (h.1, h.2)
       go h zero e there = let never : None ≡ Some h = sym (none_is_first rest) ∙ there in absurd cc
@@ -120,18 +120,18 @@ module _ (k : ℕ) (a : Starter × Groups) (holes : ℕ → Bool) (only : (j : �
     same : (j' : ℕ) → j' ≡ j → groups_with_holes holes j' u ≡ groups_with_holes holes j t
     count : count_in_groups u ≡ count_in_groups t
 
-  -- the next number behind both is the same
+  -- the next number after both is the same
   tree_next : (t u : Command) (j j' : ℕ) → count_amongs u ≡ count_amongs t → j' ≡ j → number_after u j' ≡ number_after t j
-  tree_next t u j j' c p = behind_is u j' ∙ (λ i. p i + c i) ∙ sym (behind_is t j)
+  tree_next t u j j' c p = after_is u j' ∙ (λ i. p i + c i) ∙ sym (after_is t j)
 
   rows_next : (t u : Rows) (j j' : ℕ) → count_in_rows u ≡ count_in_rows t → j' ≡ j → number_after_rows u j' ≡ number_after_rows t j
-  rows_next t u j j' c p = behind_rows_is u j' ∙ (λ i. p i + c i) ∙ sym (behind_rows_is t j)
+  rows_next t u j j' c p = after_rows_is u j' ∙ (λ i. p i + c i) ∙ sym (after_rows_is t j)
 
   others_next : (t u : Others) (j j' : ℕ) → count_in_others u ≡ count_in_others t → j' ≡ j → number_after_others u j' ≡ number_after_others t j
-  others_next t u j j' c p = behind_others_is u j' ∙ (λ i. p i + c i) ∙ sym (behind_others_is t j)
+  others_next t u j j' c p = after_others_is u j' ∙ (λ i. p i + c i) ∙ sym (after_others_is t j)
 
   starter_next : (t u : Starter) (j j' : ℕ) → count_in_starter u ≡ count_in_starter t → j' ≡ j → number_after_starter u j' ≡ number_after_starter t j
-  starter_next t u j j' c p = behind_starter_is u j' ∙ (λ i. p i + c i) ∙ sym (behind_starter_is t j)
+  starter_next t u j j' c p = after_starter_is u j' ∙ (λ i. p i + c i) ∙ sym (after_starter_is t j)
 
   leaf : (j : ℕ) (t : Command) → ((j' : ℕ) → with_holes holes j' t ≡ t) → TreeSame j t t
   leaf j t h = record { same = λ j' p. h j' ∙ sym (h j); count = refl }
@@ -183,23 +183,23 @@ module _ (k : ℕ) (a : Starter × Groups) (holes : ℕ → Bool) (only : (j : �
     tree_put (splice_ x y) d l j rest e many = leaf j (splice_ x y) (λ j'. refl)
     tree_put (setlimit_ b c) d l j rest e many =
         let x = tree_put b (d + 1) l j (amongs c (d + 1) rest) e many in
-        let n = behind_is b j in
+        let n = after_is b j in
         let f : l - count_amongs b ≡ k - number_after b j = omega (arith, e, n) in
-        let y = tree_put c (d + 1) (l - count_amongs b) (number_after b j) rest f (many_behind (count_amongs b) (λ r. amongs b (d + 1) r) (tree_counts b (d + 1)) l (amongs c (d + 1) rest) many) in
+        let y = tree_put c (d + 1) (l - count_amongs b) (number_after b j) rest f (many_after (count_amongs b) (λ r. amongs b (d + 1) r) (tree_counts b (d + 1)) l (amongs c (d + 1) rest) many) in
         let u = put_among b l a in
         record { same = λ j' p. (λ i. setlimit_ (x.same j' p i) (y.same (number_after u j') (tree_next b u j j' x.count p) i)); count = λ i. x.count i + y.count i }
     tree_put (assign_ x y z) d l j rest e many = leaf j (assign_ x y z) (λ j'. refl)
     tree_put (compare_ x y z) d l j rest e many = leaf j (compare_ x y z) (λ j'. refl)
     tree_put (compare_values_ x y z) d l j rest e many = leaf j (compare_values_ x y z) (λ j'. refl)
     tree_put (among_ s gs) d l j rest e many =
-        let n = behind_starter_is s (suc j) in
+        let n = after_starter_is s (suc j) in
         let f : l - 1 ≡ k - suc j = omega (arith, e) in
         let g : l - 1 - count_in_starter s ≡ k - number_after_starter s (suc j) = omega (arith, e, n) in
         let more = amongs_of_starter s d (amongs_of_groups gs d rest) in
         among_put s gs d l j rest e many
         (λ ne. starter_put s d (l - 1) (suc j) (amongs_of_groups gs d rest) f (many_inside l (d, s, gs) more ne many))
         (λ ne. groups_put gs d (l - 1 - count_in_starter s) (number_after_starter s (suc j)) rest g
-        (many_behind (count_in_starter s) (λ r. amongs_of_starter s d r) (starter_counts s d) (l - 1) (amongs_of_groups gs d rest) (many_inside l (d, s, gs) more ne many)))
+        (many_after (count_in_starter s) (λ r. amongs_of_starter s d r) (starter_counts s d) (l - 1) (amongs_of_groups gs d rest) (many_inside l (d, s, gs) more ne many)))
         (nat_eq l 1) refl
 
     rows_put : (rs : Rows) (d l j : ℕ) (rest : List AmongContents) → l ≡ k - j → AsMany l (amongs_of_rows rs d rest) → RowsSame j rs (put_in_rows rs l a)
@@ -209,12 +209,12 @@ module _ (k : ℕ) (a : Starter × Groups) (holes : ℕ → Bool) (only : (j : �
         let inner = amongs_of_others os d last in
         let l1 = l - count_amongs c in
         let l2 = l - count_amongs c - count_in_others os in
-        let n1 = behind_is c j in
-        let n2 = behind_others_is os (number_after c j) in
+        let n1 = after_is c j in
+        let n2 = after_others_is os (number_after c j) in
         let f1 : l1 ≡ k - number_after c j = omega (arith, e, n1) in
         let f2 : l2 ≡ k - number_after_others os (number_after c j) = omega (arith, e, n1, n2) in
-        let m1 = many_behind (count_amongs c) (λ r. amongs c d r) (tree_counts c d) l inner many in
-        let m2 = many_behind (count_in_others os) (λ r. amongs_of_others os d r) (others_count os d) l1 last m1 in
+        let m1 = many_after (count_amongs c) (λ r. amongs c d r) (tree_counts c d) l inner many in
+        let m2 = many_after (count_in_others os) (λ r. amongs_of_others os d r) (others_count os d) l1 last m1 in
         let x = tree_put c d l j inner e many in
         let y = others_put os d l1 (number_after c j) last f1 m1 in
         let z = rows_put rs d l2 (number_after_others os (number_after c j)) rest f2 m2 in
@@ -233,10 +233,10 @@ module _ (k : ℕ) (a : Starter × Groups) (holes : ℕ → Bool) (only : (j : �
     others_put (joined o c os) d l j rest e many =
         let inner = amongs_of_others os d rest in
         let l1 = l - count_amongs c in
-        let n1 = behind_is c j in
+        let n1 = after_is c j in
         let f1 : l1 ≡ k - number_after c j = omega (arith, e, n1) in
         let x = tree_put c d l j inner e many in
-        let y = others_put os d l1 (number_after c j) rest f1 (many_behind (count_amongs c) (λ r. amongs c d r) (tree_counts c d) l inner many) in
+        let y = others_put os d l1 (number_after c j) rest f1 (many_after (count_amongs c) (λ r. amongs c d r) (tree_counts c d) l inner many) in
         let u = put_among c l a in
         record { same = λ j' p. (λ i. joined o (x.same j' p i) (y.same (number_after u j') (tree_next c u j j' x.count p) i)); count = λ i. x.count i + y.count i }
 
@@ -249,10 +249,10 @@ module _ (k : ℕ) (a : Starter × Groups) (holes : ℕ → Bool) (only : (j : �
     groups_put (group v es rs gs) d l j rest e many =
         let inner = amongs_of_groups gs d rest in
         let l1 = l - count_in_rows rs in
-        let n1 = behind_rows_is rs j in
+        let n1 = after_rows_is rs j in
         let f1 : l1 ≡ k - number_after_rows rs j = omega (arith, e, n1) in
         let x = rows_put rs (d + 1 + 1) l j inner e many in
-        let y = groups_put gs d l1 (number_after_rows rs j) rest f1 (many_behind (count_in_rows rs) (λ r. amongs_of_rows rs (d + 1 + 1) r) (rows_count rs (d + 1 + 1)) l inner many) in
+        let y = groups_put gs d l1 (number_after_rows rs j) rest f1 (many_after (count_in_rows rs) (λ r. amongs_of_rows rs (d + 1 + 1) r) (rows_count rs (d + 1 + 1)) l inner many) in
         let u = put_in_rows rs l a in
         record { same = λ j' p. (λ i. group v es (x.same j' p i) (y.same (number_after_rows u j') (rows_next rs u j j' x.count p) i)); count = λ i. x.count i + y.count i }
 
@@ -267,7 +267,7 @@ module _ (k : ℕ) (a : Starter × Groups) (holes : ℕ → Bool) (only : (j : �
       let e : k ≡ k - 0 = omega arith in
       let many : AsMany k (amongs b.0 1 inner) = record { is = λ g at. let same : h ≡ g = cc in count ∙ ap (λ (x : AmongContents). count_in_among (x.1, x.2)) same } in
       let x = tree_put b.0 1 k 0 inner e many in
-      let n = behind_is b.0 0 in
+      let n = after_is b.0 0 in
       let f : k - count_amongs b.0 ≡ k - number_after b.0 0 = omega (arith, n) in
-      let y = others_put b.1 1 (k - count_amongs b.0) (number_after b.0 0) [] f (many_behind (count_amongs b.0) (λ r. amongs b.0 1 r) (tree_counts b.0 1) k inner many) in
+      let y = others_put b.1 1 (k - count_amongs b.0) (number_after b.0 0) [] f (many_after (count_amongs b.0) (λ r. amongs b.0 1 r) (tree_counts b.0 1) k inner many) in
       record { first = x.same 0 refl; others = y.same (number_after (put_among b.0 k a) 0) (tree_next b.0 (put_among b.0 k a) 0 0 x.count refl) }

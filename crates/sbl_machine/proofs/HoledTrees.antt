@@ -49,49 +49,49 @@ hole_same s gs k = blanks_starter_same s (blanks_groups gs no_rows) (suc k) ∙ 
 module _ (holes : ℕ → Bool) where
   -- ---- so does a command with holes
 
-  behind_either : (b : Bool) (x y : Command) (k n : ℕ) → number_after x k ≡ n → number_after y k ≡ n → number_after (if b then x else y) k ≡ n
-  behind_either true x y k n p q = p
-  behind_either false x y k n p q = q
+  after_either : (b : Bool) (x y : Command) (k n : ℕ) → number_after x k ≡ n → number_after y k ≡ n → number_after (if b then x else y) k ≡ n
+  after_either true x y k n p q = p
+  after_either false x y k n p q = q
 
   mutual
-    pub behind_same : (t : Command) (k k' : ℕ) → k' ≡ k → number_after (with_holes holes k t) k' ≡ number_after t k
-    behind_same (bracket rs) k k' p = behind_rows_same rs k k' p
-    behind_same (simple_ x) k k' p = p
-    behind_same (literal_ x) k k' p = p
-    behind_same (name_ x) k k' p = p
-    behind_same (non_ x y) k k' p = p
-    behind_same (prefixed x c) k k' p = behind_same c k k' p
-    behind_same (counted x e c) k k' p = behind_same c k k' p
-    behind_same (move_ x y) k k' p = p
-    behind_same (named x y) k k' p = p
-    behind_same (splice_ x y) k k' p = p
-    behind_same (setlimit_ b c) k k' p = behind_same c (number_after b k) _ (behind_same b k k' p)
-    behind_same (assign_ x y z) k k' p = p
-    behind_same (compare_ x y z) k k' p = p
-    behind_same (compare_values_ x y z) k k' p = p
-    behind_same (among_ s gs) k k' p =
+    pub after_same : (t : Command) (k k' : ℕ) → k' ≡ k → number_after (with_holes holes k t) k' ≡ number_after t k
+    after_same (bracket rs) k k' p = after_rows_same rs k k' p
+    after_same (simple_ x) k k' p = p
+    after_same (literal_ x) k k' p = p
+    after_same (name_ x) k k' p = p
+    after_same (non_ x y) k k' p = p
+    after_same (prefixed x c) k k' p = after_same c k k' p
+    after_same (counted x e c) k k' p = after_same c k k' p
+    after_same (move_ x y) k k' p = p
+    after_same (named x y) k k' p = p
+    after_same (splice_ x y) k k' p = p
+    after_same (setlimit_ b c) k k' p = after_same c (number_after b k) _ (after_same b k k' p)
+    after_same (assign_ x y z) k k' p = p
+    after_same (compare_ x y z) k k' p = p
+    after_same (compare_values_ x y z) k k' p = p
+    after_same (among_ s gs) k k' p =
         let n : suc k' ≡ suc k = ap suc p in
-        behind_either (holes (suc k)) (hole s gs) (among_ (starter_with_holes holes (suc k) s) (groups_with_holes holes (number_after_starter s (suc k)) gs)) k' (number_after (among_ s gs) k)
+        after_either (holes (suc k)) (hole s gs) (among_ (starter_with_holes holes (suc k) s) (groups_with_holes holes (number_after_starter s (suc k)) gs)) k' (number_after (among_ s gs) k)
         (ap (number_after (hole s gs)) p ∙ hole_same s gs k)
-        (behind_groups_same gs (number_after_starter s (suc k)) _ (behind_starter_same s (suc k) (suc k') n))
+        (after_groups_same gs (number_after_starter s (suc k)) _ (after_starter_same s (suc k) (suc k') n))
 
-    pub behind_rows_same : (rs : Rows) (k k' : ℕ) → k' ≡ k → number_after_rows (rows_with_holes holes k rs) k' ≡ number_after_rows rs k
-    behind_rows_same no_rows k k' p = p
-    behind_rows_same (row c os rs) k k' p = behind_rows_same rs (number_after_others os (number_after c k)) _ (behind_others_same os (number_after c k) _ (behind_same c k k' p))
+    pub after_rows_same : (rs : Rows) (k k' : ℕ) → k' ≡ k → number_after_rows (rows_with_holes holes k rs) k' ≡ number_after_rows rs k
+    after_rows_same no_rows k k' p = p
+    after_rows_same (row c os rs) k k' p = after_rows_same rs (number_after_others os (number_after c k)) _ (after_others_same os (number_after c k) _ (after_same c k k' p))
 
-    pub behind_others_same : (os : Others) (k k' : ℕ) → k' ≡ k → number_after_others (others_with_holes holes k os) k' ≡ number_after_others os k
-    behind_others_same no_others k k' p = p
-    behind_others_same (joined j c os) k k' p = behind_others_same os (number_after c k) _ (behind_same c k k' p)
+    pub after_others_same : (os : Others) (k k' : ℕ) → k' ≡ k → number_after_others (others_with_holes holes k os) k' ≡ number_after_others os k
+    after_others_same no_others k k' p = p
+    after_others_same (joined j c os) k k' p = after_others_same os (number_after c k) _ (after_same c k k' p)
 
-    pub behind_starter_same : (s : Starter) (k k' : ℕ) → k' ≡ k → number_after_starter (starter_with_holes holes k s) k' ≡ number_after_starter s k
-    behind_starter_same no_starter k k' p = p
-    behind_starter_same (starter rs) k k' p = behind_rows_same rs k k' p
+    pub after_starter_same : (s : Starter) (k k' : ℕ) → k' ≡ k → number_after_starter (starter_with_holes holes k s) k' ≡ number_after_starter s k
+    after_starter_same no_starter k k' p = p
+    after_starter_same (starter rs) k k' p = after_rows_same rs k k' p
 
-    behind_groups_same : (gs : Groups) (k k' : ℕ) → k' ≡ k → number_after_groups (groups_with_holes holes k gs) k' ≡ number_after_groups gs k
-    behind_groups_same (bare es) k k' p = p
-    behind_groups_same (group e es rs gs) k k' p = behind_groups_same gs (number_after_rows rs k) _ (behind_rows_same rs k k' p)
+    after_groups_same : (gs : Groups) (k k' : ℕ) → k' ≡ k → number_after_groups (groups_with_holes holes k gs) k' ≡ number_after_groups gs k
+    after_groups_same (bare es) k k' p = p
+    after_groups_same (group e es rs gs) k k' p = after_groups_same gs (number_after_rows rs k) _ (after_rows_same rs k k' p)
 
-  -- ---- a `substring` waits behind both, or behind neither
+  -- ---- a `substring` waits after both, or after neither
 
   waits_either : (b : Bool) (x y : Command) (w v : Bool) → waits x w ≡ v → waits y w ≡ v → waits (if b then x else y) w ≡ v
   waits_either true x y w v p q = p

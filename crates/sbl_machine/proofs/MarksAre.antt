@@ -16,8 +16,8 @@ use Rattle.sbl_semantics.specs.declared.touch.Touch.TheVariants.{Entered, Search
 use Rattle.sbl_semantics.specs.Touches.{same_touch, with_touch}
 use Rattle.sbl_ast.specs.Source.{Source}
 use Rattle.sbl_script.specs.SpelledScript.{AreSpelled}
-use Rattle.sbl_machine.specs.BuiltFrom.{is_affected_by, affected_by, built_behind}
-use Rattle.sbl_machine.specs.Marking.{amongs_behind, amongs_in, groupings_behind, with_names, marks_of, routines_behind, with_searches, searches}
+use Rattle.sbl_machine.specs.BuiltFrom.{is_affected_by, affected_by, built_after}
+use Rattle.sbl_machine.specs.Marking.{amongs_after, amongs_in, groupings_after, with_names, marks_of, routines_after, with_searches, searches}
 use Rattle.sbl_machine.specs.Marks.{AreMarksOf, has_item}
 use Rattle.sbl_semantics.specs.TouchedItems.{Item', Routine, Among, Grouping, item_of_touch, names_of}
 use Rattle.sbl_machine.proofs.BuiltFrom.{built_back}
@@ -191,7 +191,7 @@ module _ (p : List ℕ → Bool) where
   routine_passes (Among n k) = false
   routine_passes (Grouping n) = false
 
-  any_routine : (xs : List Item') (ns : List (List ℕ)) → list_any p (routines_behind xs ns) ≡ (list_any p ns || list_any routine_passes xs)
+  any_routine : (xs : List Item') (ns : List (List ℕ)) → list_any p (routines_after xs ns) ≡ (list_any p ns || list_any routine_passes xs)
   any_routine [] ns = sym (or_false (list_any p ns))
   any_routine (Routine n ∷ xs) ns =
       any_routine xs (ns ++ n ∷ [])
@@ -205,7 +205,7 @@ module _ (p : List ℕ → Bool) where
   grouping_passes (Among n k) = false
   grouping_passes (Grouping n) = p n
 
-  any_grouping : (xs : List Item') (ns : List (List ℕ)) → list_any p (groupings_behind xs ns) ≡ (list_any p ns || list_any grouping_passes xs)
+  any_grouping : (xs : List Item') (ns : List (List ℕ)) → list_any p (groupings_after xs ns) ≡ (list_any p ns || list_any grouping_passes xs)
   any_grouping [] ns = sym (or_false (list_any p ns))
   any_grouping (Grouping n ∷ xs) ns =
       any_grouping xs (ns ++ n ∷ [])
@@ -251,9 +251,9 @@ module _ (s : Source) (spelled : AreSpelled s.items) where
   routine_is n (Among m k) = refl
   routine_is n (Grouping m) = refl
 
-  routines_are : (xs : List Item') (n : List ℕ) → is_among (routines_behind xs []) n ≡ list_any (λ x. is_affected_by s x (Routine n)) xs
+  routines_are : (xs : List Item') (n : List ℕ) → is_among (routines_after xs []) n ≡ list_any (λ x. is_affected_by s x (Routine n)) xs
   routines_are xs n =
-      among_any (routines_behind xs []) n ∙ any_routine (λ m. bytes_eq m n) xs [] ∙ ap (λ (p : Item' → Bool). list_any p xs) (fun_ext (routine_is n))
+      among_any (routines_after xs []) n ∙ any_routine (λ m. bytes_eq m n) xs [] ∙ ap (λ (p : Item' → Bool). list_any p xs) (fun_ext (routine_is n))
 
   named_routine : (x : Item') → has_item (names_of s) x ≡ true → is_affected_by s x (Routine []) ≡ false
   named_routine (Routine n) there = has_name routines n (routines_named s.items spelled) there
@@ -263,21 +263,21 @@ module _ (s : Source) (spelled : AreSpelled s.items) where
   -- ---- groupings
 
   -- nothing without a name is built from a grouping
-  built_named : (n : List ℕ) → has_item (names_of s) (Grouping n) ≡ true → is_among (built_behind items (n ∷ [])) [] ≡ false
+  built_named : (n : List ℕ) → has_item (names_of s) (Grouping n) ≡ true → is_among (built_after items (n ∷ [])) [] ≡ false
   built_named n there =
       let none = groupings_named s.items spelled in
-      not_then (is_among (built_behind items (n ∷ [])) []) (is_among (n ∷ []) []) (built_back items (n ∷ []) [] none)
+      not_then (is_among (built_after items (n ∷ [])) []) (is_among (n ∷ []) []) (built_back items (n ∷ []) [] none)
       (ap (λ (b : Bool). if b then true else false) (has_name (known_in items kinds.Groupings) n none there))
 
-  grouping_is : (n : List ℕ) (x : Item') → grouping_passes (λ m. is_among (built_behind items (m ∷ [])) n) x ≡ is_affected_by s x (Grouping n)
+  grouping_is : (n : List ℕ) (x : Item') → grouping_passes (λ m. is_among (built_after items (m ∷ [])) n) x ≡ is_affected_by s x (Grouping n)
   grouping_is n (Routine m) = refl
   grouping_is n (Among m k) = refl
   grouping_is n (Grouping m) = refl
 
-  groupings_are : (xs : List Item') (n : List ℕ) → is_among (built_behind items (groupings_behind xs [])) n ≡ list_any (λ x. is_affected_by s x (Grouping n)) xs
+  groupings_are : (xs : List Item') (n : List ℕ) → is_among (built_after items (groupings_after xs [])) n ≡ list_any (λ x. is_affected_by s x (Grouping n)) xs
   groupings_are xs n =
-      built_from_several items (groupings_behind xs []) n
-      ∙ any_grouping (λ m. is_among (built_behind items (m ∷ [])) n) xs []
+      built_from_several items (groupings_after xs []) n
+      ∙ any_grouping (λ m. is_among (built_after items (m ∷ [])) n) xs []
       ∙ ap (λ (p : Item' → Bool). list_any p xs) (fun_ext (grouping_is n))
 
   named_grouping : (x : Item') → has_item (names_of s) x ≡ true → is_affected_by s x (Grouping []) ≡ false
@@ -294,7 +294,7 @@ module _ (s : Source) (spelled : AreSpelled s.items) where
 
   module _ (l : ℕ) where
     -- the among with number l is one of those collected so far, or of the items to come
-    any_among : (n : List ℕ) (xs : List Item') (ks : List ℕ) → list_any (nat_eq l) (amongs_behind n xs ks) ≡ (list_any (nat_eq l) ks || list_any (λ x. is_affected_by s x (Among n (suc l))) xs)
+    any_among : (n : List ℕ) (xs : List Item') (ks : List ℕ) → list_any (nat_eq l) (amongs_after n xs ks) ≡ (list_any (nat_eq l) ks || list_any (λ x. is_affected_by s x (Among n (suc l))) xs)
     any_among n [] ks = sym (or_false (list_any (nat_eq l) ks))
     any_among n (Routine m ∷ xs) ks = any_among n xs ks
     any_among n (Grouping m ∷ xs) ks = any_among n xs ks
@@ -305,8 +305,8 @@ module _ (s : Source) (spelled : AreSpelled s.items) where
         ∙ ap (λ (b : Bool). list_any (nat_eq l) ks || (b || rest)) (and_false (bytes_eq m n) ∙ ap (λ (b : Bool). bytes_eq m n && b) (sym other))
     any_among n (Among m (suc k) ∷ xs) ks = by (bytes_eq m n) (λ js. any_among n xs js)
       where
-        by : (b : Bool) → ((js : List ℕ) → list_any (nat_eq l) (amongs_behind n xs js) ≡ (list_any (nat_eq l) js || list_any (λ x. is_affected_by s x (Among n (suc l))) xs))
-            → list_any (nat_eq l) (amongs_behind n xs (if b then ks ++ k ∷ [] else ks)) ≡ (list_any (nat_eq l) ks || ((b && nat_eq (suc k) (suc l)) || list_any (λ x. is_affected_by s x (Among n (suc l))) xs))
+        by : (b : Bool) → ((js : List ℕ) → list_any (nat_eq l) (amongs_after n xs js) ≡ (list_any (nat_eq l) js || list_any (λ x. is_affected_by s x (Among n (suc l))) xs))
+            → list_any (nat_eq l) (amongs_after n xs (if b then ks ++ k ∷ [] else ks)) ≡ (list_any (nat_eq l) ks || ((b && nat_eq (suc k) (suc l)) || list_any (λ x. is_affected_by s x (Among n (suc l))) xs))
         by true rest =
             rest (ks ++ k ∷ [])
             ∙ ap (λ (b : Bool). b || list_any (λ x. is_affected_by s x (Among n (suc l))) xs) (list_any-append (nat_eq l) ks (k ∷ []))
@@ -330,10 +330,10 @@ module _ (s : Source) (spelled : AreSpelled s.items) where
     tested test other = with_names Tested test 0 groupings (entered other)
 
     abbrev in_routines : List ℕ → Bool
-    in_routines = is_among (routines_behind xs [])
+    in_routines = is_among (routines_after xs [])
 
     abbrev in_built : List ℕ → Bool
-    in_built = is_among (built_behind items (groupings_behind xs []))
+    in_built = is_among (built_after items (groupings_after xs []))
 
     no_routine : in_routines [] ≡ false
     no_routine = routines_are xs [] ∙ none_passes (λ x. is_affected_by s x (Routine [])) (has_item (names_of s)) named_routine xs there
@@ -363,6 +363,6 @@ module _ (s : Source) (spelled : AreSpelled s.items) where
 
   pub are_marks : (xs : List Item') → list_all (has_item (names_of s)) xs ≡ true → AreMarksOf s xs (marks_of (names_of s) items xs)
   are_marks xs there t =
-      let built = fun_ext (among_is (built_behind items (groupings_behind xs []))) in
-      let own = fun_ext (among_is (routines_behind xs [])) in
+      let built = fun_ext (among_is (built_after items (groupings_after xs []))) in
+      let own = fun_ext (among_is (routines_after xs [])) in
       (λ i. list_any (same_touch t) (tested xs there (built i) (own i))) ∙ by_touch xs there t

@@ -73,7 +73,7 @@ names_case k (x ∷ ns) p s n e = at (bytes_eq n x) refl (names_case k ns p (put
     at true h rest = inr (ap (λ c. cond c true (is_among ns n)) (flip n x h), names_kept k ns p (put (declares k x) p s) n k (kind_put n k x p s true e h))
     at false h rest = further (rest (kind_put n k x p s false e h))
 
--- the item behind which a name has its kind
+-- the item after which a name has its kind
 record Declares (y : Plain) (p : Site) (s : List Occurrence) (n : List ℕ) : Type 0 where
   kind : DeclarationKind
   names : List (List ℕ)
@@ -81,16 +81,16 @@ record Declares (y : Plain) (p : Site) (s : List Occurrence) (n : List ℕ) : Ty
   there : is_among names n ≡ true
   is : look (kinds_at n) (noted_plain y p s) ≡ Some kind
 
-kind_behind : (y : Plain) (p : Site) (s : List Occurrence) (n : List ℕ) → look (kinds_at n) s ≡ None → (look (kinds_at n) (noted_plain y p s) ≡ None) ⊎ Declares y p s n
-kind_behind (declaration k ns) p s n e = at (names_case k ns p s n e)
+kind_after : (y : Plain) (p : Site) (s : List Occurrence) (n : List ℕ) → look (kinds_at n) s ≡ None → (look (kinds_at n) (noted_plain y p s) ≡ None) ⊎ Declares y p s n
+kind_after (declaration k ns) p s n e = at (names_case k ns p s n e)
   where
     at : (look (kinds_at n) (noted_names k ns p s) ≡ None) ⊎ ((is_among ns n ≡ true) × (look (kinds_at n) (noted_names k ns p s) ≡ Some k)) → (look (kinds_at n) (noted_names k ns p s) ≡ None) ⊎ Declares (declaration k ns) p s n
     at (inl h) = inl h
     at (inr h) = inr (record { kind = k; names = ns; item = refl; there = h.0; is = h.1 })
-kind_behind (escapes a b) p s n e = inl e
-kind_behind (macro m b q) p s n e = inl e
-kind_behind (routine r c os) p s n e = inl (routine_still (kinds_at n) (kinds_quiet n) r c os p s ∙ look_put (kinds_at n) (defines_routine r) p s ∙ or_none (look (kinds_at n) s) ∙ e)
-kind_behind (grouping g a ts) p s n e = inl (grouping_still (kinds_at n) (kinds_quiet n) g a ts p s ∙ look_put (kinds_at n) (defines_grouping g) p s ∙ or_none (look (kinds_at n) s) ∙ e)
+kind_after (escapes a b) p s n e = inl e
+kind_after (macro m b q) p s n e = inl e
+kind_after (routine r c os) p s n e = inl (routine_still (kinds_at n) (kinds_quiet n) r c os p s ∙ look_put (kinds_at n) (defines_routine r) p s ∙ or_none (look (kinds_at n) s) ∙ e)
+kind_after (grouping g a ts) p s n e = inl (grouping_still (kinds_at n) (kinds_quiet n) g a ts p s ∙ look_put (kinds_at n) (defines_grouping g) p s ∙ or_none (look (kinds_at n) s) ∙ e)
 
 abbrev site_of : ℕ → ItemInMode → Site
 site_of i x = record { item = i; mode = x.mode }
@@ -99,7 +99,7 @@ site_of i x = record { item = i; mode = x.mode }
 module _ (kind : DeclarationKind) (here : (ns : List (List ℕ)) → names_by kind (declaration kind ns) ≡ ns) where
   declared : (n : List ℕ) (xs : List ItemInMode) (i : ℕ) (s : List Occurrence) → look (kinds_at n) s ≡ None → look (kinds_at n) (noted_items xs i s) ≡ Some kind → is_among (known_in xs kind) n ≡ true
   declared n [] i s e h = let no : ⊥ = cc in absurd no
-  declared n (x ∷ xs) i s e h = at (kind_behind x.plain (site_of i x) s n e) (λ none. declared n xs (i + 1) (noted_plain x.plain (site_of i x) s) none h)
+  declared n (x ∷ xs) i s e h = at (kind_after x.plain (site_of i x) s n e) (λ none. declared n xs (i + 1) (noted_plain x.plain (site_of i x) s) none h)
     where
       at : (look (kinds_at n) (noted_plain x.plain (site_of i x) s) ≡ None) ⊎ Declares x.plain (site_of i x) s n → (look (kinds_at n) (noted_plain x.plain (site_of i x) s) ≡ None → is_among (known_in xs kind) n ≡ true) → is_among (names_by kind x.plain ++ known_in xs kind) n ≡ true
       at (inl none) rest = among_right (names_by kind x.plain) (known_in xs kind) n (rest none)
@@ -127,7 +127,7 @@ not_false false e = absurd cc
 pub record Passing (all : List Occurrence) : Type 0 where
   pub each : EachPasses all
 
--- no check fails at an occurrence behind which the list goes on
+-- no check fails at an occurrence after which the list goes on
 pub at_mark : (all s : List Occurrence) (m : Occurrence) → Passing all → Extends (s ++ m ∷ []) all → (rest : List Occurrence) × (fault_at all s m rest ≡ None)
 at_mark all s m passing e = (e.more, passing.each s e.more m (e.is ∙ append_assoc s (m ∷ []) e.more))
 

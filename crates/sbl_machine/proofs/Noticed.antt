@@ -10,7 +10,7 @@ use Rattle.sbl_ast.specs.Tree.{Argument, written_out, by_name, Expression, expre
 use Rattle.sbl_resolver.specs.declared.occurrences.Site.{Site}
 use Rattle.sbl_resolver.specs.declared.occurrences.Use.TheVariants as use_as
 use Rattle.sbl_resolver.specs.Occurrences.{Occurrence, Notice, put, uses, substring, among, string, backwards, region_end, declares, defines_routine, defines_grouping, amongs_in, noted_expression, use_of, noted_entry, noted_entries, is_empty, noted_command, noted_rows, noted_others, noted_groups, noted_plain, noted_name}
-use Rattle.sbl_resolver.specs.OccurrenceView.{walked_expression, noted_sums, noted_product, noted_scales, noted_factor, noted_simple, noted_prefix, site_behind, noted_condition, has_starter, noted_starter, noted_terms}
+use Rattle.sbl_resolver.specs.OccurrenceView.{walked_expression, noted_sums, noted_product, noted_scales, noted_factor, noted_simple, noted_prefix, site_after, noted_condition, has_starter, noted_starter, noted_terms}
 use Rattle.sbl_resolver.proofs.Walked.{expression_is, prefixed_is, among_is}
 use Rattle.sbl_resolver.specs.Checks.{declared_as, kind_of, defined_at, definition_of}
 use Rattle.sbl_resolver.proofs.Extends.{Extends}
@@ -136,7 +136,7 @@ module _ {X : Type 0} (f : Occurrence → Option X) (quiet : (n : Notice) (p : S
     command_still (literal_ q) p s = refl
     command_still (name_ n) p s = put_still (uses use_as.Command n) p s refl
     command_still (non_ m n) p s = put_still (uses use_as.Excluded n) p s refl
-    command_still (prefixed x c) p s = ap (look f) (prefixed_is x c p s) ∙ command_still c (site_behind x p) (noted_prefix x p s) ∙ prefix_still x p s
+    command_still (prefixed x c) p s = ap (look f) (prefixed_is x c p s) ∙ command_still c (site_after x p) (noted_prefix x p s) ∙ prefix_still x p s
     command_still (counted n e c) p s = command_still c p (noted_expression e p s) ∙ expression_still e p s
     command_still (move_ m e) p s = expression_still e p s
     command_still (named x n) p s = put_still (uses (use_of x) n) p s refl
@@ -177,7 +177,7 @@ module _ {X : Type 0} (f : Occurrence → Option X) (quiet : (n : Notice) (p : S
   terms_still [] p s = refl
   terms_still (term o a ∷ ts) p s = terms_still ts p (noted_name use_as.Term a p s) ∙ term_still a p s
 
-  -- behind its first occurrence
+  -- after its first occurrence
   pub routine_still : (n : List ℕ) (c : Command) (os : Others) (p : Site) (s : List Occurrence) → Still (put (defines_routine n) p s) (noted_plain (routine n c os) p s)
   routine_still n c os p s =
       let a = put (defines_routine n) p s in

@@ -28,7 +28,7 @@ use Rattle.sbl_ast.specs.Tree.{bracket, simple_, literal_, name_, non_, prefixed
 use Rattle.sbl_ast.specs.declared.mode.Mode.{Mode}
 use Rattle.sbl_ast.specs.declared.mode.Mode.TheVariants.{Forward, Backward}
 use Rattle.sbl_semantics.specs.Fitting.{read_as, ahead_at}
-use Rattle.sbl_semantics.specs.Items.{DeclaredNames, Body, place_of, is_among, known_in, class_of, classes_behind, body_named}
+use Rattle.sbl_semantics.specs.Items.{DeclaredNames, Body, place_of, is_among, known_in, class_of, classes_after, body_named}
 use Rattle.sbl_semantics.specs.Regions.{Among, among_at, number_after, number_after_rows, number_after_others, number_after_starter, first, first_rows, first_others, mode_under, waits, waits_others}
 use Rattle.sbl_semantics.specs.declared.cursor.SavedCursor.{SavedCursor}
 use Rattle.sbl_semantics.specs.declared.limits.Limits.{Limits}
@@ -437,7 +437,7 @@ puts_give_the_stem script word limit stem p =
     let items = in_order script.items in
     let known = known_in items in
     stem_of word (meaning.ending_with_events script word limit) stem
-    (calls_keep word known (class_of (classes_behind items [])) (body_named items) 32 script.external Forward (record (meaning.start known word limit) { events = Some [] }) ([], refl, refl, refl))
+    (calls_keep word known (class_of (classes_after items [])) (body_named items) 32 script.external Forward (record (meaning.start known word limit) { events = Some [] }) ([], refl, refl, refl))
     ((events_change_nothing script word limit).outcome ∙ p)
 
 pub events_touch : EventsTouch
@@ -446,5 +446,5 @@ events_touch script word limit =
     let items = in_order script.items in
     let known = known_in items in
     touches_at word (meaning.ending_with_events script word limit)
-    (calls_keep word known (class_of (classes_behind items [])) (body_named items) 32 script.external Forward (record (meaning.start known word limit) { events = Some [] }) ([], refl, refl, refl))
+    (calls_keep word known (class_of (classes_after items [])) (body_named items) 32 script.external Forward (record (meaning.start known word limit) { events = Some [] }) ([], refl, refl, refl))
     ∙ ap (filter is_no_test) (events_change_nothing script word limit).touches

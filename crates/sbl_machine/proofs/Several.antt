@@ -10,7 +10,7 @@ use Rattle.sbl_ast.specs.Tree.{Argument, written_out, by_name, Term, term, Plain
 use Rattle.sbl_resolver.specs.Checks.{WellDeclared}
 use Rattle.sbl_resolver.specs.Laws.{WellDeclaredPasses}
 use Rattle.sbl_semantics.specs.Items.{is_among}
-use Rattle.sbl_machine.specs.BuiltFrom.{names, any_names, built_on, IsClosed, IsClosedAt, and_built, built_behind, is_affected_by, affected_by, meets, meets_one}
+use Rattle.sbl_machine.specs.BuiltFrom.{names, any_names, built_on, IsClosed, IsClosedAt, and_built, built_after, is_affected_by, affected_by, meets, meets_one}
 use Rattle.sbl_machine.specs.DifferLaws.{OneAffects, OneMeets}
 use Rattle.sbl_semantics.specs.Outcome.{touches_of}
 use Rattle.sbl_semantics.specs.TouchedItems.{Item', Routine, Among, Grouping, item_of_touch, names_of}
@@ -153,7 +153,7 @@ module _ {X : Type 0} (xs : List X) where
   item_of_several (macro m b q) ms of are n = are n
   item_of_several (routine m c os) ms of are n = are n
 
-  built_of : (is : List ItemInMode) (ms : List (List ℕ)) (of : X → List (List ℕ)) → AreOf ms of → AreOf (built_behind is ms) (λ x. built_behind is (of x))
+  built_of : (is : List ItemInMode) (ms : List (List ℕ)) (of : X → List (List ℕ)) → AreOf ms of → AreOf (built_after is ms) (λ x. built_after is (of x))
   built_of [] ms of are = are
   built_of (y ∷ is) ms of are = built_of is (and_built y.plain ms) (λ x. and_built y.plain (of x)) (item_of_several y.plain ms of are)
 
@@ -166,5 +166,5 @@ alone (m ∷ ms) n = by (bytes_eq m n) (alone ms n)
     by false h = h
 
 -- a grouping is built from one of several exactly if it is built from one of them alone
-pub built_from_several : (is : List ItemInMode) (ms : List (List ℕ)) (n : List ℕ) → is_among (built_behind is ms) n ≡ list_any (λ m. is_among (built_behind is (m ∷ [])) n) ms
+pub built_from_several : (is : List ItemInMode) (ms : List (List ℕ)) (n : List ℕ) → is_among (built_after is ms) n ≡ list_any (λ m. is_among (built_after is (m ∷ [])) n) ms
 built_from_several is ms n = built_of ms is ms (λ m. m ∷ []) (alone ms) n

@@ -27,7 +27,7 @@ use Rattle.sbl_semantics.specs.Meaning.{prefixed_does, counted_does, joined_does
 use Rattle.sbl_semantics.specs.Meaning as meaning
 use Rattle.sbl_interpreter.specs.Arithmetic.{characters, value, changed_value, holds}
 use Rattle.sbl_semantics.specs.Moves.{one_of, touch_grouping, match, set_mark, set_boolean, test_boolean}
-use Rattle.sbl_compiler.specs.NumberedItems.{name_alone, behind_prefix, behind_count, move, change_named, edit, change_of, relation_of}
+use Rattle.sbl_compiler.specs.NumberedItems.{name_alone, after_prefix, after_count, move, change_named, edit, change_of, relation_of}
 use Rattle.sbl_program.specs.Chains.{join}
 use Rattle.sbl_compiler.specs.NumberedNames.{Names, is_one_of, number_of}
 use Rattle.sbl_compiler.specs.NumberedNumbers.{expression, text}
@@ -114,7 +114,7 @@ module _ (ns : Names) (known : DeclaredNames) (agree : Agree ns known) (classes 
   simple_same simples.True n m s = refl
   simple_same simples.False n m s = refl
 
-  prefix_same : (x : Prefix) (c : programs.Node) (d : Doing) → run.act classes call c ≡ d → does_as (behind_prefix x c) (prefixed_does x (pay_first d))
+  prefix_same : (x : Prefix) (c : programs.Node) (d : Doing) → run.act classes call c ≡ d → does_as (after_prefix x c) (prefixed_does x (pay_first d))
   prefix_same prefixes.Not c d h m s = ap (λ d. prefixed_does prefixes.Not (pay_first d) m s) h
   prefix_same prefixes.Test c d h m s = ap (λ d. prefixed_does prefixes.Test (pay_first d) m s) h
   prefix_same prefixes.Try c d h m s = ap (λ d. prefixed_does prefixes.Try (pay_first d) m s) h
@@ -125,7 +125,7 @@ module _ (ns : Names) (known : DeclaredNames) (agree : Agree ns known) (classes 
   prefix_same prefixes.GoPast c d h m s = ap (λ d. prefixed_does prefixes.GoPast (pay_first d) m s) h
   prefix_same prefixes.Backwards c d h m s = ap (λ d. prefixed_does prefixes.Backwards (pay_first d) m s) h
 
-  count_same : (x : Count) (e : programs.Arithmetic) (v : Value) (c : programs.Node) (d : Doing) (m : Mode) (s : State) → value e m s ≡ v → run.act classes call c ≡ d → run.act classes call (behind_count x e c) m s ≡ counted_does x v (pay_first d) m s
+  count_same : (x : Count) (e : programs.Arithmetic) (v : Value) (c : programs.Node) (d : Doing) (m : Mode) (s : State) → value e m s ≡ v → run.act classes call c ≡ d → run.act classes call (after_count x e c) m s ≡ counted_does x v (pay_first d) m s
   count_same counts.Loop e v c d m s h k = ap (λ v. counted_does counts.Loop v (pay_first (run.act classes call c)) m s) h ∙ ap (λ d. counted_does counts.Loop v (pay_first d) m s) k
   count_same counts.AtLeast e v c d m s h k = ap (λ v. counted_does counts.AtLeast v (pay_first (run.act classes call c)) m s) h ∙ ap (λ d. counted_does counts.AtLeast v (pay_first d) m s) k
 

@@ -31,7 +31,7 @@ use Rattle.sbl_semantics.specs.Meaning as meaning
 use Rattle.sbl_semantics.specs.Meaning.{Offer, offer, offers}
 use Rattle.sbl_interpreter.specs.Arithmetic.{characters, value, changed_value, holds}
 use Rattle.sbl_compiler.specs.NumberedItems.{change_of, relation_of}
-use Rattle.sbl_compiler.specs.NumberedAmongs.{strings_in, strings_behind, condition_of, entries_in, entries_behind}
+use Rattle.sbl_compiler.specs.NumberedAmongs.{strings_in, strings_after, condition_of, entries_in, entries_after}
 use Rattle.sbl_program.specs.Chains.{sum_or_difference, all_sums, product_or_quotient, all_products}
 use Rattle.sbl_compiler.specs.NumberedNames.{Names, number_of}
 use Rattle.sbl_compiler.specs.NumberedNumbers.{text, constant, expression, sums_in, product, scales_in, factor}
@@ -113,7 +113,7 @@ module _ (ns : Names) (known : DeclaredNames) (agree : Agree ns known) where
 
   -- ---- searches
 
-  -- behind the end of the text nothing is ahead, so that a bound there is as good as the end
+  -- after the end of the text nothing is ahead, so that a bound there is as good as the end
   cut_same : (r : Mode) (text : List ℕ) (at left : ℕ) (b : Bool) → nat_lt left (length text) ≡ b → ahead_at r text at (if b then left else length text) ≡ ahead_at r text at left
   cut_same r text at left true h = refl
   cut_same Forward text at left false h =
@@ -139,7 +139,7 @@ module _ (ns : Names) (known : DeclaredNames) (agree : Agree ns known) where
       let e = entry_by (offer g (trees.entry q c)) in
       entries_in_are g es (sofar ++ (e ∷ [])) ∙ append_assoc sofar (e ∷ []) (map entry_by (map (offer g) es))
 
-  entries_are : (g : ℕ) (gs : trees.Groups) (sofar : List code.Candidate) → entries_behind ns g gs sofar ≡ sofar ++ map entry_by (offers g gs)
+  entries_are : (g : ℕ) (gs : trees.Groups) (sofar : List code.Candidate) → entries_after ns g gs sofar ≡ sofar ++ map entry_by (offers g gs)
   unfolding entry_by
   entries_are g (bare es) sofar = entries_in_are g es sofar
   entries_are g (group (trees.entry q c) es rs gs) sofar =
@@ -157,7 +157,7 @@ module _ (ns : Names) (known : DeclaredNames) (agree : Agree ns known) where
   strings_in_are g [] sofar = sym (append-nil sofar)
   strings_in_are g (trees.entry q c ∷ es) sofar = strings_in_are g es (sofar ++ (q.value ∷ [])) ∙ append_assoc sofar (q.value ∷ []) (map string_by (map (offer g) es))
 
-  strings_are : (g : ℕ) (gs : trees.Groups) (sofar : List (List ℕ)) → strings_behind gs sofar ≡ sofar ++ map string_by (offers g gs)
+  strings_are : (g : ℕ) (gs : trees.Groups) (sofar : List (List ℕ)) → strings_after gs sofar ≡ sofar ++ map string_by (offers g gs)
   strings_are g (bare es) sofar = strings_in_are g es sofar
   strings_are g (group (trees.entry q c) es rs gs) sofar =
       strings_are (g + 1) gs (strings_in es (sofar ++ (q.value ∷ [])))
@@ -241,7 +241,7 @@ module _ (ns : Names) (known : DeclaredNames) (agree : Agree ns known) where
         let x = ahead_at a.mode s.text s.cursor (bound_of m s) in
         let fits = λ (strings : List (List ℕ)). below (read_all a.mode strings) x (suc (length x)) in
         ap (λ x. tries call a.number (found_as ns a).entries m s (below (read_all a.mode (found_as ns a).strings.entries) x (suc (length x))) s) (bound_same a.mode m s)
-        ∙ ap (λ es. tries call a.number es m s (fits (strings_behind a.groups [])) s) (entries_are 0 a.groups [])
+        ∙ ap (λ es. tries call a.number es m s (fits (strings_after a.groups [])) s) (entries_are 0 a.groups [])
         ∙ ap (λ xs. tries call a.number (map entry_by os) m s (fits xs) s) (strings_are 0 a.groups [])
         ∙ tries_same a.number os a.mode m s x (suc (length x)) s
 

@@ -3,11 +3,11 @@ use Rattle.std.proofs.Common.{◌≡◌, ℕ, zero, suc, Bool, List, [], Option,
 use Rattle.std.proofs.Math.Path.{fun_ext}
 use Rattle.sbl_ast.specs.Order.{ItemInMode, in_order}
 use Rattle.sbl_ast.specs.declared.tree.DeclarationKind.TheVariants as kinds
-use Rattle.sbl_semantics.specs.Items.{DeclaredNames, Body, known_in, class_of, classes_behind, body_named}
+use Rattle.sbl_semantics.specs.Items.{DeclaredNames, Body, known_in, class_of, classes_after, body_named}
 use Rattle.sbl_semantics.specs.Meaning as meaning
 use Rattle.sbl_machine.specs.NumberedScript.{numbered_script}
 use Rattle.sbl_compiler.specs.NumberedItems.{numbered_items, plan_with}
-use Rattle.sbl_compiler.specs.NumberedNames.{Names, names_behind, no_names, number_of}
+use Rattle.sbl_compiler.specs.NumberedNames.{Names, names_after, no_names, number_of}
 use Rattle.sbl_interpreter.specs.Start.{ending_of, start}
 use Rattle.sbl_program.specs.Program as programs
 use Rattle.sbl_semantics.specs.Regions.{number_after, number_after_others}
@@ -29,13 +29,13 @@ telling_of p word limit = run.calls p 32 p.external Forward (record (start p wor
 
 module _ (items : List ItemInMode) (external : List ℕ) where
   abbrev ns : Names
-  ns = names_behind items no_names
+  ns = names_after items no_names
 
   abbrev known : DeclaredNames
   known = known_in items
 
   abbrev class : List ℕ → ℕ → Bool
-  class = class_of (classes_behind items [])
+  class = class_of (classes_after items [])
 
   abbrev program : programs.Program
   program = plan_with ns items external

@@ -9,7 +9,7 @@ use Rattle.std.proofs.lemmas.Option.{same_Some}
 use Rattle.std.proofs.lemmas.Slice.Eq.{bytes_eq-Decides}
 use Rattle.sbl_machine.specs.Searches.{strings_read, amongs_of, TablesDiffer, SearchesAreExact}
 use Rattle.sbl_compiler.specs.Laws.{names_in}
-use Rattle.sbl_compiler.specs.NumberedAmongs.{AmongStrings, strings_in, strings_behind, found_of, found_command, found_rows, found_others, found_starter, found_groups, found_plain, found_behind}
+use Rattle.sbl_compiler.specs.NumberedAmongs.{AmongStrings, strings_in, strings_after, found_of, found_command, found_rows, found_others, found_starter, found_groups, found_plain, found_after}
 use Rattle.sbl_compiler.specs.NumberedNames.{Names}
 use Rattle.sbl_semantics.specs.Regions.{mode_under}
 use Rattle.sbl_resolver.specs.Amongs.{text_of, texts_of, IsSound, EachAmong, EachAmongOfRows, EachAmongOfOthers, EachAmongOfStarter, EachAmongOfGroups, EachAmongOfPlain, EachAmongOfPlains, EachAmongOfItems, AmongsAreSound}
@@ -27,10 +27,10 @@ in_is : (es : List trees.Entry) (sofar : List (List ℕ)) → strings_in es sofa
 in_is [] sofar = sym (append-nil sofar)
 in_is (trees.entry q c ∷ es) sofar = in_is es (sofar ++ (q.value ∷ [])) ∙ append_assoc sofar (q.value ∷ []) (map text_of es)
 
-behind_is : (gs : trees.Groups) (sofar : List (List ℕ)) → strings_behind gs sofar ≡ sofar ++ texts_of gs
-behind_is (bare es) sofar = in_is es sofar
-behind_is (group (trees.entry q c) es rs gs) sofar =
-    behind_is gs (strings_in es (sofar ++ (q.value ∷ [])))
+after_is : (gs : trees.Groups) (sofar : List (List ℕ)) → strings_after gs sofar ≡ sofar ++ texts_of gs
+after_is (bare es) sofar = in_is es sofar
+after_is (group (trees.entry q c) es rs gs) sofar =
+    after_is gs (strings_in es (sofar ++ (q.value ∷ [])))
     ∙ ap (λ xs. xs ++ texts_of gs) (in_is es (sofar ++ (q.value ∷ [])))
     ∙ append_assoc (sofar ++ (q.value ∷ [])) (map text_of es) (texts_of gs)
     ∙ append_assoc sofar (q.value ∷ []) (map text_of es ++ texts_of gs)
@@ -71,8 +71,8 @@ one_more : (fs : List AmongStrings) (f : AmongStrings) → AllDo fs → Differs 
 one_more [] f a d = (d, tt)
 one_more (g ∷ fs) f a d = (a.0, one_more fs f a.1 d)
 
-among_differs : (gs : trees.Groups) (m : Mode) → IsSound gs → AllDiffer (read_all m (strings_behind gs []))
-among_differs gs m s = read_differ m (strings_behind gs []) (subst AllDiffer (sym (behind_is gs [])) (differ (texts_of gs) s.strings_differ))
+among_differs : (gs : trees.Groups) (m : Mode) → IsSound gs → AllDiffer (read_all m (strings_after gs []))
+among_differs gs m s = read_differ m (strings_after gs []) (subst AllDiffer (sym (after_is gs [])) (differ (texts_of gs) s.strings_differ))
 
 module _ (ns : Names) (first : ℕ) where
   mutual
@@ -119,9 +119,9 @@ all_in_plain ns (escapes x y) m fs s a = a
 all_in_plain ns (macro n b q) m fs s a = a
 all_in_plain ns (grouping n x ts) m fs s a = a
 
-all_behind : (ns : Names) (xs : List ItemInMode) (fs : List AmongStrings) → AllByRecursion (λ x. EachAmongOfPlain IsSound x.plain) xs → AllDo fs → AllDo (found_behind ns xs fs)
-all_behind ns [] fs s a = a
-all_behind ns (x ∷ xs) fs s a = all_behind ns xs (found_plain ns x.mode x.plain fs) s.1 (all_in_plain ns x.plain x.mode fs s.0 a)
+all_after : (ns : Names) (xs : List ItemInMode) (fs : List AmongStrings) → AllByRecursion (λ x. EachAmongOfPlain IsSound x.plain) xs → AllDo fs → AllDo (found_after ns xs fs)
+all_after ns [] fs s a = a
+all_after ns (x ∷ xs) fs s a = all_after ns xs (found_plain ns x.mode x.plain fs) s.1 (all_in_plain ns x.plain x.mode fs s.0 a)
 
 in_mode_sound : (m : Mode) (xs : List trees.Plain) (rest : List ItemInMode) → EachAmongOfPlains IsSound xs → AllByRecursion (λ x. EachAmongOfPlain IsSound x.plain) rest → AllByRecursion (λ x. EachAmongOfPlain IsSound x.plain) (in_mode m xs ++ rest)
 in_mode_sound m [] rest s r = r
@@ -133,7 +133,7 @@ in_order_sound (plain x ∷ is) s = (s.0, in_order_sound is s.1)
 in_order_sound (backward xs ∷ is) s = in_mode_sound Backward xs (in_order is) s.0 (in_order_sound is s.1)
 
 pub tables_differ : AmongsAreSound → TablesDiffer
-tables_differ sound script well = all_behind (names_in script.items) (in_order script.items) [] (in_order_sound script.items (sound script.items script.external well)) tt
+tables_differ sound script well = all_after (names_in script.items) (in_order script.items) [] (in_order_sound script.items (sound script.items script.external well)) tt
 
 exact_in : FittingAreMatches → (fs : List AmongStrings) → AllDo fs → AllByRecursion (λ f. (x : List ℕ) (i : ℕ) → StandsIn i (fitting (strings_read f) x) ↔ Matches (strings_read f) x i) fs
 exact_in fits [] a = tt

@@ -68,8 +68,8 @@ AffectedIsClosed = (s : Source) → WellDeclared s.items s.external → (x : Ite
 abbrev pub built_on : (List ℕ → Bool) → Argument → List Term → Bool
 built_on chosen a ts = any_names chosen (term Plus a ∷ ts)
 
-abbrev pub built_behind : List ItemInMode → List (List ℕ) → List (List ℕ)
-built_behind xs ns = fold (λ ns x. and_built x.plain ns) ns xs
+abbrev pub built_after : List ItemInMode → List (List ℕ) → List (List ℕ)
+built_after xs ns = fold (λ ns x. and_built x.plain ns) ns xs
 
 -- whether an edit of one of these items affects another
 abbrev pub affected_by : Source → List Item' → Item' → Bool

@@ -5,13 +5,13 @@ use Rattle.sbl_ast.specs.Order.{ItemInMode, in_order}
 use Rattle.sbl_ast.specs.declared.mode.Mode.{Mode}
 use Rattle.sbl_ast.specs.declared.tree.Additive.TheVariants.{Plus, Minus}
 use Rattle.sbl_ast.specs.Tree.{Argument, written_out, by_name, Term, term, grouping}
-use Rattle.sbl_semantics.specs.Items.{Grouping, class_of, classes_behind, term_has, terms_have}
+use Rattle.sbl_semantics.specs.Items.{Grouping, class_of, classes_after, term_has, terms_have}
 use Rattle.sbl_resolver.specs.Checks.{WellDeclared}
 use Rattle.sbl_ast.specs.Source.{Source}
 
 -- all groupings of a script
 abbrev pub groupings_of : Source → List Grouping
-groupings_of script = classes_behind (in_order script.items) []
+groupings_of script = classes_after (in_order script.items) []
 
 -- an item of the script defines the grouping n with first term a and other terms ts
 abbrev pub Defines : Source → List ℕ → Argument → List Term → Type 0

@@ -8,7 +8,7 @@ use Rattle.sbl_semantics.specs.Touches.{with_touch}
 use Rattle.sbl_machine.specs.AmongList.{with_number}
 use Rattle.sbl_machine.specs.declared.marks.ItemKind.{ItemKind}
 use Rattle.sbl_machine.specs.declared.marks.ItemKind.TheVariants as kinds
-use Rattle.sbl_machine.specs.BuiltFrom.{built_behind}
+use Rattle.sbl_machine.specs.BuiltFrom.{built_after}
 use Rattle.sbl_semantics.specs.TouchedItems.{Item', Routine, Among, Grouping, Names'}
 
 -- ---- the names of the routines and of the groupings among some items, and the amongs of each routine
@@ -19,9 +19,9 @@ and_routine (Routine n) ns = ns ++ n ∷ []
 and_routine (Among n k) ns = ns
 and_routine (Grouping n) ns = ns
 
-abbrev pub routines_behind : List Item' → List (List ℕ) → List (List ℕ)
-routines_behind [] ns = ns
-routines_behind (x ∷ xs) ns = routines_behind xs (and_routine x ns)
+abbrev pub routines_after : List Item' → List (List ℕ) → List (List ℕ)
+routines_after [] ns = ns
+routines_after (x ∷ xs) ns = routines_after xs (and_routine x ns)
 
 -- the names, with that of the item if it is a grouping
 abbrev pub and_grouping : Item' → List (List ℕ) → List (List ℕ)
@@ -29,9 +29,9 @@ and_grouping (Routine n) ns = ns
 and_grouping (Among n k) ns = ns
 and_grouping (Grouping n) ns = ns ++ n ∷ []
 
-abbrev pub groupings_behind : List Item' → List (List ℕ) → List (List ℕ)
-groupings_behind [] ns = ns
-groupings_behind (x ∷ xs) ns = groupings_behind xs (and_grouping x ns)
+abbrev pub groupings_after : List Item' → List (List ℕ) → List (List ℕ)
+groupings_after [] ns = ns
+groupings_after (x ∷ xs) ns = groupings_after xs (and_grouping x ns)
 
 -- the numbers ks, with that of the item if it is an among of routine n; numbers are counted from 0
 abbrev pub and_among : List ℕ → Item' → List ℕ → List ℕ
@@ -40,13 +40,13 @@ and_among n (Among m zero) ks = ks
 and_among n (Among m (suc k)) ks = with_number m k n ks
 and_among n (Grouping m) ks = ks
 
-abbrev pub amongs_behind : List ℕ → List Item' → List ℕ → List ℕ
-amongs_behind n [] ks = ks
-amongs_behind n (x ∷ xs) ks = amongs_behind n xs (and_among n x ks)
+abbrev pub amongs_after : List ℕ → List Item' → List ℕ → List ℕ
+amongs_after n [] ks = ks
+amongs_after n (x ∷ xs) ks = amongs_after n xs (and_among n x ks)
 
 -- the numbers of the amongs of each routine among some items
 abbrev pub amongs_in : List Item' → List ℕ → List ℕ
-amongs_in xs n = amongs_behind n xs []
+amongs_in xs n = amongs_after n xs []
 
 -- ---- touches
 
@@ -78,4 +78,4 @@ with_marks names amongs routines groupings ts =
 
 -- the touches of the amongs, the routines, and the groupings with those that are built from them
 abbrev pub marks_of : Names' → List ItemInMode → List Item' → List Touch
-marks_of names items xs = with_marks names (amongs_in xs) (routines_behind xs []) (built_behind items (groupings_behind xs [])) []
+marks_of names items xs = with_marks names (amongs_in xs) (routines_after xs []) (built_after items (groupings_after xs [])) []

@@ -5,13 +5,13 @@ use Rattle.sbl_semantics.specs.Fitting.{fitting, read_all}
 use Rattle.sbl_among_search.specs.Laws.{AllDiffer, Matches, StandsIn}
 use Rattle.sbl_ast.specs.Order.{in_order}
 use Rattle.sbl_compiler.specs.Laws.{names_in}
-use Rattle.sbl_compiler.specs.NumberedAmongs.{AmongStrings, found_behind}
+use Rattle.sbl_compiler.specs.NumberedAmongs.{AmongStrings, found_after}
 use Rattle.sbl_resolver.specs.Checks.{WellDeclared}
 use Rattle.sbl_ast.specs.Source.{Source}
 
 -- the amongs of a script; each has a table
 abbrev pub amongs_of : Source → List AmongStrings
-amongs_of script = found_behind (names_in script.items) (in_order script.items) []
+amongs_of script = found_after (names_in script.items) (in_order script.items) []
 
 -- the strings of an among, as the mode of its place reads them
 abbrev pub strings_read : AmongStrings → List (List ℕ)

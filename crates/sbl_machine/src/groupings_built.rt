@@ -61,7 +61,7 @@ pub fn built_from(
     items: &[ScriptItem],
     groupings: NameList,
 ) -> Result<NameList, AllocError>
-    ensures { IfOk result (λ names. names ≡ spec.built_behind (in_order (view_items items.now)) groupings) }
+    ensures { IfOk result (λ names. names ≡ spec.built_after (in_order (view_items items.now)) groupings) }
 {
     let mut names = groupings;
     let in_order = items_in_order(alloc, items)?;

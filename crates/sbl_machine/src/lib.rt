@@ -2,7 +2,6 @@
 #![tactic(auto)]
 
 mod among_list;
-mod fault;
 mod groupings_built;
 pub mod laws;
 mod limit;
@@ -11,12 +10,13 @@ mod marks;
 mod meter;
 mod naming;
 mod outcome;
+mod run_stop;
 
-pub use fault::RunStop;
 pub use limit::DEFAULT_LIMIT;
 pub use machine::Machine;
 pub use meter::Meter;
 pub use outcome::{RunReport, RunTrace, Why};
+pub use run_stop::RunStop;
 pub use sbl_among_search::{AmongSearch, LinkedTable, PlainTable};
 pub use sbl_interpreter::TouchLog;
 pub use sbl_semantics::{Event, Item, Outcome, RunFault, Touch};

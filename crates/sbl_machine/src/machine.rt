@@ -13,11 +13,11 @@ ghost use Rattle.sbl_script.specs.ParsedScript.{source_of};
 ghost use Rattle.sbl_semantics.specs.State.{Ending};
 ghost use Rattle.sbl_semantics.specs.Events.{event_of, view_events};
 
-use crate::fault::RunStop;
 use crate::marks::marks_of;
 use crate::meter::Meter;
 use crate::naming::{Names, is_touched, items_touched, routine_at};
 use crate::outcome::{RunReport, RunTrace, Why};
+use crate::run_stop::RunStop;
 use sbl_among_search::AmongSearch;
 use sbl_ast::Mode;
 use sbl_compiler::{Compilation, compile_items};

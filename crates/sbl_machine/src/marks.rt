@@ -5,7 +5,7 @@ ghost use Rattle.sbl_compiler.specs.NumberedNames.{is_one_of};
 ghost use Rattle.sbl_semantics.specs.Touches.{with_touch};
 ghost use Rattle.sbl_ast.specs.Order.{in_order};
 ghost use Rattle.sbl_ast.specs.View.{view_items};
-ghost use Rattle.sbl_machine.specs.Marking.{amongs_in, and_among, and_grouping, and_routine, groupings_behind, with_marks, with_names, marks_of, routines_behind, touch_of, with_searches, searches};
+ghost use Rattle.sbl_machine.specs.Marking.{amongs_in, and_among, and_grouping, and_routine, groupings_after, with_marks, with_names, marks_of, routines_after, touch_of, with_searches, searches};
 ghost use Rattle.sbl_machine.specs.AmongList.{numbers_of};
 ghost use Rattle.sbl_semantics.specs.TouchedItems.{item_of};
 
@@ -99,8 +99,8 @@ fn add_names(
     routines: &mut NameList,
     groupings: &mut NameList,
 ) -> Result<(), AllocError>
-    ensures routines { OnOk result (routines.new ≡ routines_behind (map item_of items.now) routines.old) }
-    ensures groupings { OnOk result (groupings.new ≡ groupings_behind (map item_of items.now) groupings.old) }
+    ensures routines { OnOk result (routines.new ≡ routines_after (map item_of items.now) routines.old) }
+    ensures groupings { OnOk result (groupings.new ≡ groupings_after (map item_of items.now) groupings.old) }
 {
     for item in items {
         add_name(alloc, item, routines, groupings)?;

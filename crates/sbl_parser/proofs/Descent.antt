@@ -48,7 +48,7 @@ sinks ts x rest k next d e i high =
     let one : fault (x ∷ rest) k ≡ after_step (goes d next) (fault rest) (x ∷ rest) = ap (λ (r : Step). after_step r (fault rest) (x ∷ rest)) i in
     ap (λ (r : Ts). fault r k) e ∙ one ∙ ap (λ (b : Bool). cond b (Some (too_deep (x ∷ rest))) (fault rest next)) deep ∙ ap (λ (r : Ts). Some (too_deep r)) (sym e)
 
--- the first token, and what comes of those behind it
+-- the first token, and what comes of those after it
 pub took : (ts next : Ts) (x : Terminal) (k n : Stack) (d : ℕ) → ts ≡ x ∷ drop 1 ts → next ≡ drop 1 ts → step k x ≡ goes d n → d ≤ max_depth → fault ts k ≡ fault next n
 took ts next x k n d e is i low = goes_on ts x (drop 1 ts) k n d e i low ∙ ap (λ (r : Ts). fault r n) (sym is)
 
@@ -330,7 +330,7 @@ excluded_plus ts d k e = let f = as_terminal ts (t.additive additives.Plus) refl
 pub factor_plus : (ts : Ts) (d : ℕ) (k : Stack) → role_of ts ≡ roles.Additive additives.Plus → fault ts (s.factor d ∷ k) ≡ Some (syntax ts)
 factor_plus ts d k e = let f = as_terminal ts (t.additive additives.Plus) refl e in ap (λ (r : Ts). fault r (s.factor d ∷ k)) f ∙ ap (λ (r : Ts). Some (syntax r)) (sym f)
 
--- behind `$` and a name
+-- after `$` and a name
 pub refused_operator : (ts : Ts) (d : ℕ) (k : Stack) → (role_of ts ≡ roles.End → ⊥) → ((o : Assignment) → role_of ts ≡ roles.Assignment o → ⊥) → ((o : Comparison) → role_of ts ≡ roles.Comparison o → ⊥)
     → fault ts (s.operator d ∷ k) ≡ Some (no_operator ts)
 refused_operator [] d k n0 n1 n2 = absurd (n0 refl)

@@ -13,9 +13,9 @@ use Rattle.sbl_ast.specs.Spelled.{argument_terminal, spelled_expression, spelled
 use Rattle.sbl_ast.specs.TerminalPlaces.{AtDepth, placed_expression, placed_sums, placed_product, placed_scales, placed_factor, placed_entry, placed_entries, placed_command, placed_rows, placed_others, placed_starter, placed_groups, placed_names, placed_base, placed_terms, placed_plain, placed_plains, placed_item, placed_items, places, tokens, places_in, tokens_of}
 use Rattle.sbl_ast.specs.Places.{max_depth}
 use Rattle.sbl_parser.specs.Steps.{Stack, Step, goes, stuck, unassigned, is_done, step, Fault, syntax, too_deep, no_operator, fault, after_step}
-use Rattle.sbl_parser.specs.TerminalReading.{IsFront, IsTooDeep, HasNoneTooDeep, IsReadAs, CannotFollow, StopsAt, IsSyntaxAt, IsTooDeepAt, IsOutOfProfileAt}
+use Rattle.sbl_parser.specs.TerminalReading.{IsPrefix, IsTooDeep, HasNoneTooDeep, IsReadAs, CannotFollow, StopsAt, IsSyntaxAt, IsTooDeepAt, IsOutOfProfileAt}
 use Rattle.sbl_ast.specs.Texts.{Text, TreeOf}
-use Rattle.sbl_parser.specs.Fronts.{first_stack}
+use Rattle.sbl_parser.specs.FirstStack.{first_stack}
 use Rattle.sbl_ast.specs.Texts as texts
 use Rattle.sbl_parser.proofs.Runs.{Runs, IsDone, text_runs}
 use Rattle.sbl_parser.proofs.Viable.{runs_made}
@@ -133,16 +133,16 @@ places_tokens tree = items_tokens tree []
 pub body_tokens : (c : Command) (os : Others) → tokens (placed_command c 1 (placed_others os 1 [])) ≡ spelled_command c (spelled_others os [])
 body_tokens c os = tree_tokens c 1 _ ∙ ap (λ (r : Ts). spelled_command c r) (others_tokens os 1 [])
 
--- what was passed is the front of a tree's tokens
-front_of : (w : Text) (ps : List AtDepth) (End : Stack → Type 0) → Runs ps (first_stack w) End → IsFront w (tokens ps)
-front_of texts.script ps End h = let m = runs_made ps _ End h in (m.1.0, m.0, places_tokens m.1.0 ∙ sym (m.1.2 ∙ ap (λ (r : Ts). spelled_items m.1.0 r) m.1.3))
-front_of texts.body ps End h =
+-- what was passed is a prefix of a tree's tokens
+prefix_of : (w : Text) (ps : List AtDepth) (End : Stack → Type 0) → Runs ps (first_stack w) End → IsPrefix w (tokens ps)
+prefix_of texts.script ps End h = let m = runs_made ps _ End h in (m.1.0, m.0, places_tokens m.1.0 ∙ sym (m.1.2 ∙ ap (λ (r : Ts). spelled_items m.1.0 r) m.1.3))
+prefix_of texts.body ps End h =
     let m = runs_made ps _ End h in
     ((m.1.0, m.1.3.0), m.0, body_tokens m.1.0 m.1.3.0 ∙ sym (m.1.2 ∙ ap (λ (r : Ts). spelled_command m.1.0 r) (m.1.3.2 ∙ ap (λ (r : Ts). spelled_others m.1.3.0 r) m.1.3.3)))
-front_of texts.terms ps End h =
+prefix_of texts.terms ps End h =
     let m = runs_made ps _ End h in
     ((m.1.0, m.1.3.0), m.0, cons (argument_terminal m.1.0) (terms_tokens m.1.3.0 []) ∙ sym (m.1.2 ∙ cons (argument_terminal m.1.0) (m.1.3.2 ∙ ap (λ (r : Ts). spelled_terms m.1.3.0 r) m.1.3.3)))
-front_of (texts.among d) ps End h =
+prefix_of (texts.among d) ps End h =
     let m = runs_made ps _ End h in
     ((m.1.0, m.1.1), m.0, tree_tokens (among_ m.1.0 m.1.1) d [] ∙ sym (m.1.3 ∙ ap (λ (r : Ts). spelled_command (among_ m.1.0 m.1.1) r) m.1.4))
 
@@ -247,9 +247,9 @@ passes (x ∷ ts) k e = go (step k x) refl e (λ next. passes ts next) where
 
 -- ---- the laws
 
-shallow_at : (front : List AtDepth) (q : AtDepth) (qs : List AtDepth) → Shallow (front ++ q ∷ qs) → q.1 ≤ max_depth
+shallow_at : (prefix : List AtDepth) (q : AtDepth) (qs : List AtDepth) → Shallow (prefix ++ q ∷ qs) → q.1 ≤ max_depth
 shallow_at [] q qs h = h.0
-shallow_at (p ∷ front) q qs h = shallow_at front q qs h.1
+shallow_at (p ∷ prefix) q qs h = shallow_at prefix q qs h.1
 
 no_tokens : (ps : List AtDepth) → tokens ps ≡ [] → ps ≡ []
 no_tokens [] e = refl
@@ -263,9 +263,9 @@ same_depth end x d next q after e same f =
 
 pub none_too_deep : (w : Text) (ps : List AtDepth) (End : Stack → Type 0) → Shallow ps → Runs ps (first_stack w) End → HasNoneTooDeep w (tokens ps)
 none_too_deep w ps End shallow h b c x parts deep =
-    let front = deep.1 in
-    let steps = splits front ((x, deep.2) ∷ deep.3) (first_stack w) IsDone (subst (λ (qs : List AtDepth). Runs qs (first_stack w) IsDone) deep.4 (text_runs w deep.0)) in
-    let m = meets front ps (x ∷ c) (first_stack w) (λ end. Runs ((x, deep.2) ∷ deep.3) end IsDone) End (parts ∙ ap (λ (r : List Terminal). r ++ x ∷ c) (sym deep.5)) steps h in
+    let prefix = deep.1 in
+    let steps = splits prefix ((x, deep.2) ∷ deep.3) (first_stack w) IsDone (subst (λ (qs : List AtDepth). Runs qs (first_stack w) IsDone) deep.4 (text_runs w deep.0)) in
+    let m = meets prefix ps (x ∷ c) (first_stack w) (λ end. Runs ((x, deep.2) ∷ deep.3) end IsDone) End (parts ∙ ap (λ (r : List Terminal). r ++ x ∷ c) (sym deep.5)) steps h in
     go m.0 m.1 m.2 m.3 m.4 m.5 where
       go : (end : Stack) (rest : List AtDepth) → Runs ((x, deep.2) ∷ deep.3) end IsDone → Runs rest end End → tokens rest ≡ x ∷ c → ps ≡ deep.1 ++ rest → ⊥
       go end [] first other is whole = absurd cc
@@ -285,11 +285,11 @@ no_end w ps h tree is =
       go end (q ∷ qs) stuck_so goes_so same = cc
 
 -- a token that takes no step cannot follow
-no_next : (w : Text) (ps : List AtDepth) (x : Terminal) (b : Step) → ((d : ℕ) (n : Stack) → goes d n ≡ b → ⊥) → Runs ps (first_stack w) (λ end. step end x ≡ b) → IsFront w (tokens ps ++ x ∷ []) → ⊥
-no_next w ps x b never h front =
-    let m = meets ps (places_in w front.0) (x ∷ front.1) (first_stack w) (λ end. step end x ≡ b) IsDone (front.2 ∙ append_assoc (tokens ps) (x ∷ []) front.1) h (text_runs w front.0) in
+no_next : (w : Text) (ps : List AtDepth) (x : Terminal) (b : Step) → ((d : ℕ) (n : Stack) → goes d n ≡ b → ⊥) → Runs ps (first_stack w) (λ end. step end x ≡ b) → IsPrefix w (tokens ps ++ x ∷ []) → ⊥
+no_next w ps x b never h prefix =
+    let m = meets ps (places_in w prefix.0) (x ∷ prefix.1) (first_stack w) (λ end. step end x ≡ b) IsDone (prefix.2 ∙ append_assoc (tokens ps) (x ∷ []) prefix.1) h (text_runs w prefix.0) in
     go m.0 m.1 m.2 m.3 m.4 where
-      go : (end : Stack) (rest : List AtDepth) → step end x ≡ b → Runs rest end IsDone → tokens rest ≡ x ∷ front.1 → ⊥
+      go : (end : Stack) (rest : List AtDepth) → step end x ≡ b → Runs rest end IsDone → tokens rest ≡ x ∷ prefix.1 → ⊥
       go end [] at goes_so is = cc
       go end (q ∷ qs) at goes_so is =
           let same : q.0 ≡ x = cc in
@@ -319,7 +319,7 @@ is_syntax w all place e =
     record {
       before = tokens h.0;
       parts = h.2 ∙ ap (λ (r : List Terminal). tokens h.0 ++ r) (sym h.3);
-      stops = record { front = front_of w h.0 _ steps; shallow = none_too_deep w h.0 _ h.4 steps; stops = cannot_follow w h.0 place steps };
+      stops = record { prefix = prefix_of w h.0 _ steps; shallow = none_too_deep w h.0 _ h.4 steps; stops = cannot_follow w h.0 place steps };
       other = lacks_none w h.0 place steps;
     }
 
@@ -336,9 +336,9 @@ too_deep_next w ps x more h =
     let next = sinks.1 in
     let any : Stack → Type 0 = λ _. Unit {0} in
     let on = joins ps ((x, d) ∷ []) (first_stack w) (λ e. e ≡ at.0) any (λ e is. (next, subst (λ (k : Stack). step k x ≡ goes d next) (sym is) sinks.2, tt)) at.2 in
-    let front = front_of w (ps ++ (x, d) ∷ []) any on in
-    let m = meets (ps ++ (x, d) ∷ []) (places_in w front.0) front.1 (first_stack w) any IsDone (front.2) on (text_runs w front.0) in
-    (front.0, ps, d, m.1, m.5 ∙ append_assoc ps ((x, d) ∷ []) m.1, refl, sinks.3)
+    let prefix = prefix_of w (ps ++ (x, d) ∷ []) any on in
+    let m = meets (ps ++ (x, d) ∷ []) (places_in w prefix.0) prefix.1 (first_stack w) any IsDone (prefix.2) on (text_runs w prefix.0) in
+    (prefix.0, ps, d, m.1, m.5 ∙ append_assoc ps ((x, d) ∷ []) m.1, refl, sinks.3)
 
 no_runs : (ps : List AtDepth) (k : Stack) → Runs ps k (λ _. ⊥) → ⊥
 no_runs [] k h = h
@@ -373,7 +373,7 @@ is_out_of_profile w all place e =
           let n = at.2 in
           let two : List Terminal = t.dollar ∷ t.name n ∷ [] in
           let same : tokens ps ≡ tokens qs ++ two = ap (λ (r : List AtDepth). tokens r) at.4 ∙ map-append (λ p. p.0) qs ((t.dollar, at.1) ∷ (t.name n, at.3) ∷ []) in
-          let stops : StopsAt w (tokens ps) (x ∷ more) = record { front = front_of w ps _ steps; shallow = none_too_deep w ps _ low steps; stops = no_next w ps x unassigned (λ d m e. cc) steps } in (
+          let stops : StopsAt w (tokens ps) (x ∷ more) = record { prefix = prefix_of w ps _ steps; shallow = none_too_deep w ps _ low steps; stops = no_next w ps x unassigned (λ d m e. cc) steps } in (
             n,
             record {
               before = tokens qs;

@@ -11,7 +11,7 @@ use Rattle.sbl_ast.specs.Tree.{Command, bracket, simple_, literal_, name_, non_,
 use Rattle.sbl_ast.specs.Counts.{count_amongs, count_in_rows, count_in_others, count_in_starter, count_in_groups, count_in_among}
 use Rattle.sbl_ast.specs.Places.{AtDepth, placed_expression, placed_entry, placed_entries, placed_command, placed_rows, placed_others, placed_starter, placed_groups}
 use Rattle.sbl_ast.specs.Texts.{among, tokens_of}
-use Rattle.sbl_ast.proofs.Behind.{IsBefore, entry_before, entries_before, expression_before}
+use Rattle.sbl_ast.proofs.After.{IsBefore, entry_before, entries_before, expression_before}
 
 abbrev Ps : Type 0
 Ps = List AtDepth

@@ -11,7 +11,7 @@ use Rattle.sbl_ast.specs.Texts.{Text, TreeOf, places_in, tokens_of}
 use Rattle.sbl_ast.specs.Places.{AtDepth, AreShallow, tokens}
 use Rattle.sbl_ast.specs.TerminalPlaces as roles
 use Rattle.sbl_ast.proofs.Lexed.{lexed, with_lexeme, places_lexed, text_lexed, tokens_lexed}
-use Rattle.sbl_parser.specs.Reading.{IsFront, IsTooDeep, HasNoneTooDeep, IsReadAs, CannotFollow, StopsAt, IsSyntaxAt, IsTooDeepAt, IsOutOfProfileAt}
+use Rattle.sbl_parser.specs.Reading.{IsPrefix, IsTooDeep, HasNoneTooDeep, IsReadAs, CannotFollow, StopsAt, IsSyntaxAt, IsTooDeepAt, IsOutOfProfileAt}
 use Rattle.sbl_parser.specs.TerminalReading as reading
 use Rattle.sbl_parser.proofs.Runs.{IsDone, text_runs}
 use Rattle.sbl_parser.proofs.Faults.{none_too_deep}
@@ -70,8 +70,8 @@ shallow_roled (p ∷ ps) h = (h.0, shallow_roled ps h.1)
 
 -- ---- from tokens to roles
 
-front_back : (w : Text) (b : Ls) → IsFront w b → reading.IsFront w (T b)
-front_back w b h = (h.0, T h.1, text_back w h.0 ∙ ap T h.2 ∙ map-append terminal_of b h.1)
+prefix_back : (w : Text) (b : Ls) → IsPrefix w b → reading.IsPrefix w (T b)
+prefix_back w b h = (h.0, T h.1, text_back w h.0 ∙ ap T h.2 ∙ map-append terminal_of b h.1)
 
 deep_back : (w : Text) (b : Ls) (x : Lexeme) → IsTooDeep w b x → reading.IsTooDeep w (T b) (terminal_of x)
 deep_back w b x h = (h.0, roled h.1, h.2, roled h.3, places_back w h.0 ∙ ap roled h.4 ∙ map-append with_role h.1 ((x, h.2) ∷ h.3), tokens_roled h.1 ∙ ap T h.5, h.6)
@@ -87,8 +87,8 @@ none_deep w p x more tree h deep =
 
 -- ---- from roles to tokens
 
-front_to : (w : Text) (b : Ts) → reading.IsFront w b → IsFront w (L b)
-front_to w b h = (h.0, L h.1, text_lexed w h.0 ∙ ap L h.2 ∙ map-append lexeme_as b h.1)
+prefix_to : (w : Text) (b : Ts) → reading.IsPrefix w b → IsPrefix w (L b)
+prefix_to w b h = (h.0, L h.1, text_lexed w h.0 ∙ ap L h.2 ∙ map-append lexeme_as b h.1)
 
 deep_to : (w : Text) (b : Ts) (x : Terminal) → reading.IsTooDeep w b x → IsTooDeep w (L b) (lexeme_as x)
 deep_to w b x h = (h.0, lexed h.1, h.2, lexed h.3, places_lexed w h.0 ∙ ap lexed h.4 ∙ map-append with_lexeme h.1 ((x, h.2) ∷ h.3), tokens_lexed h.1 ∙ ap L h.5, h.6)
@@ -98,18 +98,18 @@ none_to w b h p q x e deep = h (T p) (T q) (terminal_of x) (sym (terminals_back 
 
 follow_to : (w : Text) (b r : Ts) → reading.CannotFollow w b r → CannotFollow w (L b) (L r)
 follow_to w b [] h = λ tree e. h tree (text_back w tree ∙ ap T e ∙ terminals_back b)
-follow_to w b (x ∷ more) h = λ front.
-    h (subst (λ (z : Ts). reading.IsFront w z) (ap T (sym (map-append lexeme_as b (x ∷ []))) ∙ terminals_back (b ++ x ∷ [])) (front_back w (L b ++ lexeme_as x ∷ []) front))
+follow_to w b (x ∷ more) h = λ prefix.
+    h (subst (λ (z : Ts). reading.IsPrefix w z) (ap T (sym (map-append lexeme_as b (x ∷ []))) ∙ terminals_back (b ++ x ∷ [])) (prefix_back w (L b ++ lexeme_as x ∷ []) prefix))
 
 stops_to : (w : Text) (b r : Ts) → reading.StopsAt w b r → StopsAt w (L b) (L r)
-stops_to w b r h = record { front = front_to w b h.front; shallow = none_to w b h.shallow; stops = follow_to w b r h.stops }
+stops_to w b r h = record { prefix = prefix_to w b h.prefix; shallow = none_to w b h.shallow; stops = follow_to w b r h.stops }
 
 pub syntax_to : (w : Text) (all r : Ts) → reading.IsSyntaxAt w all r → IsSyntaxAt w (L all) (L r)
 syntax_to w all r h = record {
   before = L h.before;
   parts = ap L h.parts ∙ map-append lexeme_as h.before r;
   stops = stops_to w h.before r h.stops;
-  other = λ front n e. ap L (h.other (T front) n (sym (terminals_back h.before) ∙ ap T e ∙ map-append terminal_of front (l.sign signs.Dollar ∷ l.name n ∷ [])));
+  other = λ prefix n e. ap L (h.other (T prefix) n (sym (terminals_back h.before) ∙ ap T e ∙ map-append terminal_of prefix (l.sign signs.Dollar ∷ l.name n ∷ [])));
 }
 
 pub too_deep_to : (w : Text) (all r : Ts) → reading.IsTooDeepAt w all r → IsTooDeepAt w (L all) (L r)

@@ -6,7 +6,7 @@ use Rattle.sbl_token.specs.Lexemes.{Lexeme}
 use Rattle.sbl_token.specs.declared.signs.Sign.TheVariants as signs
 use Rattle.sbl_ast.specs.Texts.{Text, TreeOf, tokens_of}
 use Rattle.sbl_ast.specs.Places.{AtDepth, tokens}
-use Rattle.sbl_parser.specs.Reading.{IsFront, IsTooDeep, HasNoneTooDeep, IsReadAs, CannotFollow, StopsAt, IsSyntaxAt, IsTooDeepAt, IsOutOfProfileAt}
+use Rattle.sbl_parser.specs.Reading.{IsPrefix, IsTooDeep, HasNoneTooDeep, IsReadAs, CannotFollow, StopsAt, IsSyntaxAt, IsTooDeepAt, IsOutOfProfileAt}
 use Rattle.sbl_parser.specs.Laws.{Wrong, syntax, too_deep, out_of_profile, IsWrongAt}
 use Rattle.sbl_parser.proofs.Lexed.{none_deep}
 
@@ -47,52 +47,52 @@ cuts (x ∷ p) r (y ∷ q) s e = go (cuts p r q s (same_tail x y (p ++ r) (q ++ 
   go (inr (inl h)) = inr (inl (h.0, h.1, joined y x q (p ++ h.0 ∷ h.1) (sym head) h.2, h.3))
   go (inr (inr h)) = inr (inr (h.0, h.1, joined x y p (q ++ h.0 ∷ h.1) head h.2, h.3))
 
--- ---- fronts
+-- ---- prefixes
 
--- the front of a front is a front
-front_of_front : (k : Text) (p : Ts) (x : Lexeme) (c : Ts) → IsFront k (p ++ x ∷ c) → IsFront k (p ++ x ∷ [])
-front_of_front k p x c h = (h.0, c ++ h.1, h.2 ∙ append_assoc p (x ∷ c) h.1 ∙ sym (append_assoc p (x ∷ []) (c ++ h.1)))
+-- a prefix of a prefix is a prefix
+prefix_of_prefix : (k : Text) (p : Ts) (x : Lexeme) (c : Ts) → IsPrefix k (p ++ x ∷ c) → IsPrefix k (p ++ x ∷ [])
+prefix_of_prefix k p x c h = (h.0, c ++ h.1, h.2 ∙ append_assoc p (x ∷ c) h.1 ∙ sym (append_assoc p (x ∷ []) (c ++ h.1)))
 
 -- a token that stands too deep may stand there
-deep_front : (k : Text) (p : Ts) (x : Lexeme) → IsTooDeep k p x → IsFront k (p ++ x ∷ [])
-deep_front k p x h =
+deep_prefix : (k : Text) (p : Ts) (x : Lexeme) → IsTooDeep k p x → IsPrefix k (p ++ x ∷ [])
+deep_prefix k p x h =
     let rest : Ts = tokens h.3 in
     let whole : tokens_of k h.0 ≡ tokens h.1 ++ x ∷ rest = ap (λ (r : List AtDepth). tokens r) h.4 ∙ map-append (λ q. q.0) h.1 ((x, h.2) ∷ h.3) in
     (h.0, rest, whole ∙ ap (λ (r : Ts). r ++ x ∷ rest) h.5 ∙ sym (append_assoc p (x ∷ []) rest))
 
--- what cannot follow is no front
-no_front : (k : Text) (p r : Ts) (x : Lexeme) (c : Ts) → CannotFollow k p r → r ≡ x ∷ c → IsFront k (p ++ x ∷ []) → ⊥
-no_front k p [] x c h e front = absurd cc
-no_front k p (y ∷ r) x c h e front = h (subst (λ (z : Lexeme). IsFront k (p ++ z ∷ [])) (sym (same_head y x r c e)) front)
+-- what cannot follow is no prefix
+no_prefix : (k : Text) (p r : Ts) (x : Lexeme) (c : Ts) → CannotFollow k p r → r ≡ x ∷ c → IsPrefix k (p ++ x ∷ []) → ⊥
+no_prefix k p [] x c h e prefix = absurd cc
+no_prefix k p (y ∷ r) x c h e prefix = h (subst (λ (z : Lexeme). IsPrefix k (p ++ z ∷ [])) (sym (same_head y x r c e)) prefix)
 
 -- ---- two faults of the same tokens
 
--- nothing stops before a front ends
-stops_before : (k : Text) (p r q s : Ts) → StopsAt k p r → IsFront k q → IsBefore p r q s → ⊥
-stops_before k p r q s h front b = no_front k p r b.0 (b.1 ++ s) h.stops b.3 (front_of_front k p b.0 b.1 (subst (λ (z : Ts). IsFront k z) b.2 front))
+-- nothing stops before a prefix ends
+stops_before : (k : Text) (p r q s : Ts) → StopsAt k p r → IsPrefix k q → IsBefore p r q s → ⊥
+stops_before k p r q s h prefix b = no_prefix k p r b.0 (b.1 ++ s) h.stops b.3 (prefix_of_prefix k p b.0 b.1 (subst (λ (z : Ts). IsPrefix k z) b.2 prefix))
 
 both_stop : (k : Text) (p r q s : Ts) → p ++ r ≡ q ++ s → StopsAt k p r → StopsAt k q s → (p ≡ q) × (r ≡ s)
 both_stop k p r q s e h g = go (cuts p r q s e) where
   go : Cuts p r q s → (p ≡ q) × (r ≡ s)
   go (inl same) = same
-  go (inr (inl b)) = absurd (stops_before k p r q s h g.front b)
-  go (inr (inr b)) = absurd (stops_before k q s p r g h.front b)
+  go (inr (inl b)) = absurd (stops_before k p r q s h g.prefix b)
+  go (inr (inr b)) = absurd (stops_before k q s p r g h.prefix b)
 
 -- none is too deep before
 not_before : (k : Text) (p r q : Ts) (x : Lexeme) (more : Ts) → HasNoneTooDeep k p → IsTooDeep k q x → IsBefore q (x ∷ more) p r → ⊥
 not_before k p r q x more h deep b = h q b.1 x (b.2 ∙ ap (λ (z : Lexeme). q ++ z ∷ b.1) (sym (same_head x b.0 more (b.1 ++ r) b.3))) deep
 
--- a front that one more token makes longer
+-- a prefix that one more token makes longer
 stops_at_deep : (k : Text) (p r q : Ts) (x : Lexeme) (more : Ts) → p ++ r ≡ q ++ x ∷ more → StopsAt k p r → IsTooDeep k q x → ⊥
 stops_at_deep k p r q x more e h deep = go (cuts p r q (x ∷ more) e) where
-  front : IsFront k (q ++ x ∷ [])
-  front = deep_front k q x deep
+  prefix : IsPrefix k (q ++ x ∷ [])
+  prefix = deep_prefix k q x deep
 
   go : Cuts p r q (x ∷ more) → ⊥
-  go (inl same) = no_front k p r x more h.stops same.1 (subst (λ (z : Ts). IsFront k (z ++ x ∷ [])) (sym same.0) front)
+  go (inl same) = no_prefix k p r x more h.stops same.1 (subst (λ (z : Ts). IsPrefix k (z ++ x ∷ [])) (sym same.0) prefix)
   go (inr (inl b)) =
       let longer : q ++ x ∷ [] ≡ p ++ b.0 ∷ (b.1 ++ x ∷ []) = ap (λ (z : Ts). z ++ x ∷ []) b.2 ∙ append_assoc p (b.0 ∷ b.1) (x ∷ []) in
-      no_front k p r b.0 (b.1 ++ x ∷ more) h.stops b.3 (front_of_front k p b.0 (b.1 ++ x ∷ []) (subst (λ (z : Ts). IsFront k z) longer front))
+      no_prefix k p r b.0 (b.1 ++ x ∷ more) h.stops b.3 (prefix_of_prefix k p b.0 (b.1 ++ x ∷ []) (subst (λ (z : Ts). IsPrefix k z) longer prefix))
   go (inr (inr b)) = not_before k p r q x more h.shallow deep b
 
 both_deep : (k : Text) (p : Ts) (x : Lexeme) (m q : Ts) (y : Lexeme) (n : Ts) → p ++ x ∷ m ≡ q ++ y ∷ n → HasNoneTooDeep k p → IsTooDeep k p x → HasNoneTooDeep k q → IsTooDeep k q y → x ∷ m ≡ y ∷ n

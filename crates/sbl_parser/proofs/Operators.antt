@@ -5,10 +5,10 @@ use Rattle.sbl_ast.specs.declared.tree.Additive.TheVariants as additives
 use Rattle.sbl_ast.specs.Terminal.{Terminal}
 use Rattle.sbl_ast.specs.Terminal as t
 use Rattle.sbl_ast.specs.TerminalPlaces.{AtDepth, tokens}
-use Rattle.sbl_parser.specs.Steps.{Symbol, Stack, Step, goes, stuck, unassigned, is_optional, behind, behind_opening, behind_closing, behind_name, behind_argument, behind_for, behind_excluded, behind_comparison, behind_factor, behind_scales, behind_sums, behind_command, behind_among, behind_others, behind_starter, behind_groups, behind_entries, behind_inserts, behind_macro, behind_base, behind_literal, behind_definition, behind_terms, behind_names, behind_plain, behind_item, or_else, step}
+use Rattle.sbl_parser.specs.Steps.{Symbol, Stack, Step, goes, stuck, unassigned, is_optional, following, after_opening, after_closing, after_name, after_argument, after_for, after_excluded, after_comparison, after_factor, after_scales, after_sums, after_command, after_among, after_others, after_starter, after_groups, after_entries, after_inserts, after_macro, after_base, after_literal, after_definition, after_terms, after_names, after_plain, after_item, or_else, step}
 use Rattle.sbl_parser.specs.Steps as s
 use Rattle.sbl_ast.specs.Texts.{Text}
-use Rattle.sbl_parser.specs.Fronts.{first_stack}
+use Rattle.sbl_parser.specs.FirstStack.{first_stack}
 use Rattle.sbl_ast.specs.Texts as texts
 use Rattle.sbl_parser.proofs.Runs.{Runs}
 
@@ -28,37 +28,37 @@ Kept x (goes d next) = (clear next ≡ true) ⊎ ((e : ℕ) × (rest : Stack) ×
 Kept x stuck = Unit {0}
 Kept x unassigned = ⊥
 
-opening_kept : (d : ℕ) (x : Terminal) (k : Stack) → clear k ≡ true → Kept x (behind_opening d x k)
+opening_kept : (d : ℕ) (x : Terminal) (k : Stack) → clear k ≡ true → Kept x (after_opening d x k)
 opening_kept d t.open_ k h = inl h
 opening_kept d _ k h = tt
 
-closing_kept : (d : ℕ) (x : Terminal) (k : Stack) → clear k ≡ true → Kept x (behind_closing d x k)
+closing_kept : (d : ℕ) (x : Terminal) (k : Stack) → clear k ≡ true → Kept x (after_closing d x k)
 closing_kept d t.close_ k h = inl h
 closing_kept d _ k h = tt
 
-name_kept : (d : ℕ) (x : Terminal) (k : Stack) → clear k ≡ true → Kept x (behind_name d x k)
+name_kept : (d : ℕ) (x : Terminal) (k : Stack) → clear k ≡ true → Kept x (after_name d x k)
 name_kept d (t.name n) k h = inl h
 name_kept d _ k h = tt
 
-argument_kept : (d : ℕ) (x : Terminal) (k : Stack) → clear k ≡ true → Kept x (behind_argument d x k)
+argument_kept : (d : ℕ) (x : Terminal) (k : Stack) → clear k ≡ true → Kept x (after_argument d x k)
 argument_kept d (t.literal q) k h = inl h
 argument_kept d (t.name n) k h = inl h
 argument_kept d _ k h = tt
 
-for_kept : (d : ℕ) (x : Terminal) (k : Stack) → clear k ≡ true → Kept x (behind_for d x k)
+for_kept : (d : ℕ) (x : Terminal) (k : Stack) → clear k ≡ true → Kept x (after_for d x k)
 for_kept d t.for_ k h = inl h
 for_kept d _ k h = tt
 
-excluded_kept : (d : ℕ) (x : Terminal) (k : Stack) → clear k ≡ true → Kept x (behind_excluded d x k)
+excluded_kept : (d : ℕ) (x : Terminal) (k : Stack) → clear k ≡ true → Kept x (after_excluded d x k)
 excluded_kept d (t.additive additives.Minus) k h = inl h
 excluded_kept d (t.name n) k h = inl h
 excluded_kept d _ k h = tt
 
-comparison_kept : (d : ℕ) (x : Terminal) (k : Stack) → clear k ≡ true → Kept x (behind_comparison d x k)
+comparison_kept : (d : ℕ) (x : Terminal) (k : Stack) → clear k ≡ true → Kept x (after_comparison d x k)
 comparison_kept d (t.compares o) k h = inl h
 comparison_kept d _ k h = tt
 
-factor_kept : (d : ℕ) (x : Terminal) (k : Stack) → clear k ≡ true → Kept x (behind_factor d x k)
+factor_kept : (d : ℕ) (x : Terminal) (k : Stack) → clear k ≡ true → Kept x (after_factor d x k)
 factor_kept d (t.additive additives.Minus) k h = inl h
 factor_kept d t.open_ k h = inl h
 factor_kept d (t.number n) k h = inl h
@@ -67,15 +67,15 @@ factor_kept d (t.constant c) k h = inl h
 factor_kept d t.len_of k h = inl h
 factor_kept d _ k h = tt
 
-scales_kept : (d : ℕ) (x : Terminal) (k : Stack) → clear k ≡ true → Kept x (behind_scales d x k)
+scales_kept : (d : ℕ) (x : Terminal) (k : Stack) → clear k ≡ true → Kept x (after_scales d x k)
 scales_kept d (t.multiplicative o) k h = inl h
 scales_kept d _ k h = tt
 
-sums_kept : (d : ℕ) (x : Terminal) (k : Stack) → clear k ≡ true → Kept x (behind_sums d x k)
+sums_kept : (d : ℕ) (x : Terminal) (k : Stack) → clear k ≡ true → Kept x (after_sums d x k)
 sums_kept d (t.additive o) k h = inl h
 sums_kept d _ k h = tt
 
-command_kept : (d : ℕ) (x : Terminal) (k : Stack) → clear k ≡ true → Kept x (behind_command d x k)
+command_kept : (d : ℕ) (x : Terminal) (k : Stack) → clear k ≡ true → Kept x (after_command d x k)
 command_kept d t.open_ k h = inl h
 command_kept d (t.simple x) k h = inl h
 command_kept d (t.literal q) k h = inl h
@@ -91,61 +91,61 @@ command_kept d t.dollar k h = inr (d, k, refl, refl, h)
 command_kept d t.among k h = inl h
 command_kept d _ k h = tt
 
-others_kept : (d : ℕ) (x : Terminal) (k : Stack) → clear k ≡ true → Kept x (behind_others d x k)
+others_kept : (d : ℕ) (x : Terminal) (k : Stack) → clear k ≡ true → Kept x (after_others d x k)
 others_kept d (t.joiner j) k h = inl h
 others_kept d _ k h = tt
 
-starter_kept : (d : ℕ) (x : Terminal) (k : Stack) → clear k ≡ true → Kept x (behind_starter d x k)
+starter_kept : (d : ℕ) (x : Terminal) (k : Stack) → clear k ≡ true → Kept x (after_starter d x k)
 starter_kept d t.open_ k h = inl h
 starter_kept d _ k h = tt
 
-groups_kept : (d : ℕ) (x : Terminal) (k : Stack) → clear k ≡ true → Kept x (behind_groups d x k)
+groups_kept : (d : ℕ) (x : Terminal) (k : Stack) → clear k ≡ true → Kept x (after_groups d x k)
 groups_kept d (t.literal q) k h = inl h
 groups_kept d _ k h = tt
 
-entries_kept : (d : ℕ) (x : Terminal) (k : Stack) → clear k ≡ true → Kept x (behind_entries d x k)
+entries_kept : (d : ℕ) (x : Terminal) (k : Stack) → clear k ≡ true → Kept x (after_entries d x k)
 entries_kept d (t.literal q) k h = inl h
 entries_kept d t.open_ k h = inl h
 entries_kept d _ k h = tt
 
-inserts_kept : (x : Terminal) (k : Stack) → clear k ≡ true → Kept x (behind_inserts x k)
+inserts_kept : (x : Terminal) (k : Stack) → clear k ≡ true → Kept x (after_inserts x k)
 inserts_kept (t.inserts a b) k h = inl h
 inserts_kept _ k h = tt
 
-macro_kept : (x : Terminal) (k : Stack) → clear k ≡ true → Kept x (behind_macro x k)
+macro_kept : (x : Terminal) (k : Stack) → clear k ≡ true → Kept x (after_macro x k)
 macro_kept (t.macro_name n) k h = inl h
 macro_kept _ k h = tt
 
-base_kept : (x : Terminal) (k : Stack) → clear k ≡ true → Kept x (behind_base x k)
+base_kept : (x : Terminal) (k : Stack) → clear k ≡ true → Kept x (after_base x k)
 base_kept (t.base b) k h = inl h
 base_kept _ k h = tt
 
-literal_kept : (x : Terminal) (k : Stack) → clear k ≡ true → Kept x (behind_literal x k)
+literal_kept : (x : Terminal) (k : Stack) → clear k ≡ true → Kept x (after_literal x k)
 literal_kept (t.literal q) k h = inl h
 literal_kept _ k h = tt
 
-definition_kept : (x : Terminal) (k : Stack) → clear k ≡ true → Kept x (behind_definition x k)
+definition_kept : (x : Terminal) (k : Stack) → clear k ≡ true → Kept x (after_definition x k)
 definition_kept t.as_ k h = inl h
 definition_kept (t.literal q) k h = inl h
 definition_kept (t.name n) k h = inl h
 definition_kept _ k h = tt
 
-terms_kept : (x : Terminal) (k : Stack) → clear k ≡ true → Kept x (behind_terms x k)
+terms_kept : (x : Terminal) (k : Stack) → clear k ≡ true → Kept x (after_terms x k)
 terms_kept (t.additive o) k h = inl h
 terms_kept _ k h = tt
 
-names_kept : (x : Terminal) (k : Stack) → clear k ≡ true → Kept x (behind_names x k)
+names_kept : (x : Terminal) (k : Stack) → clear k ≡ true → Kept x (after_names x k)
 names_kept (t.name n) k h = inl h
 names_kept _ k h = tt
 
-plain_kept : (x : Terminal) (k : Stack) → clear k ≡ true → Kept x (behind_plain x k)
+plain_kept : (x : Terminal) (k : Stack) → clear k ≡ true → Kept x (after_plain x k)
 plain_kept (t.declares x) k h = inl h
 plain_kept t.string_escapes k h = inl h
 plain_kept t.string_def k h = inl h
 plain_kept t.define k h = inl h
 plain_kept _ k h = tt
 
-item_kept : (x : Terminal) (k : Stack) → clear k ≡ true → Kept x (behind_item x k)
+item_kept : (x : Terminal) (k : Stack) → clear k ≡ true → Kept x (after_item x k)
 item_kept (t.declares x) k h = inl h
 item_kept t.string_escapes k h = inl h
 item_kept t.string_def k h = inl h
@@ -153,42 +153,42 @@ item_kept t.define k h = inl h
 item_kept t.backward_mode k h = inl h
 item_kept _ k h = tt
 
-among_kept : (d : ℕ) (x : Terminal) (k : Stack) → clear k ≡ true → Kept x (behind_among d x k)
+among_kept : (d : ℕ) (x : Terminal) (k : Stack) → clear k ≡ true → Kept x (after_among d x k)
 among_kept d t.among k h = inl h
 among_kept d _ k h = tt
 
-behind_kept : (y : Symbol) (x : Terminal) (k : Stack) → is_clear y ≡ true → clear k ≡ true → Kept x (behind y x k)
-behind_kept (s.opening d) x k c h = opening_kept d x k h
-behind_kept (s.closing d) x k c h = closing_kept d x k h
-behind_kept (s.name d) x k c h = name_kept d x k h
-behind_kept (s.argument d) x k c h = argument_kept d x k h
-behind_kept (s.command d) x k c h = command_kept d x k h
-behind_kept (s.others d) x k c h = others_kept d x k h
-behind_kept (s.rows d) x k c h = command_kept d x (s.others d ∷ s.rows d ∷ k) h
-behind_kept (s.for_ d) x k c h = for_kept d x k h
-behind_kept (s.excluded d) x k c h = excluded_kept d x k h
-behind_kept (s.subject d) x k c h = absurd cc
-behind_kept (s.operator d) x k c h = absurd cc
-behind_kept (s.comparison d) x k c h = comparison_kept d x k h
-behind_kept (s.factor d) x k c h = factor_kept d x k h
-behind_kept (s.scales d) x k c h = scales_kept d x k h
-behind_kept (s.sums d) x k c h = sums_kept d x k h
-behind_kept (s.starter d) x k c h = starter_kept d x k h
-behind_kept (s.groups d) x k c h = groups_kept d x k h
-behind_kept (s.entries d) x k c h = entries_kept d x k h
-behind_kept (s.condition d) x k c h = name_kept d x k h
-behind_kept (s.among d) x k c h = among_kept d x k h
-behind_kept s.inserts x k c h = inserts_kept x k h
-behind_kept s.macro x k c h = macro_kept x k h
-behind_kept s.base x k c h = base_kept x k h
-behind_kept s.literal x k c h = literal_kept x k h
-behind_kept s.definition x k c h = definition_kept x k h
-behind_kept s.terms x k c h = terms_kept x k h
-behind_kept s.names x k c h = names_kept x k h
-behind_kept s.plain x k c h = plain_kept x k h
-behind_kept s.plains x k c h = plain_kept x (s.plains ∷ k) h
-behind_kept s.item x k c h = item_kept x k h
-behind_kept s.items x k c h = item_kept x (s.items ∷ k) h
+after_kept : (y : Symbol) (x : Terminal) (k : Stack) → is_clear y ≡ true → clear k ≡ true → Kept x (following y x k)
+after_kept (s.opening d) x k c h = opening_kept d x k h
+after_kept (s.closing d) x k c h = closing_kept d x k h
+after_kept (s.name d) x k c h = name_kept d x k h
+after_kept (s.argument d) x k c h = argument_kept d x k h
+after_kept (s.command d) x k c h = command_kept d x k h
+after_kept (s.others d) x k c h = others_kept d x k h
+after_kept (s.rows d) x k c h = command_kept d x (s.others d ∷ s.rows d ∷ k) h
+after_kept (s.for_ d) x k c h = for_kept d x k h
+after_kept (s.excluded d) x k c h = excluded_kept d x k h
+after_kept (s.subject d) x k c h = absurd cc
+after_kept (s.operator d) x k c h = absurd cc
+after_kept (s.comparison d) x k c h = comparison_kept d x k h
+after_kept (s.factor d) x k c h = factor_kept d x k h
+after_kept (s.scales d) x k c h = scales_kept d x k h
+after_kept (s.sums d) x k c h = sums_kept d x k h
+after_kept (s.starter d) x k c h = starter_kept d x k h
+after_kept (s.groups d) x k c h = groups_kept d x k h
+after_kept (s.entries d) x k c h = entries_kept d x k h
+after_kept (s.condition d) x k c h = name_kept d x k h
+after_kept (s.among d) x k c h = among_kept d x k h
+after_kept s.inserts x k c h = inserts_kept x k h
+after_kept s.macro x k c h = macro_kept x k h
+after_kept s.base x k c h = base_kept x k h
+after_kept s.literal x k c h = literal_kept x k h
+after_kept s.definition x k c h = definition_kept x k h
+after_kept s.terms x k c h = terms_kept x k h
+after_kept s.names x k c h = names_kept x k h
+after_kept s.plain x k c h = plain_kept x k h
+after_kept s.plains x k c h = plain_kept x (s.plains ∷ k) h
+after_kept s.item x k c h = item_kept x k h
+after_kept s.items x k c h = item_kept x (s.items ∷ k) h
 
 both_true : (a b : Bool) → (a && b) ≡ true → (a ≡ true) × (b ≡ true)
 both_true true b e = (refl, e)
@@ -196,14 +196,14 @@ both_true false b e = absurd cc
 
 step_kept : (k : Stack) (x : Terminal) → clear k ≡ true → Kept x (step k x)
 step_kept [] x h = tt
-step_kept (y ∷ k) x h = let c = both_true (is_clear y) (clear k) h in go (behind y x k) (behind_kept y x k c.0 c.1) (is_optional y) (step_kept k x c.1) where
+step_kept (y ∷ k) x h = let c = both_true (is_clear y) (clear k) h in go (following y x k) (after_kept y x k c.0 c.1) (is_optional y) (step_kept k x c.1) where
   go : (b : Step) → Kept x b → (o : Bool) → Kept x (step k x) → Kept x (or_else b (if o then step k x else stuck))
   go (goes d next) g o below = g
   go stuck g true below = below
   go stuck g false below = tt
   go unassigned g o below = absurd g
 
--- ---- behind `$`
+-- ---- after `$`
 
 subject_step : (e d : ℕ) (x : Terminal) (k next : Stack) → clear k ≡ true → step (s.subject e ∷ k) x ≡ goes d next
     → ((n : List ℕ) × (x ≡ t.name n) × (next ≡ s.operator e ∷ k)) ⊎ (clear next ≡ true)
@@ -318,7 +318,7 @@ last_two k p q n x is named h =
     operator_stuck at.0 x at.1 (subst (λ (m : Stack). step m x ≡ stuck) (sym last) h.2.2)
 
 -- nothing is stuck there
-pub wants : (front : List Terminal) (n : List ℕ) (ps : List AtDepth) (k : Stack) (x : Terminal) → tokens ps ≡ front ++ t.dollar ∷ t.name n ∷ [] → Runs ps k (λ end. step end x ≡ stuck) → ⊥
+pub wants : (prefix : List Terminal) (n : List ℕ) (ps : List AtDepth) (k : Stack) (x : Terminal) → tokens ps ≡ prefix ++ t.dollar ∷ t.name n ∷ [] → Runs ps k (λ end. step end x ≡ stuck) → ⊥
 wants [] n [] k x e h = cc
 wants [] n (p ∷ []) k x e h = cc
 wants [] n (p ∷ q ∷ []) k x e h =
@@ -326,7 +326,7 @@ wants [] n (p ∷ q ∷ []) k x e h =
     let other : q.0 ≡ t.name n = cc in
     last_two k p q n x one other h
 wants [] n (p ∷ q ∷ r ∷ ps) k x e h = cc
-wants (y ∷ front) n [] k x e h = cc
-wants (y ∷ front) n (p ∷ ps) k x e h =
-    let tail : tokens ps ≡ front ++ t.dollar ∷ t.name n ∷ [] = cc in
-    wants front n ps h.0 x tail h.2
+wants (y ∷ prefix) n [] k x e h = cc
+wants (y ∷ prefix) n (p ∷ ps) k x e h =
+    let tail : tokens ps ≡ prefix ++ t.dollar ∷ t.name n ∷ [] = cc in
+    wants prefix n ps h.0 x tail h.2

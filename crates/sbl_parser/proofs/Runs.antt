@@ -1,4 +1,4 @@
--- Steps over the tokens of a tree, from its symbol to what is wanted behind it.
+-- Steps over the tokens of a tree, from its symbol to what is wanted after it.
 use Rattle.std.proofs.Common.{◌≡◌, ℕ, ◌+◌, Bool, true, false, List, [], ◌∷◌, Option, Some, None, refl, ap, ◌∙◌}
 use Rattle.std.specs.Prelude.{if◌then◌else◌, ◌&&◌}
 use Rattle.sbl_ast.specs.declared.tree.Base.{Base}
@@ -7,10 +7,10 @@ use Rattle.sbl_ast.specs.Terminal as t
 use Rattle.sbl_ast.specs.Tree.{QuotedText, Argument, written_out, by_name, Expression, expression, Sums, no_sums, sum, Product, product, Scales, no_scales, scale, Factor, negated, bracketed, numeral, variable, fixed, length_of, Entry, entry, Command, bracket, simple_, literal_, name_, non_, prefixed, counted, move_, named, splice_, setlimit_, assign_, compare_, compare_values_, among_, Rows, no_rows, row, Others, no_others, joined, Starter, no_starter, starter, Groups, bare, group, Term, term, Plain, declaration, escapes, macro, routine, grouping, Item, plain, backward}
 use Rattle.sbl_ast.specs.Spelled.{argument_terminal}
 use Rattle.sbl_ast.specs.TerminalPlaces.{AtDepth, placed_expression, placed_sums, placed_product, placed_scales, placed_factor, placed_entry, placed_entries, placed_command, placed_rows, placed_others, placed_starter, placed_groups, placed_names, placed_base, placed_terms, placed_plain, placed_plains, placed_item, placed_items, places, places_in}
-use Rattle.sbl_parser.specs.Steps.{Symbol, Stack, Step, goes, stuck, unassigned, is_optional, is_done, behind, behind_sums, behind_scales, behind_others, behind_terms, behind_plain, behind_item, or_else, step}
+use Rattle.sbl_parser.specs.Steps.{Symbol, Stack, Step, goes, stuck, unassigned, is_optional, is_done, following, after_sums, after_scales, after_others, after_terms, after_plain, after_item, or_else, step}
 use Rattle.sbl_parser.specs.Steps as s
 use Rattle.sbl_ast.specs.Texts.{Text, TreeOf}
-use Rattle.sbl_parser.specs.Fronts.{first_stack}
+use Rattle.sbl_parser.specs.FirstStack.{first_stack}
 use Rattle.sbl_ast.specs.Texts as texts
 
 -- over tokens at their depths, from one stack to an end
@@ -24,7 +24,7 @@ IsDone k = is_done k ≡ true
 abbrev pub Passes : List AtDepth → Stack → Type 0
 Passes ps k = Runs ps k IsDone
 
--- ---- what may stand behind an expression or a row
+-- ---- what may follow an expression or a row
 
 abbrev pub no_plus : Terminal → Bool
 no_plus (t.additive o) = false
@@ -49,7 +49,7 @@ pub record Calm (ps : List AtDepth) : Type 0 where
 -- the first token is no part of what the symbol stands for
 abbrev Refuses : Symbol → List AtDepth → Stack → Type 0
 Refuses s [] k = Unit {0}
-Refuses s (p ∷ ps) k = behind s p.0 k ≡ stuck
+Refuses s (p ∷ ps) k = following s p.0 k ≡ stuck
 
 skip : (s : Symbol) (ps : List AtDepth) (k : Stack) → is_optional s ≡ true → Refuses s ps k → Passes ps k → Passes ps (s ∷ k)
 skip s [] k o r h = ap (λ (b : Bool). b && is_done k) o ∙ h
@@ -63,20 +63,20 @@ or_other unassigned other e n h = h
 
 as_row : (d : ℕ) (ps : List AtDepth) (k : Stack) → Passes ps (s.command d ∷ s.others d ∷ s.rows d ∷ k) → Passes ps (s.rows d ∷ k)
 as_row d [] k h = absurd cc
-as_row d (p ∷ ps) k h = (h.0, or_other (behind (s.command d) p.0 (s.others d ∷ s.rows d ∷ k)) (step k p.0) p.1 h.0 h.1, h.2)
+as_row d (p ∷ ps) k h = (h.0, or_other (following (s.command d) p.0 (s.others d ∷ s.rows d ∷ k)) (step k p.0) p.1 h.0 h.1, h.2)
 
 as_plains : (ps : List AtDepth) (k : Stack) → Passes ps (s.plain ∷ s.plains ∷ k) → Passes ps (s.plains ∷ k)
 as_plains [] k h = absurd cc
-as_plains (p ∷ ps) k h = (h.0, or_other (behind s.plain p.0 (s.plains ∷ k)) (step k p.0) p.1 h.0 h.1, h.2)
+as_plains (p ∷ ps) k h = (h.0, or_other (following s.plain p.0 (s.plains ∷ k)) (step k p.0) p.1 h.0 h.1, h.2)
 
 as_items : (ps : List AtDepth) (k : Stack) → Passes ps (s.item ∷ s.items ∷ k) → Passes ps (s.items ∷ k)
 as_items [] k h = absurd cc
-as_items (p ∷ ps) k h = (h.0, or_other (behind s.item p.0 (s.items ∷ k)) (step k p.0) p.1 h.0 h.1, h.2)
+as_items (p ∷ ps) k h = (h.0, or_other (following s.item p.0 (s.items ∷ k)) (step k p.0) p.1 h.0 h.1, h.2)
 
 as_item : (ps : List AtDepth) (k : Stack) → Passes ps (s.plain ∷ k) → Passes ps (s.item ∷ k)
 as_item [] k h = absurd cc
 as_item (p ∷ ps) k h = (h.0, same p.0 p.1 h.0 h.1, h.2) where
-  same : (x : Terminal) (e : ℕ) (n : Stack) → or_else (behind_plain x k) stuck ≡ goes e n → or_else (behind_item x k) stuck ≡ goes e n
+  same : (x : Terminal) (e : ℕ) (n : Stack) → or_else (after_plain x k) stuck ≡ goes e n → or_else (after_item x k) stuck ≡ goes e n
   same t.open_ e z h = absurd cc
   same t.close_ e z h = absurd cc
   same t.dollar e z h = absurd cc
@@ -111,7 +111,7 @@ as_item (p ∷ ps) k h = (h.0, same p.0 p.1 h.0 h.1, h.2) where
   same (t.macro_name n) e z h = absurd cc
   same (t.other o) e z h = absurd cc
 
-sums_stuck : (d : ℕ) (x : Terminal) (k : Stack) → no_plus x ≡ true → behind_sums d x k ≡ stuck
+sums_stuck : (d : ℕ) (x : Terminal) (k : Stack) → no_plus x ≡ true → after_sums d x k ≡ stuck
 sums_stuck d t.open_ k e = refl
 sums_stuck d t.close_ k e = refl
 sums_stuck d t.dollar k e = refl
@@ -146,7 +146,7 @@ sums_stuck d (t.inserts a b) k e = refl
 sums_stuck d (t.macro_name n) k e = refl
 sums_stuck d (t.other o) k e = refl
 
-scales_stuck : (d : ℕ) (x : Terminal) (k : Stack) → no_times x ≡ true → behind_scales d x k ≡ stuck
+scales_stuck : (d : ℕ) (x : Terminal) (k : Stack) → no_times x ≡ true → after_scales d x k ≡ stuck
 scales_stuck d t.open_ k e = refl
 scales_stuck d t.close_ k e = refl
 scales_stuck d t.dollar k e = refl
@@ -181,7 +181,7 @@ scales_stuck d (t.inserts a b) k e = refl
 scales_stuck d (t.macro_name n) k e = refl
 scales_stuck d (t.other o) k e = refl
 
-others_stuck : (d : ℕ) (x : Terminal) (k : Stack) → no_or x ≡ true → behind_others d x k ≡ stuck
+others_stuck : (d : ℕ) (x : Terminal) (k : Stack) → no_or x ≡ true → after_others d x k ≡ stuck
 others_stuck d t.open_ k e = refl
 others_stuck d t.close_ k e = refl
 others_stuck d t.dollar k e = refl
@@ -216,7 +216,7 @@ others_stuck d (t.inserts a b) k e = refl
 others_stuck d (t.macro_name n) k e = refl
 others_stuck d (t.other o) k e = refl
 
-terms_stuck : (x : Terminal) (k : Stack) → no_plus x ≡ true → behind_terms x k ≡ stuck
+terms_stuck : (x : Terminal) (k : Stack) → no_plus x ≡ true → after_terms x k ≡ stuck
 terms_stuck t.open_ k e = refl
 terms_stuck t.close_ k e = refl
 terms_stuck t.dollar k e = refl
@@ -306,7 +306,7 @@ mutual
 
 -- ---- the strings of an among
 
--- what stands behind some entries
+-- what follows some entries
 abbrev Ends : List AtDepth → ℕ → Stack → Type 0
 Ends ps d k = Passes ps (s.entries d ∷ k) × Passes ps (s.condition d ∷ s.entries d ∷ k)
 
@@ -407,15 +407,15 @@ mutual
   tree_runs (assign_ n o e) d ps k c h = (s.subject d ∷ k, refl, (s.operator d ∷ k, refl, (s.expression d k, refl, expression_runs e d ps k c h)))
   tree_runs (compare_ n o e) d ps k c h = (s.subject d ∷ k, refl, (s.operator d ∷ k, refl, (s.expression d k, refl, expression_runs e d ps k c h)))
   tree_runs (compare_values_ e o f) d ps k c h =
-      let behind_f : Passes ((t.close_, d) ∷ ps) (s.closing d ∷ k) = (k, refl, h) in
-      let behind_o = expression_runs f d ((t.close_, d) ∷ ps) (s.closing d ∷ k) (record { plus = refl; times = refl }) behind_f in
-      let behind_e : Passes ((t.compares o, d) ∷ placed_expression f d ((t.close_, d) ∷ ps)) (s.comparison d ∷ s.expression d (s.closing d ∷ k)) = (s.expression d (s.closing d ∷ k), refl, behind_o) in (
+      let after_f : Passes ((t.close_, d) ∷ ps) (s.closing d ∷ k) = (k, refl, h) in
+      let after_o = expression_runs f d ((t.close_, d) ∷ ps) (s.closing d ∷ k) (record { plus = refl; times = refl }) after_f in
+      let after_e : Passes ((t.compares o, d) ∷ placed_expression f d ((t.close_, d) ∷ ps)) (s.comparison d ∷ s.expression d (s.closing d ∷ k)) = (s.expression d (s.closing d ∷ k), refl, after_o) in (
         s.subject d ∷ k,
         refl,
         (
           s.expression d (s.comparison d ∷ s.expression d (s.closing d ∷ k)),
           refl,
-          expression_runs e d ((t.compares o, d) ∷ placed_expression f d ((t.close_, d) ∷ ps)) (s.comparison d ∷ s.expression d (s.closing d ∷ k)) (record { plus = refl; times = refl }) behind_e,
+          expression_runs e d ((t.compares o, d) ∷ placed_expression f d ((t.close_, d) ∷ ps)) (s.comparison d ∷ s.expression d (s.closing d ∷ k)) (record { plus = refl; times = refl }) after_e,
         ),
       )
   tree_runs (among_ x gs) d ps k c h = (

@@ -62,7 +62,7 @@ pub items_push : (xs : List Item) (x : Item) (rest : Ts) → spelled_items (xs +
 items_push [] x rest = refl
 items_push (y ∷ xs) x rest = ap (λ (r : Ts). spelled_item y r) (items_push xs x rest)
 
--- what is left behind a token and something more
+-- what is left after a token and something more
 pub shorter : (rest after next : Ts) → next ≡ drop 1 rest → length after < length next → length after < length rest
 shorter rest after next e lt = omega (arith, ap length e, length-drop 1 rest)
 
@@ -82,14 +82,14 @@ far a b next c h e g = omega (arith, ap length e, length-drop 1 b)
 
 -- ---- one more turn, after what precedes the list
 
-pub next_sum : (front : Ts → Ts) (xs ys : List NextProductView) (x : NextProductView) (start now next : Ts) → start ≡ front (spelled_sums (sums_of xs) now) → now ≡ t.additive x.0 ∷ spelled_product x.1 next → ys ≡ xs ++ x ∷ [] → start ≡ front (spelled_sums (sums_of ys) next)
-next_sum front xs ys x start now next h e m = h ∙ ap (λ (r : Ts). front r) (ap (λ (r : Ts). spelled_sums (sums_of xs) r) e ∙ sym (sums_push xs x next) ∙ ap (λ (zs : List NextProductView). spelled_sums (sums_of zs) next) (sym m))
+pub next_sum : (prefix : Ts → Ts) (xs ys : List NextProductView) (x : NextProductView) (start now next : Ts) → start ≡ prefix (spelled_sums (sums_of xs) now) → now ≡ t.additive x.0 ∷ spelled_product x.1 next → ys ≡ xs ++ x ∷ [] → start ≡ prefix (spelled_sums (sums_of ys) next)
+next_sum prefix xs ys x start now next h e m = h ∙ ap (λ (r : Ts). prefix r) (ap (λ (r : Ts). spelled_sums (sums_of xs) r) e ∙ sym (sums_push xs x next) ∙ ap (λ (zs : List NextProductView). spelled_sums (sums_of zs) next) (sym m))
 
-pub next_scale : (front : Ts → Ts) (xs ys : List NextFactorView) (x : NextFactorView) (start now next : Ts) → start ≡ front (spelled_scales (scales_of xs) now) → now ≡ t.multiplicative x.0 ∷ spelled_factor x.1 next → ys ≡ xs ++ x ∷ [] → start ≡ front (spelled_scales (scales_of ys) next)
-next_scale front xs ys x start now next h e m = h ∙ ap (λ (r : Ts). front r) (ap (λ (r : Ts). spelled_scales (scales_of xs) r) e ∙ sym (scales_push xs x next) ∙ ap (λ (zs : List NextFactorView). spelled_scales (scales_of zs) next) (sym m))
+pub next_scale : (prefix : Ts → Ts) (xs ys : List NextFactorView) (x : NextFactorView) (start now next : Ts) → start ≡ prefix (spelled_scales (scales_of xs) now) → now ≡ t.multiplicative x.0 ∷ spelled_factor x.1 next → ys ≡ xs ++ x ∷ [] → start ≡ prefix (spelled_scales (scales_of ys) next)
+next_scale prefix xs ys x start now next h e m = h ∙ ap (λ (r : Ts). prefix r) (ap (λ (r : Ts). spelled_scales (scales_of xs) r) e ∙ sym (scales_push xs x next) ∙ ap (λ (zs : List NextFactorView). spelled_scales (scales_of zs) next) (sym m))
 
-pub next_joined : (front : Ts → Ts) (xs ys : List NextCommandView) (x : NextCommandView) (start now next : Ts) → start ≡ front (spelled_others (others_of xs) now) → now ≡ t.joiner x.0 ∷ spelled_command x.1 next → ys ≡ xs ++ x ∷ [] → start ≡ front (spelled_others (others_of ys) next)
-next_joined front xs ys x start now next h e m = h ∙ ap (λ (r : Ts). front r) (ap (λ (r : Ts). spelled_others (others_of xs) r) e ∙ sym (others_push xs x next) ∙ ap (λ (zs : List NextCommandView). spelled_others (others_of zs) next) (sym m))
+pub next_joined : (prefix : Ts → Ts) (xs ys : List NextCommandView) (x : NextCommandView) (start now next : Ts) → start ≡ prefix (spelled_others (others_of xs) now) → now ≡ t.joiner x.0 ∷ spelled_command x.1 next → ys ≡ xs ++ x ∷ [] → start ≡ prefix (spelled_others (others_of ys) next)
+next_joined prefix xs ys x start now next h e m = h ∙ ap (λ (r : Ts). prefix r) (ap (λ (r : Ts). spelled_others (others_of xs) r) e ∙ sym (others_push xs x next) ∙ ap (λ (zs : List NextCommandView). spelled_others (others_of zs) next) (sym m))
 
 pub next_term : (head : Terminal) (xs ys : List Term) (o : Additive) (a : Argument) (start now next : Ts) → start ≡ head ∷ spelled_terms xs now → now ≡ t.additive o ∷ argument_terminal a ∷ next → ys ≡ xs ++ term o a ∷ [] → start ≡ head ∷ spelled_terms ys next
 next_term head xs ys o a start now next h e m = h ∙ ap (λ (r : Ts). head ∷ r) (ap (λ (r : Ts). spelled_terms xs r) e ∙ sym (terms_push xs o a next) ∙ ap (λ (zs : List Term). spelled_terms zs next) (sym m))

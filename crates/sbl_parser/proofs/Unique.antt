@@ -92,12 +92,12 @@ is_item _ = false
 abbrev Never : (Sort → Bool) → Ts → Type 0
 Never f ts = f (sort ts) ≡ false
 
--- what may stand behind an expression
+-- what may follow an expression
 record Ends (ts : Ts) : Type 0 where
   pub adds_not : Never is_adds ts
   pub multiplies_not : Never is_multiplies ts
 
--- what may stand behind a row
+-- what may follow a row
 record EndsRow (ts : Ts) : Type 0 where
   pub ends : Ends ts
   pub joins_not : Never is_joins ts
@@ -193,7 +193,7 @@ entries_no_name : (xs : List Entry) (rest : Ts) → Never is_name rest → Never
 entries_no_name [] rest h = h
 entries_no_name (x ∷ xs) rest h = entry_no_name x _
 
--- what may stand behind strings
+-- what may follow strings
 record EndsEntries (ts : Ts) : Type 0 where
   pub name_not : Never is_name ts
   pub string_not : Never is_string ts
@@ -264,11 +264,11 @@ groups_no_open (group x xs rs gs) rest h = entry_no_open x _
 groups_string : (x : Entry) (xs : List Entry) (rest : Ts) → is_string (sort (spelled_entries (x ∷ xs) rest)) ≡ true
 groups_string x xs rest = entry_string x _
 
-behind_block : (ts : Ts) → EndsEntries (t.open_ ∷ ts)
-behind_block ts = record { name_not = refl; string_not = refl }
+after_block : (ts : Ts) → EndsEntries (t.open_ ∷ ts)
+after_block ts = record { name_not = refl; string_not = refl }
 
 bare_block : (xs ys : List Entry) (a ts : Ts) → EndsEntries (t.close_ ∷ a) → spelled_entries xs (t.close_ ∷ a) ≡ spelled_entries ys (t.open_ ∷ ts) → ⊥
-bare_block xs ys a ts h e = let m = same_entries xs ys (t.close_ ∷ a) (t.open_ ∷ ts) h (behind_block ts) e in let f = m.1 in cc
+bare_block xs ys a ts h e = let m = same_entries xs ys (t.close_ ∷ a) (t.open_ ∷ ts) h (after_block ts) e in let f = m.1 in cc
 
 mutual
   same_tree : (c u : Command) (a b : Ts) → Ends a → Ends b → spelled_command c a ≡ spelled_command u b → (c ≡ u) × (a ≡ b)
@@ -388,7 +388,7 @@ mutual
   same_groups (group x xs rs gs) (group y ys qs hs) a b e =
       let ra = t.open_ ∷ spelled_rows rs (t.close_ ∷ spelled_groups gs (t.close_ ∷ a)) in
       let rb = t.open_ ∷ spelled_rows qs (t.close_ ∷ spelled_groups hs (t.close_ ∷ b)) in
-      let m = same_entries (x ∷ xs) (y ∷ ys) ra rb (behind_block _) (behind_block _) e in
+      let m = same_entries (x ∷ xs) (y ∷ ys) ra rb (after_block _) (after_block _) e in
       let n = same_rows rs qs (t.close_ ∷ spelled_groups gs (t.close_ ∷ a)) (t.close_ ∷ spelled_groups hs (t.close_ ∷ b)) (closed _) (closed _) refl refl (tail _ _ _ _ m.1) in
       let l = same_groups gs hs a b (tail _ _ _ _ n.1) in
       let firsts : x ∷ xs ≡ y ∷ ys = m.0 in
@@ -421,7 +421,7 @@ same_base None (Some y) p q a b e = absurd cc
 same_base (Some x) None p q a b e = absurd cc
 same_base (Some x) (Some y) p q a b e = (cc, cc, cc)
 
--- what may stand behind an item
+-- what may follow an item
 record EndsItem (ts : Ts) : Type 0 where
   pub row : EndsRow ts
   pub item_not : Never is_item ts
@@ -484,8 +484,8 @@ same_plains (x ∷ xs) (y ∷ ys) a b ha hb e =
     let n = same_plains xs ys a b ha hb m.1 in
     (cc, n.1)
 
-behind_plains : (ts : Ts) → EndsItem (t.close_ ∷ ts)
-behind_plains ts = record { row = closed ts; item_not = refl }
+after_plains : (ts : Ts) → EndsItem (t.close_ ∷ ts)
+after_plains ts = record { row = closed ts; item_not = refl }
 
 plain_backward : (x : Plain) (a b : Ts) → spelled_plain x a ≡ t.backward_mode ∷ b → ⊥
 plain_backward (declaration k ns) a b e = cc
@@ -499,7 +499,7 @@ same_item (plain x) (plain y) a b ha hb e = let m = same_plain x y a b ha hb e i
 same_item (plain x) (backward ys) a b ha hb e = absurd (plain_backward x a _ e)
 same_item (backward xs) (plain y) a b ha hb e = absurd (plain_backward y b _ (sym e))
 same_item (backward xs) (backward ys) a b ha hb e =
-    let m = same_plains xs ys (t.close_ ∷ a) (t.close_ ∷ b) (behind_plains a) (behind_plains b) (tail _ _ _ _ (tail _ _ _ _ e)) in
+    let m = same_plains xs ys (t.close_ ∷ a) (t.close_ ∷ b) (after_plains a) (after_plains b) (tail _ _ _ _ (tail _ _ _ _ e)) in
     (ap (λ (z : List Plain). backward z) m.0, tail _ _ _ _ m.1)
 
 item_ends : (x : Item) (rest : Ts) → EndsRow (spelled_item x rest)
@@ -548,8 +548,8 @@ one_among x y gs hs e = go (same_tree (among_ x gs) (among_ y hs) [] [] none_end
   go : among_ x gs ≡ among_ y hs → (x ≡ y) × (gs ≡ hs)
   go f = let a : x ≡ y = cc in let b : gs ≡ hs = cc in (a, b)
 
--- two texts that begin with an among: the same tokens stand behind it
-pub behind_among : (x y : Starter) (gs hs : Groups) (a b : Ts) → spelled_command (among_ x gs) a ≡ spelled_command (among_ y hs) b → a ≡ b
-behind_among x y gs hs a b e =
+-- two texts that begin with an among: the same tokens follow it
+pub after_among : (x y : Starter) (gs hs : Groups) (a b : Ts) → spelled_command (among_ x gs) a ≡ spelled_command (among_ y hs) b → a ≡ b
+after_among x y gs hs a b e =
     let m = same_starter x y (spelled_groups gs (t.close_ ∷ a)) (spelled_groups hs (t.close_ ∷ b)) (groups_no_open gs (t.close_ ∷ a) refl) (groups_no_open hs (t.close_ ∷ b) refl) (tail _ _ _ _ (tail _ _ _ _ e)) in
     (same_groups gs hs a b m.1).1

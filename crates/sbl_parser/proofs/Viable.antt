@@ -1,4 +1,4 @@
--- What is wanted can always come: the tokens passed so far are the front of some tree's.
+-- What is wanted can always come: the tokens passed so far are a prefix of some tree's.
 use Rattle.std.proofs.Common.{◌≡◌, ℕ, ◌+◌, Bool, true, false, List, [], ◌∷◌, ◌++◌, Option, Some, None, refl, sym, ap, subst, ◌∙◌}
 use Rattle.std.specs.Prelude.{if◌then◌else◌}
 use Rattle.sbl_ast.specs.declared.tree.Base.{Base}
@@ -11,14 +11,14 @@ use Rattle.sbl_ast.specs.Tree.{QuotedText, Argument, written_out, by_name, Expre
 use Rattle.sbl_ast.specs.Terminal as t
 use Rattle.sbl_ast.specs.Spelled.{argument_terminal, spelled_expression, spelled_sums, spelled_scales, spelled_factor, spelled_entry, spelled_command, spelled_rows, spelled_others, spelled_starter, spelled_groups, spelled_names, spelled_base, spelled_terms, spelled_plain, spelled_plains, spelled_item, spelled_items}
 use Rattle.sbl_ast.specs.TerminalPlaces.{AtDepth, tokens}
-use Rattle.sbl_parser.specs.Steps.{Symbol, Stack, Step, goes, stuck, unassigned, is_optional, behind, behind_opening, behind_closing, behind_name, behind_argument, behind_for, behind_excluded, behind_subject, behind_operator, behind_comparison, behind_factor, behind_scales, behind_sums, behind_command, behind_among, behind_others, behind_starter, behind_groups, behind_entries, behind_inserts, behind_macro, behind_base, behind_literal, behind_definition, behind_terms, behind_names, behind_plain, behind_item, or_else, step}
+use Rattle.sbl_parser.specs.Steps.{Symbol, Stack, Step, goes, stuck, unassigned, is_optional, following, after_opening, after_closing, after_name, after_argument, after_for, after_excluded, after_subject, after_operator, after_comparison, after_factor, after_scales, after_sums, after_command, after_among, after_others, after_starter, after_groups, after_entries, after_inserts, after_macro, after_base, after_literal, after_definition, after_terms, after_names, after_plain, after_item, or_else, step}
 use Rattle.sbl_parser.specs.Steps as s
 use Rattle.sbl_parser.proofs.Runs.{Runs}
 
 abbrev Ts : Type 0
 Ts = List Terminal
 
--- the tokens of something in the symbol's place, and then those of what is behind it
+-- the tokens of something in the symbol's place, and then those of what is after it
 abbrev pub MakesOne : Symbol → (List Terminal → Type 0) → List Terminal → Type 0
 MakesOne (s.opening d) More ts = (rest : List Terminal) × (ts ≡ t.open_ ∷ rest) × More rest
 MakesOne (s.closing d) More ts = (rest : List Terminal) × (ts ≡ t.close_ ∷ rest) × More rest
@@ -56,7 +56,7 @@ abbrev pub Makes : Stack → List Terminal → Type 0
 Makes [] ts = ts ≡ []
 Makes (x ∷ k) ts = MakesOne x (Makes k) ts
 
--- a token before what is wanted behind it makes what was wanted
+-- a token before what is wanted after it makes what was wanted
 abbrev Assembles : Stack → Terminal → Step → Type 0
 Assembles k x (goes d next) = (ts : List Terminal) → Makes next ts → Makes k (x ∷ ts)
 Assembles k x stuck = Unit {0}
@@ -85,33 +85,33 @@ prepended x (group e es rs gs) rest = refl
 
 -- ---- one lemma for each symbol
 
-opening_made : (d : ℕ) (x : Terminal) (k : Stack) → Assembles (s.opening d ∷ k) x (behind_opening d x k)
+opening_made : (d : ℕ) (x : Terminal) (k : Stack) → Assembles (s.opening d ∷ k) x (after_opening d x k)
 opening_made d t.open_ k = λ ts m. (ts, refl, m)
 opening_made d _ k = tt
 
-closing_made : (d : ℕ) (x : Terminal) (k : Stack) → Assembles (s.closing d ∷ k) x (behind_closing d x k)
+closing_made : (d : ℕ) (x : Terminal) (k : Stack) → Assembles (s.closing d ∷ k) x (after_closing d x k)
 closing_made d t.close_ k = λ ts m. (ts, refl, m)
 closing_made d _ k = tt
 
-name_made : (d : ℕ) (x : Terminal) (k : Stack) → Assembles (s.name d ∷ k) x (behind_name d x k)
+name_made : (d : ℕ) (x : Terminal) (k : Stack) → Assembles (s.name d ∷ k) x (after_name d x k)
 name_made d (t.name n) k = λ ts m. (n, ts, refl, m)
 name_made d _ k = tt
 
-argument_made : (d : ℕ) (x : Terminal) (k : Stack) → Assembles (s.argument d ∷ k) x (behind_argument d x k)
+argument_made : (d : ℕ) (x : Terminal) (k : Stack) → Assembles (s.argument d ∷ k) x (after_argument d x k)
 argument_made d (t.literal q) k = λ ts m. (written_out q, ts, refl, m)
 argument_made d (t.name n) k = λ ts m. (by_name n, ts, refl, m)
 argument_made d _ k = tt
 
-for_made : (d : ℕ) (x : Terminal) (k : Stack) → Assembles (s.for_ d ∷ k) x (behind_for d x k)
+for_made : (d : ℕ) (x : Terminal) (k : Stack) → Assembles (s.for_ d ∷ k) x (after_for d x k)
 for_made d t.for_ k = λ ts m. (ts, refl, m)
 for_made d _ k = tt
 
-excluded_made : (d : ℕ) (x : Terminal) (k : Stack) → Assembles (s.excluded d ∷ k) x (behind_excluded d x k)
+excluded_made : (d : ℕ) (x : Terminal) (k : Stack) → Assembles (s.excluded d ∷ k) x (after_excluded d x k)
 excluded_made d (t.additive additives.Minus) k = λ ts m. (true, m.0, m.1, cons t.non (cons (t.additive additives.Minus) m.2), m.3)
 excluded_made d (t.name n) k = λ ts m. (false, n, ts, refl, m)
 excluded_made d _ k = tt
 
-subject_made : (d : ℕ) (x : Terminal) (k : Stack) → Assembles (s.subject d ∷ k) x (behind_subject d x k)
+subject_made : (d : ℕ) (x : Terminal) (k : Stack) → Assembles (s.subject d ∷ k) x (after_subject d x k)
 subject_made d (t.name n) k = λ ts m. (m.0 n, m.1, m.2 n, m.3)
 subject_made d t.open_ k = λ ts m.
     let e = expression_made d (s.comparison d ∷ s.expression d (s.closing d ∷ k)) ts m in
@@ -123,18 +123,18 @@ subject_made d t.open_ k = λ ts m.
     )
 subject_made d _ k = tt
 
-operator_made : (d : ℕ) (x : Terminal) (k : Stack) → Assembles (s.operator d ∷ k) x (behind_operator d x k)
+operator_made : (d : ℕ) (x : Terminal) (k : Stack) → Assembles (s.operator d ∷ k) x (after_operator d x k)
 operator_made d (t.assigns o) k = λ ts m. let e = expression_made d k ts m in
     (λ n. assign_ n o e.0, e.1, λ n. cons t.dollar (cons (t.name n) (cons (t.assigns o) e.2)), e.3)
 operator_made d (t.compares o) k = λ ts m. let e = expression_made d k ts m in
     (λ n. compare_ n o e.0, e.1, λ n. cons t.dollar (cons (t.name n) (cons (t.compares o) e.2)), e.3)
 operator_made d _ k = tt
 
-comparison_made : (d : ℕ) (x : Terminal) (k : Stack) → Assembles (s.comparison d ∷ k) x (behind_comparison d x k)
+comparison_made : (d : ℕ) (x : Terminal) (k : Stack) → Assembles (s.comparison d ∷ k) x (after_comparison d x k)
 comparison_made d (t.compares o) k = λ ts m. (o, ts, refl, m)
 comparison_made d _ k = tt
 
-factor_made : (d : ℕ) (x : Terminal) (k : Stack) → Assembles (s.factor d ∷ k) x (behind_factor d x k)
+factor_made : (d : ℕ) (x : Terminal) (k : Stack) → Assembles (s.factor d ∷ k) x (after_factor d x k)
 factor_made d (t.additive additives.Minus) k = λ ts m. (negated m.0, m.1, cons (t.additive additives.Minus) m.2, m.3)
 factor_made d t.open_ k = λ ts m. let e = expression_made (d + 1) (s.closing (d + 1) ∷ k) ts m in
     (bracketed e.0, e.3.0, cons t.open_ (e.2 ∙ ap (λ (r : Ts). spelled_expression e.0 r) e.3.1), e.3.2)
@@ -144,11 +144,11 @@ factor_made d (t.constant c) k = λ ts m. (fixed c, ts, refl, m)
 factor_made d t.len_of k = λ ts m. (length_of m.0, m.1, cons t.len_of m.2, m.3)
 factor_made d _ k = tt
 
-scales_made : (d : ℕ) (x : Terminal) (k : Stack) → Assembles (s.scales d ∷ k) x (behind_scales d x k)
+scales_made : (d : ℕ) (x : Terminal) (k : Stack) → Assembles (s.scales d ∷ k) x (after_scales d x k)
 scales_made d (t.multiplicative o) k = λ ts m. (scale o m.0 m.3.0, m.3.1, cons (t.multiplicative o) (m.2 ∙ ap (λ (r : Ts). spelled_factor m.0 r) m.3.2), m.3.3)
 scales_made d _ k = tt
 
-sums_made : (d : ℕ) (x : Terminal) (k : Stack) → Assembles (s.sums d ∷ k) x (behind_sums d x k)
+sums_made : (d : ℕ) (x : Terminal) (k : Stack) → Assembles (s.sums d ∷ k) x (after_sums d x k)
 sums_made d (t.additive o) k = λ ts m. (
   sum o (product m.0 m.3.0) m.3.3.0,
   m.3.3.1,
@@ -157,7 +157,7 @@ sums_made d (t.additive o) k = λ ts m. (
 )
 sums_made d _ k = tt
 
-command_made : (d : ℕ) (x : Terminal) (k : Stack) → Assembles (s.command d ∷ k) x (behind_command d x k)
+command_made : (d : ℕ) (x : Terminal) (k : Stack) → Assembles (s.command d ∷ k) x (after_command d x k)
 command_made d t.open_ k = λ ts m. (bracket m.0, m.3.0, cons t.open_ (m.2 ∙ ap (λ (r : Ts). spelled_rows m.0 r) m.3.1), m.3.2)
 command_made d (t.simple x) k = λ ts m. (simple_ x, ts, refl, m)
 command_made d (t.literal q) k = λ ts m. (literal_ q, ts, refl, m)
@@ -179,7 +179,7 @@ command_made d t.among k = λ ts m. (
 )
 command_made d _ k = tt
 
-among_made : (d : ℕ) (x : Terminal) (k : Stack) → Assembles (s.among d ∷ k) x (behind_among d x k)
+among_made : (d : ℕ) (x : Terminal) (k : Stack) → Assembles (s.among d ∷ k) x (after_among d x k)
 among_made d t.among k = λ ts m. (
   m.2.0,
   m.2.3.0,
@@ -189,27 +189,27 @@ among_made d t.among k = λ ts m. (
 )
 among_made d _ k = tt
 
-others_made : (d : ℕ) (x : Terminal) (k : Stack) → Assembles (s.others d ∷ k) x (behind_others d x k)
+others_made : (d : ℕ) (x : Terminal) (k : Stack) → Assembles (s.others d ∷ k) x (after_others d x k)
 others_made d (t.joiner j) k = λ ts m. (joined j m.0 m.3.0, m.3.1, cons (t.joiner j) (m.2 ∙ ap (λ (r : Ts). spelled_command m.0 r) m.3.2), m.3.3)
 others_made d _ k = tt
 
-rows_made : (d : ℕ) (x : Terminal) (k : Stack) → Assembles (s.rows d ∷ k) x (behind (s.rows d) x k)
-rows_made d x k = go (behind_command d x (s.others d ∷ s.rows d ∷ k)) (command_made d x (s.others d ∷ s.rows d ∷ k)) where
+rows_made : (d : ℕ) (x : Terminal) (k : Stack) → Assembles (s.rows d ∷ k) x (following (s.rows d) x k)
+rows_made d x k = go (after_command d x (s.others d ∷ s.rows d ∷ k)) (command_made d x (s.others d ∷ s.rows d ∷ k)) where
   go : (b : Step) → Assembles (s.command d ∷ s.others d ∷ s.rows d ∷ k) x b → Assembles (s.rows d ∷ k) x b
   go (goes e next) h = λ ts m. let c = h ts m in
       (row c.0 c.3.0 c.3.3.0, c.3.3.1, c.2 ∙ ap (λ (r : Ts). spelled_command c.0 r) (c.3.2 ∙ ap (λ (r : Ts). spelled_others c.3.0 r) c.3.3.2), c.3.3.3)
   go stuck h = tt
   go unassigned h = tt
 
-starter_made : (d : ℕ) (x : Terminal) (k : Stack) → Assembles (s.starter d ∷ k) x (behind_starter d x k)
+starter_made : (d : ℕ) (x : Terminal) (k : Stack) → Assembles (s.starter d ∷ k) x (after_starter d x k)
 starter_made d t.open_ k = λ ts m. (starter m.0, m.3.0, cons t.open_ (m.2 ∙ ap (λ (r : Ts). spelled_rows m.0 r) m.3.1), m.3.2)
 starter_made d _ k = tt
 
-groups_made : (d : ℕ) (x : Terminal) (k : Stack) → Assembles (s.groups d ∷ k) x (behind_groups d x k)
+groups_made : (d : ℕ) (x : Terminal) (k : Stack) → Assembles (s.groups d ∷ k) x (after_groups d x k)
 groups_made d (t.literal q) k = λ ts m. (m.3.0 (entry q m.0), m.3.1, m.2 q ∙ m.3.2 (entry q m.0), m.3.3)
 groups_made d _ k = tt
 
-entries_made : (d : ℕ) (x : Terminal) (k : Stack) → Assembles (s.entries d ∷ k) x (behind_entries d x k)
+entries_made : (d : ℕ) (x : Terminal) (k : Stack) → Assembles (s.entries d ∷ k) x (after_entries d x k)
 entries_made d (t.literal q) k = λ ts m.
     let gs = m.3.0 (entry q m.0) in
     (λ x. prepend x gs, m.3.1, λ x. ap (λ (r : Ts). spelled_entry x r) (m.2 q ∙ m.3.2 (entry q m.0)) ∙ sym (prepended x gs m.3.1), m.3.3)
@@ -221,27 +221,27 @@ entries_made d t.open_ k = λ ts m. (
 )
 entries_made d _ k = tt
 
-condition_made : (d : ℕ) (x : Terminal) (k : Stack) → Assembles (s.condition d ∷ k) x (behind_name d x k)
+condition_made : (d : ℕ) (x : Terminal) (k : Stack) → Assembles (s.condition d ∷ k) x (after_name d x k)
 condition_made d (t.name n) k = λ ts m. (Some n, ts, λ q. refl, m)
 condition_made d _ k = tt
 
-inserts_made : (x : Terminal) (k : Stack) → Assembles (s.inserts ∷ k) x (behind_inserts x k)
+inserts_made : (x : Terminal) (k : Stack) → Assembles (s.inserts ∷ k) x (after_inserts x k)
 inserts_made (t.inserts a b) k = λ ts m. (a, b, ts, refl, m)
 inserts_made _ k = tt
 
-macro_made : (x : Terminal) (k : Stack) → Assembles (s.macro ∷ k) x (behind_macro x k)
+macro_made : (x : Terminal) (k : Stack) → Assembles (s.macro ∷ k) x (after_macro x k)
 macro_made (t.macro_name n) k = λ ts m. (n, ts, refl, m)
 macro_made _ k = tt
 
-base_made : (x : Terminal) (k : Stack) → Assembles (s.base ∷ k) x (behind_base x k)
+base_made : (x : Terminal) (k : Stack) → Assembles (s.base ∷ k) x (after_base x k)
 base_made (t.base b) k = λ ts m. (Some b, ts, refl, m)
 base_made _ k = tt
 
-literal_made : (x : Terminal) (k : Stack) → Assembles (s.literal ∷ k) x (behind_literal x k)
+literal_made : (x : Terminal) (k : Stack) → Assembles (s.literal ∷ k) x (after_literal x k)
 literal_made (t.literal q) k = λ ts m. (q, ts, refl, m)
 literal_made _ k = tt
 
-definition_made : (x : Terminal) (k : Stack) → Assembles (s.definition ∷ k) x (behind_definition x k)
+definition_made : (x : Terminal) (k : Stack) → Assembles (s.definition ∷ k) x (after_definition x k)
 definition_made t.as_ k = λ ts m. (
   λ n. routine n m.0 m.3.0,
   m.3.1,
@@ -252,15 +252,15 @@ definition_made (t.literal q) k = λ ts m. (λ n. grouping n (written_out q) m.0
 definition_made (t.name x) k = λ ts m. (λ n. grouping n (by_name x) m.0, m.1, λ n. cons t.define (cons (t.name n) (cons (t.name x) m.2)), m.3)
 definition_made _ k = tt
 
-terms_made : (x : Terminal) (k : Stack) → Assembles (s.terms ∷ k) x (behind_terms x k)
+terms_made : (x : Terminal) (k : Stack) → Assembles (s.terms ∷ k) x (after_terms x k)
 terms_made (t.additive o) k = λ ts m. (term o m.0 ∷ m.3.0, m.3.1, cons (t.additive o) (m.2 ∙ cons (argument_terminal m.0) m.3.2), m.3.3)
 terms_made _ k = tt
 
-names_made : (x : Terminal) (k : Stack) → Assembles (s.names ∷ k) x (behind_names x k)
+names_made : (x : Terminal) (k : Stack) → Assembles (s.names ∷ k) x (after_names x k)
 names_made (t.name n) k = λ ts m. (n ∷ m.0, m.1, cons (t.name n) m.2, m.3)
 names_made _ k = tt
 
-plain_made : (x : Terminal) (k : Stack) → Assembles (s.plain ∷ k) x (behind_plain x k)
+plain_made : (x : Terminal) (k : Stack) → Assembles (s.plain ∷ k) x (after_plain x k)
 plain_made (t.declares x) k = λ ts m. (declaration x m.2.0, m.2.3.0, cons (t.declares x) (m.1 ∙ cons t.open_ (m.2.2 ∙ ap (λ (r : Ts). spelled_names m.2.0 r) m.2.3.1)), m.2.3.2)
 plain_made t.string_escapes k = λ ts m. (escapes m.0 m.1, m.2, cons t.string_escapes m.3, m.4)
 plain_made t.string_def k = λ ts m. (
@@ -272,14 +272,14 @@ plain_made t.string_def k = λ ts m. (
 plain_made t.define k = λ ts m. (m.3.0 m.0, m.3.1, cons t.define m.2 ∙ m.3.2 m.0, m.3.3)
 plain_made _ k = tt
 
-plains_made : (x : Terminal) (k : Stack) → Assembles (s.plains ∷ k) x (behind_plain x (s.plains ∷ k))
-plains_made x k = go (behind_plain x (s.plains ∷ k)) (plain_made x (s.plains ∷ k)) where
+plains_made : (x : Terminal) (k : Stack) → Assembles (s.plains ∷ k) x (after_plain x (s.plains ∷ k))
+plains_made x k = go (after_plain x (s.plains ∷ k)) (plain_made x (s.plains ∷ k)) where
   go : (b : Step) → Assembles (s.plain ∷ s.plains ∷ k) x b → Assembles (s.plains ∷ k) x b
   go (goes e next) h = λ ts m. let c = h ts m in (c.0 ∷ c.3.0, c.3.1, c.2 ∙ ap (λ (r : Ts). spelled_plain c.0 r) c.3.2, c.3.3)
   go stuck h = tt
   go unassigned h = tt
 
-item_made : (x : Terminal) (k : Stack) → Assembles (s.item ∷ k) x (behind_item x k)
+item_made : (x : Terminal) (k : Stack) → Assembles (s.item ∷ k) x (after_item x k)
 item_made (t.declares x) k = λ ts m. let c = plain_made (t.declares x) k ts m in (plain c.0, c.1, c.2, c.3)
 item_made t.string_escapes k = λ ts m. let c = plain_made t.string_escapes k ts m in (plain c.0, c.1, c.2, c.3)
 item_made t.string_def k = λ ts m. let c = plain_made t.string_def k ts m in (plain c.0, c.1, c.2, c.3)
@@ -287,45 +287,45 @@ item_made t.define k = λ ts m. let c = plain_made t.define k ts m in (plain c.0
 item_made t.backward_mode k = λ ts m. (backward m.2.0, m.2.3.0, cons t.backward_mode (m.1 ∙ cons t.open_ (m.2.2 ∙ ap (λ (r : Ts). spelled_plains m.2.0 r) m.2.3.1)), m.2.3.2)
 item_made _ k = tt
 
-items_made : (x : Terminal) (k : Stack) → Assembles (s.items ∷ k) x (behind_item x (s.items ∷ k))
-items_made x k = go (behind_item x (s.items ∷ k)) (item_made x (s.items ∷ k)) where
+items_made : (x : Terminal) (k : Stack) → Assembles (s.items ∷ k) x (after_item x (s.items ∷ k))
+items_made x k = go (after_item x (s.items ∷ k)) (item_made x (s.items ∷ k)) where
   go : (b : Step) → Assembles (s.item ∷ s.items ∷ k) x b → Assembles (s.items ∷ k) x b
   go (goes e next) h = λ ts m. let c = h ts m in (c.0 ∷ c.3.0, c.3.1, c.2 ∙ ap (λ (r : Ts). spelled_item c.0 r) c.3.2, c.3.3)
   go stuck h = tt
   go unassigned h = tt
 
-behind_made : (y : Symbol) (x : Terminal) (k : Stack) → Assembles (y ∷ k) x (behind y x k)
-behind_made (s.opening d) x k = opening_made d x k
-behind_made (s.closing d) x k = closing_made d x k
-behind_made (s.name d) x k = name_made d x k
-behind_made (s.argument d) x k = argument_made d x k
-behind_made (s.command d) x k = command_made d x k
-behind_made (s.others d) x k = others_made d x k
-behind_made (s.rows d) x k = rows_made d x k
-behind_made (s.for_ d) x k = for_made d x k
-behind_made (s.excluded d) x k = excluded_made d x k
-behind_made (s.subject d) x k = subject_made d x k
-behind_made (s.operator d) x k = operator_made d x k
-behind_made (s.comparison d) x k = comparison_made d x k
-behind_made (s.factor d) x k = factor_made d x k
-behind_made (s.scales d) x k = scales_made d x k
-behind_made (s.sums d) x k = sums_made d x k
-behind_made (s.starter d) x k = starter_made d x k
-behind_made (s.groups d) x k = groups_made d x k
-behind_made (s.entries d) x k = entries_made d x k
-behind_made (s.condition d) x k = condition_made d x k
-behind_made (s.among d) x k = among_made d x k
-behind_made s.inserts x k = inserts_made x k
-behind_made s.macro x k = macro_made x k
-behind_made s.base x k = base_made x k
-behind_made s.literal x k = literal_made x k
-behind_made s.definition x k = definition_made x k
-behind_made s.terms x k = terms_made x k
-behind_made s.names x k = names_made x k
-behind_made s.plain x k = plain_made x k
-behind_made s.plains x k = plains_made x k
-behind_made s.item x k = item_made x k
-behind_made s.items x k = items_made x k
+after_made : (y : Symbol) (x : Terminal) (k : Stack) → Assembles (y ∷ k) x (following y x k)
+after_made (s.opening d) x k = opening_made d x k
+after_made (s.closing d) x k = closing_made d x k
+after_made (s.name d) x k = name_made d x k
+after_made (s.argument d) x k = argument_made d x k
+after_made (s.command d) x k = command_made d x k
+after_made (s.others d) x k = others_made d x k
+after_made (s.rows d) x k = rows_made d x k
+after_made (s.for_ d) x k = for_made d x k
+after_made (s.excluded d) x k = excluded_made d x k
+after_made (s.subject d) x k = subject_made d x k
+after_made (s.operator d) x k = operator_made d x k
+after_made (s.comparison d) x k = comparison_made d x k
+after_made (s.factor d) x k = factor_made d x k
+after_made (s.scales d) x k = scales_made d x k
+after_made (s.sums d) x k = sums_made d x k
+after_made (s.starter d) x k = starter_made d x k
+after_made (s.groups d) x k = groups_made d x k
+after_made (s.entries d) x k = entries_made d x k
+after_made (s.condition d) x k = condition_made d x k
+after_made (s.among d) x k = among_made d x k
+after_made s.inserts x k = inserts_made x k
+after_made s.macro x k = macro_made x k
+after_made s.base x k = base_made x k
+after_made s.literal x k = literal_made x k
+after_made s.definition x k = definition_made x k
+after_made s.terms x k = terms_made x k
+after_made s.names x k = names_made x k
+after_made s.plain x k = plain_made x k
+after_made s.plains x k = plains_made x k
+after_made s.item x k = item_made x k
+after_made s.items x k = items_made x k
 
 nothing_made : (y : Symbol) (k : Stack) (ts : List Terminal) → is_optional y ≡ true → Makes k ts → Makes (y ∷ k) ts
 nothing_made (s.others d) k ts e m = (no_others, ts, refl, m)
@@ -345,7 +345,7 @@ nothing_made _ k ts e m = absurd cc
 
 step_made : (k next : Stack) (x : Terminal) (d : ℕ) (ts : List Terminal) → step k x ≡ goes d next → Makes next ts → Makes k (x ∷ ts)
 step_made [] next x d ts e m = absurd cc
-step_made (y ∷ k) next x d ts e m = go (behind y x k) (behind_made y x k) (is_optional y) refl e (λ f. step_made k next x d ts f m) where
+step_made (y ∷ k) next x d ts e m = go (following y x k) (after_made y x k) (is_optional y) refl e (λ f. step_made k next x d ts f m) where
   go : (b : Step) → Assembles (y ∷ k) x b → (o : Bool) → is_optional y ≡ o → or_else b (if o then step k x else stuck) ≡ goes d next → (step k x ≡ goes d next → Makes k (x ∷ ts)) → Makes (y ∷ k) (x ∷ ts)
   go (goes f after) h o is e below = let same : after ≡ next = cc in h ts (subst (λ (n : Stack). Makes n ts) (sym same) m)
   go stuck h true is e below = nothing_made y k (x ∷ ts) is (below e)

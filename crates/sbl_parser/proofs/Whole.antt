@@ -12,7 +12,7 @@ use Rattle.sbl_ast.specs.Tree.{Item, Command, Others, Starter, Groups, among_, A
 use Rattle.sbl_ast.specs.Spelled.{argument_terminal, spelled_command, spelled_terms, spelled_others, spelled_items}
 use Rattle.sbl_ast.specs.Texts.{Text, TreeOf}
 use Rattle.sbl_ast.specs.TerminalPlaces.{tokens_of}
-use Rattle.sbl_parser.specs.Fronts.{first_stack}
+use Rattle.sbl_parser.specs.FirstStack.{first_stack}
 use Rattle.sbl_ast.specs.Texts as texts
 use Rattle.sbl_parser.specs.Steps.{Stack, Fault, items, fault, syntax, too_deep, no_operator}
 use Rattle.sbl_parser.specs.Steps as s
@@ -35,10 +35,10 @@ read_whole ts rest tree none h g =
 
 -- ---- the place of an error
 
-front_left : (ts : List Token) (at : ℕ) → (p : Ts) × (terminals_of ts ≡ p ++ tokens_left ts at)
-front_left ts zero = ([], refl)
-front_left [] (suc n) = ([], refl)
-front_left (x ∷ ts) (suc n) = let m = front_left ts n in (terminal_of (lexeme_of x) ∷ m.0, ap (λ (r : Ts). terminal_of (lexeme_of x) ∷ r) m.1)
+prefix_left : (ts : List Token) (at : ℕ) → (p : Ts) × (terminals_of ts ≡ p ++ tokens_left ts at)
+prefix_left ts zero = ([], refl)
+prefix_left [] (suc n) = ([], refl)
+prefix_left (x ∷ ts) (suc n) = let m = prefix_left ts n in (terminal_of (lexeme_of x) ∷ m.0, ap (λ (r : Ts). terminal_of (lexeme_of x) ∷ r) m.1)
 
 same_end : (p q s r : Ts) → p ++ s ≡ q ++ r → length s ≡ length r → s ≡ r
 same_end [] [] s r e l = e
@@ -50,10 +50,10 @@ same_end (x ∷ p) (y ∷ q) s r e l = let below : p ++ s ≡ q ++ r = cc in sam
 left_of : (ts : List Token) (before rest : Ts) (n : ℕ) → terminals_of ts ≡ before ++ rest → length rest ≡ n → tokens_left ts (length ts - n) ≡ rest
 left_of ts before rest n parts is =
     let at = length ts - n in
-    let front = front_left ts at in
+    let prefix = prefix_left ts at in
     let all : length ts ≡ length before + length rest = omega (arith, length-map ts (λ x. terminal_of (lexeme_of x)), ap length parts, length-append before rest) in
     let same : length (tokens_left ts at) ≡ length rest = omega (arith, left_length ts at, length-drop at ts, all, is) in
-    same_end front.0 before (tokens_left ts at) rest (sym front.1 ∙ parts) same
+    same_end prefix.0 before (tokens_left ts at) rest (sym prefix.1 ∙ parts) same
 
 -- the fault of an error
 syntax_for : (f : Option Fault) (n : ℕ) → error_for f ≡ Some (errors.Syntax n) → (rest : Ts) × (f ≡ Some (syntax rest)) × (length rest ≡ n)

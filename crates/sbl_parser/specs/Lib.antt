@@ -7,7 +7,7 @@ pub mod Laws
 pub mod TerminalReading
 pub mod Roles
 pub mod Steps
-pub mod Fronts
+pub mod FirstStack
 pub mod First
 pub mod Starts
 pub mod Gives

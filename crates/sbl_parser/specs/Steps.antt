@@ -44,177 +44,177 @@ is_optional _ = false
 
 -- ---- one function for each symbol: the step for a token, with the stack k of the symbols after it
 
-abbrev pub behind_opening : ℕ → Terminal → Stack → Step
-behind_opening d t.open_ k = goes d k
-behind_opening d _ k = stuck
+abbrev pub after_opening : ℕ → Terminal → Stack → Step
+after_opening d t.open_ k = goes d k
+after_opening d _ k = stuck
 
-abbrev pub behind_closing : ℕ → Terminal → Stack → Step
-behind_closing d t.close_ k = goes d k
-behind_closing d _ k = stuck
+abbrev pub after_closing : ℕ → Terminal → Stack → Step
+after_closing d t.close_ k = goes d k
+after_closing d _ k = stuck
 
-abbrev pub behind_name : ℕ → Terminal → Stack → Step
-behind_name d (t.name n) k = goes d k
-behind_name d _ k = stuck
+abbrev pub after_name : ℕ → Terminal → Stack → Step
+after_name d (t.name n) k = goes d k
+after_name d _ k = stuck
 
-abbrev pub behind_argument : ℕ → Terminal → Stack → Step
-behind_argument d (t.literal q) k = goes d k
-behind_argument d (t.name n) k = goes d k
-behind_argument d _ k = stuck
+abbrev pub after_argument : ℕ → Terminal → Stack → Step
+after_argument d (t.literal q) k = goes d k
+after_argument d (t.name n) k = goes d k
+after_argument d _ k = stuck
 
-abbrev pub behind_for : ℕ → Terminal → Stack → Step
-behind_for d t.for_ k = goes d k
-behind_for d _ k = stuck
+abbrev pub after_for : ℕ → Terminal → Stack → Step
+after_for d t.for_ k = goes d k
+after_for d _ k = stuck
 
-abbrev pub behind_excluded : ℕ → Terminal → Stack → Step
-behind_excluded d (t.additive additives.Minus) k = goes d (name d ∷ k)
-behind_excluded d (t.name n) k = goes d k
-behind_excluded d _ k = stuck
+abbrev pub after_excluded : ℕ → Terminal → Stack → Step
+after_excluded d (t.additive additives.Minus) k = goes d (name d ∷ k)
+after_excluded d (t.name n) k = goes d k
+after_excluded d _ k = stuck
 
-abbrev pub behind_subject : ℕ → Terminal → Stack → Step
-behind_subject d (t.name n) k = goes d (operator d ∷ k)
-behind_subject d t.open_ k = goes d (expression d (comparison d ∷ expression d (closing d ∷ k)))
-behind_subject d _ k = stuck
+abbrev pub after_subject : ℕ → Terminal → Stack → Step
+after_subject d (t.name n) k = goes d (operator d ∷ k)
+after_subject d t.open_ k = goes d (expression d (comparison d ∷ expression d (closing d ∷ k)))
+after_subject d _ k = stuck
 
-abbrev pub behind_operator : ℕ → Terminal → Stack → Step
-behind_operator d (t.assigns o) k = goes d (expression d k)
-behind_operator d (t.compares o) k = goes d (expression d k)
-behind_operator d _ k = unassigned
+abbrev pub after_operator : ℕ → Terminal → Stack → Step
+after_operator d (t.assigns o) k = goes d (expression d k)
+after_operator d (t.compares o) k = goes d (expression d k)
+after_operator d _ k = unassigned
 
-abbrev pub behind_comparison : ℕ → Terminal → Stack → Step
-behind_comparison d (t.compares o) k = goes d k
-behind_comparison d _ k = stuck
+abbrev pub after_comparison : ℕ → Terminal → Stack → Step
+after_comparison d (t.compares o) k = goes d k
+after_comparison d _ k = stuck
 
-abbrev pub behind_factor : ℕ → Terminal → Stack → Step
-behind_factor d (t.additive additives.Minus) k = goes (d + 1) (factor (d + 1) ∷ k)
-behind_factor d t.open_ k = goes (d + 1) (expression (d + 1) (closing (d + 1) ∷ k))
-behind_factor d (t.number n) k = goes d k
-behind_factor d (t.name n) k = goes d k
-behind_factor d (t.constant c) k = goes d k
-behind_factor d t.len_of k = goes d (argument d ∷ k)
-behind_factor d _ k = stuck
+abbrev pub after_factor : ℕ → Terminal → Stack → Step
+after_factor d (t.additive additives.Minus) k = goes (d + 1) (factor (d + 1) ∷ k)
+after_factor d t.open_ k = goes (d + 1) (expression (d + 1) (closing (d + 1) ∷ k))
+after_factor d (t.number n) k = goes d k
+after_factor d (t.name n) k = goes d k
+after_factor d (t.constant c) k = goes d k
+after_factor d t.len_of k = goes d (argument d ∷ k)
+after_factor d _ k = stuck
 
-abbrev pub behind_scales : ℕ → Terminal → Stack → Step
-behind_scales d (t.multiplicative o) k = goes d (factor d ∷ scales d ∷ k)
-behind_scales d _ k = stuck
+abbrev pub after_scales : ℕ → Terminal → Stack → Step
+after_scales d (t.multiplicative o) k = goes d (factor d ∷ scales d ∷ k)
+after_scales d _ k = stuck
 
-abbrev pub behind_sums : ℕ → Terminal → Stack → Step
-behind_sums d (t.additive o) k = goes d (expression d k)
-behind_sums d _ k = stuck
+abbrev pub after_sums : ℕ → Terminal → Stack → Step
+after_sums d (t.additive o) k = goes d (expression d k)
+after_sums d _ k = stuck
 
-abbrev pub behind_command : ℕ → Terminal → Stack → Step
-behind_command d t.open_ k = goes d (rows (d + 1) ∷ closing d ∷ k)
-behind_command d (t.simple s) k = goes d k
-behind_command d (t.literal q) k = goes d k
-behind_command d (t.name n) k = goes d k
-behind_command d t.non k = goes d (excluded d ∷ k)
-behind_command d (t.prefix p) k = goes d (command (d + 1) ∷ k)
-behind_command d (t.count n) k = goes d (expression d (command (d + 1) ∷ k))
-behind_command d (t.move m) k = goes d (expression d k)
-behind_command d (t.naming x) k = goes d (name d ∷ k)
-behind_command d (t.edit x) k = goes d (argument d ∷ k)
-behind_command d t.set_limit k = goes d (command (d + 1) ∷ for_ d ∷ command (d + 1) ∷ k)
-behind_command d t.dollar k = goes d (subject d ∷ k)
-behind_command d t.among k = goes d (opening d ∷ starter d ∷ groups d ∷ closing d ∷ k)
-behind_command d _ k = stuck
+abbrev pub after_command : ℕ → Terminal → Stack → Step
+after_command d t.open_ k = goes d (rows (d + 1) ∷ closing d ∷ k)
+after_command d (t.simple s) k = goes d k
+after_command d (t.literal q) k = goes d k
+after_command d (t.name n) k = goes d k
+after_command d t.non k = goes d (excluded d ∷ k)
+after_command d (t.prefix p) k = goes d (command (d + 1) ∷ k)
+after_command d (t.count n) k = goes d (expression d (command (d + 1) ∷ k))
+after_command d (t.move m) k = goes d (expression d k)
+after_command d (t.naming x) k = goes d (name d ∷ k)
+after_command d (t.edit x) k = goes d (argument d ∷ k)
+after_command d t.set_limit k = goes d (command (d + 1) ∷ for_ d ∷ command (d + 1) ∷ k)
+after_command d t.dollar k = goes d (subject d ∷ k)
+after_command d t.among k = goes d (opening d ∷ starter d ∷ groups d ∷ closing d ∷ k)
+after_command d _ k = stuck
 
-abbrev pub behind_among : ℕ → Terminal → Stack → Step
-behind_among d t.among k = goes d (opening d ∷ starter d ∷ groups d ∷ closing d ∷ k)
-behind_among d _ k = stuck
+abbrev pub after_among : ℕ → Terminal → Stack → Step
+after_among d t.among k = goes d (opening d ∷ starter d ∷ groups d ∷ closing d ∷ k)
+after_among d _ k = stuck
 
-abbrev pub behind_others : ℕ → Terminal → Stack → Step
-behind_others d (t.joiner j) k = goes d (command d ∷ others d ∷ k)
-behind_others d _ k = stuck
+abbrev pub after_others : ℕ → Terminal → Stack → Step
+after_others d (t.joiner j) k = goes d (command d ∷ others d ∷ k)
+after_others d _ k = stuck
 
-abbrev pub behind_starter : ℕ → Terminal → Stack → Step
-behind_starter d t.open_ k = goes (d + 1) (rows (d + 1 + 1) ∷ closing (d + 1) ∷ k)
-behind_starter d _ k = stuck
+abbrev pub after_starter : ℕ → Terminal → Stack → Step
+after_starter d t.open_ k = goes (d + 1) (rows (d + 1 + 1) ∷ closing (d + 1) ∷ k)
+after_starter d _ k = stuck
 
-abbrev pub behind_groups : ℕ → Terminal → Stack → Step
-behind_groups d (t.literal q) k = goes d (condition d ∷ entries d ∷ k)
-behind_groups d _ k = stuck
+abbrev pub after_groups : ℕ → Terminal → Stack → Step
+after_groups d (t.literal q) k = goes d (condition d ∷ entries d ∷ k)
+after_groups d _ k = stuck
 
-abbrev pub behind_entries : ℕ → Terminal → Stack → Step
-behind_entries d (t.literal q) k = goes d (condition d ∷ entries d ∷ k)
-behind_entries d t.open_ k = goes (d + 1) (rows (d + 1 + 1) ∷ closing (d + 1) ∷ groups d ∷ k)
-behind_entries d _ k = stuck
+abbrev pub after_entries : ℕ → Terminal → Stack → Step
+after_entries d (t.literal q) k = goes d (condition d ∷ entries d ∷ k)
+after_entries d t.open_ k = goes (d + 1) (rows (d + 1 + 1) ∷ closing (d + 1) ∷ groups d ∷ k)
+after_entries d _ k = stuck
 
-abbrev pub behind_inserts : Terminal → Stack → Step
-behind_inserts (t.inserts a b) k = goes 0 k
-behind_inserts _ k = stuck
+abbrev pub after_inserts : Terminal → Stack → Step
+after_inserts (t.inserts a b) k = goes 0 k
+after_inserts _ k = stuck
 
-abbrev pub behind_macro : Terminal → Stack → Step
-behind_macro (t.macro_name n) k = goes 0 k
-behind_macro _ k = stuck
+abbrev pub after_macro : Terminal → Stack → Step
+after_macro (t.macro_name n) k = goes 0 k
+after_macro _ k = stuck
 
-abbrev pub behind_base : Terminal → Stack → Step
-behind_base (t.base b) k = goes 0 k
-behind_base _ k = stuck
+abbrev pub after_base : Terminal → Stack → Step
+after_base (t.base b) k = goes 0 k
+after_base _ k = stuck
 
-abbrev pub behind_literal : Terminal → Stack → Step
-behind_literal (t.literal q) k = goes 0 k
-behind_literal _ k = stuck
+abbrev pub after_literal : Terminal → Stack → Step
+after_literal (t.literal q) k = goes 0 k
+after_literal _ k = stuck
 
-abbrev pub behind_definition : Terminal → Stack → Step
-behind_definition t.as_ k = goes 0 (command 1 ∷ others 1 ∷ k)
-behind_definition (t.literal q) k = goes 0 (terms ∷ k)
-behind_definition (t.name n) k = goes 0 (terms ∷ k)
-behind_definition _ k = stuck
+abbrev pub after_definition : Terminal → Stack → Step
+after_definition t.as_ k = goes 0 (command 1 ∷ others 1 ∷ k)
+after_definition (t.literal q) k = goes 0 (terms ∷ k)
+after_definition (t.name n) k = goes 0 (terms ∷ k)
+after_definition _ k = stuck
 
-abbrev pub behind_terms : Terminal → Stack → Step
-behind_terms (t.additive o) k = goes 0 (argument 0 ∷ terms ∷ k)
-behind_terms _ k = stuck
+abbrev pub after_terms : Terminal → Stack → Step
+after_terms (t.additive o) k = goes 0 (argument 0 ∷ terms ∷ k)
+after_terms _ k = stuck
 
-abbrev pub behind_names : Terminal → Stack → Step
-behind_names (t.name n) k = goes 0 (names ∷ k)
-behind_names _ k = stuck
+abbrev pub after_names : Terminal → Stack → Step
+after_names (t.name n) k = goes 0 (names ∷ k)
+after_names _ k = stuck
 
-abbrev pub behind_plain : Terminal → Stack → Step
-behind_plain (t.declares x) k = goes 0 (opening 0 ∷ names ∷ closing 0 ∷ k)
-behind_plain t.string_escapes k = goes 0 (inserts ∷ k)
-behind_plain t.string_def k = goes 0 (macro ∷ base ∷ literal ∷ k)
-behind_plain t.define k = goes 0 (name 0 ∷ definition ∷ k)
-behind_plain _ k = stuck
+abbrev pub after_plain : Terminal → Stack → Step
+after_plain (t.declares x) k = goes 0 (opening 0 ∷ names ∷ closing 0 ∷ k)
+after_plain t.string_escapes k = goes 0 (inserts ∷ k)
+after_plain t.string_def k = goes 0 (macro ∷ base ∷ literal ∷ k)
+after_plain t.define k = goes 0 (name 0 ∷ definition ∷ k)
+after_plain _ k = stuck
 
-abbrev pub behind_item : Terminal → Stack → Step
-behind_item (t.declares x) k = goes 0 (opening 0 ∷ names ∷ closing 0 ∷ k)
-behind_item t.string_escapes k = goes 0 (inserts ∷ k)
-behind_item t.string_def k = goes 0 (macro ∷ base ∷ literal ∷ k)
-behind_item t.define k = goes 0 (name 0 ∷ definition ∷ k)
-behind_item t.backward_mode k = goes 0 (opening 0 ∷ plains ∷ closing 0 ∷ k)
-behind_item _ k = stuck
+abbrev pub after_item : Terminal → Stack → Step
+after_item (t.declares x) k = goes 0 (opening 0 ∷ names ∷ closing 0 ∷ k)
+after_item t.string_escapes k = goes 0 (inserts ∷ k)
+after_item t.string_def k = goes 0 (macro ∷ base ∷ literal ∷ k)
+after_item t.define k = goes 0 (name 0 ∷ definition ∷ k)
+after_item t.backward_mode k = goes 0 (opening 0 ∷ plains ∷ closing 0 ∷ k)
+after_item _ k = stuck
 
-abbrev pub behind : Symbol → Terminal → Stack → Step
-behind (opening d) x k = behind_opening d x k
-behind (closing d) x k = behind_closing d x k
-behind (name d) x k = behind_name d x k
-behind (argument d) x k = behind_argument d x k
-behind (command d) x k = behind_command d x k
-behind (others d) x k = behind_others d x k
-behind (rows d) x k = behind_command d x (others d ∷ rows d ∷ k)
-behind (for_ d) x k = behind_for d x k
-behind (excluded d) x k = behind_excluded d x k
-behind (subject d) x k = behind_subject d x k
-behind (operator d) x k = behind_operator d x k
-behind (comparison d) x k = behind_comparison d x k
-behind (factor d) x k = behind_factor d x k
-behind (scales d) x k = behind_scales d x k
-behind (sums d) x k = behind_sums d x k
-behind (starter d) x k = behind_starter d x k
-behind (groups d) x k = behind_groups d x k
-behind (entries d) x k = behind_entries d x k
-behind (condition d) x k = behind_name d x k
-behind (among d) x k = behind_among d x k
-behind inserts x k = behind_inserts x k
-behind macro x k = behind_macro x k
-behind base x k = behind_base x k
-behind literal x k = behind_literal x k
-behind definition x k = behind_definition x k
-behind terms x k = behind_terms x k
-behind names x k = behind_names x k
-behind plain x k = behind_plain x k
-behind plains x k = behind_plain x (plains ∷ k)
-behind item x k = behind_item x k
-behind items x k = behind_item x (items ∷ k)
+abbrev pub following : Symbol → Terminal → Stack → Step
+following (opening d) x k = after_opening d x k
+following (closing d) x k = after_closing d x k
+following (name d) x k = after_name d x k
+following (argument d) x k = after_argument d x k
+following (command d) x k = after_command d x k
+following (others d) x k = after_others d x k
+following (rows d) x k = after_command d x (others d ∷ rows d ∷ k)
+following (for_ d) x k = after_for d x k
+following (excluded d) x k = after_excluded d x k
+following (subject d) x k = after_subject d x k
+following (operator d) x k = after_operator d x k
+following (comparison d) x k = after_comparison d x k
+following (factor d) x k = after_factor d x k
+following (scales d) x k = after_scales d x k
+following (sums d) x k = after_sums d x k
+following (starter d) x k = after_starter d x k
+following (groups d) x k = after_groups d x k
+following (entries d) x k = after_entries d x k
+following (condition d) x k = after_name d x k
+following (among d) x k = after_among d x k
+following inserts x k = after_inserts x k
+following macro x k = after_macro x k
+following base x k = after_base x k
+following literal x k = after_literal x k
+following definition x k = after_definition x k
+following terms x k = after_terms x k
+following names x k = after_names x k
+following plain x k = after_plain x k
+following plains x k = after_plain x (plains ∷ k)
+following item x k = after_item x k
+following items x k = after_item x (items ∷ k)
 
 abbrev pub or_else : Step → Step → Step
 or_else (goes d k) other = goes d k
@@ -223,7 +223,7 @@ or_else unassigned other = unassigned
 
 abbrev pub step : Stack → Terminal → Step
 step [] x = stuck
-step (s ∷ k) x = or_else (behind s x k) (if is_optional s then step k x else stuck)
+step (s ∷ k) x = or_else (following s x k) (if is_optional s then step k x else stuck)
 
 -- no more tokens are needed
 abbrev pub is_done : Stack → Bool

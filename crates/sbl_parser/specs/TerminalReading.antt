@@ -6,13 +6,13 @@ use Rattle.sbl_ast.specs.TerminalPlaces.{places_in, tokens_of, AreShallow, AtDep
 use Rattle.sbl_ast.specs.Places.{max_depth}
 
 -- these tokens are a prefix of the tokens of a tree
-abbrev pub IsFront : Text → List Terminal → Type 0
-IsFront t before = (tree : TreeOf t) × (rest : List Terminal) × (tokens_of t tree ≡ before ++ rest)
+abbrev pub IsPrefix : Text → List Terminal → Type 0
+IsPrefix t before = (tree : TreeOf t) × (rest : List Terminal) × (tokens_of t tree ≡ before ++ rest)
 
 -- the token after these tokens is too deep, in a tree whose tokens begin with both
 abbrev pub IsTooDeep : Text → List Terminal → Terminal → Type 0
-IsTooDeep t before x = (tree : TreeOf t) × (front : List AtDepth) × (depth : ℕ) × (rest : List AtDepth)
-    × (places_in t tree ≡ front ++ (x, depth) ∷ rest) × (tokens front ≡ before) × (max_depth < depth)
+IsTooDeep t before x = (tree : TreeOf t) × (prefix : List AtDepth) × (depth : ℕ) × (rest : List AtDepth)
+    × (places_in t tree ≡ prefix ++ (x, depth) ∷ rest) × (tokens prefix ≡ before) × (max_depth < depth)
 
 -- none of these tokens is too deep
 abbrev pub HasNoneTooDeep : Text → List Terminal → Type 0
@@ -25,11 +25,11 @@ IsReadAs t all tree = (tokens_of t tree ≡ all) × AreShallow (places_in t tree
 -- the first token of the rest cannot follow those before it; if the rest is empty, more tokens are needed
 abbrev pub CannotFollow : Text → List Terminal → List Terminal → Type 0
 CannotFollow t before [] = (tree : TreeOf t) → tokens_of t tree ≡ before → ⊥
-CannotFollow t before (x ∷ more) = IsFront t (before ++ x ∷ []) → ⊥
+CannotFollow t before (x ∷ more) = IsPrefix t (before ++ x ∷ []) → ⊥
 
 -- the tokens before are a prefix of a tree and not too deep, and the rest cannot follow
 pub record StopsAt (t : Text) (before rest : List Terminal) : Type 0 where
-  pub front : IsFront t before
+  pub prefix : IsPrefix t before
   pub shallow : HasNoneTooDeep t before
   pub stops : CannotFollow t before rest
 
@@ -38,7 +38,7 @@ pub record IsSyntaxAt (t : Text) (all rest : List Terminal) : Type 0 where
   pub before : List Terminal
   pub parts : all ≡ before ++ rest
   pub stops : StopsAt t before rest
-  pub other : (front : List Terminal) (n : List ℕ) → before ≡ front ++ dollar ∷ name n ∷ [] → rest ≡ []
+  pub other : (prefix : List Terminal) (n : List ℕ) → before ≡ prefix ++ dollar ∷ name n ∷ [] → rest ≡ []
 
 pub record IsTooDeepAt (t : Text) (all rest : List Terminal) : Type 0 where
   pub before : List Terminal

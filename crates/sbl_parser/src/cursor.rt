@@ -10,7 +10,7 @@ ghost use Rattle.sbl_parser.specs.Gives.{ahead, Fails, delimiter_role, delimiter
 ghost use Rattle.sbl_parser.specs.Steps.{fault};
 
 use crate::error::ReadError;
-use crate::front::{first_inserts, first_literal, first_number, first_role, first_text};
+use crate::first_tokens::{first_inserts, first_literal, first_number, first_role, first_text};
 use crate::role::Role;
 use sbl_ast::Literal;
 use sbl_text::Token;

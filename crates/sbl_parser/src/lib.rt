@@ -6,7 +6,7 @@ mod commands;
 mod cursor;
 mod entries;
 mod error;
-mod front;
+mod first_tokens;
 mod items;
 mod leaves;
 mod reading;
@@ -14,6 +14,6 @@ mod role;
 mod starts;
 mod tokens;
 
-pub use front::is_left_out;
+pub use first_tokens::is_left_out;
 pub use reading::{one_fault, one_tree, parse, parse_among, parse_body, parse_terms};
 pub use role::Role;

@@ -5,7 +5,7 @@ ghost use Rattle.sbl_token.specs.Lexemes.{lexeme_of};
 ghost use Rattle.sbl_ast.specs.Terminal.{terminals_of};
 ghost use Rattle.sbl_ast.specs.Tree as trees;
 ghost use Rattle.sbl_ast.specs.Texts.{script, body};
-ghost use Rattle.sbl_parser.specs.Fronts.{first_stack};
+ghost use Rattle.sbl_parser.specs.FirstStack.{first_stack};
 ghost use Rattle.sbl_ast.specs.Texts as texts;
 ghost use Rattle.sbl_parser.specs.Reading.{IsReadAs};
 ghost use Rattle.sbl_parser.specs.TerminalReading as roles;

@@ -15,7 +15,7 @@ use Rattle.sbl_ast.specs.Order.{ItemInMode, in_mode, in_order}
 use Rattle.sbl_resolver.specs.declared.occurrences.Use.TheVariants as use_as
 use Rattle.sbl_resolver.specs.declared.occurrences.Site.{Site}
 use Rattle.sbl_resolver.specs.Occurrences.{Occurrence, Notice, put, uses, substring, among, string, backwards, region_end, declares, defines_routine, defines_grouping, amongs_in, noted_expression, use_of, noted_entry, noted_entries, is_empty, noted_command, noted_rows, noted_others, noted_groups, noted_plain, noted_items, occurrences_of, noted_name}
-use Rattle.sbl_resolver.specs.OccurrenceView.{noted_names, walked_expression, noted_sums, noted_product, noted_scales, noted_factor, noted_simple, noted_prefix, site_behind, has_starter, noted_starter, noted_terms}
+use Rattle.sbl_resolver.specs.OccurrenceView.{noted_names, walked_expression, noted_sums, noted_product, noted_scales, noted_factor, noted_simple, noted_prefix, site_after, has_starter, noted_starter, noted_terms}
 use Rattle.sbl_resolver.proofs.Walked.{expression_is, prefixed_is, among_is}
 use Rattle.sbl_resolver.specs.Subjects.{Subject, subject_of, subjects_of, and_more}
 use Rattle.sbl_places.specs.SubjectTokens.{SubjectToken, string_if, is_in_among, subject_tokens, subject_tokens_after, subjects}
@@ -147,7 +147,7 @@ mutual
   agree (non_ false n) p s o rest h = one (uses use_as.Excluded n) p s (at o rest)
   agree (prefixed x c) p s o rest h =
       ap (λ (l : List Occurrence). subjects_of l ++ at o rest) (prefixed_is x c p s)
-      ∙ agree c (site_behind x p) (noted_prefix x p s) o rest h ∙ prefix_agree x p s o (spelled_command c rest)
+      ∙ agree c (site_after x p) (noted_prefix x p s) o rest h ∙ prefix_agree x p s o (spelled_command c rest)
   agree (counted n e c) p s o rest h = agree c p (noted_expression e p s) o rest h ∙ expression_agree e p s o (spelled_command c rest) h
   agree (move_ m e) p s o rest h = expression_agree e p s o rest h
   agree (named x n) p s o rest h = one (uses (use_of x) n) p s (at o rest)

@@ -79,9 +79,9 @@ pub fn position_of(text: &[u8], offset: usize) -> Position
     ensures line { result.line ≡ spec.line_of text.now offset }
     ensures column { result.column ≡ spec.column_of text.now offset }
 {
-    let front = before(text, offset);
+    let prefix = before(text, offset);
     Position {
-        line: line_after(front),
-        column: column_after(front),
+        line: line_after(prefix),
+        column: column_after(prefix),
     }
 }

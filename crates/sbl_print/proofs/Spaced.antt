@@ -12,7 +12,7 @@ use Rattle.sbl_text.specs.SpacedTokens.{SpacedToken, are_white, lexeme_text, lex
 use Rattle.sbl_ast.specs.Tree.{Plain, declaration, escapes, macro, routine, grouping, Item, plain, backward}
 use Rattle.sbl_ast.specs.Places as places
 use Rattle.sbl_ast.specs.Places.{AtDepth, placed_item, placed_items, placed_plain, placed_plains, tokens}
-use Rattle.sbl_ast.proofs.Behind.{plain_before}
+use Rattle.sbl_ast.proofs.After.{plain_before}
 use Rattle.sbl_print.specs.Canonical.{space, line_feed, line, plain_text, item_text, canonical}
 use Rattle.sbl_print.specs.SpacedItems.{IsSpaced}
 
@@ -21,28 +21,28 @@ one_byte c h = ap (λ (x : List ℕ). x ++ []) (encode_ascii c h)
 
 -- ---- one line
 
-abbrev behind_first : Lexeme → List Lexeme → List SpacedToken
-behind_first x [] = record { lexeme = x; space = 10 } ∷ []
-behind_first x (y ∷ ys) = record { lexeme = x; space = 32 } ∷ behind_first y ys
+abbrev after_first : Lexeme → List Lexeme → List SpacedToken
+after_first x [] = record { lexeme = x; space = 10 } ∷ []
+after_first x (y ∷ ys) = record { lexeme = x; space = 32 } ∷ after_first y ys
 
-line_joined : (x : Lexeme) (xs : List Lexeme) → spaced_text (behind_first x xs) ≡ line (x ∷ xs)
+line_joined : (x : Lexeme) (xs : List Lexeme) → spaced_text (after_first x xs) ≡ line (x ∷ xs)
 line_joined x [] =
     ap (λ (b : List ℕ). lexeme_text x ++ (b ++ [])) (one_byte 10 (omega arith)) ∙ sym (append_assoc (lexeme_text x) [] line_feed)
 line_joined x (y ∷ ys) =
-    ap (λ (b : List ℕ). lexeme_text x ++ (b ++ spaced_text (behind_first y ys))) (one_byte 32 (omega arith))
+    ap (λ (b : List ℕ). lexeme_text x ++ (b ++ spaced_text (after_first y ys))) (one_byte 32 (omega arith))
     ∙ ap (λ (b : List ℕ). lexeme_text x ++ 32 ∷ b) (line_joined y ys)
     ∙ sym (append_assoc (lexeme_text x) (32 ∷ join_by lexeme_text space (y ∷ ys)) line_feed)
 
-line_tokens : (x : Lexeme) (xs : List Lexeme) → lexemes_of (behind_first x xs) ≡ x ∷ xs
+line_tokens : (x : Lexeme) (xs : List Lexeme) → lexemes_of (after_first x xs) ≡ x ∷ xs
 line_tokens x [] = refl
 line_tokens x (y ∷ ys) = ap (λ (ls : List Lexeme). x ∷ ls) (line_tokens y ys)
 
-line_white : (x : Lexeme) (xs : List Lexeme) → are_white (behind_first x xs) ≡ true
+line_white : (x : Lexeme) (xs : List Lexeme) → are_white (after_first x xs) ≡ true
 line_white x [] = refl
 line_white x (y ∷ ys) = line_white y ys
 
 line_spaced : (x : Lexeme) (xs : List Lexeme) → IsSpaced (x ∷ xs) (line (x ∷ xs))
-line_spaced x xs = record { spaced = behind_first x xs; tokens = line_tokens x xs; white = line_white x xs; text_is = line_joined x xs }
+line_spaced x xs = record { spaced = after_first x xs; tokens = line_tokens x xs; white = line_white x xs; text_is = line_joined x xs }
 
 -- ---- one after another
 

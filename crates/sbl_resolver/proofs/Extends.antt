@@ -9,7 +9,7 @@ use Rattle.sbl_ast.specs.Tree.{Argument, written_out, by_name, Expression, expre
 use Rattle.sbl_resolver.specs.declared.occurrences.Use.TheVariants as use_as
 use Rattle.sbl_resolver.specs.declared.occurrences.Site.{Site}
 use Rattle.sbl_resolver.specs.Occurrences.{Occurrence, Notice, put, uses, substring, among, string, backwards, region_end, declares, defines_routine, defines_grouping, amongs_in, noted_expression, use_of, noted_entry, noted_entries, is_empty, noted_command, noted_rows, noted_others, noted_groups, noted_plain, noted_items, noted_name}
-use Rattle.sbl_resolver.specs.OccurrenceView.{noted_names, walked_expression, noted_sums, noted_product, noted_scales, noted_factor, noted_simple, noted_prefix, site_behind, noted_condition, has_starter, noted_starter, noted_terms}
+use Rattle.sbl_resolver.specs.OccurrenceView.{noted_names, walked_expression, noted_sums, noted_product, noted_scales, noted_factor, noted_simple, noted_prefix, site_after, noted_condition, has_starter, noted_starter, noted_terms}
 use Rattle.sbl_resolver.proofs.Walked.{expression_is, prefixed_is, among_is}
 use Rattle.sbl_ast.specs.Order.{ItemInMode}
 
@@ -97,7 +97,7 @@ mutual
   command_more (literal_ q) p s = same s
   command_more (name_ n) p s = put_more (uses use_as.Command n) p s
   command_more (non_ m n) p s = put_more (uses use_as.Excluded n) p s
-  command_more (prefixed x c) p s = subst (Extends s) (sym (prefixed_is x c p s)) (then_ (prefix_more x p s) (command_more c (site_behind x p) (noted_prefix x p s)))
+  command_more (prefixed x c) p s = subst (Extends s) (sym (prefixed_is x c p s)) (then_ (prefix_more x p s) (command_more c (site_after x p) (noted_prefix x p s)))
   command_more (counted n e c) p s = then_ (expression_more e p s) (command_more c p (noted_expression e p s))
   command_more (move_ m e) p s = expression_more e p s
   command_more (named x n) p s = put_more (uses (use_of x) n) p s

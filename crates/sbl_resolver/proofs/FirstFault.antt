@@ -5,7 +5,7 @@ use Rattle.sbl_text.specs.declared.fault.ScriptFault.{ScriptFault}
 use Rattle.sbl_text.specs.declared.fault.ScriptFault.TheVariants as fault
 use Rattle.sbl_ast.specs.Tree.{Item}
 use Rattle.sbl_resolver.specs.Occurrences.{Occurrence, occurrences_of}
-use Rattle.sbl_resolver.specs.Checks.{fault_at, fault_behind, has_external}
+use Rattle.sbl_resolver.specs.Checks.{fault_at, fault_after, has_external}
 use Rattle.sbl_resolver.specs.Laws.{EachPasses, IsFirst, WellDeclaredPasses, FaultIsFirst}
 
 none_first : {X : Type 0} (a b : Option X) → option_or a b ≡ None → a ≡ None
@@ -21,18 +21,18 @@ nothing [] c x e = cc
 nothing (y ∷ b) c x e = cc
 
 -- no check fails at an occurrence of the rest
-passes : (all done rest : List Occurrence) → fault_behind all done rest ≡ None → (b c : List Occurrence) (x : Occurrence) → rest ≡ b ++ x ∷ c → fault_at all (done ++ b) x c ≡ None
+passes : (all done rest : List Occurrence) → fault_after all done rest ≡ None → (b c : List Occurrence) (x : Occurrence) → rest ≡ b ++ x ∷ c → fault_at all (done ++ b) x c ≡ None
 passes all done [] e b c x parts = absurd (nothing b c x parts)
 passes all done (m ∷ after) e [] c x parts =
     let same : m ≡ x = cc in
     let rest : after ≡ c = cc in
-    rw append-nil (subst (λ (y : Occurrence). fault_at all done y c ≡ None) same (subst (λ (r : List Occurrence). fault_at all done m r ≡ None) rest (none_first (fault_at all done m after) (fault_behind all (done ++ m ∷ []) after) e)))
+    rw append-nil (subst (λ (y : Occurrence). fault_at all done y c ≡ None) same (subst (λ (r : List Occurrence). fault_at all done m r ≡ None) rest (none_first (fault_at all done m after) (fault_after all (done ++ m ∷ []) after) e)))
 passes all done (m ∷ after) e (y ∷ b) c x parts =
     let same : m ≡ y = cc in
     let rest : after ≡ b ++ x ∷ c = cc in
     subst (λ (z : Occurrence). fault_at all (done ++ z ∷ b) x c ≡ None) same
     (subst (λ (r : List Occurrence). fault_at all r x c ≡ None) (append_assoc done (m ∷ []) b)
-    (passes all (done ++ m ∷ []) after (none_second (fault_at all done m after) (fault_behind all (done ++ m ∷ []) after) e) b c x rest))
+    (passes all (done ++ m ∷ []) after (none_second (fault_at all done m after) (fault_after all (done ++ m ∷ []) after) e) b c x rest))
 
 -- the first fault of the rest
 pub record FirstFrom (all done rest : List Occurrence) (f : ScriptFault) : Type 0 where
@@ -76,15 +76,15 @@ there all done after m f none r = record {
       subst (λ (z : Occurrence). fault_at all (done ++ z ∷ b) x (c ++ r.occurrence ∷ r.after) ≡ None) same
       (subst (λ (k : List Occurrence). fault_at all k x (c ++ r.occurrence ∷ r.after) ≡ None) (append_assoc done (m ∷ []) b) (r.none_before b c x rest))
 
-first : (all done rest : List Occurrence) (f : ScriptFault) → fault_behind all done rest ≡ Some f → FirstFrom all done rest f
+first : (all done rest : List Occurrence) (f : ScriptFault) → fault_after all done rest ≡ Some f → FirstFrom all done rest f
 first all done [] f e = absurd cc
 first all done (m ∷ after) f e = go (fault_at all done m after) refl e (first all (done ++ m ∷ []) after f) where
-  go : (o : Option ScriptFault) → fault_at all done m after ≡ o → option_or o (fault_behind all (done ++ m ∷ []) after) ≡ Some f
-      → (fault_behind all (done ++ m ∷ []) after ≡ Some f → FirstFrom all (done ++ m ∷ []) after f) → FirstFrom all done (m ∷ after) f
+  go : (o : Option ScriptFault) → fault_at all done m after ≡ o → option_or o (fault_after all (done ++ m ∷ []) after) ≡ Some f
+      → (fault_after all (done ++ m ∷ []) after ≡ Some f → FirstFrom all (done ++ m ∷ []) after f) → FirstFrom all done (m ∷ after) f
   go (Some g) is e more = here all done after m f (is ∙ e)
   go None is e more = there all done after m f is (more e)
 
-pub each : (all : List Occurrence) → fault_behind all [] all ≡ None → EachPasses all
+pub each : (all : List Occurrence) → fault_after all [] all ≡ None → EachPasses all
 each all e = λ before after m parts. passes all [] all e before after m parts
 
 abbrev fault_of_external : List Item → List ℕ → List Occurrence → Option ScriptFault
@@ -105,15 +105,15 @@ external_lacks items external all f e = go (has_external items external all) e w
 pub well_declared_passes : WellDeclaredPasses
 well_declared_passes items external e =
     let all = occurrences_of items in
-    (each all (none_first (fault_behind all [] all) (fault_of_external items external all) e), external_is items external all (none_second (fault_behind all [] all) (fault_of_external items external all) e))
+    (each all (none_first (fault_after all [] all) (fault_of_external items external all) e), external_is items external all (none_second (fault_after all [] all) (fault_of_external items external all) e))
 
 abbrev pub found : (all : List Occurrence) (f : ScriptFault) → FirstFrom all [] all f → IsFirst all f
 found all f r = record { before = r.before; occurrence = r.occurrence; after = r.after; parts = r.parts; fault = r.fault; none_before = r.none_before }
 
-found_or_external : (items : List Item) (external : List ℕ) (all : List Occurrence) (f : ScriptFault) (o : Option ScriptFault) → fault_behind all [] all ≡ o → option_or o (fault_of_external items external all) ≡ Some f →
+found_or_external : (items : List Item) (external : List ℕ) (all : List Occurrence) (f : ScriptFault) (o : Option ScriptFault) → fault_after all [] all ≡ o → option_or o (fault_of_external items external all) ≡ Some f →
     IsFirst all f ⊎ (EachPasses all × (has_external items external all ≡ false) × (f ≡ fault.NoExternal))
 found_or_external items external all f (Some g) is e = inl (found all f (first all [] all f (is ∙ e)))
 found_or_external items external all f None is e = let x = external_lacks items external all f e in inr (each all is, x.0, x.1)
 
 pub fault_is_first : FaultIsFirst
-fault_is_first items external f e = found_or_external items external (occurrences_of items) f (fault_behind (occurrences_of items) [] (occurrences_of items)) refl e
+fault_is_first items external f e = found_or_external items external (occurrences_of items) f (fault_after (occurrences_of items) [] (occurrences_of items)) refl e

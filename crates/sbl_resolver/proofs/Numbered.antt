@@ -6,7 +6,7 @@ use Rattle.sbl_resolver.specs.declared.occurrences.Occurrence as noted
 use Rattle.sbl_resolver.specs.declared.occurrences.Site.{Site}
 use Rattle.sbl_resolver.specs.Occurrences.{Occurrence, Notice, declares, defines_routine, defines_grouping, uses, region_end}
 use Rattle.sbl_resolver.specs.Occurrences as occurs
-use Rattle.sbl_resolver.specs.Checks.{fault_at, fault_behind}
+use Rattle.sbl_resolver.specs.Checks.{fault_at, fault_after}
 use Rattle.sbl_resolver.specs.Laws.{EachPasses, IsFirst}
 use Rattle.sbl_resolver.specs.Subjects.{Subject, name, string, substring, among, backwards, subject_of, subjects_of, and_more, IsFirstAfter}
 use Rattle.sbl_resolver.specs.FirstFault.{first_from, one_more}
@@ -79,11 +79,11 @@ goes_on all ms i r lt is none =
 -- ---- the fault alone
 
 -- it is the first fault of the checks
-pub same_fault : (all before rest : List Occurrence) → fault_behind all before rest ≡ option_map (λ (x : ℕ × ScriptFault). x.1) (first_from all before rest)
+pub same_fault : (all before rest : List Occurrence) → fault_after all before rest ≡ option_map (λ (x : ℕ × ScriptFault). x.1) (first_from all before rest)
 same_fault all before [] = refl
 same_fault all before (m ∷ after) = go (fault_at all before m after) (same_fault all (before ++ m ∷ []) after) where
-  go : (o : Option ScriptFault) → fault_behind all (before ++ m ∷ []) after ≡ option_map (λ (x : ℕ × ScriptFault). x.1) (first_from all (before ++ m ∷ []) after)
-      → option_or o (fault_behind all (before ++ m ∷ []) after) ≡ option_map (λ (x : ℕ × ScriptFault). x.1) (option_or (option_map (λ (f : ScriptFault). (length (subjects_of before), f)) o) (first_from all (before ++ m ∷ []) after))
+  go : (o : Option ScriptFault) → fault_after all (before ++ m ∷ []) after ≡ option_map (λ (x : ℕ × ScriptFault). x.1) (first_from all (before ++ m ∷ []) after)
+      → option_or o (fault_after all (before ++ m ∷ []) after) ≡ option_map (λ (x : ℕ × ScriptFault). x.1) (option_or (option_map (λ (f : ScriptFault). (length (subjects_of before), f)) o) (first_from all (before ++ m ∷ []) after))
   go None e = e
   go (Some f) e = refl
 
@@ -140,8 +140,8 @@ first_in (Ok o) a b e h = first_is b o (rw e at h)
 first_in (Err x) a b e h = tt
 
 -- the fault alone
-pub has_none : (all : List Occurrence) (o : Option (ℕ × ScriptFault)) → o ≡ first_from all [] all → o ≡ None → fault_behind all [] all ≡ None
+pub has_none : (all : List Occurrence) (o : Option (ℕ × ScriptFault)) → o ≡ first_from all [] all → o ≡ None → fault_after all [] all ≡ None
 has_none all o e is = same_fault all [] all ∙ ap (option_map (λ (x : ℕ × ScriptFault). x.1)) (sym e ∙ is)
 
-pub has_first : (all : List Occurrence) (o : Option (ℕ × ScriptFault)) (x : ℕ × ScriptFault) → o ≡ first_from all [] all → o ≡ Some x → fault_behind all [] all ≡ Some x.1
+pub has_first : (all : List Occurrence) (o : Option (ℕ × ScriptFault)) (x : ℕ × ScriptFault) → o ≡ first_from all [] all → o ≡ Some x → fault_after all [] all ≡ Some x.1
 has_first all o x e is = same_fault all [] all ∙ ap (option_map (λ (x : ℕ × ScriptFault). x.1)) (sym e ∙ is)

@@ -56,14 +56,14 @@ resolved all p u n k is e =
     let d = definition_of n all in
     let other : Option ScriptFault = cond (is_routine k && is_in_other p.mode d) (Some (fault.WrongMode p.item)) None in
     let lacking : Option ScriptFault = cond (lacks_definition u p.item (Some k) d) (Some (fault.Undefined p.item)) other in
-    let behind_kind : lacking ≡ None = rest_fails (not (may_be u k)) (fault.WrongKind p.item) lacking e in
-    let behind_lacks : other ≡ None = rest_fails (lacks_definition u p.item (Some k) d) (fault.Undefined p.item) other behind_kind in
+    let after_kind : lacking ≡ None = rest_fails (not (may_be u k)) (fault.WrongKind p.item) lacking e in
+    let after_lacks : other ≡ None = rest_fails (lacks_definition u p.item (Some k) d) (fault.Undefined p.item) other after_kind in
     record {
       kind = k;
       declared = is;
       allowed = not_false (may_be u k) (test_fails (not (may_be u k)) (fault.WrongKind p.item) lacking e);
-      defined = has_place u p.item k d (test_fails (lacks_definition u p.item (Some k) d) (fault.Undefined p.item) other behind_kind);
-      same_mode = of_mode (is_routine k) p.mode d (test_fails (is_routine k && is_in_other p.mode d) (fault.WrongMode p.item) None behind_lacks);
+      defined = has_place u p.item k d (test_fails (lacks_definition u p.item (Some k) d) (fault.Undefined p.item) other after_kind);
+      same_mode = of_mode (is_routine k) p.mode d (test_fails (is_routine k && is_in_other p.mode d) (fault.WrongMode p.item) None after_lacks);
     }
 
 used : (all before after : List Occurrence) (p : Site) (u : Use) (n : List ℕ) (o : Option DeclarationKind) → kind_of n before ≡ o

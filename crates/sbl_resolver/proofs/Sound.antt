@@ -14,7 +14,7 @@ use Rattle.sbl_ast.specs.declared.mode.Mode.{Mode}
 use Rattle.sbl_ast.specs.declared.mode.Mode.TheVariants.{Backward}
 use Rattle.sbl_resolver.specs.declared.occurrences.Site.{Site}
 use Rattle.sbl_resolver.specs.Occurrences.{Occurrence, put, among, string, region_end, defines_routine, amongs_in, noted_expression, noted_entry, noted_entries, is_empty, noted_command, noted_rows, noted_others, noted_groups, noted_plain, noted_items, occurrences_of}
-use Rattle.sbl_resolver.specs.OccurrenceView.{noted_prefix, site_behind, noted_condition, has_starter, noted_starter, noted_among}
+use Rattle.sbl_resolver.specs.OccurrenceView.{noted_prefix, site_after, noted_condition, has_starter, noted_starter, noted_among}
 use Rattle.sbl_resolver.proofs.Walked.{prefixed_is, among_is}
 use Rattle.sbl_resolver.specs.Checks.{fault_at, has_text, is_text_of, is_awaited}
 use Rattle.sbl_resolver.specs.Laws.{EachPasses}
@@ -26,7 +26,7 @@ use Rattle.sbl_resolver.proofs.Extends.{Extends, same, then_, put_more, conditio
 pub record Passing (all : List Occurrence) : Type 0 where
   pub each : EachPasses all
 
--- no check fails at an occurrence behind which the list goes on
+-- no check fails at an occurrence after which the list goes on
 at_mark : (all s : List Occurrence) (m : Occurrence) → Passing all → Extends (s ++ m ∷ []) all → (more : List Occurrence) × (fault_at all s m more ≡ None)
 at_mark all s m passing e = (e.more, passing.each s e.more m (e.is ∙ append_assoc s (m ∷ []) e.more))
 
@@ -158,7 +158,7 @@ mutual
   each_command all (literal_ q) p s passing e = tt
   each_command all (name_ n) p s passing e = tt
   each_command all (non_ m n) p s passing e = tt
-  each_command all (prefixed x c) p s passing e = each_command all c (site_behind x p) (noted_prefix x p s) passing (subst (λ (r : List Occurrence). Extends r all) (prefixed_is x c p s) e)
+  each_command all (prefixed x c) p s passing e = each_command all c (site_after x p) (noted_prefix x p s) passing (subst (λ (r : List Occurrence). Extends r all) (prefixed_is x c p s) e)
   each_command all (counted n k c) p s passing e = each_command all c p (noted_expression k p s) passing e
   each_command all (move_ m k) p s passing e = tt
   each_command all (named x n) p s passing e = tt

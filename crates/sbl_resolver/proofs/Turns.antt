@@ -12,7 +12,7 @@ use Rattle.sbl_resolver.specs.declared.occurrences.Occurrence as noted
 use Rattle.sbl_ast.specs.declared.mode.Mode.TheVariants.{Forward}
 use Rattle.sbl_resolver.specs.declared.occurrences.Notice.TheVariants as notices
 use Rattle.sbl_resolver.specs.Occurrences.{Occurrence}
-use Rattle.sbl_resolver.specs.Checks.{kind_of, declared_as, has_text, is_text_of, is_awaited, waits_after, fault_at, fault_behind}
+use Rattle.sbl_resolver.specs.Checks.{kind_of, declared_as, has_text, is_text_of, is_awaited, waits_after, fault_at, fault_after}
 use Rattle.sbl_resolver.specs.MetNames.{HasMet, Notes}
 use Rattle.sbl_resolver.specs.OccurrenceView.{view_occurrence, view_occurrences}
 
@@ -62,22 +62,22 @@ left ms i lt = rw add-one (ap view_occurrences (drop-cons ms i any_occurrence lt
 
 -- the faults from an occurrence on
 pub turn : (all : List Occurrence) (ms : List noted.Occurrence) (i : ℕ) → i < length ms →
-    fault_behind all (view_occurrences (take i ms)) (view_occurrences (drop i ms))
-    ≡ option_or (fault_at all (view_occurrences (take i ms)) (view_occurrence (note_in ms i)) (view_occurrences (drop (i + 1) ms))) (fault_behind all (view_occurrences (take (i + 1) ms)) (view_occurrences (drop (i + 1) ms)))
+    fault_after all (view_occurrences (take i ms)) (view_occurrences (drop i ms))
+    ≡ option_or (fault_at all (view_occurrences (take i ms)) (view_occurrence (note_in ms i)) (view_occurrences (drop (i + 1) ms))) (fault_after all (view_occurrences (take (i + 1) ms)) (view_occurrences (drop (i + 1) ms)))
 turn all ms i lt =
-    ap (fault_behind all (view_occurrences (take i ms))) (left ms i lt)
-    ∙ ap (λ (bs : List Occurrence). option_or (fault_at all (view_occurrences (take i ms)) (view_occurrence (note_in ms i)) (view_occurrences (drop (i + 1) ms))) (fault_behind all bs (view_occurrences (drop (i + 1) ms)))) (sym (taken ms i lt))
+    ap (fault_after all (view_occurrences (take i ms))) (left ms i lt)
+    ∙ ap (λ (bs : List Occurrence). option_or (fault_at all (view_occurrences (take i ms)) (view_occurrence (note_in ms i)) (view_occurrences (drop (i + 1) ms))) (fault_after all bs (view_occurrences (drop (i + 1) ms)))) (sym (taken ms i lt))
 
 -- the occurrence has this fault
 pub found : (all : List Occurrence) (ms : List noted.Occurrence) (i : ℕ) (r : Option ScriptFault) (f : ScriptFault) → i < length ms
     → r ≡ fault_at all (view_occurrences (take i ms)) (view_occurrence (note_in ms i)) (view_occurrences (drop (i + 1) ms)) → r ≡ Some f
-    → fault_behind all (view_occurrences (take i ms)) (view_occurrences (drop i ms)) ≡ Some f
+    → fault_after all (view_occurrences (take i ms)) (view_occurrences (drop i ms)) ≡ Some f
 found all ms i r f lt is some =
-    turn all ms i lt ∙ ap (λ (o : Option ScriptFault). option_or o (fault_behind all (view_occurrences (take (i + 1) ms)) (view_occurrences (drop (i + 1) ms)))) (sym is ∙ some)
+    turn all ms i lt ∙ ap (λ (o : Option ScriptFault). option_or o (fault_after all (view_occurrences (take (i + 1) ms)) (view_occurrences (drop (i + 1) ms)))) (sym is ∙ some)
 
 -- it has none
 pub passed : (all : List Occurrence) (ms : List noted.Occurrence) (i : ℕ) (r : Option ScriptFault) → i < length ms
     → r ≡ fault_at all (view_occurrences (take i ms)) (view_occurrence (note_in ms i)) (view_occurrences (drop (i + 1) ms)) → r ≡ None
-    → fault_behind all (view_occurrences (take (i + 1) ms)) (view_occurrences (drop (i + 1) ms)) ≡ fault_behind all (view_occurrences (take i ms)) (view_occurrences (drop i ms))
+    → fault_after all (view_occurrences (take (i + 1) ms)) (view_occurrences (drop (i + 1) ms)) ≡ fault_after all (view_occurrences (take i ms)) (view_occurrences (drop i ms))
 passed all ms i r lt is none =
-    sym (turn all ms i lt ∙ ap (λ (o : Option ScriptFault). option_or o (fault_behind all (view_occurrences (take (i + 1) ms)) (view_occurrences (drop (i + 1) ms)))) (sym is ∙ none))
+    sym (turn all ms i lt ∙ ap (λ (o : Option ScriptFault). option_or o (fault_after all (view_occurrences (take (i + 1) ms)) (view_occurrences (drop (i + 1) ms)))) (sym is ∙ none))

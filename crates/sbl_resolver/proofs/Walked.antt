@@ -15,7 +15,7 @@ use Rattle.sbl_ast.specs.Places.{AtDepth, tokens, placed_expression, placed_sums
 use Rattle.sbl_ast.specs.Tree.{written_out, by_name, Expression, expression, Sums, no_sums, sum, Product, product, Scales, no_scales, scale, Factor, negated, bracketed, numeral, variable, fixed, length_of, Command, prefixed, among_, Starter, no_starter, starter, Groups}
 use Rattle.sbl_resolver.specs.declared.occurrences.Site.{Site}
 use Rattle.sbl_resolver.specs.Occurrences.{Occurrence, noted_tokens, noted_expression, noted_command}
-use Rattle.sbl_resolver.specs.OccurrenceView.{walked_expression, noted_sums, noted_product, noted_scales, noted_factor, noted_prefix, site_behind, noted_among}
+use Rattle.sbl_resolver.specs.OccurrenceView.{walked_expression, noted_sums, noted_product, noted_scales, noted_factor, noted_prefix, site_after, noted_among}
 
 -- what is noted of these tokens
 abbrev noted : List AtDepth → Site → List Occurrence → List Occurrence
@@ -64,7 +64,7 @@ mutual
 pub expression_is : (e : Expression) (p : Site) (s : List Occurrence) → noted_expression e p s ≡ walked_expression e p s
 expression_is e p s = in_expression e 0 [] p s
 
-pub prefixed_is : (x : Prefix) (c : Command) (p : Site) (s : List Occurrence) → noted_command (prefixed x c) p s ≡ noted_command c (site_behind x p) (noted_prefix x p s)
+pub prefixed_is : (x : Prefix) (c : Command) (p : Site) (s : List Occurrence) → noted_command (prefixed x c) p s ≡ noted_command c (site_after x p) (noted_prefix x p s)
 prefixed_is prefixes.Backwards c p s = refl
 prefixed_is prefixes.Not c p s = refl
 prefixed_is prefixes.Test c p s = refl

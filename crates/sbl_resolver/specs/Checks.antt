@@ -146,9 +146,9 @@ fault_at all before m after = elim m.notice [
 ]
 
 -- the first fault of the occurrences after those in `before`
-abbrev pub fault_behind : List Occurrence → List Occurrence → List Occurrence → Option ScriptFault
-fault_behind all before [] = None
-fault_behind all before (m ∷ after) = option_or (fault_at all before m after) (fault_behind all (before ++ m ∷ []) after)
+abbrev pub fault_after : List Occurrence → List Occurrence → List Occurrence → Option ScriptFault
+fault_after all before [] = None
+fault_after all before (m ∷ after) = option_or (fault_at all before m after) (fault_after all (before ++ m ∷ []) after)
 
 -- The first fault of a script with this external. Last comes that the name is not declared in `externals`, or not
 -- defined in forward mode.
@@ -156,7 +156,7 @@ abbrev pub fault_of : List Item → List ℕ → Option ScriptFault
 fault_of items external =
     let all = occurrences_of items in
     let has_external = option_map_or (is_kind kinds.Externals) (kind_of external all) false && is_some (body_in external items) in
-    option_or (fault_behind all [] all) (if has_external then None else Some fault.NoExternal)
+    option_or (fault_after all [] all) (if has_external then None else Some fault.NoExternal)
 
 -- no check fails
 abbrev pub WellDeclared : List Item → List ℕ → Type 0

@@ -74,9 +74,9 @@ noted_prefix prefixes.Backwards p sofar = spec.put spec.backwards p sofar
 noted_prefix _ p sofar = sofar
 
 -- the site of a command after a prefix
-abbrev pub site_behind : Prefix → Site → Site
-site_behind prefixes.Backwards p = record { item = p.item; mode = Backward }
-site_behind _ p = p
+abbrev pub site_after : Prefix → Site → Site
+site_after prefixes.Backwards p = record { item = p.item; mode = Backward }
+site_after _ p = p
 
 abbrev pub noted_condition : Option (List ℕ) → Site → List spec.Occurrence → List spec.Occurrence
 noted_condition c p sofar = option_map_or (λ n. spec.put (spec.uses use_as.Condition n) p sofar) c sofar

@@ -339,7 +339,7 @@ fn met_nothing<'a>(alloc: Global) -> CheckState<'a>
 }
 
 /// Returns the occurrences after the one at `index`.
-fn behind<'a, 'b>(occurrences: &'b [Occurrence<'a>], index: usize) -> &'b [Occurrence<'a>]
+fn following<'a, 'b>(occurrences: &'b [Occurrence<'a>], index: usize) -> &'b [Occurrence<'a>]
     requires { index < length occurrences.now }
     ensures { result.now ≡ drop (index + 1) occurrences.now }
 {
@@ -373,7 +373,7 @@ fn fault_among<'a>(
     let mut number = 0;
     for index in 0..occurrences.len() {
         let occurrence = &occurrences[index];
-        if let Some(fault) = fault_at(occurrence, behind(occurrences, index), sites, met) {
+        if let Some(fault) = fault_at(occurrence, following(occurrences, index), sites, met) {
             return Ok(Some((number, fault)));
         }
         note(occurrence, met)?;
@@ -390,7 +390,7 @@ fn check_occurrences<'a>(
 ) -> Result<(), ScriptFault>
     requires sites { HasPlaces sites.now (view_occurrences occurrences.now) }
     requires met { HasMet met.old [] }
-    ensures fault { Finds result (spec.fault_behind (view_occurrences occurrences.now) [] (view_occurrences occurrences.now)) }
+    ensures fault { Finds result (spec.fault_after (view_occurrences occurrences.now) [] (view_occurrences occurrences.now)) }
     ensures met { OnOk result (HasMet met.new (view_occurrences occurrences.now)) }
 {
     match fault_among(occurrences, sites, met)? {

@@ -28,8 +28,8 @@ macro_rules! each {
 }
 
 /// Returns the site of a command after a prefix.
-fn site_behind(prefix: Prefix, site: Site) -> Site
-    ensures { result ≡ walk.site_behind prefix site }
+fn site_after(prefix: Prefix, site: Site) -> Site
+    ensures { result ≡ walk.site_after prefix site }
 {
     match prefix {
         Prefix::Backwards => Site {
@@ -186,7 +186,7 @@ impl<'a> SoFar<'a> {
             } => self.put(Notice::Uses(Use::Excluded, name.as_str()), site),
             Command::Prefixed(prefix, inner) => {
                 self.note_prefix(*prefix, site)?;
-                self.note_command(inner, site_behind(*prefix, site))
+                self.note_command(inner, site_after(*prefix, site))
             }
             Command::Counted(_, number, inner) => {
                 self.note_expression(number, site)?;

@@ -17,7 +17,7 @@ use Rattle.sbl_ast.specs.Source.{Source}
 use Rattle.sbl_ast.specs.Texts.{Text, TreeOf, places_in}
 use Rattle.sbl_ast.specs.Texts as texts
 use Rattle.sbl_ast.specs.View.{RowView}
-use Rattle.sbl_ast.proofs.Behind.{plain_before, tree_before}
+use Rattle.sbl_ast.proofs.After.{plain_before, tree_before}
 use Rattle.sbl_amongs.specs.Amongs.{AmongContents, amongs_of_body, nth_held, put_in_body}
 use Rattle.sbl_amongs.specs.Replacement.{count_words, is_among}
 use Rattle.sbl_amongs.proofs.Swapped.{body_one}
@@ -26,9 +26,9 @@ use Rattle.sbl_script.specs.declared.edit_fault.ScriptEditFault.{ScriptEditFault
 use Rattle.sbl_script.specs.declared.edit_fault.ScriptEditFault.TheVariants as edits
 use Rattle.sbl_script.specs.declared.edits.DefinitionKind.TheVariants as kinds
 use Rattle.sbl_script.specs.Reading.{HasTokens, IsFaultIn}
-use Rattle.sbl_script.specs.Edits.{ScriptEdit, body, among, terms, changes, defines, escapes_behind, first_of, keeps_count, items_with, plains_of, plains_with, state_before, text_for, text_in, IsAmongReplaced, IsEdited, IsEditFault, IsMade, IsSubstituted}
+use Rattle.sbl_script.specs.Edits.{ScriptEdit, body, among, terms, changes, defines, escapes_after, first_of, keeps_count, items_with, plains_of, plains_with, state_before, text_for, text_in, IsAmongReplaced, IsEdited, IsEditFault, IsMade, IsSubstituted}
 use Rattle.sbl_script.specs.Homes.{Home, Walk, first_in, first_passing, home, home_in, home_of_among, home_of_body, home_of_held, home_of_terms, plain_if, state_reached, walk_in, walk_to, IsEditedAt, IsEditFaultAt, IsFaultAt, IsSubstitutedAt}
-use Rattle.sbl_script.proofs.AmongEnds.{behind_same, inside}
+use Rattle.sbl_script.proofs.AmongEnds.{after_same, inside}
 use Rattle.sbl_script.proofs.AmongDepths.{N, both_n, same_test, text_same, words_with}
 use Rattle.sbl_script.proofs.Found.{grouping_found, routine_found, some_plain}
 use Rattle.sbl_script.proofs.Shallow.{plains_before}
@@ -71,9 +71,9 @@ module _ (p : Plain → Bool) where
 
   walk_both : (xs ys : List Plain) (e : InForce) → walk_in p (xs ++ ys) e ≡ (if (walk_in p xs e).1 then walk_in p xs e else walk_in p ys (walk_in p xs e).0)
   walk_both [] ys e = refl
-  walk_both (x ∷ xs) ys e = go (p x) (walk_both xs ys (escapes_behind e x)) where
+  walk_both (x ∷ xs) ys e = go (p x) (walk_both xs ys (escapes_after e x)) where
     f : InForce
-    f = escapes_behind e x
+    f = escapes_after e x
 
     go : (b : Bool) → walk_in p (xs ++ ys) f ≡ (if (walk_in p xs f).1 then walk_in p xs f else walk_in p ys (walk_in p xs f).0)
         → (if b then (e, true) else walk_in p (xs ++ ys) f) ≡ (if (if b then (e, true) else walk_in p xs f).1 then (if b then (e, true) else walk_in p xs f) else walk_in p ys (if b then (e, true) else walk_in p xs f).0)
@@ -82,7 +82,7 @@ module _ (p : Plain → Bool) where
 
   walk_items : (is : List Item) (e : InForce) → walk_in p (plains_of is) e ≡ walk_to p is e
   walk_items [] e = refl
-  walk_items (plain x ∷ is) e = ap (λ (r : Walk). if p x then (e, true) else r) (walk_items is (escapes_behind e x))
+  walk_items (plain x ∷ is) e = ap (λ (r : Walk). if p x then (e, true) else r) (walk_items is (escapes_after e x))
   walk_items (backward xs ∷ is) e =
       ap (λ (l : List Plain). walk_in p l e) (back_plains xs (in_order is)) ∙ walk_both xs (plains_of is) e
       ∙ ap (λ (r : Walk). if (walk_in p xs e).1 then walk_in p xs e else r) (walk_items is (walk_in p xs e).0)
@@ -90,13 +90,13 @@ module _ (p : Plain → Bool) where
   more : (n : ℕ) (x : Plain) (xs : List Plain) → take (1 + n) (x ∷ xs) ≡ x ∷ take n xs
   more n x xs = let is : 1 + n ≡ suc n = omega arith in ap (λ (k : ℕ). take k (x ∷ xs)) is
 
-  walk_before : (xs : List Plain) (e : InForce) → fold escapes_behind e (before_first p xs) ≡ (walk_in p xs e).0
+  walk_before : (xs : List Plain) (e : InForce) → fold escapes_after e (before_first p xs) ≡ (walk_in p xs e).0
   walk_before [] e = refl
-  walk_before (x ∷ xs) e = go (p x) (walk_before xs (escapes_behind e x)) where
-    go : (b : Bool) → fold escapes_behind (escapes_behind e x) (before_first p xs) ≡ (walk_in p xs (escapes_behind e x)).0
-        → fold escapes_behind e (take (cond (not b) (1 + prefix_len (λ y. not (p y)) xs) 0) (x ∷ xs)) ≡ (if b then (e, true) else walk_in p xs (escapes_behind e x)).0
+  walk_before (x ∷ xs) e = go (p x) (walk_before xs (escapes_after e x)) where
+    go : (b : Bool) → fold escapes_after (escapes_after e x) (before_first p xs) ≡ (walk_in p xs (escapes_after e x)).0
+        → fold escapes_after e (take (cond (not b) (1 + prefix_len (λ y. not (p y)) xs) 0) (x ∷ xs)) ≡ (if b then (e, true) else walk_in p xs (escapes_after e x)).0
     go true h = refl
-    go false h = ap (λ (l : List Plain). fold escapes_behind e l) (more (prefix_len (λ y. not (p y)) xs) x xs) ∙ h
+    go false h = ap (λ (l : List Plain). fold escapes_after e l) (more (prefix_len (λ y. not (p y)) xs) x xs) ∙ h
 
   pub state_same : (is : List Item) → state_before p is ≡ state_reached p is
   state_same is = ap start_under (walk_before (plains_of is) nothing_set ∙ ap (λ (r : Walk). r.0) (walk_items is nothing_set))
@@ -181,33 +181,33 @@ plain_one x y e = go (trees_are_one texts.script (plain x ∷ []) (plain y ∷ [
   go : plain x ∷ [] ≡ plain y ∷ [] → x ≡ y
   go h = cc
 
-parts : (a : Starter × Groups) (d : ℕ) (front behind ps : Ps) → ps ≡ front ++ places_in (texts.among d) a ++ behind → ps ≡ front ++ (lex.word words.Among, d) ∷ inside a d behind
-parts a d front behind ps e = e ∙ append_assoc front (places_in (texts.among d) a) behind ∙ ap (λ (l : Ps). front ++ l) (sym (tree_before (among_ a.0 a.1) d [] behind))
+parts : (a : Starter × Groups) (d : ℕ) (prefix following ps : Ps) → ps ≡ prefix ++ places_in (texts.among d) a ++ following → ps ≡ prefix ++ (lex.word words.Among, d) ∷ inside a d following
+parts a d prefix following ps e = e ∙ append_assoc prefix (places_in (texts.among d) a) following ∙ ap (λ (l : Ps). prefix ++ l) (sym (tree_before (among_ a.0 a.1) d [] following))
 
 -- one definition has the among in that place
 replaced_one : (k d : ℕ) (a : Starter × Groups) (old x y : Plain) → IsAmongReplaced k d a old x → IsAmongReplaced k d a old y → x ≡ y
 replaced_one k d a old x y g h =
-    let one = parts g.replaced d g.front g.behind (placed_plain old []) g.was in
-    let two = parts h.replaced d h.front h.behind (placed_plain old []) h.was in
-    let count : N g.front ≡ N h.front = omega (arith, g.number, h.number) in
-    let c = cut g.front h.front (inside g.replaced d g.behind) (inside h.replaced d h.behind) (lex.word words.Among, d) (lex.word words.Among, d) refl refl (sym one ∙ two) count in
-    let behind = behind_same d g.replaced h.replaced g.behind h.behind c.1 in
+    let one = parts g.replaced d g.prefix g.following (placed_plain old []) g.was in
+    let two = parts h.replaced d h.prefix h.following (placed_plain old []) h.was in
+    let count : N g.prefix ≡ N h.prefix = omega (arith, g.number, h.number) in
+    let c = cut g.prefix h.prefix (inside g.replaced d g.following) (inside h.replaced d h.following) (lex.word words.Among, d) (lex.word words.Among, d) refl refl (sym one ∙ two) count in
+    let following = after_same d g.replaced h.replaced g.following h.following c.1 in
     let new = places_in (texts.among d) a in
-    plain_one x y (ap tokens (g.is ∙ ap (λ (f : Ps). f ++ new ++ g.behind) c.0 ∙ ap (λ (l : Ps). h.front ++ new ++ l) behind ∙ sym h.is))
+    plain_one x y (ap tokens (g.is ∙ ap (λ (f : Ps). f ++ new ++ g.following) c.0 ∙ ap (λ (l : Ps). h.prefix ++ new ++ l) following ∙ sym h.is))
 
 -- the definition with the among put in its place has it there
 replaced_there : (n : List ℕ) (b : RowView) (k : ℕ) (a : Starter × Groups) (h : AmongContents) → nth_held k (amongs_of_body b) ≡ Some h
     → IsAmongReplaced k h.0 a (routine n b.0 b.1) (routine n (put_in_body b k a).0 (put_in_body b k a).1)
 replaced_there n b k a h e =
     let two = body_one b k a h e in
-    let front : Ps = (lex.word words.Define, 0) ∷ (lex.name n, 0) ∷ (lex.word words.As, 0) ∷ two.front in
+    let prefix : Ps = (lex.word words.Define, 0) ∷ (lex.name n, 0) ∷ (lex.word words.As, 0) ∷ two.prefix in
     record {
-      front = front;
+      prefix = prefix;
       replaced = (h.1, h.2);
-      behind = two.behind;
-      number = two.number ∙ ap (λ (z : ℕ). z + 1) (count_same two.front);
-      was = ap (λ (l : Ps). (lex.word words.Define, 0) ∷ (lex.name n, 0) ∷ (lex.word words.As, 0) ∷ l) (two.was ∙ ap (λ (l : Ps). two.front ++ l) (tree_before (among_ h.1 h.2) h.0 [] two.behind)) ∙ sym (append_assoc front (places_in (texts.among h.0) (h.1, h.2)) two.behind);
-      is = ap (λ (l : Ps). (lex.word words.Define, 0) ∷ (lex.name n, 0) ∷ (lex.word words.As, 0) ∷ l) (two.is ∙ ap (λ (l : Ps). two.front ++ l) (tree_before (among_ a.0 a.1) h.0 [] two.behind)) ∙ sym (append_assoc front (places_in (texts.among h.0) a) two.behind);
+      following = two.following;
+      number = two.number ∙ ap (λ (z : ℕ). z + 1) (count_same two.prefix);
+      was = ap (λ (l : Ps). (lex.word words.Define, 0) ∷ (lex.name n, 0) ∷ (lex.word words.As, 0) ∷ l) (two.was ∙ ap (λ (l : Ps). two.prefix ++ l) (tree_before (among_ h.1 h.2) h.0 [] two.following)) ∙ sym (append_assoc prefix (places_in (texts.among h.0) (h.1, h.2)) two.following);
+      is = ap (λ (l : Ps). (lex.word words.Define, 0) ∷ (lex.name n, 0) ∷ (lex.word words.As, 0) ∷ l) (two.is ∙ ap (λ (l : Ps). two.prefix ++ l) (tree_before (among_ a.0 a.1) h.0 [] two.following)) ∙ sym (append_assoc prefix (places_in (texts.among h.0) a) two.following);
     }
 
 -- ---- how many words `among` items have with another definition

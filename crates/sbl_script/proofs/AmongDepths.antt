@@ -261,8 +261,8 @@ pub words_with : (b : RowView) (k : ℕ) (h : AmongContents) (a : Starter × Gro
     → N (places_in body (put_in_body b k a)) + count_in_among (h.1, h.2) ≡ N (places_in body b) + count_in_among a
 words_with b k h a e =
     let two = body_one b k a h e in
-    let was = ap N two.was ∙ both_n two.front (placed_command (among_ h.1 h.2) h.0 two.behind) in
-    let is = ap N two.is ∙ both_n two.front (placed_command (among_ a.0 a.1) h.0 two.behind) in
-    let old = tree_n (among_ h.1 h.2) h.0 two.behind in
-    let new = tree_n (among_ a.0 a.1) h.0 two.behind in
+    let was = ap N two.was ∙ both_n two.prefix (placed_command (among_ h.1 h.2) h.0 two.following) in
+    let is = ap N two.is ∙ both_n two.prefix (placed_command (among_ a.0 a.1) h.0 two.following) in
+    let old = tree_n (among_ h.1 h.2) h.0 two.following in
+    let new = tree_n (among_ a.0 a.1) h.0 two.following in
     omega (arith, was, is, old, new)

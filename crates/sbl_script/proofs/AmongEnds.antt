@@ -16,7 +16,7 @@ abbrev is_close : Lexeme → Bool
 is_close (sign signs.Close) = true
 is_close _ = false
 
--- the tokens behind the first `)` at depth d
+-- the tokens after the first `)` at depth d
 abbrev ends : ℕ → Ps → Ps
 ends d [] = []
 ends d (p ∷ ps) = if (is_close p.0 && nat_eq p.1 d) then ps else ends d ps
@@ -129,15 +129,15 @@ module _ (d : ℕ) where
         let opened : Ps = (sign signs.Open, e + 1) ∷ rows in
         entry_e x e (placed_entries es e opened) ∙ entries_e es e opened ∙ deep (sign signs.Open) (e + 1) rows (omega (arith, h)) ∙ rows_e rs (e + 1 + 1) close (omega (arith, h)) ∙ deep (sign signs.Close) (e + 1) rest (omega (arith, h)) ∙ groups_e gs e r h
 
--- the tokens of an among after the word, and those behind it
+-- the tokens of an among after the word, and those after it
 abbrev pub inside : Starter × Groups → ℕ → Ps → Ps
 inside a d r = (sign signs.Open, d) ∷ placed_starter a.0 d (placed_groups a.1 d ((sign signs.Close, d) ∷ r))
 
-behind_is : (a : Starter × Groups) (d : ℕ) (r : Ps) → ends d (inside a d r) ≡ r
-behind_is a d r =
+after_is : (a : Starter × Groups) (d : ℕ) (r : Ps) → ends d (inside a d r) ≡ r
+after_is a d r =
     let close : Ps = (sign signs.Close, d) ∷ r in
     starter_e d a.0 d (placed_groups a.1 d close) (omega arith) ∙ groups_e d a.1 d close (omega arith) ∙ ap (λ (b : Bool). if b then r else ends d r) (self d)
 
--- what stands behind an among is known from the tokens
-pub behind_same : (d : ℕ) (a b : Starter × Groups) (r q : Ps) → inside a d r ≡ inside b d q → r ≡ q
-behind_same d a b r q e = sym (behind_is a d r) ∙ ap (ends d) e ∙ behind_is b d q
+-- what follows an among is known from the tokens
+pub after_same : (d : ℕ) (a b : Starter × Groups) (r q : Ps) → inside a d r ≡ inside b d q → r ≡ q
+after_same d a b r q e = sym (after_is a d r) ∙ ap (ends d) e ∙ after_is b d q

@@ -74,9 +74,9 @@ module _ (p : Plain → Bool) (y : Plain) where
     at true h g more = here Backward x (in_mode Backward xs ++ rest) h
     at false h g more = later (at_mode Backward x) (in_mode Backward xs ++ rest) (in_mode Backward (plains_with p y xs) ++ rest) h (more g)
 
-  behind_plains : (xs : List Plain) (rest other : List ItemInMode) → list_any p xs ≡ false → Parts p y rest other → Parts p y (in_mode Backward xs ++ rest) (in_mode Backward xs ++ other)
-  behind_plains [] rest other e parts = parts
-  behind_plains (x ∷ xs) rest other e parts = at (p x) refl e (λ g. behind_plains xs rest other g parts) where
+  after_plains : (xs : List Plain) (rest other : List ItemInMode) → list_any p xs ≡ false → Parts p y rest other → Parts p y (in_mode Backward xs ++ rest) (in_mode Backward xs ++ other)
+  after_plains [] rest other e parts = parts
+  after_plains (x ∷ xs) rest other e parts = at (p x) refl e (λ g. after_plains xs rest other g parts) where
     at : (k : Bool) → p x ≡ k → (k || list_any p xs) ≡ false → (list_any p xs ≡ false → Parts p y (in_mode Backward xs ++ rest) (in_mode Backward xs ++ other))
         → Parts p y (in_mode Backward (x ∷ xs) ++ rest) (in_mode Backward (x ∷ xs) ++ other)
     at true h g more = absurd cc
@@ -99,7 +99,7 @@ module _ (p : Plain → Bool) (y : Plain) where
     at : (k : Bool) → list_any p xs ≡ k → (is_some (first_passing p is) ≡ true → Parts p y (in_order is) (in_order (items_with p y is)))
         → Parts p y (in_order (backward xs ∷ is)) (in_order (cond k (backward (plains_with p y xs) ∷ is) (backward xs ∷ items_with p y is)))
     at true h more = in_plains xs (in_order is) h
-    at false h more = behind_plains xs (in_order is) (in_order (items_with p y is)) h (more (rest h))
+    at false h more = after_plains xs (in_order is) (in_order (items_with p y is)) h (more (rest h))
 
 -- ---- a routine that is defined in forward mode stays so
 

@@ -35,7 +35,7 @@ use Rattle.sbl_script.proofs.TextFaults.{is_checked, text_fault, unread}
 use Rattle.sbl_script.proofs.SameFaults.{Same, same_fault, item_told}
 use Rattle.sbl_script.proofs.ItemParts.{Parts, at_mode, parts_of, still_defined}
 
--- ---- some occurrences behind others
+-- ---- some occurrences after others
 
 or_assoc : {X : Type 0} (a b c : Option X) → option_or a (option_or b c) ≡ option_or (option_or a b) c
 or_assoc (Some x) b c = refl
@@ -232,34 +232,34 @@ no_text i j k t (x ∷ xs) h later =
 
 -- ---- the first fault stands in the item
 
-module _ (front mine other rest : List Occurrence) (i : ℕ) (closed : Closed front) (two : Alike i mine other) (later : Each (NotBefore (i + 1)) rest) where
+module _ (prefix mine other rest : List Occurrence) (i : ℕ) (closed : Closed prefix) (two : Alike i mine other) (later : Each (NotBefore (i + 1)) rest) where
   abbrev old : List Occurrence
-  old = front ++ (mine ++ rest)
+  old = prefix ++ (mine ++ rest)
 
   abbrev new : List Occurrence
-  new = front ++ (other ++ rest)
+  new = prefix ++ (other ++ rest)
 
-  three : (n : List ℕ) (xs cs : List Occurrence) → definition_of n (front ++ (xs ++ cs)) ≡ option_or (definition_of n front) (option_or (definition_of n xs) (definition_of n cs))
-  three n xs cs = definitions_both n front (xs ++ cs) ∙ ap (option_or (definition_of n front)) (definitions_both n xs cs)
+  three : (n : List ℕ) (xs cs : List Occurrence) → definition_of n (prefix ++ (xs ++ cs)) ≡ option_or (definition_of n prefix) (option_or (definition_of n xs) (definition_of n cs))
+  three n xs cs = definitions_both n prefix (xs ++ cs) ∙ ap (option_or (definition_of n prefix)) (definitions_both n xs cs)
 
-  three_kinds : (n : List ℕ) (xs cs : List Occurrence) → kind_of n (front ++ (xs ++ cs)) ≡ option_or (kind_of n front) (option_or (kind_of n xs) (kind_of n cs))
-  three_kinds n xs cs = kinds_both n front (xs ++ cs) ∙ ap (option_or (kind_of n front)) (kinds_both n xs cs)
+  three_kinds : (n : List ℕ) (xs cs : List Occurrence) → kind_of n (prefix ++ (xs ++ cs)) ≡ option_or (kind_of n prefix) (option_or (kind_of n xs) (kind_of n cs))
+  three_kinds n xs cs = kinds_both n prefix (xs ++ cs) ∙ ap (option_or (kind_of n prefix)) (kinds_both n xs cs)
 
-  three_texts : (j k : ℕ) (t : List ℕ) (xs cs : List Occurrence) → has_text j k t (front ++ (xs ++ cs)) ≡ (has_text j k t front || (has_text j k t xs || has_text j k t cs))
-  three_texts j k t xs cs = texts_both j k t front (xs ++ cs) ∙ ap (λ b. has_text j k t front || b) (texts_both j k t xs cs)
+  three_texts : (j k : ℕ) (t : List ℕ) (xs cs : List Occurrence) → has_text j k t (prefix ++ (xs ++ cs)) ≡ (has_text j k t prefix || (has_text j k t xs || has_text j k t cs))
+  three_texts j k t xs cs = texts_both j k t prefix (xs ++ cs) ∙ ap (λ b. has_text j k t prefix || b) (texts_both j k t xs cs)
 
-  three_awaited : (xs cs : List Occurrence) → is_awaited (front ++ (xs ++ cs)) false ≡ is_awaited cs (is_awaited xs (is_awaited front false))
-  three_awaited xs cs = awaited_both front (xs ++ cs) false ∙ awaited_both xs cs (is_awaited front false)
+  three_awaited : (xs cs : List Occurrence) → is_awaited (prefix ++ (xs ++ cs)) false ≡ is_awaited cs (is_awaited xs (is_awaited prefix false))
+  three_awaited xs cs = awaited_both prefix (xs ++ cs) false ∙ awaited_both xs cs (is_awaited prefix false)
 
   definitions_same : (n : List ℕ) → definition_of n new ≡ definition_of n old
-  definitions_same n = three n other rest ∙ ap (λ o. option_or (definition_of n front) (option_or o (definition_of n rest))) (sym (two.definitions n)) ∙ sym (three n mine rest)
+  definitions_same n = three n other rest ∙ ap (λ o. option_or (definition_of n prefix) (option_or o (definition_of n rest))) (sym (two.definitions n)) ∙ sym (three n mine rest)
 
-  kinds_same : (n : List ℕ) (cs : List Occurrence) → kind_of n (front ++ (other ++ cs)) ≡ kind_of n (front ++ (mine ++ cs))
-  kinds_same n cs = three_kinds n other cs ∙ ap (λ o. option_or (kind_of n front) (option_or o (kind_of n cs))) (sym (two.kinds n)) ∙ sym (three_kinds n mine cs)
+  kinds_same : (n : List ℕ) (cs : List Occurrence) → kind_of n (prefix ++ (other ++ cs)) ≡ kind_of n (prefix ++ (mine ++ cs))
+  kinds_same n cs = three_kinds n other cs ∙ ap (λ o. option_or (kind_of n prefix) (option_or o (kind_of n cs))) (sym (two.kinds n)) ∙ sym (three_kinds n mine cs)
 
   -- an occurrence before the item
-  in_front : (b d : List Occurrence) (m : Occurrence) → front ≡ b ++ m ∷ d → Same new (d ++ (other ++ rest)) b old (d ++ (mine ++ rest)) b m
-  in_front b d m e = record {
+  in_prefix : (b d : List Occurrence) (m : Occurrence) → prefix ≡ b ++ m ∷ d → Same new (d ++ (other ++ rest)) b old (d ++ (mine ++ rest)) b m
+  in_prefix b d m e = record {
     kinds = λ n. refl;
     definitions = definitions_same;
     followed = λ s. followed_same m.site.mode d (other ++ rest) (mine ++ rest) (decided_at b m d (subst Closed e closed) s);
@@ -267,18 +267,18 @@ module _ (front mine other rest : List Occurrence) (i : ℕ) (closed : Closed fr
     texts = λ k t. refl;
   }
 
-  -- an occurrence behind it
-  behind : (d c : List Occurrence) (m : Occurrence) → rest ≡ d ++ m ∷ c → Same new c (front ++ (other ++ d)) old c (front ++ (mine ++ d)) m
-  behind d c m e =
+  -- an occurrence after it
+  following : (d c : List Occurrence) (m : Occurrence) → rest ≡ d ++ m ∷ c → Same new c (prefix ++ (other ++ d)) old c (prefix ++ (mine ++ d)) m
+  following d c m e =
       let low : i + 1 ≤ m.site.item = each_at (NotBefore (i + 1)) d m c (subst (Each (NotBefore (i + 1))) e later) in
       record {
         kinds = λ n. kinds_same n d;
         definitions = definitions_same;
         followed = λ s. refl;
-        awaited = three_awaited other d ∙ ap (is_awaited d) (sym (two.awaited (is_awaited front false))) ∙ sym (three_awaited mine d);
+        awaited = three_awaited other d ∙ ap (is_awaited d) (sym (two.awaited (is_awaited prefix false))) ∙ sym (three_awaited mine d);
         texts = λ k t.
             three_texts m.site.item k t other d
-            ∙ ap (λ x. has_text m.site.item k t front || (x || has_text m.site.item k t d)) (no_text i m.site.item k t other two.new_sites low ∙ sym (no_text i m.site.item k t mine two.old_sites low))
+            ∙ ap (λ x. has_text m.site.item k t prefix || (x || has_text m.site.item k t d)) (no_text i m.site.item k t other two.new_sites low ∙ sym (no_text i m.site.item k t mine two.old_sites low))
             ∙ sym (three_texts m.site.item k t mine d);
       }
 
@@ -287,26 +287,26 @@ module _ (front mine other rest : List Occurrence) (i : ℕ) (closed : Closed fr
   not_both None f h g = cc
 
   module _ (passes : EachPasses old) (f : ScriptFault) where
-    front_passes : (b c d : List Occurrence) (m : Occurrence) → front ≡ b ++ m ∷ d → c ≡ d ++ (other ++ rest) → fault_at new b m c ≡ None
-    front_passes b c d m e r =
-        ap (fault_at new b m) r ∙ same_fault new (d ++ (other ++ rest)) b old (d ++ (mine ++ rest)) b m (in_front b d m e)
+    prefix_passes : (b c d : List Occurrence) (m : Occurrence) → prefix ≡ b ++ m ∷ d → c ≡ d ++ (other ++ rest) → fault_at new b m c ≡ None
+    prefix_passes b c d m e r =
+        ap (fault_at new b m) r ∙ same_fault new (d ++ (other ++ rest)) b old (d ++ (mine ++ rest)) b m (in_prefix b d m e)
         ∙ passes b (d ++ (mine ++ rest)) m (ap (λ l. l ++ (mine ++ rest)) e ∙ append_assoc b (m ∷ d) (mine ++ rest))
 
-    behind_passes : (b c d : List Occurrence) (m : Occurrence) → b ≡ front ++ (other ++ d) → rest ≡ d ++ m ∷ c → fault_at new b m c ≡ None
-    behind_passes b c d m e r =
-        ap (λ l. fault_at new l m c) e ∙ same_fault new c (front ++ (other ++ d)) old c (front ++ (mine ++ d)) m (behind d c m r)
-        ∙ passes (front ++ (mine ++ d)) c m (ap (λ l. front ++ (mine ++ l)) r ∙ ap (λ l. front ++ l) (sym (append_assoc mine d (m ∷ c))) ∙ sym (append_assoc front (mine ++ d) (m ∷ c)))
+    after_passes : (b c d : List Occurrence) (m : Occurrence) → b ≡ prefix ++ (other ++ d) → rest ≡ d ++ m ∷ c → fault_at new b m c ≡ None
+    after_passes b c d m e r =
+        ap (λ l. fault_at new l m c) e ∙ same_fault new c (prefix ++ (other ++ d)) old c (prefix ++ (mine ++ d)) m (following d c m r)
+        ∙ passes (prefix ++ (mine ++ d)) c m (ap (λ l. prefix ++ (mine ++ l)) r ∙ ap (λ l. prefix ++ l) (sym (append_assoc mine d (m ∷ c))) ∙ sym (append_assoc prefix (mine ++ d) (m ∷ c)))
 
-    inside : (b c d : List Occurrence) (m : Occurrence) → other ++ rest ≡ d ++ m ∷ c → b ≡ front ++ d → fault_at new b m c ≡ Some f → item_of f ≡ Some i
+    inside : (b c d : List Occurrence) (m : Occurrence) → other ++ rest ≡ d ++ m ∷ c → b ≡ prefix ++ d → fault_at new b m c ≡ Some f → item_of f ≡ Some i
     inside b c d m e r bad = at (split other rest d c m e) where
       at : ((x : List Occurrence) × (other ≡ d ++ m ∷ x) × (c ≡ x ++ rest)) ⊎ ((x : List Occurrence) × (d ≡ other ++ x) × (rest ≡ x ++ m ∷ c)) → item_of f ≡ Some i
       at (inl h) = item_told new b c m f bad ∙ ap Some (each_at (InItem i) d m h.0 (subst (Each (InItem i)) h.1 two.new_sites))
-      at (inr h) = absurd (not_both (fault_at new b m c) f (behind_passes b c h.0 m (r ∙ ap (λ l. front ++ l) h.1) h.2) bad)
+      at (inr h) = absurd (not_both (fault_at new b m c) f (after_passes b c h.0 m (r ∙ ap (λ l. prefix ++ l) h.1) h.2) bad)
 
     in_item : IsFirst new f → item_of f ≡ Some i
-    in_item r = at (split front (other ++ rest) r.before r.after r.occurrence r.parts) where
-      at : ((d : List Occurrence) × (front ≡ r.before ++ r.occurrence ∷ d) × (r.after ≡ d ++ (other ++ rest))) ⊎ ((d : List Occurrence) × (r.before ≡ front ++ d) × (other ++ rest ≡ d ++ r.occurrence ∷ r.after)) → item_of f ≡ Some i
-      at (inl h) = absurd (not_both (fault_at new r.before r.occurrence r.after) f (front_passes r.before r.after h.0 r.occurrence h.1 h.2) r.fault)
+    in_item r = at (split prefix (other ++ rest) r.before r.after r.occurrence r.parts) where
+      at : ((d : List Occurrence) × (prefix ≡ r.before ++ r.occurrence ∷ d) × (r.after ≡ d ++ (other ++ rest))) ⊎ ((d : List Occurrence) × (r.before ≡ prefix ++ d) × (other ++ rest ≡ d ++ r.occurrence ∷ r.after)) → item_of f ≡ Some i
+      at (inl h) = absurd (not_both (fault_at new r.before r.occurrence r.after) f (prefix_passes r.before r.after h.0 r.occurrence h.1 h.2) r.fault)
       at (inr h) = inside r.before r.after h.0 r.occurrence h.2 h.1 r.fault
 
 -- ---- a script
@@ -324,8 +324,8 @@ module _ (items : List Item) (external : List ℕ) (d : DefinitionKind) (n : Lis
       p : Site
       p = record { item = 1 + length q.before; mode = q.mode }
 
-      front : List Occurrence
-      front = noted_items q.before 1 []
+      prefix : List Occurrence
+      prefix = noted_items q.before 1 []
 
       mine : List Occurrence
       mine = own q.item p
@@ -336,16 +336,16 @@ module _ (items : List Item) (external : List ℕ) (d : DefinitionKind) (n : Lis
       rest : List Occurrence
       rest = noted_items q.after (1 + length q.before + 1) []
 
-      old_is : occurrences_of items ≡ front ++ (mine ++ rest)
+      old_is : occurrences_of items ≡ prefix ++ (mine ++ rest)
       old_is = ap (λ l. noted_items l 1 []) q.old ∙ round_item q.before (at_mode q.mode q.item) q.after
 
-      new_is : occurrences_of edited ≡ front ++ (other ++ rest)
+      new_is : occurrences_of edited ≡ prefix ++ (other ++ rest)
       new_is = ap (λ l. noted_items l 1 []) q.new ∙ round_item q.before (at_mode q.mode y) q.after
 
       two : Alike (1 + length q.before) mine other
       two = alike d n q.item y p q.passes same
 
-      closed : Closed front
+      closed : Closed prefix
       closed = items_closed q.before 1
 
       later : Each (NotBefore (1 + length q.before + 1)) rest
@@ -356,11 +356,11 @@ module _ (items : List Item) (external : List ℕ) (d : DefinitionKind) (n : Lis
 
       kept : has_external edited external (occurrences_of edited) ≡ true
       kept =
-          ap (λ o. is_some_and (is_kind declared_kinds.Externals) o && is_some (body_in external edited)) (ap (kind_of external) new_is ∙ kinds_same front mine other rest (1 + length q.before) closed two later external rest ∙ sym (ap (kind_of external) old_is))
+          ap (λ o. is_some_and (is_kind declared_kinds.Externals) o && is_some (body_in external edited)) (ap (kind_of external) new_is ∙ kinds_same prefix mine other rest (1 + length q.before) closed two later external rest ∙ sym (ap (kind_of external) old_is))
           ∙ ap (λ c. is_some_and (is_kind declared_kinds.Externals) (kind_of external (occurrences_of items)) && c) (still_defined d n y same items external) ∙ fine.1
 
       at : IsFirst (occurrences_of edited) f ⊎ (EachPasses (occurrences_of edited) × (has_external edited external (occurrences_of edited) ≡ false) × (f ≡ fault.NoExternal)) → item_of f ≡ Some (1 + length q.before)
-      at (inl h) = in_item front mine other rest (1 + length q.before) closed two later (subst EachPasses old_is fine.0) f (subst (λ l. IsFirst l f) new_is h)
+      at (inl h) = in_item prefix mine other rest (1 + length q.before) closed two later (subst EachPasses old_is fine.0) f (subst (λ l. IsFirst l f) new_is h)
       at (inr h) = let no : ⊥ = true_false (has_external edited external (occurrences_of edited)) kept h.1 in absurd no where
         true_false : (c : Bool) → c ≡ true → c ≡ false → ⊥
         true_false true h g = cc

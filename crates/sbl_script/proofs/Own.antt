@@ -10,7 +10,7 @@ use Rattle.sbl_ast.specs.Tree.{Argument, written_out, by_name, Expression, expre
 use Rattle.sbl_resolver.specs.declared.occurrences.Use.TheVariants as use_as
 use Rattle.sbl_resolver.specs.declared.occurrences.Site.{Site}
 use Rattle.sbl_resolver.specs.Occurrences.{Occurrence, Notice, put, uses, substring, among, string, backwards, region_end, declares, defines_routine, defines_grouping, amongs_after, amongs_in, noted_expression, use_of, noted_entry, noted_entries, is_empty, noted_command, noted_rows, noted_others, noted_groups, noted_plain, noted_name}
-use Rattle.sbl_resolver.specs.OccurrenceView.{noted_names, walked_expression, noted_sums, noted_product, noted_scales, noted_factor, noted_simple, noted_prefix, site_behind, noted_condition, has_starter, noted_starter, noted_terms}
+use Rattle.sbl_resolver.specs.OccurrenceView.{noted_names, walked_expression, noted_sums, noted_product, noted_scales, noted_factor, noted_simple, noted_prefix, site_after, noted_condition, has_starter, noted_starter, noted_terms}
 use Rattle.sbl_resolver.proofs.Walked.{expression_is, prefixed_is, among_is}
 
 -- it holds of each occurrence
@@ -26,7 +26,7 @@ pub each_as : (Q R : Occurrence → Type 0) → ((m : Occurrence) → Q m → R 
 each_as Q R f [] h = tt
 each_as Q R f (x ∷ xs) h = (f x h.0, each_as Q R f xs h.1)
 
--- What is put behind some occurrences: such ones alone, and, where P holds of those, whatever stands before them.
+-- What is put after some occurrences: such ones alone, and, where P holds of those, whatever stands before them.
 pub record Own (P : List Occurrence → Type 0) (Q : Occurrence → Type 0) (f : List Occurrence → List Occurrence) : Type 0 where
   pub more : List Occurrence → List Occurrence
   pub is : (s : List Occurrence) → f s ≡ s ++ more s
@@ -88,16 +88,16 @@ is_quiet _ = true
 abbrev pub IsOfCommand : ℕ → Occurrence → Type 0
 IsOfCommand i m = (m.site.item ≡ i) × (is_quiet m.notice ≡ true)
 
-behind_item : (x : Prefix) (p : Site) → (site_behind x p).item ≡ p.item
-behind_item prefixes.Backwards p = refl
-behind_item prefixes.Not p = refl
-behind_item prefixes.Test p = refl
-behind_item prefixes.Try p = refl
-behind_item prefixes.Do p = refl
-behind_item prefixes.Fail p = refl
-behind_item prefixes.Repeat p = refl
-behind_item prefixes.GoTo p = refl
-behind_item prefixes.GoPast p = refl
+after_item : (x : Prefix) (p : Site) → (site_after x p).item ≡ p.item
+after_item prefixes.Backwards p = refl
+after_item prefixes.Not p = refl
+after_item prefixes.Test p = refl
+after_item prefixes.Try p = refl
+after_item prefixes.Do p = refl
+after_item prefixes.Fail p = refl
+after_item prefixes.Repeat p = refl
+after_item prefixes.GoTo p = refl
+after_item prefixes.GoPast p = refl
 
 module _ (i : ℕ) where
   abbrev Ours : (List Occurrence → List Occurrence) → Type 0
@@ -194,7 +194,7 @@ module _ (i : ℕ) where
     command_own (literal_ q) p h = none
     command_own (name_ n) p h = one (uses use_as.Command n) p h refl
     command_own (non_ m n) p h = one (uses use_as.Excluded n) p h refl
-    command_own (prefixed x c) p h = like (and_ (prefix_own x p h) (command_own c (site_behind x p) (behind_item x p ∙ h))) (λ s. prefixed_is x c p s)
+    command_own (prefixed x c) p h = like (and_ (prefix_own x p h) (command_own c (site_after x p) (after_item x p ∙ h))) (λ s. prefixed_is x c p s)
     command_own (counted n e c) p h = and_ (expression_own e p h) (command_own c p h)
     command_own (move_ m e) p h = expression_own e p h
     command_own (named x n) p h = one (uses (use_of x) n) p h refl
@@ -225,7 +225,7 @@ module _ (i : ℕ) where
 
 -- ---- items
 
--- the occurrences of a routine's body, behind its definition
+-- the occurrences of a routine's body, after its definition
 abbrev of_body : Command → Others → Site → List Occurrence → List Occurrence
 of_body c os p s = put region_end p (noted_others os p (noted_command c p s))
 

@@ -147,7 +147,7 @@ noted_split [] ys i s = ap (λ k. noted_items ys k s) (omega arith)
 noted_split (x ∷ xs) ys i s =
     noted_split xs ys (i + 1) (noted_plain x.plain (site_of i x) s) ∙ ap (λ k. noted_items ys k (noted_items xs (i + 1) (noted_plain x.plain (site_of i x) s))) (omega arith)
 
--- before, in and behind an item
+-- before, in and after an item
 pub round_item : (xs : List ItemInMode) (y : ItemInMode) (ys : List ItemInMode) → noted_items (xs ++ y ∷ ys) 1 [] ≡ noted_items xs 1 [] ++ (own y.plain (site_of (1 + length xs) y) ++ noted_items ys (1 + length xs + 1) [])
 round_item xs y ys =
     let i = 1 + length xs in

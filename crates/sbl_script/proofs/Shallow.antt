@@ -9,7 +9,7 @@ use Rattle.sbl_ast.specs.Tree.{Argument, Term, Plain, routine, grouping, Item, p
 use Rattle.sbl_ast.specs.Places.{AtDepth, placed_command, placed_plain, placed_plains, placed_items, AreShallow}
 use Rattle.sbl_ast.specs.Texts.{among, body, terms, places_in}
 use Rattle.sbl_ast.specs.View.{RowView}
-use Rattle.sbl_ast.proofs.Behind.{IsBefore, by_itself, behind_it, with_behind, plain_before}
+use Rattle.sbl_ast.proofs.After.{IsBefore, by_itself, after_it, with_after, plain_before}
 use Rattle.sbl_script.specs.declared.edits.DefinitionKind.TheVariants as kinds
 use Rattle.sbl_script.proofs.Found.{some_plain}
 use Rattle.sbl_script.specs.Edits.{defines, items_with, plains_with}
@@ -24,31 +24,31 @@ plains_before (x ∷ xs) r q = ap (placed_plain x) (plains_before xs r q) ∙ pl
 
 plains_shallow : (p : Plain → Bool) (y : Plain) (xs : List Plain) → AreShallow (placed_plain y []) → AreShallow (placed_plains xs []) → AreShallow (placed_plains (plains_with p y xs) [])
 plains_shallow p y [] hy h = h
-plains_shallow p y (x ∷ xs) hy h = go (p x) (plains_shallow p y xs hy (behind_it (placed_plain x) (plain_before x) (placed_plains xs []) h)) where
+plains_shallow p y (x ∷ xs) hy h = go (p x) (plains_shallow p y xs hy (after_it (placed_plain x) (plain_before x) (placed_plains xs []) h)) where
   rest : Ps
   rest = placed_plains xs []
 
   go : (here : Bool) → AreShallow (placed_plains (plains_with p y xs) []) → AreShallow (placed_plains (if here then y ∷ xs else x ∷ plains_with p y xs) [])
-  go true more = with_behind (placed_plain y) (plain_before y) rest hy (behind_it (placed_plain x) (plain_before x) rest h)
-  go false more = with_behind (placed_plain x) (plain_before x) (placed_plains (plains_with p y xs) []) (by_itself (placed_plain x) (plain_before x) rest h) more
+  go true more = with_after (placed_plain y) (plain_before y) rest hy (after_it (placed_plain x) (plain_before x) rest h)
+  go false more = with_after (placed_plain x) (plain_before x) (placed_plains (plains_with p y xs) []) (by_itself (placed_plain x) (plain_before x) rest h) more
 
 pub items_shallow : (p : Plain → Bool) (y : Plain) (is : List Item) → AreShallow (placed_plain y []) → AreShallow (placed_items is []) → AreShallow (placed_items (items_with p y is) [])
 items_shallow p y [] hy h = h
-items_shallow p y (plain x ∷ is) hy h = go (p x) (items_shallow p y is hy (behind_it (placed_plain x) (plain_before x) (placed_items is []) h)) where
+items_shallow p y (plain x ∷ is) hy h = go (p x) (items_shallow p y is hy (after_it (placed_plain x) (plain_before x) (placed_items is []) h)) where
   rest : Ps
   rest = placed_items is []
 
   go : (here : Bool) → AreShallow (placed_items (items_with p y is) []) → AreShallow (placed_items (if here then plain y ∷ is else plain x ∷ items_with p y is) [])
-  go true more = with_behind (placed_plain y) (plain_before y) rest hy (behind_it (placed_plain x) (plain_before x) rest h)
-  go false more = with_behind (placed_plain x) (plain_before x) (placed_items (items_with p y is) []) (by_itself (placed_plain x) (plain_before x) rest h) more
+  go true more = with_after (placed_plain y) (plain_before y) rest hy (after_it (placed_plain x) (plain_before x) rest h)
+  go false more = with_after (placed_plain x) (plain_before x) (placed_items (items_with p y is) []) (by_itself (placed_plain x) (plain_before x) rest h) more
 items_shallow p y (backward xs ∷ is) hy h =
     let rest = (lex.sign signs.Close, 0) ∷ placed_items is [] in
     let own = by_itself (placed_plains xs) (plains_before xs) rest h.1.1 in
-    let tail = behind_it (placed_plains xs) (plains_before xs) rest h.1.1 in
+    let tail = after_it (placed_plains xs) (plains_before xs) rest h.1.1 in
     go (list_any p xs) own tail (items_shallow p y is hy tail.1) where
       go : (here : Bool) → AreShallow (placed_plains xs []) → AreShallow ((lex.sign signs.Close, 0) ∷ placed_items is []) → AreShallow (placed_items (items_with p y is) []) → AreShallow (placed_items (if here then backward (plains_with p y xs) ∷ is else backward xs ∷ items_with p y is) [])
-      go true own tail more = let ys = plains_with p y xs in (h.0, (h.1.0, with_behind (placed_plains ys) (plains_before ys) ((lex.sign signs.Close, 0) ∷ placed_items is []) (plains_shallow p y xs hy own) tail))
-      go false own tail more = (h.0, (h.1.0, with_behind (placed_plains xs) (plains_before xs) ((lex.sign signs.Close, 0) ∷ placed_items (items_with p y is) []) own (tail.0, more)))
+      go true own tail more = let ys = plains_with p y xs in (h.0, (h.1.0, with_after (placed_plains ys) (plains_before ys) ((lex.sign signs.Close, 0) ∷ placed_items is []) (plains_shallow p y xs hy own) tail))
+      go false own tail more = (h.0, (h.1.0, with_after (placed_plains xs) (plains_before xs) ((lex.sign signs.Close, 0) ∷ placed_items (items_with p y is) []) own (tail.0, more)))
 
 -- ---- a definition in a script that is nowhere too deep
 
@@ -65,15 +65,15 @@ either_shallow None rest y f g is = g is
 in_shallow : (p : Plain → Bool) (xs : List Plain) (y : Plain) → AreShallow (placed_plains xs []) → first_in p xs ≡ Some y → AreShallow (placed_plain y [])
 in_shallow p [] y h is = absurd cc
 in_shallow p (x ∷ xs) y h is =
-    either_shallow (plain_if p x) (first_in p xs) y (λ e. if_shallow p x y (by_itself (placed_plain x) (plain_before x) (placed_plains xs []) h) e) (λ e. in_shallow p xs y (behind_it (placed_plain x) (plain_before x) (placed_plains xs []) h) e) is
+    either_shallow (plain_if p x) (first_in p xs) y (λ e. if_shallow p x y (by_itself (placed_plain x) (plain_before x) (placed_plains xs []) h) e) (λ e. in_shallow p xs y (after_it (placed_plain x) (plain_before x) (placed_plains xs []) h) e) is
 
 pub first_shallow : (p : Plain → Bool) (items : List Item) (y : Plain) → AreShallow (placed_items items []) → first_passing p items ≡ Some y → AreShallow (placed_plain y [])
 first_shallow p [] y h is = absurd cc
 first_shallow p (plain x ∷ items) y h is =
-    either_shallow (plain_if p x) (first_passing p items) y (λ e. if_shallow p x y (by_itself (placed_plain x) (plain_before x) (placed_items items []) h) e) (λ e. first_shallow p items y (behind_it (placed_plain x) (plain_before x) (placed_items items []) h) e) is
+    either_shallow (plain_if p x) (first_passing p items) y (λ e. if_shallow p x y (by_itself (placed_plain x) (plain_before x) (placed_items items []) h) e) (λ e. first_shallow p items y (after_it (placed_plain x) (plain_before x) (placed_items items []) h) e) is
 first_shallow p (backward xs ∷ items) y h is =
     let rest = (lex.sign signs.Close, 0) ∷ placed_items items [] in
-    let inner = behind_it (placed_plains xs) (plains_before xs) rest h.1.1 in
+    let inner = after_it (placed_plains xs) (plains_before xs) rest h.1.1 in
     either_shallow (first_in p xs) (first_passing p items) y (λ e. in_shallow p xs y (by_itself (placed_plains xs) (plains_before xs) rest h.1.1) e) (λ e. first_shallow p items y inner.1 e) is
 
 -- a routine with a body that is not too deep, and a grouping

@@ -23,11 +23,11 @@ use Rattle.sbl_ast.specs.Texts as texts
 use Rattle.sbl_parser.specs.Reading.{IsReadAs}
 use Rattle.sbl_ast.specs.Spelled.{spelled_command}
 use Rattle.sbl_ast.proofs.Lexed.{text_lexed}
-use Rattle.sbl_ast.proofs.Behind.{IsBefore, plain_before}
+use Rattle.sbl_ast.proofs.After.{IsBefore, plain_before}
 use Rattle.sbl_parser.proofs.Faults.{tree_tokens}
 use Rattle.sbl_script.specs.declared.edits.DefinitionKind.{DefinitionKind}
 use Rattle.sbl_script.specs.declared.edits.DefinitionKind.TheVariants as kinds
-use Rattle.sbl_script.specs.Edits.{defines, escapes_behind, items_with, plains_with}
+use Rattle.sbl_script.specs.Edits.{defines, escapes_after, items_with, plains_with}
 use Rattle.sbl_script.specs.Homes.{Walk, escapes_before, first_in, first_passing, plain_if, walk_to, walk_in, state_reached}
 use Rattle.sbl_script.specs.Reading.{HasTokens, lexemes}
 use Rattle.sbl_script.specs.SpelledScript.{AreSpelled, IsSpelled}
@@ -48,11 +48,11 @@ Say s ps = AreSaid s (lexed ps)
 abbrev Then : Directives → Ps → Directives
 Then s ps = after_all s (lexed ps)
 
--- ---- one part behind another
+-- ---- one part after another
 
-front : (s : Directives) (ps qs : Ps) → Say s (ps ++ qs) → Say s ps
-front s [] qs h = tt
-front s (p ∷ ps) qs h = (h.0, front (after s (p.0)) ps qs h.1)
+prefix : (s : Directives) (ps qs : Ps) → Say s (ps ++ qs) → Say s ps
+prefix s [] qs h = tt
+prefix s (p ∷ ps) qs h = (h.0, prefix (after s (p.0)) ps qs h.1)
 
 rest_of : (s : Directives) (ps qs : Ps) → Say s (ps ++ qs) → Say (Then s ps) qs
 rest_of s [] qs h = h
@@ -66,8 +66,8 @@ then_both : (s : Directives) (ps qs : Ps) → Then s (ps ++ qs) ≡ Then (Then s
 then_both s [] qs = refl
 then_both s (p ∷ ps) qs = then_both (after s (p.0)) ps qs
 
-part_front : (part : Ps → Ps) → IsBefore part → (s : Directives) (r : Ps) → Say s (part r) → Say s (part [])
-part_front part before s r h = front s (part []) r (subst (Say s) (before [] r) h)
+part_prefix : (part : Ps → Ps) → IsBefore part → (s : Directives) (r : Ps) → Say s (part r) → Say s (part [])
+part_prefix part before s r h = prefix s (part []) r (subst (Say s) (before [] r) h)
 
 part_rest : (part : Ps → Ps) → IsBefore part → (s : Directives) (r : Ps) → Say s (part r) → Say (Then s (part [])) r
 part_rest part before s r h = rest_of s (part []) r (subst (Say s) (before [] r) h)
@@ -108,7 +108,7 @@ put_said e b k a d h g =
 
 -- ---- what an item sets
 
-plain_sets : (e : InForce) (x : Plain) → Then (no_directive e) (placed_plain x []) ≡ no_directive (escapes_behind e x)
+plain_sets : (e : InForce) (x : Plain) → Then (no_directive e) (placed_plain x []) ≡ no_directive (escapes_after e x)
 plain_sets e (declaration k ns) = quiet_then e (placed_plain (declaration k ns) []) (names_quiet k ns)
 plain_sets e (escapes a b) = refl
 plain_sets e (macro n None q) = refl
@@ -117,32 +117,32 @@ plain_sets e (macro n (Some bases.Decimal) q) = refl
 plain_sets e (routine n c os) = quiet_then e (placed_plain (routine n c os) []) ((λ f. refl), ((λ f. refl), ((λ f. refl), body_quiet (c, os))))
 plain_sets e (grouping n a ts) = quiet_then e (placed_plain (grouping n a ts) []) ((λ f. refl), ((λ f. refl), terms_quiet a ts))
 
-abbrev all_behind : InForce → List Plain → InForce
-all_behind e [] = e
-all_behind e (x ∷ xs) = all_behind (escapes_behind e x) xs
+abbrev all_after : InForce → List Plain → InForce
+all_after e [] = e
+all_after e (x ∷ xs) = all_after (escapes_after e x) xs
 
-plains_set : (e : InForce) (xs : List Plain) → Then (no_directive e) (placed_plains xs []) ≡ no_directive (all_behind e xs)
+plains_set : (e : InForce) (xs : List Plain) → Then (no_directive e) (placed_plains xs []) ≡ no_directive (all_after e xs)
 plains_set e [] = refl
 plains_set e (x ∷ xs) =
-    part_then (placed_plain x) (plain_before x) (no_directive e) (placed_plains xs []) ∙ ap (λ (s : Directives). Then s (placed_plains xs [])) (plain_sets e x) ∙ plains_set (escapes_behind e x) xs
+    part_then (placed_plain x) (plain_before x) (no_directive e) (placed_plains xs []) ∙ ap (λ (s : Directives). Then s (placed_plains xs [])) (plain_sets e x) ∙ plains_set (escapes_after e x) xs
 
 items_settle : (is : List Item) (e : InForce) → (f : InForce) × (Then (no_directive e) (placed_items is []) ≡ no_directive f)
 items_settle [] e = (e, refl)
 items_settle (plain x ∷ is) e =
     let more = placed_items is [] in
-    let r = items_settle is (escapes_behind e x) in
+    let r = items_settle is (escapes_after e x) in
     (r.0, part_then (placed_plain x) (plain_before x) (no_directive e) more ∙ ap (λ (s : Directives). Then s more) (plain_sets e x) ∙ r.1)
 items_settle (backward xs ∷ is) e =
     let more = (lex.sign signs.Close, 0) ∷ placed_items is [] in
-    let r = items_settle is (all_behind e xs) in
+    let r = items_settle is (all_after e xs) in
     (r.0, part_then (placed_plains xs) (plains_before xs) (no_directive e) more ∙ ap (λ (s : Directives). Then s more) (plains_set e xs) ∙ r.1)
 
-behind_plain : (e : InForce) (x : Plain) (r : Ps) → Say (no_directive e) (placed_plain x r) → Say (no_directive (escapes_behind e x)) r
-behind_plain e x r h = subst (λ (s : Directives). Say s r) (plain_sets e x) (part_rest (placed_plain x) (plain_before x) (no_directive e) r h)
+after_plain : (e : InForce) (x : Plain) (r : Ps) → Say (no_directive e) (placed_plain x r) → Say (no_directive (escapes_after e x)) r
+after_plain e x r h = subst (λ (s : Directives). Say s r) (plain_sets e x) (part_rest (placed_plain x) (plain_before x) (no_directive e) r h)
 
 -- ---- with another definition
 
-sets_nothing : (k : DefinitionKind) (n : List ℕ) (x : Plain) (e : InForce) → defines k n x ≡ true → escapes_behind e x ≡ e
+sets_nothing : (k : DefinitionKind) (n : List ℕ) (x : Plain) (e : InForce) → defines k n x ≡ true → escapes_after e x ≡ e
 sets_nothing k n (routine m c os) e h = refl
 sets_nothing k n (grouping m a ts) e h = refl
 sets_nothing k n (declaration d ns) e h = refl
@@ -151,18 +151,18 @@ sets_nothing kinds.Grouping n (escapes a b) e h = absurd cc
 sets_nothing kinds.Routine n (macro m b q) e h = absurd cc
 sets_nothing kinds.Grouping n (macro m b q) e h = absurd cc
 
-step_same : (e : InForce) (x : Plain) (r q : Ps) → (Say (no_directive (escapes_behind e x)) r → Say (no_directive (escapes_behind e x)) q) → Say (no_directive e) (placed_plain x r) → Say (no_directive e) (placed_plain x q)
+step_same : (e : InForce) (x : Plain) (r q : Ps) → (Say (no_directive (escapes_after e x)) r → Say (no_directive (escapes_after e x)) q) → Say (no_directive e) (placed_plain x r) → Say (no_directive e) (placed_plain x q)
 step_same e x r q f h =
-    part_with (placed_plain x) (plain_before x) (no_directive e) q (part_front (placed_plain x) (plain_before x) (no_directive e) r h) (subst (λ (s : Directives). Say s q) (sym (plain_sets e x)) (f (behind_plain e x r h)))
+    part_with (placed_plain x) (plain_before x) (no_directive e) q (part_prefix (placed_plain x) (plain_before x) (no_directive e) r h) (subst (λ (s : Directives). Say s q) (sym (plain_sets e x)) (f (after_plain e x r h)))
 
-step_new : (e : InForce) (x y : Plain) (r q : Ps) → escapes_behind e x ≡ e → escapes_behind e y ≡ e → Say (no_directive e) (placed_plain y []) → (Say (no_directive e) r → Say (no_directive e) q) → Say (no_directive e) (placed_plain x r) → Say (no_directive e) (placed_plain y q)
+step_new : (e : InForce) (x y : Plain) (r q : Ps) → escapes_after e x ≡ e → escapes_after e y ≡ e → Say (no_directive e) (placed_plain y []) → (Say (no_directive e) r → Say (no_directive e) q) → Say (no_directive e) (placed_plain x r) → Say (no_directive e) (placed_plain y q)
 step_new e x y r q i j hy f h =
-    let after_it = subst (λ (g : InForce). Say (no_directive g) r) i (behind_plain e x r h) in
+    let after_it = subst (λ (g : InForce). Say (no_directive g) r) i (after_plain e x r h) in
     part_with (placed_plain y) (plain_before y) (no_directive e) q hy (subst (λ (s : Directives). Say s q) (sym (plain_sets e y ∙ ap no_directive j)) (f after_it))
 
-plains_same : (xs : List Plain) (e : InForce) (r q : Ps) → (Say (no_directive (all_behind e xs)) r → Say (no_directive (all_behind e xs)) q) → Say (no_directive e) (placed_plains xs r) → Say (no_directive e) (placed_plains xs q)
+plains_same : (xs : List Plain) (e : InForce) (r q : Ps) → (Say (no_directive (all_after e xs)) r → Say (no_directive (all_after e xs)) q) → Say (no_directive e) (placed_plains xs r) → Say (no_directive e) (placed_plains xs q)
 plains_same [] e r q f h = f h
-plains_same (x ∷ xs) e r q f h = step_same e x (placed_plains xs r) (placed_plains xs q) (λ z. plains_same xs (escapes_behind e x) r q f z) h
+plains_same (x ∷ xs) e r q f h = step_same e x (placed_plains xs r) (placed_plains xs q) (λ z. plains_same xs (escapes_after e x) r q f z) h
 
 module _ (k : DefinitionKind) (n : List ℕ) (y : Plain) (new : defines k n y ≡ true) where
   abbrev p : Plain → Bool
@@ -171,29 +171,29 @@ module _ (k : DefinitionKind) (n : List ℕ) (y : Plain) (new : defines k n y �
   abbrev InPlains : List Plain → InForce → Ps → Ps → Type 0
   InPlains xs e r q = list_any p xs ≡ true → Say (no_directive (walk_in p xs e).0) (placed_plain y []) → Say (no_directive e) (placed_plains xs r) → Say (no_directive e) (placed_plains (plains_with p y xs) q)
 
-  plains_new : (xs : List Plain) (e : InForce) (r q : Ps) → list_any p xs ≡ true → Say (no_directive (walk_in p xs e).0) (placed_plain y []) → (Say (no_directive (all_behind e xs)) r → Say (no_directive (all_behind e xs)) q)
+  plains_new : (xs : List Plain) (e : InForce) (r q : Ps) → list_any p xs ≡ true → Say (no_directive (walk_in p xs e).0) (placed_plain y []) → (Say (no_directive (all_after e xs)) r → Say (no_directive (all_after e xs)) q)
       → Say (no_directive e) (placed_plains xs r) → Say (no_directive e) (placed_plains (plains_with p y xs) q)
   plains_new [] e r q any hy f h = absurd cc
-  plains_new (x ∷ xs) e r q any hy f h = go (p x) refl any hy (λ a l z. plains_new xs (escapes_behind e x) r q a l f z) where
-    go : (here : Bool) → p x ≡ here → here || list_any p xs ≡ true → Say (no_directive (if here then (e, true) else walk_in p xs (escapes_behind e x)).0) (placed_plain y []) → InPlains xs (escapes_behind e x) r q
+  plains_new (x ∷ xs) e r q any hy f h = go (p x) refl any hy (λ a l z. plains_new xs (escapes_after e x) r q a l f z) where
+    go : (here : Bool) → p x ≡ here → here || list_any p xs ≡ true → Say (no_directive (if here then (e, true) else walk_in p xs (escapes_after e x)).0) (placed_plain y []) → InPlains xs (escapes_after e x) r q
         → Say (no_directive e) (placed_plains (if here then y ∷ xs else x ∷ plains_with p y xs) q)
     go true i a l more =
-        let g = subst (λ (z : InForce). Say (no_directive (all_behind z xs)) r → Say (no_directive (all_behind z xs)) q) (sets_nothing k n x e i) f in
+        let g = subst (λ (z : InForce). Say (no_directive (all_after z xs)) r → Say (no_directive (all_after z xs)) q) (sets_nothing k n x e i) f in
         step_new e x y (placed_plains xs r) (placed_plains xs q) (sets_nothing k n x e i) (sets_nothing k n y e new) l (λ z. plains_same xs e r q g z) h
     go false i a l more = step_same e x (placed_plains xs r) (placed_plains (plains_with p y xs) q) (λ z. more a l z) h
 
 -- an item that passes is reached; if none does, all items were gone through
 in_held : (p : Plain → Bool) (xs : List Plain) (e : InForce) → (walk_in p xs e).1 ≡ list_any p xs
 in_held p [] e = refl
-in_held p (x ∷ xs) e = go (p x) (in_held p xs (escapes_behind e x)) where
-  go : (here : Bool) → (walk_in p xs (escapes_behind e x)).1 ≡ list_any p xs → (if here then (e, true) else walk_in p xs (escapes_behind e x)).1 ≡ (here || list_any p xs)
+in_held p (x ∷ xs) e = go (p x) (in_held p xs (escapes_after e x)) where
+  go : (here : Bool) → (walk_in p xs (escapes_after e x)).1 ≡ list_any p xs → (if here then (e, true) else walk_in p xs (escapes_after e x)).1 ≡ (here || list_any p xs)
   go true more = refl
   go false more = more
 
-not_held : (p : Plain → Bool) (xs : List Plain) (e : InForce) → list_any p xs ≡ false → (walk_in p xs e).0 ≡ all_behind e xs
+not_held : (p : Plain → Bool) (xs : List Plain) (e : InForce) → list_any p xs ≡ false → (walk_in p xs e).0 ≡ all_after e xs
 not_held p [] e h = refl
-not_held p (x ∷ xs) e h = go (p x) h (λ l. not_held p xs (escapes_behind e x) l) where
-  go : (here : Bool) → (here || list_any p xs) ≡ false → (list_any p xs ≡ false → (walk_in p xs (escapes_behind e x)).0 ≡ all_behind (escapes_behind e x) xs) → (if here then (e, true) else walk_in p xs (escapes_behind e x)).0 ≡ all_behind (escapes_behind e x) xs
+not_held p (x ∷ xs) e h = go (p x) h (λ l. not_held p xs (escapes_after e x) l) where
+  go : (here : Bool) → (here || list_any p xs) ≡ false → (list_any p xs ≡ false → (walk_in p xs (escapes_after e x)).0 ≡ all_after (escapes_after e x) xs) → (if here then (e, true) else walk_in p xs (escapes_after e x)).0 ≡ all_after (escapes_after e x) xs
   go true l more = absurd cc
   go false l more = more l
 
@@ -206,15 +206,15 @@ module _ (k : DefinitionKind) (n : List ℕ) (y : Plain) (new : defines k n y �
 
   items_said : (is : List Item) (e : InForce) → Say (no_directive (walk_to q is e).0) (placed_plain y []) → Say (no_directive e) (placed_items is []) → Say (no_directive e) (placed_items (items_with q y is) [])
   items_said [] e hy h = h
-  items_said (plain x ∷ is) e hy h = go (q x) refl hy (λ l z. items_said is (escapes_behind e x) l z) where
-    go : (here : Bool) → q x ≡ here → Say (no_directive (if here then (e, true) else walk_to q is (escapes_behind e x)).0) (placed_plain y []) → InItems is (escapes_behind e x) → Say (no_directive e) (placed_items (if here then plain y ∷ is else plain x ∷ items_with q y is) [])
+  items_said (plain x ∷ is) e hy h = go (q x) refl hy (λ l z. items_said is (escapes_after e x) l z) where
+    go : (here : Bool) → q x ≡ here → Say (no_directive (if here then (e, true) else walk_to q is (escapes_after e x)).0) (placed_plain y []) → InItems is (escapes_after e x) → Say (no_directive e) (placed_items (if here then plain y ∷ is else plain x ∷ items_with q y is) [])
     go true i l more = step_new e x y (placed_items is []) (placed_items is []) (sets_nothing k n x e i) (sets_nothing k n y e new) l (λ z. z) h
     go false i l more = step_same e x (placed_items is []) (placed_items (items_with q y is) []) (λ z. more l z) h
-  items_said (backward xs ∷ is) e hy h = go (list_any q xs) refl (λ l z. items_said is (all_behind e xs) l z) where
+  items_said (backward xs ∷ is) e hy h = go (list_any q xs) refl (λ l z. items_said is (all_after e xs) l z) where
     found : (here : Bool) → list_any q xs ≡ here → Say (no_directive (if here then walk_in q xs e else walk_to q is (walk_in q xs e).0).0) (placed_plain y [])
     found here i = subst (λ (u : Bool). Say (no_directive (if u then walk_in q xs e else walk_to q is (walk_in q xs e).0).0) (placed_plain y [])) (in_held q xs e ∙ i) hy
 
-    go : (here : Bool) → list_any q xs ≡ here → InItems is (all_behind e xs) → Say (no_directive e) (placed_items (if here then backward (plains_with q y xs) ∷ is else backward xs ∷ items_with q y is) [])
+    go : (here : Bool) → list_any q xs ≡ here → InItems is (all_after e xs) → Say (no_directive e) (placed_items (if here then backward (plains_with q y xs) ∷ is else backward xs ∷ items_with q y is) [])
     go true i more =
         let rest = (lex.sign signs.Close, 0) ∷ placed_items is [] in
         (h.0, (h.1.0, plains_new k n y new xs e rest rest i (found true i) (λ z. z) h.1.1))
@@ -236,18 +236,18 @@ first_said p x e y o later F f is h more = go (p x) is where
   go false g = more g
 
 in_said : (p : Plain → Bool) (xs : List Plain) (e : InForce) (y : Plain) (o : Option Plain) (r : Ps) (later : InForce → Walk) → option_or (first_in p xs) o ≡ Some y → Say (no_directive e) (placed_plains xs r)
-    → (o ≡ Some y → Say (no_directive (all_behind e xs)) r → Say (no_directive (later (all_behind e xs)).0) (placed_plain y [])) → Say (no_directive (if (walk_in p xs e).1 then walk_in p xs e else later (walk_in p xs e).0).0) (placed_plain y [])
+    → (o ≡ Some y → Say (no_directive (all_after e xs)) r → Say (no_directive (later (all_after e xs)).0) (placed_plain y [])) → Say (no_directive (if (walk_in p xs e).1 then walk_in p xs e else later (walk_in p xs e).0).0) (placed_plain y [])
 in_said p [] e y o r later is h more = more is h
 in_said p (x ∷ xs) e y o r later is h more =
-    first_said p x e y (option_or (first_in p xs) o) (walk_in p xs (escapes_behind e x)) (λ (z : Walk). if z.1 then z else later z.0) (λ l. l) (sym (or_either (plain_if p x) (first_in p xs) o) ∙ is) (part_front (placed_plain x) (plain_before x) (no_directive e) (placed_plains xs r) h)
-    (λ i. in_said p xs (escapes_behind e x) y o r later i (behind_plain e x (placed_plains xs r) h) more)
+    first_said p x e y (option_or (first_in p xs) o) (walk_in p xs (escapes_after e x)) (λ (z : Walk). if z.1 then z else later z.0) (λ l. l) (sym (or_either (plain_if p x) (first_in p xs) o) ∙ is) (part_prefix (placed_plain x) (plain_before x) (no_directive e) (placed_plains xs r) h)
+    (λ i. in_said p xs (escapes_after e x) y o r later i (after_plain e x (placed_plains xs r) h) more)
 
 found_said : (p : Plain → Bool) (is : List Item) (e : InForce) (y : Plain) → first_passing p is ≡ Some y → Say (no_directive e) (placed_items is []) → Say (no_directive (walk_to p is e).0) (placed_plain y [])
 found_said p [] e y i h = absurd cc
 found_said p (plain x ∷ is) e y i h =
-    first_said p x e y (first_passing p is) (walk_to p is (escapes_behind e x)) (λ (z : Walk). z) (λ l. l) i (part_front (placed_plain x) (plain_before x) (no_directive e) (placed_items is []) h)
-    (λ j. found_said p is (escapes_behind e x) y j (behind_plain e x (placed_items is []) h))
-found_said p (backward xs ∷ is) e y i h = in_said p xs e y (first_passing p is) ((lex.sign signs.Close, 0) ∷ placed_items is []) (λ (f : InForce). walk_to p is f) i h.1.1 (λ j z. found_said p is (all_behind e xs) y j z.1)
+    first_said p x e y (first_passing p is) (walk_to p is (escapes_after e x)) (λ (z : Walk). z) (λ l. l) i (part_prefix (placed_plain x) (plain_before x) (no_directive e) (placed_items is []) h)
+    (λ j. found_said p is (escapes_after e x) y j (after_plain e x (placed_items is []) h))
+found_said p (backward xs ∷ is) e y i h = in_said p xs e y (first_passing p is) ((lex.sign signs.Close, 0) ∷ placed_items is []) (λ (f : InForce). walk_to p is f) i h.1.1 (λ j z. found_said p is (all_after e xs) y j z.1)
 
 -- ---- what is read
 
@@ -291,7 +291,7 @@ terms_said n items a ts x h is piece_lexemes =
     let old = found_said (defines kinds.Grouping n) items nothing_set (grouping n a ts) is h in
     (old.0, (old.1.0, piece_lexemes))
 
--- a text may end behind a script
+-- a text may end after a script
 pub ends : (items : List Item) → MayEnd (after_all start (lexemes_of items))
 ends items =
     let r = items_settle items nothing_set in

@@ -95,10 +95,10 @@ token_of_text (c ∷ cs) place = at (c == quote) (c == slash && starts_star cs) 
   at false true = refl
   at false false = refl
 
-front_of_text : (w : Expectation) (text : List ℕ) (place : ℕ) → IsOfText (fault_at w text place)
-front_of_text wanted.Inserts text place = pair_of_text text place
-front_of_text wanted.Token text place = token_of_text text place
-front_of_text wanted.MacroName text place = token_of_text text place
+prefix_of_text : (w : Expectation) (text : List ℕ) (place : ℕ) → IsOfText (fault_at w text place)
+prefix_of_text wanted.Inserts text place = pair_of_text text place
+prefix_of_text wanted.Token text place = token_of_text text place
+prefix_of_text wanted.MacroName text place = token_of_text text place
 
 piece_of_text : (s : Directives) (k : Shape) (x : List ℕ) (place : ℕ) (f : ScriptFault) → IsRefused s k x place f → IsOfText f
 piece_of_text s shape.Number x place f (high, said) = as_said f _ refl said
@@ -122,7 +122,7 @@ one_of_three f x y z a b c (inr (inr h)) = as_said f z c h.1
 pub text_fault : (s : Directives) (bytes : List ℕ) (f : ScriptFault) → IsTextFault s bytes f → is_checked f ≡ false
 text_fault s bytes f (inl (long, said)) = as_said f _ refl said
 text_fault s bytes f (inr (inl (short, none, said))) = as_said f _ refl said
-text_fault s bytes f (inr (inr (short, is, (before, rest, ps, t, parts, cut, inl (ends, none, said))))) = as_said f _ (front_of_text t.wanted rest _) said
+text_fault s bytes f (inr (inr (short, is, (before, rest, ps, t, parts, cut, inl (ends, none, said))))) = as_said f _ (prefix_of_text t.wanted rest _) said
 text_fault s bytes f (inr (inr (short, is, (before, rest, ps, t, parts, cut, inr (k, x, more, split, piece, bad))))) = piece_of_text t k x _ f bad
 
 pub unread : (w : Text) (ts : List PlacedToken) (end : ℕ) (f : ScriptFault) → IsUnread w ts end f → is_checked f ≡ false

@@ -64,14 +64,14 @@ coding_of (Some bases.Hex) = coding.Hex
 coding_of (Some bases.Decimal) = coding.Decimal
 
 -- what is in force after an item
-abbrev pub escapes_behind : InForce → Plain → InForce
-escapes_behind e (escapes a b) = with_inserts e a b
-escapes_behind e (macro n b q) = defined_as e (chars n) (value_for_macro (coding_of b) q.value)
-escapes_behind e _ = e
+abbrev pub escapes_after : InForce → Plain → InForce
+escapes_after e (escapes a b) = with_inserts e a b
+escapes_after e (macro n b q) = defined_as e (chars n) (value_for_macro (coding_of b) q.value)
+escapes_after e _ = e
 
 -- the state of the text before the first item that passes: what all items before it set is in force
 abbrev pub state_before : (Plain → Bool) → List Item → Directives
-state_before p is = start_under (fold escapes_behind nothing_set (before_first p (plains_of is)))
+state_before p is = start_under (fold escapes_after nothing_set (before_first p (plains_of is)))
 
 -- ---- the items with another definition in its place
 
@@ -107,12 +107,12 @@ text_for items e = text_in (first_of (changes e) items) e
 -- The definition `new` has the among `a` in place of the among of `old` with number k, which is at depth d: there are
 -- k - 1 words `among` before it. All other tokens stay.
 pub record IsAmongReplaced (k d : ℕ) (a : Starter × Groups) (old new : Plain) : Type 0 where
-  pub front : List AtDepth
+  pub prefix : List AtDepth
   pub replaced : Starter × Groups
-  pub behind : List AtDepth
-  pub number : k ≡ length (among_depths front) + 1
-  pub was : placed_plain old [] ≡ front ++ places_in (texts.among d) replaced ++ behind
-  pub is : placed_plain new [] ≡ front ++ places_in (texts.among d) a ++ behind
+  pub following : List AtDepth
+  pub number : k ≡ length (among_depths prefix) + 1
+  pub was : placed_plain old [] ≡ prefix ++ places_in (texts.among d) replaced ++ following
+  pub is : placed_plain new [] ≡ prefix ++ places_in (texts.among d) a ++ following
 
 -- with the tree x of its text, an edit makes the definition `new` of `old`
 abbrev pub IsChanged : ScriptEdit → (w : Text) → TreeOf w → Plain → Plain → Type 0

@@ -20,7 +20,7 @@ use Rattle.sbl_script.specs.declared.edits.DefinitionKind.TheVariants as kinds
 use Rattle.sbl_ast.specs.Source.{Source}
 use Rattle.sbl_resolver.specs.Checks.{WellDeclared}
 use Rattle.sbl_script.specs.Reading.{HasTokens, IsFaultIn, first_left_out, lexemes}
-use Rattle.sbl_script.specs.Edits.{ScriptEdit, body, among, terms, changes, defines, escapes_behind, plains_with, items_with}
+use Rattle.sbl_script.specs.Edits.{ScriptEdit, body, among, terms, changes, defines, escapes_after, plains_with, items_with}
 
 -- ---- the definition that changes
 
@@ -54,11 +54,11 @@ Walk = InForce × Bool
 
 abbrev pub walk_in : (Plain → Bool) → List Plain → InForce → Walk
 walk_in p [] e = (e, false)
-walk_in p (x ∷ xs) e = if p x then (e, true) else walk_in p xs (escapes_behind e x)
+walk_in p (x ∷ xs) e = if p x then (e, true) else walk_in p xs (escapes_after e x)
 
 abbrev pub walk_to : (Plain → Bool) → List Item → InForce → Walk
 walk_to p [] e = (e, false)
-walk_to p (plain x ∷ is) e = if p x then (e, true) else walk_to p is (escapes_behind e x)
+walk_to p (plain x ∷ is) e = if p x then (e, true) else walk_to p is (escapes_after e x)
 walk_to p (backward xs ∷ is) e = if (walk_in p xs e).1 then walk_in p xs e else walk_to p is (walk_in p xs e).0
 
 -- the insert characters and macros that all items before the first that passes set

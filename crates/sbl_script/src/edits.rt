@@ -123,7 +123,7 @@ fn coding_of(base: Option<Base>) -> Coding
 
 /// Adds what an item sets to what is in force.
 fn set(alloc: Global, escapes: &mut Escapes, plain: &Plain) -> Result<(), ScriptFault>
-    ensures set { IfOk result (λ _. escapes.new ≡ spec.escapes_behind escapes.old (view_plain plain.now)) }
+    ensures set { IfOk result (λ _. escapes.new ≡ spec.escapes_after escapes.old (view_plain plain.now)) }
     ensures fault { IfErr result (λ f. f ≡ ScriptFault.OutOfMemory) }
 {
     match plain {

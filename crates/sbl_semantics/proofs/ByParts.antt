@@ -40,7 +40,7 @@ use Rattle.sbl_semantics.specs.Regions.{number_after, number_after_rows, number_
 use Rattle.sbl_semantics.specs.Same.{same_argument, same_entry, same_expression, same_quoted, same_term}
 use Rattle.sbl_semantics.specs.TouchedItems.{Item', Routine, Among, Grouping}
 use Rattle.sbl_semantics.proofs.DiffersSelf.{self, plain_self}
-use Rattle.sbl_semantics.proofs.NumberAfter.{behind_is}
+use Rattle.sbl_semantics.proofs.NumberAfter.{after_is}
 use Rattle.sbl_semantics.proofs.SameParts.{both, name_is, simple_is, move_is, naming_is, splicing_is, assignment_is, comparison_is, kind_is, flag_is, quoted_is, argument_is, expression_is, entries_are, names_are, base_is, terms_are}
 use Rattle.sbl_semantics.proofs.SameSelf.{also, name_self, expression_self, entries_self}
 
@@ -233,8 +233,8 @@ module _ (one_tree : (w : Text) (t u : TreeOf w) → tokens_of w t ≡ tokens_of
 
   as_many : (s t : Starter) (gs hs : Groups) (k : ℕ) → nat_eq (number_after (among_ s gs) k) (number_after (among_ t hs) k) ≡ nat_eq (count_in_among (s, gs)) (count_in_among (t, hs))
   as_many s t gs hs k =
-      let x = behind_is (among_ s gs) k in
-      let y = behind_is (among_ t hs) k in
+      let x = after_is (among_ s gs) k in
+      let y = after_is (among_ t hs) k in
       agree _ _
       (λ h. let e = eqb-true (number_after (among_ s gs) k) (number_after (among_ t hs) k) h in eq-eqb (count_in_among (s, gs)) (count_in_among (t, hs)) (omega (arith, x, y, e)))
       (λ h. let e = eqb-true (count_in_among (s, gs)) (count_in_among (t, hs)) h in eq-eqb (number_after (among_ s gs) k) (number_after (among_ t hs) k) (omega (arith, x, y, e)))

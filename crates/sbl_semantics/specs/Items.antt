@@ -66,8 +66,8 @@ abbrev pub and_grouping : Plain → List Grouping → List Grouping
 and_grouping (grouping n a ts) gs = gs ++ (record { name = n; has = λ c. terms_have gs ts (term_has gs a c) c }) ∷ []
 and_grouping x gs = gs
 
-abbrev pub classes_behind : List ItemInMode → List Grouping → List Grouping
-classes_behind xs gs = fold (λ gs x. and_grouping x.plain gs) gs xs
+abbrev pub classes_after : List ItemInMode → List Grouping → List Grouping
+classes_after xs gs = fold (λ gs x. and_grouping x.plain gs) gs xs
 
 -- ---- routines
 

@@ -34,7 +34,7 @@ use Rattle.sbl_ast.specs.Tree.{bracket, simple_, literal_, name_, non_, prefixed
 use Rattle.std.specs.Cmp.Lexicographic.{pointwise}
 use Rattle.sbl_ast.specs.declared.tree.DeclarationKind.TheVariants as kinds
 use Rattle.sbl_semantics.specs.Fitting.{read_as, ahead_at}
-use Rattle.sbl_semantics.specs.Items.{DeclaredNames, Body, is_among, place_of, body_named, class_of, classes_behind, known_in}
+use Rattle.sbl_semantics.specs.Items.{DeclaredNames, Body, is_among, place_of, body_named, class_of, classes_after, known_in}
 use Rattle.sbl_semantics.specs.Moves.{match, one_of, hop, at_mark, to_mark}
 use Rattle.sbl_semantics.specs.Numbers.{Value, natural, continue_with, value_in_range, rounded_quotient, with_value, with_both, limit_value, integer_at}
 use Rattle.sbl_semantics.specs.Regions.{Among, number_after, number_after_rows, number_after_others, number_after_starter, first, first_rows, first_others, mode_under, waits, waits_others}
@@ -339,14 +339,14 @@ start ns word steps = record {
 unfoldable pub ending : Source → List ℕ → ℕ → Ending
 ending script word limit =
     let items = in_order script.items in
-    calls (known_in items) (class_of (classes_behind items [])) (body_named items) max_levels script.external Forward
+    calls (known_in items) (class_of (classes_after items [])) (body_named items) max_levels script.external Forward
     (start (known_in items) word limit)
 
 -- the same run, with its events recorded
 unfoldable pub ending_with_events : Source → List ℕ → ℕ → Ending
 ending_with_events script word limit =
     let items = in_order script.items in
-    calls (known_in items) (class_of (classes_behind items [])) (body_named items) max_levels script.external Forward
+    calls (known_in items) (class_of (classes_after items [])) (body_named items) max_levels script.external Forward
     (record (start (known_in items) word limit) { events = Some [] })
 
 -- ---- names for parts of these definitions, which only proofs use

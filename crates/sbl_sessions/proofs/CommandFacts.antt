@@ -11,7 +11,7 @@ use Rattle.sbl_sessions.specs.CommandViews.{FindsTarget, view_found}
 use Rattle.sbl_sessions.specs.Commands.{target_of}
 use Rattle.sbl_sessions.specs.Requests.{block_word}
 use Rattle.sbl_sessions.specs.Words.{argument, command_word, is_space}
-use Rattle.sbl_sessions.specs.declared.commands.Target.{Target}
+use Rattle.sbl_sessions.specs.declared.session_commands.Target.{Target}
 
 -- no space stands before this place
 abbrev pub NoSpace : List ℕ → ℕ → Type 0

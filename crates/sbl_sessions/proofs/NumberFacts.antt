@@ -7,7 +7,7 @@ use Rattle.sbl_text.specs.Classes.{is_digit}
 use Rattle.sbl_text.specs.Tokens.{digits_value, number_of}
 use Rattle.sbl_sessions.specs.Numbers.{max_number, number_in}
 
--- what is left after so many digits writes, behind this number, what the whole writes
+-- what is left after so many digits writes, after this number, what the whole writes
 pub record Reads (text : List ℕ) (i n : ℕ) : Type 0 where
   pub digits : list_all is_digit (drop i text) ≡ list_all is_digit text
   pub value : min (digits_value n (drop i text)) max_number ≡ min (number_of text) max_number
@@ -15,7 +15,7 @@ pub record Reads (text : List ℕ) (i n : ℕ) : Type 0 where
 pub reads_none : (text : List ℕ) → Reads text 0 0
 reads_none text = record { digits = refl; value = refl }
 
--- digits behind two numbers that are one up to the largest write what is one up to it
+-- digits after two numbers that are one up to the largest write what is one up to it
 capped : (text : List ℕ) (n m : ℕ) → min n max_number ≡ min m max_number → min (digits_value n text) max_number ≡ min (digits_value m text) max_number
 capped [] n m same = same
 capped (c ∷ text) n m same =

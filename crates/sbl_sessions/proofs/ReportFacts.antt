@@ -17,7 +17,7 @@ use Rattle.sbl_semantics.specs.TouchedItems.{Item', touched_items}
 use Rattle.sbl_io.specs.Records.{records_text}
 use Rattle.sbl_sessions.specs.Answers.{Enough, IsReport, Memory, RefusedAfter, edit_text}
 use Rattle.sbl_sessions.specs.CommandViews.{IsReply}
-use Rattle.sbl_formats.specs.Rows.{class_fields, class_or_row_text, class_text, row_fields, rows_now}
+use Rattle.sbl_formats.specs.RowRecords.{class_fields, class_or_row_text, class_text, row_fields, rows_now}
 use Rattle.sbl_formats.specs.Traces.{items_text, trace_text}
 use Rattle.sbl_sessions.specs.declared.replies.Reply.{Reply}
 

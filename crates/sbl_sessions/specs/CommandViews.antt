@@ -14,12 +14,12 @@ use Rattle.sbl_sessions.specs.Requests.{IsRequest, asks_block, block_lines}
 use Rattle.sbl_sessions.specs.Numbers.{number_in}
 use Rattle.sbl_sessions.specs.Words.{argument, command_word}
 use Rattle.sbl_io.specs.declared.faults.ServeFault.{ServeFault}
-use Rattle.sbl_sessions.specs.declared.commands.BlockWord.{BlockWord}
-use Rattle.sbl_sessions.specs.declared.commands.BlockWord.TheVariants as word
-use Rattle.sbl_sessions.specs.declared.commands.Command.{Command}
-use Rattle.sbl_sessions.specs.declared.commands.Command.TheVariants as variants
-use Rattle.sbl_sessions.specs.declared.commands.Target.{Target}
-use Rattle.sbl_sessions.specs.declared.commands.Target.TheVariants as targets
+use Rattle.sbl_sessions.specs.declared.session_commands.BlockWord.{BlockWord}
+use Rattle.sbl_sessions.specs.declared.session_commands.BlockWord.TheVariants as word
+use Rattle.sbl_sessions.specs.declared.session_commands.Command.{Command}
+use Rattle.sbl_sessions.specs.declared.session_commands.Command.TheVariants as variants
+use Rattle.sbl_sessions.specs.declared.session_commands.Target.{Target}
+use Rattle.sbl_sessions.specs.declared.session_commands.Target.TheVariants as targets
 use Rattle.sbl_sessions.specs.declared.replies.Reply.{Reply}
 use Rattle.sbl_sessions.specs.declared.replies.Reply.TheVariants as reply
 

@@ -1,15 +1,15 @@
 //! Sessions over a bench. A reader gives commands, and the replies go to a writer.
 #![tactic(auto)]
 
-mod commands;
-mod edits;
 mod laws;
 mod replies;
 mod reports;
 mod serving;
+mod session_commands;
+mod session_edits;
 
-pub use commands::{BlockWord, Target, block_word, number_in, target_of};
 pub use laws::answers_are_one;
 pub use replies::{BAD_COMMAND, Reply, edit_text, report, write_reply};
 pub use reports::stems_text;
 pub use serving::{answer_line, serve};
+pub use session_commands::{BlockWord, Target, block_word, number_in, target_of};

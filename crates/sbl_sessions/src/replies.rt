@@ -67,7 +67,7 @@ fn script_fault_text(fault: ScriptFault) -> &'static str
 /// reply is written.
 pub fn write_reply<W: Sink>(writer: &mut W, reply: &Reply) -> Result<(), ServeFault>
     ensures all { OnOk result ((text : List ℕ) → IsReply reply.now text → Appends (W.held writer.old) (W.held writer.new) text) }
-    ensures front { (n : ℕ) × ((text : List ℕ) → IsReply reply.now text → Appends (W.held writer.old) (W.held writer.new) (take n text)) }
+    ensures prefix { (n : ℕ) × ((text : List ℕ) → IsReply reply.now text → Appends (W.held writer.old) (W.held writer.new) (take n text)) }
     ensures later { (W.tally writer.old).failures ≤ (W.tally writer.new).failures }
     ensures steady { OnOk result ((W.tally writer.new).failures ≡ (W.tally writer.old).failures) }
     ensures why { IfErr result (λ fault. (fault ≡ ServeFault.Write) × HasStopped W.tally writer.old writer.new) }

@@ -7,11 +7,11 @@ ghost use Rattle.sbl_bench.specs.{KeptRuns.contents_of, Rows.view_row};
 ghost use Rattle.sbl_semantics.specs.TouchedItems.{items_in};
 ghost use Rattle.sbl_print.specs.Canonical.{canonical};
 ghost use Rattle.sbl_sessions.specs.{Answers.with_line_feed, CommandViews.IsAnswer, Commands.Class, Commands.Trace};
-ghost use Rattle.sbl_formats.specs.Rows as spec;
+ghost use Rattle.sbl_formats.specs.RowRecords as spec;
 ghost use Rattle.sbl_formats.specs.Traces as traces;
 
-use crate::edits::{MAX_LOOKED_AT, first_characters};
 use crate::replies::{Reply, edit_text, report};
+use crate::session_edits::{MAX_LOOKED_AT, first_characters};
 use sbl_bench::laws::words_fit;
 use sbl_bench::{Bench, EditFault, Row};
 use sbl_formats::records_text;

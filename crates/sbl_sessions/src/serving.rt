@@ -10,12 +10,12 @@ ghost use Rattle.sbl_io.specs.declared.faults.LineFault.{LineFault};
 ghost use Rattle.sbl_io.specs.HeldInput.{IsDrained, KeepsTime, Reading, fault_of, input_of, line_of, reads_bound};
 ghost use Rattle.sbl_sessions.specs.Session.{Ends, IsSession};
 
-use crate::commands::{Command, block_word, command_of, target_of};
-use crate::edits::{add_word, edit_script, remove_word};
 use crate::replies::{BAD_COMMAND, Reply, edit_text, report, write_reply};
 use crate::reports::{
     class_reply, classes_text, keep_classes, runs_text, script_text, stems_text, trace_reply,
 };
+use crate::session_commands::{Command, block_word, command_of, target_of};
+use crate::session_edits::{add_word, edit_script, remove_word};
 use sbl_bench::{Bench, EditFault};
 use sbl_formats::read_block;
 use sbl_io::{Lines, ServeFault, Sink, Source};

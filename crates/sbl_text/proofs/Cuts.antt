@@ -6,7 +6,7 @@ use Rattle.std.proofs.lemmas.Bool.Decides.{nat_tests}
 use Rattle.sbl_token.specs.declared.signs.Sign.{Sign}
 use Rattle.sbl_text.specs.declared.escapes.Inserts.{Inserts}
 use Rattle.sbl_text.specs.Skip.{past}
-use Rattle.sbl_token.specs.SignCuts.{sign_of, sign_front, or_one, one, two}
+use Rattle.sbl_token.specs.SignCuts.{sign_of, sign_prefix, or_one, one, two}
 use Rattle.sbl_text.specs.Escapes.{opens, closes}
 use Rattle.sbl_text.specs.Classes.{slash, begins_with}
 use Rattle.sbl_text.specs.Pieces.{is_inner}
@@ -60,8 +60,8 @@ found_one : (a : ℕ) (u : Option Sign) → one a ≡ u → Found (a ∷ []) (op
 found_one a (Some u) i = (a ∷ [], refl, i)
 found_one a None i = tt
 
-pub sign_found : (text : List ℕ) → Found text (sign_front text)
-unfolding sign_front
+pub sign_found : (text : List ℕ) → Found text (sign_prefix text)
+unfolding sign_prefix
 sign_found [] = tt
 sign_found (a ∷ []) = found_one a (one a) refl
 sign_found (a ∷ b ∷ cs) = found_two a b cs (two a b) (one a) refl refl
@@ -74,8 +74,8 @@ leaves_one b cs s (Some t) u h = omega arith
 leaves_one b cs s None u h = rw h (omega arith)
 
 -- no longer sign begins there
-pub sign_longest : (y more : List ℕ) (s : Sign) → sign_of y ≡ Some s → Leaves (length more) (sign_front (y ++ more))
-unfolding sign_front
+pub sign_longest : (y more : List ℕ) (s : Sign) → sign_of y ≡ Some s → Leaves (length more) (sign_prefix (y ++ more))
+unfolding sign_prefix
 sign_longest [] more s h = absurd (cc)
 sign_longest (a ∷ []) [] s h = rw h (omega arith)
 sign_longest (a ∷ []) (b ∷ cs) s h = leaves_one b cs s (two a b) (one a) h

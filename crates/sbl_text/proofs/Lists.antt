@@ -106,8 +106,8 @@ same_placed t x before n h a =
 
 one_more : (first : Directives) (source : List ℕ) (s : Directives) (at x rest before : List ℕ) (k : Shape) (t : Token) (ts : List Token) → SoFar first source s at ts → at ≡ x ++ rest → source ≡ before ++ at → IsPiece (setting_of s) k x rest
     → Says s k x (lexeme_of t) → IsAt before x t → SoFar first source (after s (lexeme_of t)) rest (ts ++ t ∷ [])
-one_more first source s at x rest before k t ts b is front p says place =
-    let n : byte_length before ≡ total b.0 = (let h = cut_total first s source at b.0 b.1 in let j = ap byte_length front ∙ bytes_append before at in omega arith) in
+one_more first source s at x rest before k t ts b is prefix p says place =
+    let n : byte_length before ≡ total b.0 = (let h = cut_total first s source at b.0 b.1 in let j = ap byte_length prefix ∙ bytes_append before at in omega arith) in
     let q : Piece = record { shape = k; text = x; lexeme = Some (lexeme_of t) } in (
       b.0 ++ q ∷ [],
       cut_append first s (after s (lexeme_of t)) source at rest b.0 (q ∷ []) b.1 (rest, is, p, says, (refl, refl)),

@@ -44,14 +44,14 @@ not_literal (Some w) text spelling v h = cc
 
 -- ---- places
 
-gaps_front : (e : Setting) (text : List ℕ) (gs : List Gap) (rest : List ℕ) → AreGaps e text gs rest → (x : List ℕ) × (text ≡ x ++ rest)
-gaps_front e text [] rest h = ([], h)
-gaps_front e text (g ∷ gs) rest h =
-    let r = gaps_front e h.0 gs rest h.4 in (g.text ++ r.0, h.1 ∙ ap (λ (t : List ℕ). g.text ++ t) r.1 ∙ sym (append_assoc g.text r.0 rest))
+gaps_prefix : (e : Setting) (text : List ℕ) (gs : List Gap) (rest : List ℕ) → AreGaps e text gs rest → (x : List ℕ) × (text ≡ x ++ rest)
+gaps_prefix e text [] rest h = ([], h)
+gaps_prefix e text (g ∷ gs) rest h =
+    let r = gaps_prefix e h.0 gs rest h.4 in (g.text ++ r.0, h.1 ∙ ap (λ (t : List ℕ). g.text ++ t) r.1 ∙ sym (append_assoc g.text r.0 rest))
 
 pub after_gaps : (e : Setting) (source from at : List ℕ) → (x : List ℕ) × (source ≡ x ++ from) → AfterGaps e from at → (x : List ℕ) × (source ≡ x ++ at)
 after_gaps e source from at s h =
-    let r = gaps_front e from h.0 at h.1 in (s.0 ++ r.0, s.1 ∙ ap (λ (t : List ℕ). s.0 ++ t) r.1 ∙ sym (append_assoc s.0 r.0 at))
+    let r = gaps_prefix e from h.0 at h.1 in (s.0 ++ r.0, s.1 ∙ ap (λ (t : List ℕ). s.0 ++ t) r.1 ∙ sym (append_assoc s.0 r.0 at))
 
 pub after_piece : (source at x rest before : List ℕ) → source ≡ before ++ at → at ≡ x ++ rest → (y : List ℕ) × (source ≡ y ++ rest)
 after_piece source at x rest before s h = (before ++ x, s ∙ ap (λ (t : List ℕ). before ++ t) h ∙ sym (append_assoc before x rest))

@@ -70,7 +70,7 @@ end_is cs = end_at (position_or_len is_white cs) (length cs) (nat_lt (position_o
     within : RunOf cs → position_or_len is_white cs ≤ length cs
     within r = omega (arith, r.4, ap length r.3, length-append r.0 r.1)
 
--- the run at the front is a number, unless it is empty
+-- the run at the start is a number, unless it is empty
 pub run_found : (cs : List ℕ) (n : ℕ) → n ≡ unwrap_or (position is_white cs) (length cs) → (n ≤ length cs) × ((n ≡ 0 → ⊥) → numbers_in cs ≡ take n cs ∷ numbers_in (drop n cs))
 run_found cs n is =
     let r = run_of cs in
@@ -96,36 +96,36 @@ white_first (c ∷ cs) n is z l = at (is_white c) refl
 abbrev both : Option ℕ → Option (List ℕ) → Option (List ℕ)
 both o p = option_and_then (λ c. option_map (λ cs. c ∷ cs) p) o
 
-abbrev pub with_front : List ℕ → Option (List ℕ) → Option (List ℕ)
-with_front xs None = None
-with_front xs (Some ys) = Some (xs ++ ys)
+abbrev pub with_prefix : List ℕ → Option (List ℕ) → Option (List ℕ)
+with_prefix xs None = None
+with_prefix xs (Some ys) = Some (xs ++ ys)
 
-front_empty : (o : Option (List ℕ)) → with_front [] o ≡ o
-front_empty None = refl
-front_empty (Some ys) = refl
+prefix_empty : (o : Option (List ℕ)) → with_prefix [] o ≡ o
+prefix_empty None = refl
+prefix_empty (Some ys) = refl
 
-pub none_yet_coded : (o : Option (List ℕ)) (xs : List ℕ) → xs ≡ [] → with_front xs o ≡ o
-none_yet_coded o xs h = ap (λ (t : List ℕ). with_front t o) h ∙ front_empty o
+pub none_yet_coded : (o : Option (List ℕ)) (xs : List ℕ) → xs ≡ [] → with_prefix xs o ≡ o
+none_yet_coded o xs h = ap (λ (t : List ℕ). with_prefix t o) h ∙ prefix_empty o
 
-front_more : (xs : List ℕ) (c : ℕ) (o : Option (List ℕ)) → with_front (xs ++ c ∷ []) o ≡ with_front xs (both (Some c) o)
-front_more xs c None = refl
-front_more xs c (Some ys) = ap Some (append_assoc xs (c ∷ []) ys)
+prefix_more : (xs : List ℕ) (c : ℕ) (o : Option (List ℕ)) → with_prefix (xs ++ c ∷ []) o ≡ with_prefix xs (both (Some c) o)
+prefix_more xs c None = refl
+prefix_more xs c (Some ys) = ap Some (append_assoc xs (c ∷ []) ys)
 
-pub one_coded : (base most c : ℕ) (cs run more xs ys : List ℕ) (total : Option (List ℕ)) → numbers_in cs ≡ run ∷ numbers_in more → with_front xs (all_codes base most (numbers_in cs)) ≡ total
-    → Some c ≡ code_of base most run → ys ≡ xs ++ c ∷ [] → with_front ys (all_codes base most (numbers_in more)) ≡ total
+pub one_coded : (base most c : ℕ) (cs run more xs ys : List ℕ) (total : Option (List ℕ)) → numbers_in cs ≡ run ∷ numbers_in more → with_prefix xs (all_codes base most (numbers_in cs)) ≡ total
+    → Some c ≡ code_of base most run → ys ≡ xs ++ c ∷ [] → with_prefix ys (all_codes base most (numbers_in more)) ≡ total
 one_coded base most c cs run more xs ys total is whole code put =
-    ap (λ (t : List ℕ). with_front t (all_codes base most (numbers_in more))) put ∙ front_more xs c (all_codes base most (numbers_in more))
-    ∙ ap (λ (o : Option ℕ). with_front xs (both o (all_codes base most (numbers_in more)))) code ∙ ap (λ (t : List (List ℕ)). with_front xs (all_codes base most t)) (sym is) ∙ whole
+    ap (λ (t : List ℕ). with_prefix t (all_codes base most (numbers_in more))) put ∙ prefix_more xs c (all_codes base most (numbers_in more))
+    ∙ ap (λ (o : Option ℕ). with_prefix xs (both o (all_codes base most (numbers_in more)))) code ∙ ap (λ (t : List (List ℕ)). with_prefix xs (all_codes base most t)) (sym is) ∙ whole
 
-pub not_coded : (base most : ℕ) (cs run more xs : List ℕ) (total : Option (List ℕ)) → numbers_in cs ≡ run ∷ numbers_in more → with_front xs (all_codes base most (numbers_in cs)) ≡ total
+pub not_coded : (base most : ℕ) (cs run more xs : List ℕ) (total : Option (List ℕ)) → numbers_in cs ≡ run ∷ numbers_in more → with_prefix xs (all_codes base most (numbers_in cs)) ≡ total
     → None ≡ code_of base most run → total ≡ None
 not_coded base most cs run more xs total is whole code =
-    sym whole ∙ ap (λ (t : List (List ℕ)). with_front xs (all_codes base most t)) is ∙ ap (λ (o : Option ℕ). with_front xs (both o (all_codes base most (numbers_in more)))) (sym code)
+    sym whole ∙ ap (λ (t : List (List ℕ)). with_prefix xs (all_codes base most t)) is ∙ ap (λ (o : Option ℕ). with_prefix xs (both o (all_codes base most (numbers_in more)))) (sym code)
 
-pub all_coded : (base most : ℕ) (cs xs : List ℕ) (total : Option (List ℕ)) → length cs ≡ 0 → with_front xs (all_codes base most (numbers_in cs)) ≡ total → total ≡ Some xs
+pub all_coded : (base most : ℕ) (cs xs : List ℕ) (total : Option (List ℕ)) → length cs ≡ 0 → with_prefix xs (all_codes base most (numbers_in cs)) ≡ total → total ≡ Some xs
 all_coded base most [] xs total e whole = sym whole ∙ ap Some (append_nil xs)
 all_coded base most (c ∷ cs) xs total e whole = absurd (omega (arith, e))
 
 pub run_split : (cs : List ℕ) (n : ℕ) (x y : List ℕ) → n ≡ unwrap_or (position is_white cs) (length cs) → x ≡ take n cs → y ≡ drop n cs → length x ≡ n → (length x ≡ 0 → ⊥) → numbers_in cs ≡ x ∷ numbers_in y
-run_split cs n x y is front back l some =
-    (run_found cs n is).1 (λ z. some (l ∙ z)) ∙ ap (λ (t : List ℕ). t ∷ numbers_in (drop n cs)) (sym front) ∙ ap (λ (t : List ℕ). x ∷ numbers_in t) (sym back)
+run_split cs n x y is prefix back l some =
+    (run_found cs n is).1 (λ z. some (l ∙ z)) ∙ ap (λ (t : List ℕ). t ∷ numbers_in (drop n cs)) (sym prefix) ∙ ap (λ (t : List ℕ). x ∷ numbers_in t) (sym back)

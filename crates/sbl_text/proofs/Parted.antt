@@ -14,9 +14,9 @@ use Rattle.sbl_text.specs.Escapes.{InForce, opens, closes}
 use Rattle.sbl_text.specs.Literals.{Refusal, byte_length, insertion_value, IsInsertion, IsPlain, Part, IsPart, AreParts, values, Means, IsWrong, FirstWrong, is_closed, IsLiteral}
 use Rattle.sbl_text.proofs.Lists.{append_nil, bytes_append}
 
-parts_more : (e : InForce) (text rest behind : List ℕ) (ps : List Part) (p : Part) → AreParts e text ps rest → rest ≡ p.text ++ behind → IsPart e p → AreParts e text (ps ++ p ∷ []) behind
-parts_more e text rest behind [] p a is h = (behind, a ∙ is, h, refl)
-parts_more e text rest behind (q ∷ ps) p a is h = (a.0, a.1, a.2, parts_more e a.0 rest behind ps p a.3 is h)
+parts_more : (e : InForce) (text rest following : List ℕ) (ps : List Part) (p : Part) → AreParts e text ps rest → rest ≡ p.text ++ following → IsPart e p → AreParts e text (ps ++ p ∷ []) following
+parts_more e text rest following [] p a is h = (following, a ∙ is, h, refl)
+parts_more e text rest following (q ∷ ps) p a is h = (a.0, a.1, a.2, parts_more e a.0 rest following ps p a.3 is h)
 
 values_more : (ps : List Part) (p : Part) → values (ps ++ p ∷ []) ≡ values ps ++ p.value
 values_more [] p = append_nil p.value
@@ -30,15 +30,15 @@ Read e spelling place rest value at =
 pub none_read : (e : InForce) (spelling : List ℕ) (place : ℕ) (value : List ℕ) → value ≡ [] → is_closed e.inserts false spelling ≡ true → Read e spelling place spelling value place
 none_read e spelling place value h k = ([], [], refl, refl, h, omega arith, k)
 
-pub part_read : (e : InForce) (spelling rest behind value more x w : List ℕ) (place at next : ℕ) → Read e spelling place rest value at → rest ≡ x ++ behind
-    → IsPlain e x w ⊎ ((name : List ℕ) × IsInsertion e x name × (insertion_value e name ≡ Ok w)) → more ≡ value ++ w → next ≡ at + byte_length x → is_closed e.inserts false behind ≡ true
-    → Read e spelling place behind more next
-part_read e spelling rest behind value more x w place at next r is h v n k =
+pub part_read : (e : InForce) (spelling rest following value more x w : List ℕ) (place at next : ℕ) → Read e spelling place rest value at → rest ≡ x ++ following
+    → IsPlain e x w ⊎ ((name : List ℕ) × IsInsertion e x name × (insertion_value e name ≡ Ok w)) → more ≡ value ++ w → next ≡ at + byte_length x → is_closed e.inserts false following ≡ true
+    → Read e spelling place following more next
+part_read e spelling rest following value more x w place at next r is h v n k =
     let p : Part = record { text = x; value = w } in (
       r.0 ++ x,
       r.1 ++ p ∷ [],
-      r.2 ∙ ap (λ (t : List ℕ). r.0 ++ t) is ∙ sym (append_assoc r.0 x behind),
-      parts_more e spelling rest behind r.1 p r.3 is h,
+      r.2 ∙ ap (λ (t : List ℕ). r.0 ++ t) is ∙ sym (append_assoc r.0 x following),
+      parts_more e spelling rest following r.1 p r.3 is h,
       v ∙ ap (λ (t : List ℕ). t ++ w) r.4 ∙ sym (values_more r.1 p),
       (let b = bytes_append r.0 x in omega (arith, n, r.5, b)),
       k,
@@ -71,25 +71,25 @@ not_quote r h = grind (arith, nat_tests)
 one_byte_length : (r n : ℕ) → n ≡ len_utf8 r → byte_length (r ∷ []) ≡ n
 one_byte_length r n h = length-append (encode_utf8 r) [] ∙ (let e = length-encode r in omega (arith, e, h))
 
-pub plain_read : (e : InForce) (i : Option Inserts) (spelling rest behind value more : List ℕ) (place at n r : ℕ) → Read e spelling place rest value at → i ≡ e.inserts → rest ≡ r ∷ behind
-    → (r ≡ 39 → ⊥) → opens i r ≡ false → more ≡ value ++ r ∷ [] → n ≡ len_utf8 r → Read e spelling place behind more (at + n)
-plain_read e i spelling rest behind value more place at n r s j is q o v m =
+pub plain_read : (e : InForce) (i : Option Inserts) (spelling rest following value more : List ℕ) (place at n r : ℕ) → Read e spelling place rest value at → i ≡ e.inserts → rest ≡ r ∷ following
+    → (r ≡ 39 → ⊥) → opens i r ≡ false → more ≡ value ++ r ∷ [] → n ≡ len_utf8 r → Read e spelling place following more (at + n)
+plain_read e i spelling rest following value more place at n r s j is q o v m =
     let p : opens e.inserts r ≡ false = ap (λ (k : Option Inserts). opens k r) (sym j) ∙ o in
-    part_read e spelling rest behind value more (r ∷ []) (r ∷ []) place at (at + n) s is (inl (r, refl, not_quote r q, p, refl)) v (ap (λ (k : ℕ). at + k) (sym (one_byte_length r n m)))
-    (closed_after e.inserts r behind false (r == 10) (not_quote r q) refl p (subst (λ (t : List ℕ). is_closed e.inserts false t ≡ true) is s.6))
+    part_read e spelling rest following value more (r ∷ []) (r ∷ []) place at (at + n) s is (inl (r, refl, not_quote r q, p, refl)) v (ap (λ (k : ℕ). at + k) (sym (one_byte_length r n m)))
+    (closed_after e.inserts r following false (r == 10) (not_quote r q) refl p (subst (λ (t : List ℕ). is_closed e.inserts false t ≡ true) is s.6))
 
 -- what an insertion takes
 abbrev pub Taken : InForce → List ℕ → List ℕ → List ℕ → ℕ → ℕ → Type 0
 Taken e rest name after r b = (rest ≡ (r ∷ (name ++ b ∷ [])) ++ after) × IsInsertion e (r ∷ (name ++ b ∷ [])) name × (is_closed e.inserts false rest ≡ true → is_closed e.inserts false after ≡ true)
 
-pub taken : (e : InForce) (i : Option Inserts) (rest behind name after : List ℕ) (r b : ℕ) → i ≡ e.inserts → rest ≡ r ∷ behind → (r ≡ 39 → ⊥) → opens i r ≡ true
-    → (behind ≡ name ++ b ∷ after) × (closes i b ≡ true) × (list_all (λ c. not (closes i c)) name ≡ true) × (is_closed i true behind ≡ is_closed i false after) → Taken e rest name after r b
-taken e i rest behind name after r b j is q o h =
+pub taken : (e : InForce) (i : Option Inserts) (rest following name after : List ℕ) (r b : ℕ) → i ≡ e.inserts → rest ≡ r ∷ following → (r ≡ 39 → ⊥) → opens i r ≡ true
+    → (following ≡ name ++ b ∷ after) × (closes i b ≡ true) × (list_all (λ c. not (closes i c)) name ≡ true) × (is_closed i true following ≡ is_closed i false after) → Taken e rest name after r b
+taken e i rest following name after r b j is q o h =
     let o' : opens e.inserts r ≡ true = ap (λ (k : Option Inserts). opens k r) (sym j) ∙ o in (
       is ∙ ap (λ (t : List ℕ). r ∷ t) (h.0 ∙ sym (append_assoc name (b ∷ []) after)),
       (r, b, refl, not_quote r q, o', ap (λ (k : Option Inserts). closes k b) (sym j) ∙ h.1, ap (λ (k : Option Inserts). list_all (λ c. not (closes k c)) name) (sym j) ∙ h.2),
-      λ k. ap (λ (k : Option Inserts). is_closed k false after) (sym j) ∙ sym h.3 ∙ ap (λ (k : Option Inserts). is_closed k true behind) j
-          ∙ closed_after e.inserts r behind true (r == 10) (not_quote r q) refl o' (subst (λ (t : List ℕ). is_closed e.inserts false t ≡ true) is k),
+      λ k. ap (λ (k : Option Inserts). is_closed k false after) (sym j) ∙ sym h.3 ∙ ap (λ (k : Option Inserts). is_closed k true following) j
+          ∙ closed_after e.inserts r following true (r == 10) (not_quote r q) refl o' (subst (λ (t : List ℕ). is_closed e.inserts false t ≡ true) is k),
     )
 
 insertion_bytes : (name : List ℕ) (r b n m k : ℕ) → n ≡ len_utf8 r → m ≡ byte_length name → k ≡ len_utf8 b → byte_length (r ∷ (name ++ b ∷ [])) ≡ n + m + k
@@ -112,14 +112,14 @@ insertion_wrong e spelling rest name after value place at r b f s t (inr h) =
     inr (wrong_read e spelling rest value place at f s (inr (r ∷ (name ++ b ∷ []), name, after, t.0, t.1, h.0, h.1, h.2)))
 
 -- there is room for the places
-pub room_for : (e : InForce) (spelling rest behind value x : List ℕ) (place at : ℕ) → Read e spelling place rest value at → rest ≡ x ++ behind → place + byte_length spelling < 2 ^ 64 → at + byte_length x < 2 ^ 64
-room_for e spelling rest behind value x place at s is h =
+pub room_for : (e : InForce) (spelling rest following value x : List ℕ) (place at : ℕ) → Read e spelling place rest value at → rest ≡ x ++ following → place + byte_length spelling < 2 ^ 64 → at + byte_length x < 2 ^ 64
+room_for e spelling rest following value x place at s is h =
     let a = ap byte_length s.2 ∙ bytes_append s.0 rest in
-    let b = ap byte_length is ∙ bytes_append x behind in omega (arith, a, b, s.5, h)
+    let b = ap byte_length is ∙ bytes_append x following in omega (arith, a, b, s.5, h)
 
-pub room_for_one : (e : InForce) (spelling rest behind value : List ℕ) (place at n r : ℕ) → Read e spelling place rest value at → rest ≡ r ∷ behind → n ≡ len_utf8 r → place + byte_length spelling < 2 ^ 64 → at + n < 2 ^ 64
-room_for_one e spelling rest behind value place at n r s is m h =
-    subst (λ (k : ℕ). at + k < 2 ^ 64) (one_byte_length r n m) (room_for e spelling rest behind value (r ∷ []) place at s is h)
+pub room_for_one : (e : InForce) (spelling rest following value : List ℕ) (place at n r : ℕ) → Read e spelling place rest value at → rest ≡ r ∷ following → n ≡ len_utf8 r → place + byte_length spelling < 2 ^ 64 → at + n < 2 ^ 64
+room_for_one e spelling rest following value place at n r s is m h =
+    subst (λ (k : ℕ). at + k < 2 ^ 64) (one_byte_length r n m) (room_for e spelling rest following value (r ∷ []) place at s is h)
 
 pub room_for_name : (e : InForce) (spelling rest name after value : List ℕ) (place at n m k r b : ℕ) → Read e spelling place rest value at → Taken e rest name after r b
     → n ≡ len_utf8 r → m ≡ byte_length name → k ≡ len_utf8 b → place + byte_length spelling < 2 ^ 64 → at + (n + m + k) < 2 ^ 64

@@ -85,7 +85,7 @@ quoted inner =
     ap (λ (t : List ℕ). t ++ encode_utf8_all (inner ++ 39 ∷ [])) (encode_ascii 39 (omega arith))
     ∙ ap (λ (t : List ℕ). 39 ∷ t) (encodes-append inner (39 ∷ []) ∙ ap (λ (t : List ℕ). encode_utf8_all inner ++ t) (one_byte 39 (omega arith)))
 
--- but for numbers, whose zeros in front are not kept
+-- but for numbers, whose leading zeros are not kept
 same_text : (s : Directives) (k : Shape) (t : List ℕ) (l : Lexeme) → IsUtf8 t → (k ≡ shape.Number → ⊥) → IsLexeme s k (chars t) l → t ≡ lexeme_text l
 same_text s shape.Word t l u n told = word_case (word_of (encode_utf8_all (chars t))) refl
   where

@@ -118,11 +118,11 @@ whole e cs name back b w (c ∷ after) l is i y k x z =
 -- the parts of what stands after an opening character
 pub name_parts : (e : Option Inserts) (cs name back : List ℕ) (n b : ℕ) → Some n ≡ position (closes e) cs → name ≡ take n cs → back ≡ drop n cs → 1 ≤ length back → b ≡ get_or back 0 b
     → Parts e cs name b (take (length back - 1) (drop 1 back))
-name_parts e cs name back n b h front behind l is =
+name_parts e cs name back n b h prefix following l is =
     let r = first (closes e) cs in
     let p = position_or_len (closes e) cs in
     let s = some_at p (length cs) n (nat_lt p (length cs)) refl (sym h) in
     let m : n ≡ length r.0 = sym s.0 ∙ sym r.3 in
-    let x : name ≡ r.0 = front ∙ ap (λ (k : ℕ). take k cs) m ∙ ap (take (length r.0)) r.2 ∙ take-append_seam r.0 r.1 in
-    let z : back ≡ r.1 = behind ∙ ap (λ (k : ℕ). drop k cs) m ∙ ap (drop (length r.0)) r.2 ∙ drop-append_seam r.0 r.1 in
+    let x : name ≡ r.0 = prefix ∙ ap (λ (k : ℕ). take k cs) m ∙ ap (take (length r.0)) r.2 ∙ take-append_seam r.0 r.1 in
+    let z : back ≡ r.1 = following ∙ ap (λ (k : ℕ). drop k cs) m ∙ ap (drop (length r.0)) r.2 ∙ drop-append_seam r.0 r.1 in
     whole e cs name back b r.0 r.1 l is r.2 r.4 r.5 x z

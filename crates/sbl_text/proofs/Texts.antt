@@ -21,8 +21,8 @@ pub seam_before : (text rest x : List ℕ) → IsUtf8 text → IsUtf8 rest → c
 seam_before text rest x u v is =
     subst (IsCharBoundary text) (sym (length_before text rest x u v is)) (IsCharBoundary-at_seam text (encode_utf8_all x) rest (bytes_before text rest x u v is) v)
 
-pub front_bytes : (text rest x : List ℕ) → IsUtf8 text → IsUtf8 rest → chars text ≡ x ++ chars rest → take (length text - length rest) text ≡ encode_utf8_all x
-front_bytes text rest x u v is =
+pub prefix_bytes : (text rest x : List ℕ) → IsUtf8 text → IsUtf8 rest → chars text ≡ x ++ chars rest → take (length text - length rest) text ≡ encode_utf8_all x
+prefix_bytes text rest x u v is =
     ap (λ (n : ℕ). take n text) (length_before text rest x u v is) ∙ ap (take (length (encode_utf8_all x))) (bytes_before text rest x u v is) ∙ take-append_seam (encode_utf8_all x) rest
 
 pub same_chars : (bs x : List ℕ) → IsUtf8 bs → bs ≡ encode_utf8_all x → chars bs ≡ x

@@ -23,13 +23,13 @@ use Rattle.sbl_text.proofs.Lists.{append_nil, cut_append, said_append, said_gaps
 
 -- ---- one piece
 
-same_front : (x y r s : List ℕ) → length x ≡ length y → x ++ r ≡ y ++ s → (x ≡ y) × (r ≡ s)
-same_front [] [] r s l h = (refl, h)
-same_front [] (c ∷ y) r s l h = absurd (omega (arith, l))
-same_front (c ∷ x) [] r s l h = absurd (omega (arith, l))
-same_front (c ∷ x) (d ∷ y) r s l h =
+same_prefix : (x y r s : List ℕ) → length x ≡ length y → x ++ r ≡ y ++ s → (x ≡ y) × (r ≡ s)
+same_prefix [] [] r s l h = (refl, h)
+same_prefix [] (c ∷ y) r s l h = absurd (omega (arith, l))
+same_prefix (c ∷ x) [] r s l h = absurd (omega (arith, l))
+same_prefix (c ∷ x) (d ∷ y) r s l h =
     let i : x ++ r ≡ y ++ s = cc in let d_is : c ≡ d = cc in
-    let t = same_front x y r s (omega (arith, l)) i in (cc, t.1)
+    let t = same_prefix x y r s (omega (arith, l)) i in (cc, t.1)
 
 same_shape : (j k : Shape) (n m : ℕ) (o : FirstPiece) → LeavesCut j n o → LeavesCut k m o → j ≡ k
 same_shape j k n m None a b = absurd a
@@ -40,7 +40,7 @@ piece_one e j k x y r s p q is =
     let a = longest e j x r p.stands in
     let b = longest e k y s q.stands in
     let l : length x ≡ length y = omega (arith, p.longest k y s is q.stands, q.longest j x r (sym is) p.stands) in
-    let t = same_front x y r s l is in
+    let t = same_prefix x y r s l is in
     (same_shape j k (length r) (length s) (cut_in e.inserts e.wanted (x ++ r)) a (subst (λ (u : List ℕ). LeavesCut k (length s) (cut_in e.inserts e.wanted u)) (sym is) b), t.0, t.1)
 
 -- ---- one meaning of a spelling
@@ -105,8 +105,8 @@ starts_empty : (x y : List ℕ) → [] ≡ x ++ y → x ≡ []
 starts_empty [] y is = refl
 starts_empty (c ∷ x) y is = cc
 
-no_part : (e : InForce) (p : Part) (behind : List ℕ) → [] ≡ p.text ++ behind → IsPart e p → ⊥
-no_part e p behind is h = let l = part_takes e p h in omega (arith, ap length (starts_empty p.text behind is), l)
+no_part : (e : InForce) (p : Part) (following : List ℕ) → [] ≡ p.text ++ following → IsPart e p → ⊥
+no_part e p following is h = let l = part_takes e p h in omega (arith, ap length (starts_empty p.text following is), l)
 
 parts_one : (e : InForce) (text : List ℕ) (ps qs : List Part) → AreParts e text ps [] → AreParts e text qs [] → ps ≡ qs
 parts_one e text [] [] a b = refl
@@ -120,16 +120,16 @@ means_one : (e : InForce) (text v w : List ℕ) → Means e text v → Means e t
 means_one e text v w a b = a.2 ∙ ap values (parts_one e text a.0 b.0 a.1 b.1) ∙ sym b.2
 
 -- where a spelling is wrong no part stands
-wrong_no_part : (e : InForce) (p : Part) (text behind : List ℕ) (n : ℕ) (f : ScriptFault) → IsWrong e text n f → text ≡ p.text ++ behind → IsPart e p → ⊥
-wrong_no_part e p text behind n f (inl h) is (inl a) =
-    let i : 39 ∷ h.0 ≡ a.0 ∷ behind = sym h.1 ∙ is ∙ ap (λ (t : List ℕ). t ++ behind) a.1 in
+wrong_no_part : (e : InForce) (p : Part) (text following : List ℕ) (n : ℕ) (f : ScriptFault) → IsWrong e text n f → text ≡ p.text ++ following → IsPart e p → ⊥
+wrong_no_part e p text following n f (inl h) is (inl a) =
+    let i : 39 ∷ h.0 ≡ a.0 ∷ following = sym h.1 ∙ is ∙ ap (λ (t : List ℕ). t ++ following) a.1 in
     let c : 39 ≡ a.0 = cc in absurd (let k : (39 == 39) ≡ false = ap (λ (m : ℕ). m == 39) c ∙ a.2 in cc)
-wrong_no_part e p text behind n f (inl h) is (inr a) =
-    let i : 39 ∷ h.0 ≡ a.1.0 ∷ ((a.0 ++ a.1.1 ∷ []) ++ behind) = sym h.1 ∙ is ∙ ap (λ (t : List ℕ). t ++ behind) a.1.2 in
+wrong_no_part e p text following n f (inl h) is (inr a) =
+    let i : 39 ∷ h.0 ≡ a.1.0 ∷ ((a.0 ++ a.1.1 ∷ []) ++ following) = sym h.1 ∙ is ∙ ap (λ (t : List ℕ). t ++ following) a.1.2 in
     let c : 39 ≡ a.1.0 = cc in absurd (let k : (39 == 39) ≡ false = ap (λ (m : ℕ). m == 39) c ∙ a.1.3 in cc)
-wrong_no_part e p text behind n f (inr h) is (inl a) = plain_not_insertion e p.text h.0 p.value h.1 behind h.2 a h.4 (sym is ∙ h.3)
-wrong_no_part e p text behind n f (inr h) is (inr a) =
-    let t = insertion_one e h.0 p.text h.1 a.0 h.2 behind h.4 a.1 (sym h.3 ∙ is) in
+wrong_no_part e p text following n f (inr h) is (inl a) = plain_not_insertion e p.text h.0 p.value h.1 following h.2 a h.4 (sym is ∙ h.3)
+wrong_no_part e p text following n f (inr h) is (inr a) =
+    let t = insertion_one e h.0 p.text h.1 a.0 h.2 following h.4 a.1 (sym h.3 ∙ is) in
     absurd (let k : Err h.5 ≡ Ok p.value = sym h.6 ∙ ap (insertion_value e) t.1 ∙ a.2 in cc)
 
 quote_not_insertion : (e : InForce) (text more x n r : List ℕ) → text ≡ 39 ∷ more → text ≡ x ++ r → IsInsertion e x n → ⊥
@@ -407,8 +407,8 @@ advanced_first : (text : List ℕ) (s t : Directives) (from rest : List ℕ) (to
 advanced_first text s t from rest token ls h g =
     let c = h.0 in
     let q : Piece = record { shape = c.kind; text = c.own; lexeme = Some (lexeme_of token) } in
-    let behind : AreCut (after s (lexeme_of token)) rest g.0 g.1 [] = subst (λ (v : Directives). AreCut v rest g.0 g.1 []) h.2 g.2 in
-    let cut : AreCut s from (as_pieces c.gaps.0 ++ q ∷ g.0) g.1 [] = cut_append s s g.1 from (c.own ++ rest) [] (as_pieces c.gaps.0) (q ∷ g.0) (gaps_cut s from (c.own ++ rest) c.gaps.0 c.gaps.1) (rest, refl, c.piece, (c.told, h.1), behind) in
+    let following : AreCut (after s (lexeme_of token)) rest g.0 g.1 [] = subst (λ (v : Directives). AreCut v rest g.0 g.1 []) h.2 g.2 in
+    let cut : AreCut s from (as_pieces c.gaps.0 ++ q ∷ g.0) g.1 [] = cut_append s s g.1 from (c.own ++ rest) [] (as_pieces c.gaps.0) (q ∷ g.0) (gaps_cut s from (c.own ++ rest) c.gaps.0 c.gaps.1) (rest, refl, c.piece, (c.told, h.1), following) in
     let says : piece_lexemes (as_pieces c.gaps.0 ++ q ∷ g.0) ≡ lexeme_of token ∷ piece_lexemes g.0 = said_append (as_pieces c.gaps.0) (q ∷ g.0) ∙ ap (λ (l : List Lexeme). l ++ piece_lexemes (q ∷ g.0)) (said_gaps c.gaps.0) in
     (as_pieces c.gaps.0 ++ q ∷ g.0, g.1, cut, g.3, ap (λ (l : List Lexeme). lexeme_of token ∷ l) g.4 ∙ sym says)
 

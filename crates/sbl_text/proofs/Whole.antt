@@ -13,7 +13,7 @@ use Rattle.sbl_text.specs.declared.pieces.Start.TheVariants as start
 use Rattle.sbl_text.specs.declared.escapes.Inserts.{Inserts}
 use Rattle.sbl_text.specs.Classes.{is_white, is_letter, is_digit, is_word}
 use Rattle.sbl_text.specs.Skip.{past}
-use Rattle.sbl_token.specs.SignCuts.{sign_of, sign_front, one, two}
+use Rattle.sbl_token.specs.SignCuts.{sign_of, sign_prefix, one, two}
 use Rattle.sbl_text.specs.Pieces.{Has, may_come, Setting, setting, Stands, IsPiece, NoPiece, BeginsComment, Gap, AreGaps, AfterGaps, is_gap}
 use Rattle.sbl_text.specs.Scan.{IsCutFrom, Piece_at, past_literal, past_block, start_of, FirstPiece, cut, cut_at, cut_as, sign_cut, slash_cut, pair_from, pair_cut, name_cut, cut_in}
 use Rattle.sbl_text.proofs.Written.{sign_is, sign_found_as}
@@ -106,7 +106,7 @@ sign_case : (e : Option Inserts) (y more : List ℕ) (s : Sign) → sign_of y �
 sign_case e [] more s h free = absurd (cc)
 sign_case e (a ∷ y) more s h free =
     along e shape.Sign (length more) a (y ++ more) (if a == 47 then start.Slash else start.Other) (sign_start a y s h)
-    (sign_leaves e (length more) a (y ++ more) (a == 47) refl free (leaves_sign (length more) (sign_front (a ∷ (y ++ more))) (sign_longest (a ∷ y) more s h)))
+    (sign_leaves e (length more) a (y ++ more) (a == 47) refl free (leaves_sign (length more) (sign_prefix (a ∷ (y ++ more))) (sign_longest (a ∷ y) more s h)))
 
 longest_token : (e : Option Inserts) (k : Shape) (y more : List ℕ) → Has e k y → may_come wanted.Token k ≡ true → (k ≡ shape.Sign → BeginsComment (y ++ more) → ⊥) → LeavesCut k (length more) (cut e (y ++ more))
 longest_token e shape.Blank y more h may free =
@@ -146,7 +146,7 @@ sign_stands e text None free f = tt
 sign_stands e text (Some p) free f = (f.0, f.1, ((p.0, sign_is f.0 p.0 f.2), refl, λ i b. free (subst BeginsComment (sym f.1) b)))
 
 sign_cut_stands : (e : Option Inserts) (text : List ℕ) → (BeginsComment text → ⊥) → FoundCut e text (sign_cut text)
-sign_cut_stands e text free = sign_stands e text (sign_front text) free (sign_found text)
+sign_cut_stands e text free = sign_stands e text (sign_prefix text) free (sign_found text)
 
 run_stands : (e : Option Inserts) (k : Shape) (c : ℕ) (cs rest : List ℕ) (x : List ℕ) → cs ≡ x ++ rest → Has e k (c ∷ x) → may_come wanted.Token k ≡ true → (k ≡ shape.Sign → ⊥) → FoundCut e (c ∷ cs) (Some (k, rest))
 run_stands e k c cs rest x is h may other = (c ∷ x, ap (λ (t : List ℕ). c ∷ t) is, (h, may, λ i b. other i))
@@ -237,7 +237,7 @@ longest_in e wanted.Token k y more h may free = longest_token e k y more h may f
 longest_in e wanted.Inserts k y more h may free = longest_pair e k y more h may
 longest_in e wanted.MacroName k y more h may free = longest_name e k y more h may
 
--- whatever may come and stands at the front is what is cut, and no more is left
+-- whatever may come and stands at the start is what is cut, and no more is left
 pub longest : (e : Setting) (k : Shape) (y more : List ℕ) → Stands e k y more → LeavesCut k (length more) (cut_in e.inserts e.wanted (y ++ more))
 longest e k y more st = longest_in e.inserts e.wanted k y more st.has st.comes st.no_comment
 
@@ -313,13 +313,13 @@ given i w text view IsLess (Some p) h = subst (IsCutFrom (setting i w) text) h.0
 pub gap_none : (e : Setting) (text : List ℕ) → AfterGaps e text text
 gap_none e text = ([], refl)
 
-gaps_more : (e : Setting) (text rest behind x : List ℕ) (gs : List Gap) (k : Shape) → AreGaps e text gs rest → rest ≡ x ++ behind → IsPiece e k x behind → is_gap k ≡ true
-    → AreGaps e text (gs ++ record { shape = k; text = x } ∷ []) behind
-gaps_more e text rest behind x [] k a is p g = (behind, a ∙ is, p, g, refl)
-gaps_more e text rest behind x (q ∷ gs) k a is p g = (a.0, a.1, a.2, a.3, gaps_more e a.0 rest behind x gs k a.4 is p g)
+gaps_more : (e : Setting) (text rest following x : List ℕ) (gs : List Gap) (k : Shape) → AreGaps e text gs rest → rest ≡ x ++ following → IsPiece e k x following → is_gap k ≡ true
+    → AreGaps e text (gs ++ record { shape = k; text = x } ∷ []) following
+gaps_more e text rest following x [] k a is p g = (following, a ∙ is, p, g, refl)
+gaps_more e text rest following x (q ∷ gs) k a is p g = (a.0, a.1, a.2, a.3, gaps_more e a.0 rest following x gs k a.4 is p g)
 
-pub gap_more : (e : Setting) (text rest behind : List ℕ) (k : Shape) → AfterGaps e text rest → Piece_at e k rest behind → is_gap k ≡ true → AfterGaps e text behind
-gap_more e text rest behind k a p g = (a.0 ++ record { shape = k; text = p.0 } ∷ [], gaps_more e text rest behind p.0 a.0 k a.1 p.1 p.2 g)
+pub gap_more : (e : Setting) (text rest following : List ℕ) (k : Shape) → AfterGaps e text rest → Piece_at e k rest following → is_gap k ≡ true → AfterGaps e text following
+gap_more e text rest following k a p g = (a.0 ++ record { shape = k; text = p.0 } ∷ [], gaps_more e text rest following p.0 a.0 k a.1 p.1 p.2 g)
 
 pub passed : (r s : Bool) → r ≡ s → r ≡ true → s ≡ true
 passed r s h i = sym h ∙ i

@@ -49,7 +49,7 @@ IsPart e p = IsPlain e p.text p.value ⊎ ((name : List ℕ) × IsInsertion e p.
 -- the spelling begins with these parts, one after another, and the rest follows
 abbrev pub AreParts : InForce → List ℕ → List Part → List ℕ → Type 0
 AreParts e text [] rest = text ≡ rest
-AreParts e text (p ∷ ps) rest = (behind : List ℕ) × (text ≡ p.text ++ behind) × IsPart e p × AreParts e behind ps rest
+AreParts e text (p ∷ ps) rest = (following : List ℕ) × (text ≡ p.text ++ following) × IsPart e p × AreParts e following ps rest
 
 -- the spelling means these characters
 abbrev pub Means : InForce → List ℕ → List ℕ → Type 0

@@ -78,7 +78,7 @@ pub record Gap : Type 0 where
 -- only these pieces of white space and comments are before the rest
 abbrev pub AreGaps : Setting → List ℕ → List Gap → List ℕ → Type 0
 AreGaps e text [] rest = text ≡ rest
-AreGaps e text (g ∷ gs) rest = (behind : List ℕ) × (text ≡ g.text ++ behind) × IsPiece e g.shape g.text behind × (is_gap g.shape ≡ true) × AreGaps e behind gs rest
+AreGaps e text (g ∷ gs) rest = (following : List ℕ) × (text ≡ g.text ++ following) × IsPiece e g.shape g.text following × (is_gap g.shape ≡ true) × AreGaps e following gs rest
 
 abbrev pub AfterGaps : Setting → List ℕ → List ℕ → Type 0
 AfterGaps e text rest = (gs : List Gap) × AreGaps e text gs rest

@@ -12,7 +12,7 @@ use Rattle.sbl_text.specs.declared.pieces.Start.TheVariants as start
 use Rattle.sbl_text.specs.declared.escapes.Inserts.{Inserts}
 use Rattle.sbl_text.specs.Classes.{is_white, is_letter, is_digit, is_word, line_feed, quote, slash, star, begins_with}
 use Rattle.sbl_text.specs.Skip.{past}
-use Rattle.sbl_token.specs.SignCuts.{sign_front}
+use Rattle.sbl_token.specs.SignCuts.{sign_prefix}
 use Rattle.sbl_text.specs.Escapes.{opens, closes}
 use Rattle.sbl_text.specs.Pieces.{Setting, IsPiece, NoPiece}
 
@@ -46,7 +46,7 @@ abbrev pub cut_as : Shape → Option (List ℕ) → FirstPiece
 cut_as k rest = option_map (λ r. (k, r)) rest
 
 abbrev pub sign_cut : List ℕ → FirstPiece
-sign_cut text = option_map (λ p. (shape.Sign, p.1)) (sign_front text)
+sign_cut text = option_map (λ p. (shape.Sign, p.1)) (sign_prefix text)
 
 -- the first piece of a text that begins with a slash; the second argument is the text after the slash
 abbrev pub slash_cut : List ℕ → List ℕ → FirstPiece

@@ -59,8 +59,8 @@ pub record Piece : Type 0 where
 abbrev pub AreCut : Directives → List ℕ → List Piece → Directives → List ℕ → Type 0
 AreCut s text [] t rest = (text ≡ rest) × (s ≡ t)
 AreCut s text (p ∷ ps) t rest =
-    (behind : List ℕ) × (text ≡ p.text ++ behind) × IsPiece (setting_of s) p.shape p.text behind
-    × MatchOption p.lexeme (is_gap p.shape ≡ true) (Says s p.shape p.text) × AreCut (option_map_or (after s) p.lexeme s) behind ps t rest
+    (following : List ℕ) × (text ≡ p.text ++ following) × IsPiece (setting_of s) p.shape p.text following
+    × MatchOption p.lexeme (is_gap p.shape ≡ true) (Says s p.shape p.text) × AreCut (option_map_or (after s) p.lexeme s) following ps t rest
 
 -- the lexemes of the pieces, in order
 abbrev pub piece_lexemes : List Piece → List Lexeme

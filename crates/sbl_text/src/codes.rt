@@ -70,10 +70,10 @@ pub fn codes(alloc: Global, base: u32, most: usize, mut chars: &[char], place: u
     ensures { MatchResult result (λ v. spec.all_codes base most (spec.numbers_in chars.entry.now) ≡ Some v.items) (λ f. (f ≡ ScriptFault.OutOfMemory) ⊎ ((spec.all_codes base most (spec.numbers_in chars.entry.now) ≡ None) × (f ≡ ScriptFault.BadCode place))) }
 {
     let mut value = Vec::new(alloc);
-    while let [_, behind @ ..] = chars {
+    while let [_, following @ ..] = chars {
         let (run, rest) = split_run(chars);
         if run.is_empty() {
-            chars = behind;
+            chars = following;
             continue;
         }
         match code(base, most, run) {

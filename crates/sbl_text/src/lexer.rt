@@ -13,9 +13,9 @@ ghost use Rattle.sbl_text.specs.Directives.{setting_of, start_under};
 use crate::directives::Directives;
 use crate::escapes::Escapes;
 use crate::fault::ScriptFault;
-use crate::front::{front_before, place_of};
 use crate::meanings::{end_or_fault, meaning};
 use crate::pieces::{Shape, past_gaps};
+use crate::prefix::{place_of, prefix_before};
 use sbl_token::Token;
 use std::alloc::Global;
 use std::marker::Model;
@@ -64,7 +64,7 @@ fn token_after<'a>(
             Ok((None, at))
         }
         Some((shape, rest)) => {
-            let text = front_before(at, rest);
+            let text = prefix_before(at, rest);
             let (kind, value) = meaning(alloc, state, shape, text, start)?;
             let end = place_of(source, rest);
             Ok((

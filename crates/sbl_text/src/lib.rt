@@ -6,13 +6,13 @@ mod codes;
 mod directives;
 mod escapes;
 mod fault;
-mod front;
 pub mod laws;
 mod lexer;
 mod literals;
 mod macros;
 mod meanings;
 mod pieces;
+mod prefix;
 
 pub use codes::read_codes;
 pub use directives::{Coding, macro_value};

@@ -130,17 +130,17 @@ pub fn literal_value(
     let mut value = Vec::new(alloc);
     let mut at = place;
     let mut rest = spelling;
-    while let [c, behind @ ..] = rest {
+    while let [c, following @ ..] = rest {
         if *c == '\'' {
             return Err(ScriptFault::BadCharacter { place: at });
         }
         if !opens(inserts, *c) {
             value.push(*c)?;
             at += c.len_utf8();
-            rest = behind;
+            rest = following;
             continue;
         }
-        let Some((name, closing, after)) = split_name(inserts, behind) else {
+        let Some((name, closing, after)) = split_name(inserts, following) else {
             return Err(ScriptFault::UnclosedString { place });
         };
         insert(&mut value, escapes, name, at)?;

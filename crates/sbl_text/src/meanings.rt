@@ -9,9 +9,9 @@ ghost use Rattle.sbl_text.specs.Directives as states;
 
 use crate::directives::Directives;
 use crate::fault::ScriptFault;
-use crate::front::{between_quotes, place_of};
 use crate::literals::literal_value;
 use crate::pieces::{Expectation, Shape};
+use crate::prefix::{between_quotes, place_of};
 use sbl_token::{Kind, Value, sign_of, split_first, word_of};
 use std::alloc::Global;
 

@@ -7,7 +7,7 @@ ghost use Rattle.sbl_text.specs.Scan as spec;
 
 use crate::classes::{CharKind, is_in, past};
 use crate::escapes::{Inserts, closes, opens};
-use sbl_token::{sign_front, split_first};
+use sbl_token::{sign_prefix, split_first};
 
 /// The shape of a piece.
 #[derive(Clone, Copy, Debug, PartialEq, Eq)]
@@ -86,8 +86,8 @@ fn past_block(mut text: &str) -> Option<&str>
 {
     while let Some((c, rest)) = split_first(text) {
         if c == '*' {
-            if let Some(('/', behind)) = split_first(rest) {
-                return Some(behind);
+            if let Some(('/', following)) = split_first(rest) {
+                return Some(following);
             }
         }
         text = rest;
@@ -98,7 +98,7 @@ fn past_block(mut text: &str) -> Option<&str>
 fn sign(text: &str) -> Option<(Shape, &str)>
     ensures { spec.IsCut text.now (spec.sign_cut (chars text.now)) result }
 {
-    match sign_front(text) {
+    match sign_prefix(text) {
         Some((_, rest)) => Some((Shape::Sign, rest)),
         None => None,
     }
@@ -109,8 +109,8 @@ fn slash<'a>(text: &'a str, rest: &'a str) -> Option<(Shape, &'a str)>
     ensures { spec.IsCut text.now (spec.slash_cut (chars text.now) (chars rest.now)) result }
 {
     match split_first(rest) {
-        Some(('/', behind)) => Some((Shape::LineComment, past(CharKind::Line, behind))),
-        Some(('*', behind)) => match past_block(behind) {
+        Some(('/', following)) => Some((Shape::LineComment, past(CharKind::Line, following))),
+        Some(('*', following)) => match past_block(following) {
             Some(end) => Some((Shape::BlockComment, end)),
             None => None,
         },
@@ -146,11 +146,11 @@ fn pair_cut(text: &str) -> Option<(Shape, &str)>
     if is_in(CharKind::White, a) {
         return Some((Shape::Blank, rest));
     }
-    let (b, behind) = split_first(rest)?;
+    let (b, following) = split_first(rest)?;
     if a == '\'' || is_in(CharKind::White, b) {
         None
     } else {
-        Some((Shape::Inserts, behind))
+        Some((Shape::Inserts, following))
     }
 }
 

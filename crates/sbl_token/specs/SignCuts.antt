@@ -35,10 +35,10 @@ or_one (Some s) t short long = Some (s, short)
 or_one None t short long = option_map (λ s. (s, long)) t
 
 -- the longest sign at the start of the text, and the rest of the text
-unfoldable pub sign_front : List ℕ → Option (Sign × List ℕ)
-sign_front [] = None
-sign_front (a ∷ []) = option_map (λ s. (s, [])) (one a)
-sign_front (a ∷ b ∷ cs) = or_one (two a b) (one a) cs (b ∷ cs)
+unfoldable pub sign_prefix : List ℕ → Option (Sign × List ℕ)
+sign_prefix [] = None
+sign_prefix (a ∷ []) = option_map (λ s. (s, [])) (one a)
+sign_prefix (a ∷ b ∷ cs) = or_one (two a b) (one a) cs (b ∷ cs)
 
 -- the sign with exactly this text
 abbrev pub sign_of : List ℕ → Option Sign

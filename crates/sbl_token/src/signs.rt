@@ -5,7 +5,7 @@ ghost use Rattle.std.specs.Str.{chars};
 ghost use Rattle.sbl_token.specs.SignCuts as spec;
 ghost use Rattle.sbl_token.specs.Signs.{sign_text};
 
-use crate::front::split_first;
+use crate::first_char::split_first;
 
 /// A sign of the language (Snowball manual, "The language").
 #[derive(Clone, Copy, Debug, PartialEq, Eq)]
@@ -146,15 +146,15 @@ fn two(a: char, b: char) -> Option<Sign>
 
 /// Returns the longest sign that the text begins with and the text after it, or `None` if the text begins with no sign
 /// (Snowball manual, "The language").
-#[tactic(auto, unfolding(crate::specs::SignCuts::sign_front))]
-pub fn sign_front(text: &str) -> Option<(Sign, &str)>
-    ensures value { MatchOption result (spec.sign_front (chars text.now) ≡ None) (λ p. spec.sign_front (chars text.now) ≡ Some (p.0, chars p.1.now)) }
+#[tactic(auto, unfolding(crate::specs::SignCuts::sign_prefix))]
+pub fn sign_prefix(text: &str) -> Option<(Sign, &str)>
+    ensures value { MatchOption result (spec.sign_prefix (chars text.now) ≡ None) (λ p. spec.sign_prefix (chars text.now) ≡ Some (p.0, chars p.1.now)) }
     ensures within { IfSome result (λ p. length p.1.now < length text.now) }
 {
     let (a, rest) = split_first(text)?;
-    if let Some((b, behind)) = split_first(rest) {
+    if let Some((b, following)) = split_first(rest) {
         if let Some(sign) = two(a, b) {
-            return Some((sign, behind));
+            return Some((sign, following));
         }
     }
     match one(a) {

@@ -9,7 +9,7 @@ use std::alloc::AllocError;
 
 /// Returns how many amongs of the routine come before what follows an among, if `before` come before the among. Returns
 /// `AllocError` if there are 2^64 - 1 or more.
-#[tactic(auto, using(crate::proofs::Behind::among_behind))]
+#[tactic(auto, using(crate::proofs::After::among_after))]
 pub(crate) fn past_among(among: &Among, before: u64) -> Result<u64, AllocError>
     ensures { IfOk result (λ after. after ≡ after_among among.now before) }
 {

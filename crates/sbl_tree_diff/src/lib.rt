@@ -1,10 +1,10 @@
 //! The items in which two trees differ, part by part.
 #![tactic(auto)]
 
-mod commands;
+mod command_diff;
 mod counting;
-mod items;
+mod item_diff;
 mod picks;
 mod same;
 
-pub use items::differ_trees;
+pub use item_diff::differ_trees;

@@ -3,7 +3,7 @@ use Rattle.std.proofs.Common.{◌≡◌, ◌∙◌, ◌&&◌, ◌||◌, ℕ, Boo
 use Rattle.std.specs.Prelude.{if◌then◌else◌}
 use Rattle.std.specs.List.{list_any}
 use Rattle.std.specs.Str.{bytes_eq}
-use Rattle.sbl_machine.specs.BuiltFrom.{is_affected_by, and_built, any_names, built_behind, built_from, built_on, names}
+use Rattle.sbl_machine.specs.BuiltFrom.{is_affected_by, and_built, any_names, built_after, built_from, built_on, names}
 use Rattle.sbl_semantics.specs.TouchedItems.{Item', Routine, Among, Grouping, same_item}
 use Rattle.sbl_semantics.specs.Items.{is_among}
 use Rattle.sbl_ast.specs.Source.{Source}
@@ -132,12 +132,12 @@ module _ (us : List Item') where
   touched m = list_any (same_item (Grouping m)) us
 
   -- the names that are built from some, and the names that are reached
-  built_is : (ps : List ItemInMode) (ns : List (List ℕ)) → list_any touched (built_behind ps ns) ≡ list_any (λ m. reached us ps (Grouping m)) ns
+  built_is : (ps : List ItemInMode) (ns : List (List ℕ)) → list_any touched (built_after ps ns) ≡ list_any (λ m. reached us ps (Grouping m)) ns
   built_is [] ns = refl
   built_is (p ∷ ps) ns = at p.plain (built_is ps)
     where
-      at : (x : Plain) → ((ms : List (List ℕ)) → list_any touched (built_behind ps ms) ≡ list_any (λ m. reached us ps (Grouping m)) ms) →
-          list_any touched (built_behind ps (and_built x ns)) ≡ list_any (λ m. and_terms x (reached us ps) (Grouping m)) ns
+      at : (x : Plain) → ((ms : List (List ℕ)) → list_any touched (built_after ps ms) ≡ list_any (λ m. reached us ps (Grouping m)) ms) →
+          list_any touched (built_after ps (and_built x ns)) ≡ list_any (λ m. and_terms x (reached us ps) (Grouping m)) ns
       at (grouping r a ts) rest =
           rest (if built_on (is_among ns) a ts then ns ++ r ∷ [] else ns)
           ∙ any_if (λ m. reached us ps (Grouping m)) ns r (built_on (is_among ns) a ts)

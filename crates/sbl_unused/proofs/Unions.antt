@@ -52,14 +52,14 @@ pub met_words : (s : Setting) (x : Item') (words : List (List ℕ)) → list_any
 met_words s x [] = refl
 met_words s x (w ∷ words) = ap₂ (λ (a b : Bool). a || b) (met_one s x w) (met_words s x words)
 
-pub or_front : (a b c : Bool) → (a || (b || c)) ≡ ((b || a) || c)
-or_front true true c = refl
-or_front true false c = refl
-or_front false true c = refl
-or_front false false c = refl
+pub or_prefix : (a b c : Bool) → (a || (b || c)) ≡ ((b || a) || c)
+or_prefix true true c = refl
+or_prefix true false c = refl
+or_prefix false true c = refl
+or_prefix false false c = refl
 
 pub or_both : (a b c : Bool) → (b || (a || c)) ≡ ((a || b) || c)
-or_both a b c = or_front b a c
+or_both a b c = or_prefix b a c
 
 or_true : (b c : Bool) → c ≡ true → (b || c) ≡ true
 or_true true c h = refl

@@ -10,7 +10,7 @@ use Rattle.sbl_io.specs.Records.{records_text}
 use Rattle.sbl_semantics.specs.Events.{Event', Finds}
 use Rattle.sbl_unused.specs.Parts.{Part, parts_of}
 use Rattle.sbl_why.specs.Moments.{Moment, after, at_start, routine_of, string_taken}
-use Rattle.sbl_why.specs.Rows.{routine_names}
+use Rattle.sbl_why.specs.WhyRows.{routine_names}
 
 -- ---- what the runs of the words use
 

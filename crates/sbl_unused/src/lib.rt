@@ -2,10 +2,10 @@
 #![tactic(auto)]
 
 mod amongs;
-mod parts;
+mod bench_words;
 mod takes;
 mod text;
 mod touched_items;
-mod words;
+mod usable_parts;
 
 pub use text::unused_text;

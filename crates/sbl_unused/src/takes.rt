@@ -8,7 +8,7 @@ ghost use Rattle.sbl_semantics.specs.Events.{event_of};
 ghost use Rattle.sbl_unused.specs.Unused.{Take, same_take, takes_at, takes_from, takes_of};
 ghost use Rattle.sbl_unused.specs.Views.{HasTaken, takes_in, texts_of};
 ghost use Rattle.sbl_why.specs.Moments.{at_start};
-ghost use Rattle.sbl_why.specs.Rows.{routine_names};
+ghost use Rattle.sbl_why.specs.WhyRows.{routine_names};
 
 use sbl_bench::Bench;
 use sbl_interpreter::Event;

@@ -10,10 +10,10 @@ ghost use Rattle.sbl_io.specs.Records.{record_line, records_text};
 ghost use Rattle.sbl_unused.specs.Unused as spec;
 ghost use Rattle.sbl_unused.specs.Views.{HasMet, HasTaken, texts_of, view_parts};
 
-use crate::parts::{Parts, parts_of};
+use crate::bench_words::words_of;
 use crate::takes::{Takes, has_take, takes_by_words};
 use crate::touched_items::{has_item, met_by_words};
-use crate::words::words_of;
+use crate::usable_parts::{Parts, parts_of};
 use csv::ByteRecord;
 use sbl_bench::Bench;
 use sbl_io::{record_line, text_of};

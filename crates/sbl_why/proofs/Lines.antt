@@ -7,7 +7,7 @@ use Rattle.sbl_io.specs.Records.{record_line, records_text}
 use Rattle.sbl_semantics.specs.Events.{Event', event_of}
 use Rattle.sbl_semantics.specs.declared.event.Event.{Event}
 use Rattle.sbl_why.specs.Moments.{at_start}
-use Rattle.sbl_why.specs.Rows.{max_events, more_rows, outcome_row, rows_from, why_rows}
+use Rattle.sbl_why.specs.WhyRows.{max_events, more_rows, outcome_row, rows_from, why_rows}
 
 -- the three parts, given the events that have a row and the number of the others
 abbrev parts : List (List ℕ) → List ℕ → Outcome' → List Event' → ℕ → List ℕ

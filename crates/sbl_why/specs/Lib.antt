@@ -1,6 +1,6 @@
 -- definitions that public contracts depend on
 pub mod Moments
-pub mod Rows
+pub mod WhyRows
 pub mod Integers
 pub mod RoutineAmongs
 pub mod Searches

@@ -3,7 +3,7 @@ use Rattle.std.specs.Prelude.{ℕ, List, [], ◌∷◌, ◌++◌, codes, decimal
 use Rattle.std.specs.Str.{encode_utf8_all}
 use Rattle.sbl_semantics.specs.Events.{Event', Enters, Leaves, Searches, Finds, Puts}
 use Rattle.sbl_why.specs.Moments as spec
-use Rattle.sbl_why.specs.Rows.{place_fields, row_of}
+use Rattle.sbl_why.specs.WhyRows.{place_fields, row_of}
 use Rattle.sbl_why.specs.declared.moment.OpenSearch.{OpenSearch}
 
 abbrev pub view_search : OpenSearch → spec.OpenSearch

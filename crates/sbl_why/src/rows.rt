@@ -8,7 +8,7 @@ ghost use Rattle.sbl_semantics.specs.Events.{Finds, event_of};
 ghost use Rattle.sbl_why.specs.Moments.{after};
 ghost use Rattle.sbl_why.specs.Places.{names_at};
 ghost use Rattle.sbl_why.specs.Views.{fields_after, fields_before};
-ghost use Rattle.sbl_why.specs.Rows as spec;
+ghost use Rattle.sbl_why.specs.WhyRows as spec;
 
 use crate::moment::Moment;
 use csv::ByteRecord;

@@ -7,7 +7,7 @@ ghost use Rattle.sbl_semantics.specs.Outcome.{outcome_of};
 ghost use Rattle.sbl_io.specs.Records.{records_text};
 ghost use Rattle.sbl_semantics.specs.Events.{event_of};
 ghost use Rattle.sbl_why.specs.Moments.{at_start};
-ghost use Rattle.sbl_why.specs.Rows as spec;
+ghost use Rattle.sbl_why.specs.WhyRows as spec;
 
 use crate::moment::Moment;
 use crate::rows::{push_event, push_more, push_outcome};

@@ -152,19 +152,19 @@ pub work_at_write : (prompt : List ℕ) (a b c d h i j : Option (List ℕ)) (s t
     → WorkRepliesToInput prompt a b h i s x t y → GivesLine b c line → length line ≤ 65536 → bytes_eq line quit_line ≡ false → IsWorkAnswered c d line t y reply u z
     → ((text : List ℕ) → IsReply reply text → (n : ℕ) × Appends i j (take n (with_prompt prompt text))) → IsWork prompt a d h j s x u z (Err fault.Write)
 work_at_write prompt a b c d h i j s t u x y z line reply so gives fits other is writes =
-    let front = writes is.answer.0 is.answer.1 in
+    let prefix = writes is.answer.0 is.answer.1 in
     inr (
       so.0,
       record { line = line; block = is.block },
       one_more a b c d so.0 line is.block so.1 gives fits (other, is.formed.0, is.formed.1) is.fit is.took,
-      half-more prompt s t u x y so.0 (record { file = is.file; desk = z }) (record { line = line; block = is.block }) h i j is.answer.0 front.0 so.2 front.1 is.answer.2,
+      half-more prompt s t u x y so.0 (record { file = is.file; desk = z }) (record { line = line; block = is.block }) h i j is.answer.0 prefix.0 so.2 prefix.1 is.answer.2,
     )
 
 -- ---- a reply and the prompt after it
 
 -- a prefix of the first of two texts
-pub front_of : (n : ℕ) (x y : List ℕ) → (m : ℕ) × (take n x ≡ take m (x ++ y))
-front_of n x y = by (cases_lt n (length x))
+pub prefix_of : (n : ℕ) (x y : List ℕ) → (m : ℕ) × (take n x ≡ take m (x ++ y))
+prefix_of n x y = by (cases_lt n (length x))
   where
     by : (n < length x) ⊎ (length x ≤ n) → (m : ℕ) × (take n x ≡ take m (x ++ y))
     by (inl few) = (n, sym (take-append-le n x y (omega (arith, few))))
@@ -173,7 +173,7 @@ front_of n x y = by (cases_lt n (length x))
 -- the writer stops in the first of two texts
 pub stops_in_first : (h i : Option (List ℕ)) (n : ℕ) (x y : List ℕ) → Appends h i (take n x) → (m : ℕ) × Appends h i (take m (x ++ y))
 stops_in_first h i n x y writes =
-    let m = front_of n x y in
+    let m = prefix_of n x y in
     (m.0, subst (Appends h i) m.1 writes)
 
 -- the writer stops in the second of two texts, if at all

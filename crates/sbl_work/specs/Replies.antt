@@ -12,7 +12,7 @@ use Rattle.sbl_sessions.specs.CommandViews.{IsTextAnswer}
 use Rattle.sbl_sessions.specs.Edits.{fault_in}
 use Rattle.sbl_unused.specs.Unused as unused
 use Rattle.sbl_why.specs.Integers as integers
-use Rattle.sbl_why.specs.Rows as rows
+use Rattle.sbl_why.specs.WhyRows as rows
 use Rattle.sbl_work.specs.Commands.{WorkCommand, Nothing, Session, EditPart, EditWhole, Undo, Redo, Mark, Changes, Stats, Unused, Largest, Families, Why, Integers, Show, Saved, NoFile, Echo}
 use Rattle.sbl_desk.specs.Definitions.{definition_text}
 use Rattle.sbl_desk.specs.Desks.{Redoes, State, Undoes, rows_now}

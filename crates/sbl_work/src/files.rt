@@ -3,7 +3,7 @@ ghost use Rattle.std.specs.Prelude.{IfOk, string_bytes};
 ghost use Rattle.sbl_bench.specs.KeptRuns.{contents_of};
 ghost use Rattle.sbl_work.specs.WholeWork.{IsOpened};
 
-use crate::words::words_in;
+use crate::file_words::words_in;
 use sbl_bench::Bench;
 use sbl_formats::LoadFault;
 use sbl_script::Script;

@@ -2,13 +2,13 @@
 #![tactic(auto)]
 
 mod answers;
+mod file_words;
 mod files;
 mod parts;
 mod replies;
 mod requests;
 mod serving;
 mod whys;
-mod words;
 
 pub use answers::answer_line;
 pub use files::Paths;

@@ -111,7 +111,7 @@ fn answer<F: Files + AllocGlobal, R: Source + Drop>(
 /// then a prefix of the two is written.
 fn write_prompted<W: Sink>(writer: &mut W, reply: &Reply, prompt: &[u8]) -> Result<(), ServeFault>
     ensures all { OnOk result ((text : List ℕ) → IsReply reply.now text → Appends (W.held writer.old) (W.held writer.new) (with_prompt prompt.now text)) }
-    ensures front { (text : List ℕ) → IsReply reply.now text → (n : ℕ) × Appends (W.held writer.old) (W.held writer.new) (take n (with_prompt prompt.now text)) }
+    ensures prefix { (text : List ℕ) → IsReply reply.now text → (n : ℕ) × Appends (W.held writer.old) (W.held writer.new) (take n (with_prompt prompt.now text)) }
     ensures later { (W.tally writer.old).failures ≤ (W.tally writer.new).failures }
     ensures steady { OnOk result ((W.tally writer.new).failures ≡ (W.tally writer.old).failures) }
     ensures why { IfErr result (λ fault. (fault ≡ ServeFault.Write) × HasStopped W.tally writer.old writer.new) }

@@ -2,4 +2,14 @@
 #![tactic(auto)]
 
 #[cfg(test)]
-mod tests;
+mod checks;
+#[cfg(test)]
+mod devices;
+#[cfg(test)]
+mod filters;
+#[cfg(test)]
+mod lines;
+#[cfg(test)]
+mod sessions;
+#[cfg(test)]
+mod verbs;

@@ -42,9 +42,9 @@ free_map : (lines : List (List ℕ)) → AreFree lines → AreFree (map without_
 free_map [] h = tt
 free_map (line ∷ lines) h = (free_chomped line h.0, free_map lines h.1)
 
-free_front : (lines more : List (List ℕ)) → AreFree (lines ++ more) → AreFree lines
-free_front [] more h = tt
-free_front (line ∷ lines) more h = (h.0, free_front lines more h.1)
+free_prefix : (lines more : List (List ℕ)) → AreFree (lines ++ more) → AreFree lines
+free_prefix [] more h = tt
+free_prefix (line ∷ lines) more h = (h.0, free_prefix lines more h.1)
 
 -- ---- a line is read again
 
@@ -52,14 +52,14 @@ last_is : (line : List ℕ) → slice_index_or (line ++ 13 ∷ []) (length line)
 last_is [] = refl
 last_is (b ∷ line) = last_is line
 
-front_is : (line : List ℕ) → take (length line) (line ++ 13 ∷ []) ≡ line
-front_is [] = refl
-front_is (b ∷ line) = ap (λ (l : List ℕ). b ∷ l) (front_is line)
+prefix_is : (line : List ℕ) → take (length line) (line ++ 13 ∷ []) ≡ line
+prefix_is [] = refl
+prefix_is (b ∷ line) = ap (λ (l : List ℕ). b ∷ l) (prefix_is line)
 
 chomped_is : (line : List ℕ) → without_carriage_return (line ++ 13 ∷ []) ≡ line
 chomped_is line =
     let count : length (line ++ 13 ∷ []) - 1 ≡ length line = rw (length-append {A = ℕ} line (13 ∷ [])) (omega arith) in
-    rw (count, last_is line) (front_is line)
+    rw (count, last_is line) (prefix_is line)
 
 joined : (line more : List ℕ) → (line ++ 13 ∷ 10 ∷ []) ++ more ≡ (line ++ 13 ∷ []) ++ 10 ∷ more
 joined line more = append_assoc line (13 ∷ 10 ∷ []) more ∙ sym (append_assoc line (13 ∷ []) (10 ∷ more))
@@ -78,4 +78,4 @@ lines_read (line ∷ lines) h =
 
 pub lists-read : ListsAreRead
 lists-read input rest lines more took =
-    lines_read lines (free_front lines more (subst AreFree took.3 (free_map (raw_lines took.0) (free_raw took.0))))
+    lines_read lines (free_prefix lines more (subst AreFree took.3 (free_map (raw_lines took.0) (free_raw took.0))))

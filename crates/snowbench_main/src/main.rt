@@ -3,7 +3,7 @@
 
 mod at_work;
 mod blocks;
-mod faults;
+mod fault_texts;
 mod file_names;
 mod messages;
 mod run_result;

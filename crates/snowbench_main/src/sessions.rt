@@ -1,11 +1,11 @@
 //! Runs over files, and over standard input.
 
 use crate::blocks::{compose, line_count, point_line, script_block};
-use crate::faults::{hint, run_fault_text};
+use crate::fault_texts::{hint, run_fault_text};
 use crate::file_names::{FileNames, STANDARD_INPUT, file_name};
 use crate::messages::{FAILED, NO_KEYS, REFUSED, count_and_word, fail_memory, print_line};
 use crate::run_result::RunResult;
-use crate::streams::{FirstBytes, Front, Output};
+use crate::streams::{FirstBytes, FirstBytesReader, Output};
 use crate::talk::{Lead, Talk};
 use crate::watching::{Context, Quiet, WatchedReader};
 use snowbench::{CommandLine, Device, Lines, Source, Verb, run};
@@ -116,7 +116,7 @@ fn print_fault(
 pub(crate) fn run_input(rt: &HostRuntime, command_line: &CommandLine) -> u8 {
     let kept = RefCell::new(FirstBytes::new(rt.alloc(), command_line.shows_places));
     let talk = RefCell::new(Talk::new(rt.alloc(), Lead::Session));
-    let Ok(ended) = run_front(rt, command_line, &kept, &talk) else {
+    let Ok(ended) = run_standard_input(rt, command_line, &kept, &talk) else {
         return fail_memory(rt);
     };
     if !command_line.shows_places {
@@ -131,17 +131,17 @@ pub(crate) fn run_input(rt: &HostRuntime, command_line: &CommandLine) -> u8 {
 }
 
 /// Runs what the command line asks for over standard input, and keeps its first bytes.
-fn run_front(
+fn run_standard_input(
     rt: &HostRuntime,
     command_line: &CommandLine,
     kept: &RefCell<FirstBytes>,
     talk: &RefCell<Talk>,
 ) -> Result<RunResult, AllocError> {
-    let front = Front::new(rt.stdin(), kept);
+    let first_reader = FirstBytesReader::new(rt.stdin(), kept);
     if command_line.shows_places && command_line.verb == Verb::Session {
-        return run_watched(rt, command_line, STANDARD_INPUT, front, talk);
+        return run_watched(rt, command_line, STANDARD_INPUT, first_reader, talk);
     }
-    let mut lines = Lines::new(rt.alloc(), Device::new(front))?;
+    let mut lines = Lines::new(rt.alloc(), Device::new(first_reader))?;
     run_lines(rt, command_line, &mut lines)
 }
 

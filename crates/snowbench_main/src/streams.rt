@@ -48,19 +48,19 @@ impl FirstBytes {
 
 /// A reader that keeps the first bytes that it reads.
 #[derive(Drop)]
-pub(crate) struct Front<'a, R> {
+pub(crate) struct FirstBytesReader<'a, R> {
     inner: R,
     kept: &'a RefCell<FirstBytes>,
 }
 
-impl<'a, R> Front<'a, R> {
+impl<'a, R> FirstBytesReader<'a, R> {
     /// Returns the reader before its first read.
-    pub(crate) fn new(inner: R, kept: &'a RefCell<FirstBytes>) -> Front<'a, R> {
-        Front { inner, kept }
+    pub(crate) fn new(inner: R, kept: &'a RefCell<FirstBytes>) -> FirstBytesReader<'a, R> {
+        FirstBytesReader { inner, kept }
     }
 }
 
-impl<R: Read> Read for Front<'_, R> {
+impl<R: Read> Read for FirstBytesReader<'_, R> {
     ghost remaining = { λ f. R.remaining f.inner };
 
     fn read(&mut self, buf: &mut [u8]) -> io::Result<usize> {

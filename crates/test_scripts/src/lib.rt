@@ -83,7 +83,7 @@ pub fn print_values<T: Display>(alloc: Global, values: &[T]) -> Result<String, A
 }
 
 /// The start of a script. The body of `stem` follows at byte 34.
-pub const FRONT: &str = "externals ( stem ) define stem as ";
+pub const SCRIPT_PREFIX: &str = "externals ( stem ) define stem as ";
 
 /// Removes the prefix `un` or `re` of a word.
 pub const PREFIXES: &str =

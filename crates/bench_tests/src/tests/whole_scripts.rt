@@ -27,8 +27,8 @@ const OTHER_EXTERNAL: &str = "externals ( other ) define other as next";
 
 /// Returns the text with `new` in place of the first `old`.
 fn changed(alloc: Global, text: &str, old: &str, new: &str) -> Result<String, AllocError> {
-    let (front, back) = text.split_once(old).unwrap_or(("", ""));
-    format!(in alloc; "{front}{new}{back}")
+    let (prefix, back) = text.split_once(old).unwrap_or(("", ""));
+    format!(in alloc; "{prefix}{new}{back}")
 }
 
 /// Returns the first script with a `head` that takes nothing off.

@@ -70,7 +70,7 @@ fn follow(
 {
     let mut at = row_before(count);
     while let Some(row) = at {
-        if is_shorter_front(direction, part, &rows[row].0, below) {
+        if is_shorter_prefix(direction, part, &rows[row].0, below) {
             return Some(row);
         }
         at = links[row];
@@ -106,7 +106,7 @@ fn count_upto(rows: &[(Vec<char>, Reverse<usize>)], direction: Mode, part: &[cha
 
 // Returns whether the string has fewer than `below` characters and is a prefix of the text read.
 #[inline(always)]
-fn is_shorter_front(direction: Mode, part: &[char], text: &[char], below: usize) -> bool
+fn is_shorter_prefix(direction: Mode, part: &[char], text: &[char], below: usize) -> bool
     ensures { MatchBool result ((starts_with nat_eq (read_as direction part.now) text.now ≡ true) × (length text.now < below)) (starts_with nat_eq (read_as direction part.now) text.now ≡ true → below ≤ length text.now) }
 {
     text.len() < below && common(direction, part, text) == text.len()

@@ -51,7 +51,7 @@ impl State {
         if is_other(self.next_character(mode), first_read(mode, string)) {
             return false;
         }
-        let found = is_front(mode, self.part_ahead(mode), string);
+        let found = is_prefix(mode, self.part_ahead(mode), string);
         let length = string.len();
         if found {
             self.advance(mode, length);
@@ -205,7 +205,7 @@ fn is_other(character: Option<char>, wanted: Option<char>) -> bool
 
 // Returns whether `string` is a prefix of `part` as read in the mode.
 #[inline(never)]
-fn is_front(mode: Mode, part: &[char], string: &[char]) -> bool
+fn is_prefix(mode: Mode, part: &[char], string: &[char]) -> bool
     ensures value { result ≡ starts_with nat_eq (read_as mode part.now) (read_as mode string.now) }
     ensures bound { IsTrue result → length string.now ≤ length part.now }
 {

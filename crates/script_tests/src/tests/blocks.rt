@@ -38,10 +38,10 @@ const BLOCKS: &[(&str, &str, &str)] = &[
 
 #[test]
 fn a_fault_of_the_checks_is_at_its_token_in_the_block(rt: HostRuntime) -> Result<(), Fail> {
-    let front = b"externals ( stem )\nroutines ( r )\ndefine r as ";
+    let prefix = b"externals ( stem )\nroutines ( r )\ndefine r as ";
     for (body, fault, want) in BODIES {
         let after = b"\ndefine stem as r\n";
-        let offset = offset_in_block(rt.alloc(), front, body.as_bytes(), after, *fault)?;
+        let offset = offset_in_block(rt.alloc(), prefix, body.as_bytes(), after, *fault)?;
         assert_eq!(rt; offset, *want, "{body}");
     }
     Ok(())
@@ -51,10 +51,10 @@ fn a_fault_of_the_checks_is_at_its_token_in_the_block(rt: HostRuntime) -> Result
 fn a_fault_outside_the_block_is_at_no_offset(rt: HostRuntime) -> Result<(), Fail> {
     let alloc = rt.alloc();
     for (before, block, after) in BLOCKS {
-        let front = format!(in alloc; "externals ( stem )\ndefine stem as {before}")?;
-        let (front, block, after) = (front.as_bytes(), block.as_bytes(), after.as_bytes());
+        let prefix = format!(in alloc; "externals ( stem )\ndefine stem as {before}")?;
+        let (prefix, block, after) = (prefix.as_bytes(), block.as_bytes(), after.as_bytes());
         let fault = ScriptFault::Undeclared { item: 2 };
-        let offset = offset_in_block(alloc, front, block, after, fault)?;
+        let offset = offset_in_block(alloc, prefix, block, after, fault)?;
         assert_eq!(rt; offset, None, "{before}");
     }
     Ok(())

@@ -8,7 +8,9 @@ use sbl_script::{Script, ScriptEditFault, ScriptFault};
 use std::alloc::{AllocError, Global};
 use std::process::Abort;
 use std::test::Fail;
-use test_scripts::{FRONT, PLURALS, PORTER, field, print_values, with_line_feeds, with_scripts};
+use test_scripts::{
+    PLURALS, PORTER, SCRIPT_PREFIX, field, print_values, with_line_feeds, with_scripts,
+};
 
 /// What an edit replaces: the body of a routine, an among of a routine, or the terms of a grouping.
 #[derive(Clone, Copy, Debug)]
@@ -107,7 +109,7 @@ fn edits_are_refused_or_accepted(rt: HostRuntime) -> Result<(), Fail> {
 #[test]
 fn depth_counts_from_the_place_and_length_from_the_text(rt: HostRuntime) -> Result<(), Fail> {
     let alloc = rt.alloc();
-    let nots = repeated(alloc, FRONT, "not ", 59)?;
+    let nots = repeated(alloc, SCRIPT_PREFIX, "not ", 59)?;
     let deep = format!(in alloc; "{nots}among ( 'a' )")?;
     let long = repeated(alloc, "", " ", 1_048_577)?;
     let at_65 = "among ( 'a' ( not not not next ) )";
@@ -185,10 +187,10 @@ fn a_routine_with_its_own_text_is_the_same(rt: HostRuntime) {
     script.discard();
     let mut routines: u64 = 0;
     for line in text.as_str().split('\n') {
-        let Some((front, body)) = line.split_once(" as ") else {
+        let Some((prefix, body)) = line.split_once(" as ") else {
             continue;
         };
-        let name = front.strip_prefix("define ").expect(&rt, "a name");
+        let name = prefix.strip_prefix("define ").expect(&rt, "a name");
         let part = Part::Body(name);
         makes(&rt, alloc, "PORTER", (part, body), "PORTER", true);
         makes(&rt, alloc, "PORTER", (part, "fail true"), "PORTER", false);

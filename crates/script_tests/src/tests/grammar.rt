@@ -7,7 +7,7 @@ use sbl_text::{ScriptFault, tokens};
 use std::alloc::{AllocError, Global};
 use std::process::Abort;
 use std::test::Fail;
-use test_scripts::{FRONT, PLURALS, PORTER, discard, field};
+use test_scripts::{PLURALS, PORTER, SCRIPT_PREFIX, discard, field};
 
 fn read(alloc: Global, text: &str) -> Result<Vec<ScriptItem>, ScriptFault> {
     let tokens = tokens(alloc, text)?;
@@ -26,8 +26,8 @@ fn non_of(items: &[ScriptItem]) -> &'static str {
 }
 
 /// Returns the number of items and how the first begins, or the fault, as text.
-fn shown(alloc: Global, front: &str, body: &str) -> Result<String, AllocError> {
-    let text = format!(in alloc; "{front}{body}")?;
+fn shown(alloc: Global, prefix: &str, body: &str) -> Result<String, AllocError> {
+    let text = format!(in alloc; "{prefix}{body}")?;
     match read(alloc, text.as_str()) {
         Ok(items) => {
             let count = items.len();
@@ -73,11 +73,11 @@ stem|get|7 Syntax at 34";
 fn is_shown(
     rt: &impl Abort,
     alloc: Global,
-    front: &str,
+    prefix: &str,
     body: &str,
     want: &str,
 ) -> Result<(), Fail> {
-    let shown = shown(alloc, front, body)?;
+    let shown = shown(alloc, prefix, body)?;
     assert!(rt; shown.as_str() == want, "{want}: {shown}");
     Ok(())
 }
@@ -85,8 +85,12 @@ fn is_shown(
 #[test]
 fn texts_are_read_or_have_a_fault(rt: HostRuntime) -> Result<(), Fail> {
     for row in TEXTS.split('\n') {
-        let front = if field(row, 0) == "stem" { FRONT } else { "" };
-        is_shown(&rt, rt.alloc(), front, field(row, 1), field(row, 2))?;
+        let prefix = if field(row, 0) == "stem" {
+            SCRIPT_PREFIX
+        } else {
+            ""
+        };
+        is_shown(&rt, rt.alloc(), prefix, field(row, 1), field(row, 2))?;
     }
     Ok(())
 }
@@ -97,5 +101,5 @@ fn long_and_deep_texts_are_read_or_have_a_fault(rt: HostRuntime) -> Result<(), F
     is_shown(&rt, alloc, "", PLURALS, "4")?;
     is_shown(&rt, alloc, "", PORTER, "9")?;
     let deep = repeated(alloc, "", "(", 100_000)?;
-    is_shown(&rt, alloc, FRONT, deep.as_str(), "8 TooDeep at 98")
+    is_shown(&rt, alloc, SCRIPT_PREFIX, deep.as_str(), "8 TooDeep at 98")
 }

@@ -11,7 +11,7 @@ use std::alloc::{AllocError, Global};
 use std::fmt::Display;
 use std::process::Abort;
 use std::test::Fail;
-use test_scripts::{FRONT, PORTER, field};
+use test_scripts::{PORTER, SCRIPT_PREFIX, field};
 
 /// Returns the fault as text, which is empty for a script. The script is discarded.
 pub(crate) fn fault_in<E: Display + Drop>(
@@ -35,11 +35,11 @@ pub(crate) fn script_of(rt: &impl Abort, alloc: Global, text: &str) -> Script {
 /// A text, and then a part so many times.
 pub(crate) fn repeated(
     alloc: Global,
-    front: &str,
+    prefix: &str,
     part: &str,
     count: usize,
 ) -> Result<String, AllocError> {
-    let mut text = String::from_str(alloc, front)?;
+    let mut text = String::from_str(alloc, prefix)?;
     for _ in 0..count {
         text.push_str(part)?;
     }
@@ -83,7 +83,7 @@ fn a_script_is_accepted_or_has_its_first_fault(rt: HostRuntime) -> Result<(), Fa
 
 /// A text, a part that follows so many times, and the fault.
 const LONG: &[(&str, &str, usize, &str)] = &[
-    (FRONT, "(", 300_000, "8 TooDeep at 98"),
+    (SCRIPT_PREFIX, "(", 300_000, "8 TooDeep at 98"),
     ("", " ", 1_048_577, "24 ScriptTooLong"),
     ("", " ", 1_048_576, "21 NoExternal"),
 ];
@@ -91,8 +91,8 @@ const LONG: &[(&str, &str, usize, &str)] = &[
 #[test]
 fn texts_of_every_depth_and_length_have_an_answer(rt: HostRuntime) -> Result<(), Fail> {
     let alloc = rt.alloc();
-    for (front, part, count, want) in LONG {
-        let text = repeated(alloc, front, part, *count)?;
+    for (prefix, part, count, want) in LONG {
+        let text = repeated(alloc, prefix, part, *count)?;
         has_fault(&rt, alloc, text.as_bytes(), "stem", want)?;
     }
     Ok(())

@@ -22,8 +22,8 @@ returns-in_err-write_all-in-Some-clause-compares g c = λ script made.
     let wrote : c.from_residual-in_err-write_all-in-Some.result ≡ Err fault.Write = search rules in
     rw wrote (
       no_pair_fault c.args.word.now c.args.expected.now c.in_ok-word.ensures.text.1 c.in_ok-expected.ensures.text.1,
-      c.write_all.ensures.front.0,
-      subst (λ (t : List ℕ). Appends (held c.args.writer.now) (held c.write_all.new.writer) (take c.write_all.ensures.front.0 t)) (sym text) c.write_all.ensures.front.1,
+      c.write_all.ensures.prefix.0,
+      subst (λ (t : List ℕ). Appends (held c.args.writer.now) (held c.write_all.new.writer) (take c.write_all.ensures.prefix.0 t)) (sym text) c.write_all.ensures.prefix.1,
     )
 
 pub returns-in-None-clause-compares : goal.returns-in-None-clause-compares

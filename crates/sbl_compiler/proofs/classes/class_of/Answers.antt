@@ -24,10 +24,10 @@ loop-place-preserved c =
     let below : i < length ts = omega (arith, c.loop-place-test.true, ap length seen) in
     let here : t ≡ slice_index_or ts i t = c.term-item.is ∙ ap (λ (xs : List Term). slice_index_or xs i t) seen in
     let next : suc i ≡ i + 1 = omega arith in
-    let front : drop i ts ≡ t ∷ drop (i + 1) ts =
+    let prefix : drop i ts ≡ t ∷ drop (i + 1) ts =
     drop-cons ts i t below ∙ ap (λ (x : Term). x ∷ drop (suc i) ts) (sym here) ∙ ap (λ (k : ℕ). t ∷ drop k ts) next in
     let before : with_terms ns ks (map view_term (t ∷ drop (i + 1) ts)) (members c.loop-place.class) ≡ with_terms ns ks (map view_term ts) (members c.in_ok-class.class) =
-    ap (λ (xs : List Term). with_terms ns ks (map view_term xs) (members c.loop-place.class)) (sym front) ∙ c.loop-place.invariant in
+    ap (λ (xs : List Term). with_terms ns ks (map view_term xs) (members c.loop-place.class)) (sym prefix) ∙ c.loop-place.invariant in
     elim c.if-not-is_named_again.branch [
       | then-not-is_named_again+in_ok-class-2 w ↦
           ap (λ (class : ℕ → Bool). with_terms ns ks (map view_term (drop (i + 1) ts)) class) (ap members w.class-is ∙ w.in_ok-class-2.ensures) ∙ before

@@ -12,7 +12,7 @@ use Rattle.sbl_compiler.proofs.classes.is_named_again.Goals as goal
 pub returns-in-Name-Some : goal.returns-in-Name-Some
 returns-in-Name-Some c = λ yes.
     let i = c.args.distance in
-    let ts = c.args.behind.now in
+    let ts = c.args.following.now in
     let t = c.in-Name-Some.term.now in
     let ns = view_names c.args.names.now in
     let k = c.number_of.result in

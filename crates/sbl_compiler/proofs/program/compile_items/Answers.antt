@@ -2,7 +2,7 @@ use Rattle.std.proofs.Common.{◌≡◌, rules, map, ap, ◌∙◌}
 use Rattle.sbl_ast.specs.Order.{in_order, view_in_mode}
 use Rattle.sbl_ast.specs.View.{view_items}
 use Rattle.sbl_compiler.specs.NumberedItems.{numbered_items}
-use Rattle.sbl_compiler.specs.NumberedNames.{Names, names_behind, no_names}
+use Rattle.sbl_compiler.specs.NumberedNames.{Names, names_after, no_names}
 use Rattle.sbl_compiler.proofs.SoundItems.{groupings_are, routines_are}
 use Rattle.sbl_compiler.proofs.program.compile_items.Goals as goal
 
@@ -16,7 +16,7 @@ returns-clause-routines c =
     let ordered : map view_in_mode c.deref.result.now ≡ in_order items = search rules in
     c.into_names.ensures
     ∙ ap (λ (ns : Names). ns.routines) c.in_ok-names.ensures
-    ∙ ap (λ xs. (names_behind xs no_names).routines) ordered
+    ∙ ap (λ xs. (names_after xs no_names).routines) ordered
     ∙ routines_are (in_order items) no_names
 
 pub returns-clause-groupings : goal.returns-clause-groupings
@@ -25,5 +25,5 @@ returns-clause-groupings c =
     let ordered : map view_in_mode c.deref.result.now ≡ in_order items = search rules in
     c.into_names-2.ensures
     ∙ ap (λ (ns : Names). ns.groupings) c.in_ok-names.ensures
-    ∙ ap (λ xs. (names_behind xs no_names).groupings) ordered
+    ∙ ap (λ xs. (names_after xs no_names).groupings) ordered
     ∙ groupings_are (in_order items) no_names

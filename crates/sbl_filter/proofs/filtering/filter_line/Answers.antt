@@ -7,7 +7,7 @@ use Rattle.sbl_bench.specs.Rows.{row_of}
 use Rattle.sbl_bench.specs.Setting.{under}
 use Rattle.sbl_semantics.specs.Limit.{default_limit}
 use Rattle.sbl_io.specs.Records.{record_line}
-use Rattle.sbl_formats.specs.Rows.{row_fields}
+use Rattle.sbl_formats.specs.RowRecords.{row_fields}
 use Rattle.sbl_filter.proofs.FilterFacts.{is_none, is_some, line-cut, line-empty, line-long, line-row}
 use Rattle.sbl_filter.proofs.filtering.filter_line.Goals as goal
 
@@ -48,7 +48,7 @@ returns-in_err-write_all-clause-writes g c = λ s made.
     let row = c.deref-2.ensures.value ∙ c.in_ok-row.ensures.row s made ∙ ap (λ (w : List ℕ). record_line (row_fields (row_of (under s default_limit) (chars w)))) c.in-Ok.ensures.cases.0 in
     let p = err_from_is_err_and c.from_residual-in_err-write_all.result c.from_residual-in_err-write_all.ensures.1 in
     rw (p.1, p.2, c.in_err-write_all.ensures.why.0)
-    (line-cut s c.args.line.now (g.W.Sink.held c.args.writer.now) (is_utf8-from_IsUtf8 c.args.line.now c.in-Ok.ensures.cases.1) items (g.W.Sink.held c.write_all.new.writer) c.deref-2.result.now some short row c.write_all.ensures.front.0 c.write_all.ensures.front.1)
+    (line-cut s c.args.line.now (g.W.Sink.held c.args.writer.now) (is_utf8-from_IsUtf8 c.args.line.now c.in-Ok.ensures.cases.1) items (g.W.Sink.held c.write_all.new.writer) c.deref-2.result.now some short row c.write_all.ensures.prefix.0 c.write_all.ensures.prefix.1)
 
 pub returns-clause-writes : goal.returns-clause-writes
 returns-clause-writes g c = λ s made.

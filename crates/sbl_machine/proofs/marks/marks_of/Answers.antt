@@ -1,9 +1,9 @@
 use Rattle.std.proofs.Common.{◌∙◌, ap, ℕ, List, [], map}
 use Rattle.sbl_ast.specs.Order.{in_order}
 use Rattle.sbl_ast.specs.View.{view_items}
-use Rattle.sbl_machine.specs.Marking.{amongs_in, groupings_behind, with_marks, routines_behind}
+use Rattle.sbl_machine.specs.Marking.{amongs_in, groupings_after, with_marks, routines_after}
 use Rattle.sbl_machine.specs.AmongList.{numbers_of}
-use Rattle.sbl_machine.specs.BuiltFrom.{built_behind}
+use Rattle.sbl_machine.specs.BuiltFrom.{built_after}
 use Rattle.sbl_semantics.specs.TouchedItems.{item_of}
 use Rattle.sbl_machine.proofs.marks.marks_of.Goals as goal
 
@@ -16,7 +16,7 @@ returns c =
     ∙ ap (with_marks names (numbers_of c.in_ok-amongs.amongs) c.add_names.new.routines c.in_ok-built.built) c.new-marks.ensures
     ∙ ap (λ (numbers : List ℕ → List ℕ). with_marks names numbers c.add_names.new.routines c.in_ok-built.built []) c.in_ok-amongs.ensures
     ∙ ap (λ (rs : List (List ℕ)). with_marks names (amongs_in xs) rs c.in_ok-built.built []) c.in_ok-add_names.ensures.routines
-    ∙ ap (λ (rs : List (List ℕ)). with_marks names (amongs_in xs) (routines_behind xs rs) c.in_ok-built.built []) c.new-routines.ensures
-    ∙ ap (λ (gs : List (List ℕ)). with_marks names (amongs_in xs) (routines_behind xs []) gs []) c.in_ok-built.ensures
-    ∙ ap (λ (gs : List (List ℕ)). with_marks names (amongs_in xs) (routines_behind xs []) (built_behind is gs) []) c.in_ok-add_names.ensures.groupings
-    ∙ ap (λ (gs : List (List ℕ)). with_marks names (amongs_in xs) (routines_behind xs []) (built_behind is (groupings_behind xs gs)) []) c.new-groupings.ensures
+    ∙ ap (λ (rs : List (List ℕ)). with_marks names (amongs_in xs) (routines_after xs rs) c.in_ok-built.built []) c.new-routines.ensures
+    ∙ ap (λ (gs : List (List ℕ)). with_marks names (amongs_in xs) (routines_after xs []) gs []) c.in_ok-built.ensures
+    ∙ ap (λ (gs : List (List ℕ)). with_marks names (amongs_in xs) (routines_after xs []) (built_after is gs) []) c.in_ok-add_names.ensures.groupings
+    ∙ ap (λ (gs : List (List ℕ)). with_marks names (amongs_in xs) (routines_after xs []) (built_after is (groupings_after xs gs)) []) c.new-groupings.ensures

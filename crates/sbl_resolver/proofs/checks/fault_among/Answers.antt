@@ -11,7 +11,7 @@ pub returns-in-Some-clause-fault : goal.returns-in-Some-clause-fault
 returns-in-Some-clause-fault c =
     let all = view_occurrences c.args.occurrences.now in
     let before = view_occurrences (take c.loop-index.index c.args.occurrences.now) in
-    let is = c.fault_at.ensures all before c.requires.sites c.loop-index.invariant.met ∙ ap (λ l. fault_at all before (view_occurrence (note_in c.args.occurrences.now c.loop-index.index)) (view_occurrences l)) c.behind.ensures in
+    let is = c.fault_at.ensures all before c.requires.sites c.loop-index.invariant.met ∙ ap (λ l. fault_at all before (view_occurrence (note_in c.args.occurrences.now c.loop-index.index)) (view_occurrences l)) c.following.ensures in
     sym (sym c.loop-index.invariant.none ∙ stops all c.args.occurrences.now c.loop-index.index c.loop-index.number c.fault_at.result c.in-Some.fault c.loop-index-test.true is c.in-Some.is c.loop-index.invariant.number)
 
 pub number_after-number-requires : goal.number_after-number-requires
@@ -22,7 +22,7 @@ loop-index-preserved c =
     let all = view_occurrences c.args.occurrences.now in
     let i = c.loop-index.index in
     let before = view_occurrences (take i c.args.occurrences.now) in
-    let is = c.fault_at.ensures all before c.requires.sites c.loop-index.invariant.met ∙ ap (λ l. fault_at all before (view_occurrence (note_in c.args.occurrences.now c.loop-index.index)) (view_occurrences l)) c.behind.ensures in
+    let is = c.fault_at.ensures all before c.requires.sites c.loop-index.invariant.met ∙ ap (λ l. fault_at all before (view_occurrence (note_in c.args.occurrences.now c.loop-index.index)) (view_occurrences l)) c.following.ensures in
     record {
       met = rw (taken c.args.occurrences.now i c.loop-index-test.true) (met_more c.loop-index.met c.note.new.met before (view_occurrence (note_in c.args.occurrences.now i)) c.loop-index.invariant.met c.in_ok-note.ensures);
       number = c.number_after-number.ensures ∙ ap (one_more (subject_of (view_occurrence (note_in c.args.occurrences.now i)).notice)) c.loop-index.invariant.number ∙ sym (counted c.args.occurrences.now i c.loop-index-test.true);

@@ -2,7 +2,7 @@ use Rattle.std.proofs.Common.{◌≡◌, List, map, subst, sym}
 use Rattle.sbl_bench.specs.KeptRuns.{contents_of}
 use Rattle.sbl_bench.specs.Rows.{view_row}
 use Rattle.sbl_bench.specs.declared.row.Row as declared
-use Rattle.sbl_formats.specs.Rows.{row_fields, rows_now, stems_text}
+use Rattle.sbl_formats.specs.RowRecords.{row_fields, rows_now, stems_text}
 use Rattle.sbl_sessions.proofs.ReportFacts.{text_of_views}
 use Rattle.sbl_sessions.proofs.reports.stems_text.Goals as goal
 

@@ -91,4 +91,4 @@ returns-in_err-write_reply-clause-session g c = λ _.
     let held = g.W.Sink.held in
     let wrote : c.from_residual-in_err-write_reply.result ≡ Err fault.Write = search rules in
     rw wrote (session_at_write _ (input_of left c.loop-bench.lines) (input_of left c.next_line.new.self) _ _ (held c.loop-bench.writer) _ _ (contents_of c.loop-bench.bench) _ (line_of c.next_line.new.self) c.in_ok-reply.reply
-    c.write_reply.ensures.front.0 c.loop-bench.invariant.session (c.in_ok-next_line.ensures.more c.if-branch.true) (c.in_ok-next_line.ensures.fits c.if-branch.true) c.in_ok-reply.ensures.answered c.write_reply.ensures.front.1)
+    c.write_reply.ensures.prefix.0 c.loop-bench.invariant.session (c.in_ok-next_line.ensures.more c.if-branch.true) (c.in_ok-next_line.ensures.fits c.if-branch.true) c.in_ok-reply.ensures.answered c.write_reply.ensures.prefix.1)

@@ -1,6 +1,6 @@
 use Rattle.std.proofs.Common.{arith}
 use Rattle.std.proofs.lemmas.Grind.{common_steps}
-use Rattle.sbl_tree_diff.proofs.Behind.{as_many, not_as_many}
+use Rattle.sbl_tree_diff.proofs.After.{as_many, not_as_many}
 use Rattle.sbl_ast.specs.View.{view_among}
 use Rattle.sbl_tree_diff.proofs.picks.pick_among.Goals as goal
 

@@ -5,7 +5,7 @@ use Rattle.sbl_semantics.specs.Events.{event_of}
 use Rattle.sbl_unused.specs.Unused.{Take, takes_from}
 use Rattle.sbl_unused.specs.Views.{takes_in}
 use Rattle.sbl_why.specs.Moments.{at_start}
-use Rattle.sbl_why.specs.Rows.{routine_names}
+use Rattle.sbl_why.specs.WhyRows.{routine_names}
 use Rattle.sbl_unused.proofs.takes.add_events.Given as goal
 
 abbrev pub invariant-loop-event : goal.invariant-loop-event

@@ -6,7 +6,7 @@ use Rattle.sbl_bench.specs.Vocabulary.{is_word}
 use Rattle.sbl_semantics.specs.TouchedItems.{items_in, touched_items}
 use Rattle.sbl_unused.specs.Views.{texts_of}
 use Rattle.sbl_unused.proofs.Loops.{at_index}
-use Rattle.sbl_unused.proofs.Unions.{or_front, word_at}
+use Rattle.sbl_unused.proofs.Unions.{or_prefix, word_at}
 use Rattle.sbl_unused.proofs.touched_items.touched_by_words.Goals as goal
 
 pub loop-word-preserved : goal.loop-word-preserved
@@ -19,6 +19,6 @@ loop-word-preserved c = λ same test.
     let old = list_any test (items_in c.loop-word.items) in
     ap (λ (b : Bool). rest || b)
     (c.in_ok-add_touched.ensures (ap (is_word _) (sym same) ∙ word_at words i _ c.loop-word-test.true) test)
-    ∙ or_front rest _ old
+    ∙ or_prefix rest _ old
     ∙ ap (λ (ws : List (List ℕ)). list_any run ws || old) (sym (at_index (λ (t : Bor (List ℕ)). t.now) words i _ c.loop-word-test.true))
     ∙ c.loop-word.invariant same test

@@ -104,7 +104,7 @@ returns-in_err-reply-clause-work g c = λ _.
 pub returns-in_err-write_all-clause-work : goal.returns-in_err-write_all-clause-work
 returns-in_err-write_all-clause-work g c = λ _.
     let wrote : c.from_residual.result ≡ Err fault.Write = search rules in
-    rw wrote (work_unprompted c.args.prompt.now _ (g.W.Sink.held c.args.writer.now) (g.W.Sink.held c.write_all.new.writer) _ _ c.write_all.ensures.front.0 c.write_all.ensures.front.1)
+    rw wrote (work_unprompted c.args.prompt.now _ (g.W.Sink.held c.args.writer.now) (g.W.Sink.held c.write_all.new.writer) _ _ c.write_all.ensures.prefix.0 c.write_all.ensures.prefix.1)
 
 -- a reply and its prompt are not written whole
 pub returns-in_err-write_prompted-clause-work : goal.returns-in_err-write_prompted-clause-work
@@ -114,7 +114,7 @@ returns-in_err-write_prompted-clause-work g c = λ _.
     let wrote : c.from_residual-in_err-write_prompted.result ≡ Err fault.Write = search rules in
     rw wrote (work_at_write _ _ (input_of left c.loop-lines.lines) (input_of left c.next_line.new.self) _ _ (g.W.Sink.held c.loop-lines.writer) _ _ (contents_of c.loop-lines.bench) _ _ (state_of c.loop-lines.desk) _
     (line_of c.next_line.new.self) c.in_ok-reply.reply c.loop-lines.invariant.work (c.in_ok-next_line.ensures.more c.if-branch.true) (c.in_ok-next_line.ensures.fits c.if-branch.true) other
-    c.in_ok-reply.ensures.answered c.write_prompted.ensures.front)
+    c.in_ok-reply.ensures.answered c.write_prompted.ensures.prefix)
 
 -- a line `quit`
 pub returns-then-is_quit-clause-work : goal.returns-then-is_quit-clause-work

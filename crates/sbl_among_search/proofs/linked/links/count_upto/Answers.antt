@@ -5,7 +5,7 @@ use Rattle.std.specs.Cmp.Lexicographic.{slice_cmp}
 use Rattle.std.proofs.lemmas.Option.{slice_get-get_or}
 use Rattle.sbl_semantics.specs.Fitting.{read_as}
 use Rattle.sbl_among_search.specs.Linked.{Row, texts_of}
-use Rattle.sbl_among_search.proofs.Sorted.{before_middle, behind_middle, part_at}
+use Rattle.sbl_among_search.proofs.Sorted.{before_middle, after_middle, part_at}
 use Rattle.sbl_among_search.proofs.linked.links.count_upto.Goals as goal
 
 pub loop-low-preserved-then-is_after : goal.loop-low-preserved-then-is_after
@@ -23,7 +23,7 @@ loop-low-preserved-then-is_after c =
     let at : slice_get (texts_of rows) m ≡ Some row.0.items = part_at (λ (r : Row). r.0.items) rows m row (slice_get-get_or rows m c.index-rows-middle.result inside) in
     let b : c.is_after.result ≡ true = search rules in
     let after : is_gt (slice_cmp nat_cmp row.0.items x) ≡ true = ap (λ y. is_gt (slice_cmp nat_cmp y x)) (sym c.deref.ensures.value) ∙ sym c.is_after.ensures ∙ b in
-    (omega arith, omega (arith, inside), inv.2, λ j v l s. behind_middle (texts_of rows) x row.0.items m c.requires at after j v l s)
+    (omega arith, omega (arith, inside), inv.2, λ j v l s. after_middle (texts_of rows) x row.0.items m c.requires at after j v l s)
 
 pub loop-low-preserved : goal.loop-low-preserved
 loop-low-preserved c =

@@ -8,8 +8,8 @@ use Rattle.sbl_among_search.proofs.Chain.{down_below, down_row, found, goes_on, 
 use Rattle.sbl_among_search.proofs.Sorted.{part_at}
 use Rattle.sbl_among_search.proofs.linked.links.follow.Goals as goal
 
-pub returns-then-is_shorter_front-clause-last : goal.returns-then-is_shorter_front-clause-last
-returns-then-is_shorter_front-clause-last c links stand =
+pub returns-then-is_shorter_prefix-clause-last : goal.returns-then-is_shorter_prefix-clause-last
+returns-then-is_shorter_prefix-clause-last c links stand =
     let inv = c.loop-at.invariant in
     let row = c.in-Some.row in
     let rows = c.args.rows.now in
@@ -19,10 +19,10 @@ returns-then-is_shorter_front-clause-last c links stand =
     let inside : row < length rows = omega (arith, less, c.requires.linked, c.requires.long) in
     let st : StandsAt (texts_of rows) x c.args.below (Some row) = stand_at (texts_of rows) x c.args.below c.loop-at.at row c.in-Some.is (inv.0 links stand) in
     let at : slice_get (texts_of rows) row ≡ Some r.0.items = part_at (λ (r : Row). r.0.items) rows row r (slice_get-get_or rows row c.index-rows-row.result inside) in
-    let yes = c.if-is_shorter_front.ensures in
-    let front : starts_with nat_eq x r.0.items ≡ true = ap (λ y. starts_with nat_eq x y) (sym c.deref.ensures.value) ∙ yes.0 in
+    let yes = c.if-is_shorter_prefix.ensures in
+    let prefix : starts_with nat_eq x r.0.items ≡ true = ap (λ y. starts_with nat_eq x y) (sym c.deref.ensures.value) ∙ yes.0 in
     let short : length r.0.items < c.args.below = omega (arith, yes.1, ap length c.deref.ensures.value) in
-    found (texts_of rows) x c.args.below row r.0.items st at front short
+    found (texts_of rows) x c.args.below row r.0.items st at prefix short
 
 pub loop-at-smaller : goal.loop-at-smaller
 loop-at-smaller c =
@@ -43,9 +43,9 @@ loop-at-preserved c =
     let inside : row < length rows = omega (arith, less, c.requires.linked, c.requires.long) in
     let at : slice_get (texts_of rows) row ≡ Some r.0.items = part_at (λ (r : Row). r.0.items) rows row r (slice_get-get_or rows row c.index-rows-row.result inside) in
     let link : slice_get links row ≡ Some (get_or links row None) = slice_get-get_or links row None (omega (arith, less, c.requires.linked)) in
-    let unmet : starts_with nat_eq x r.0.items ≡ true → c.args.below ≤ length r.0.items = λ front.
-    let f : starts_with nat_eq x c.deref.result.now ≡ true = ap (λ y. starts_with nat_eq x y) c.deref.ensures.value ∙ front in
-    omega (arith, c.if-is_shorter_front.ensures f, ap length c.deref.ensures.value) in (
+    let unmet : starts_with nat_eq x r.0.items ≡ true → c.args.below ≤ length r.0.items = λ prefix.
+    let f : starts_with nat_eq x c.deref.result.now ≡ true = ap (λ y. starts_with nat_eq x y) c.deref.ensures.value ∙ prefix in
+    omega (arith, c.if-is_shorter_prefix.ensures f, ap length c.deref.ensures.value) in (
       (λ are stand.
           let st : StandsAt (texts_of rows) x c.args.below (Some row) = stand_at (texts_of rows) x c.args.below c.loop-at.at row c.in-Some.is (inv.0 are stand) in
           goes_on (texts_of rows) x c.args.below row r.0.items (get_or links row None) st at unmet (are row (get_or links row None) r.0.items link at)),

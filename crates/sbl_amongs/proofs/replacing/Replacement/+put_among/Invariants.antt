@@ -12,8 +12,8 @@ invariant-put_in_rows-loop-row l = record {
   rest : l.rest - count_in_rows (view_rows (drop l.row-index l.rows.items)) ≡ l.at - count_in_rows (view_rows l.rows.items);
 }
 
-abbrev pub invariant-put_behind-loop-joined : goal.invariant-put_behind-loop-joined
-invariant-put_behind-loop-joined l = record {
+abbrev pub invariant-put_after-loop-joined : goal.invariant-put_after-loop-joined
+invariant-put_after-loop-joined l = record {
   put : then_others (map view_next_command l.copies.items) (put_in_others (view_others (drop l.joined-index l.others.items)) l.rest (view_among l.self.among.now)) ≡ put_in_others (view_others l.others.items) l.at (view_among l.self.among.now);
   rest : l.rest - count_in_others (view_others (drop l.joined-index l.others.items)) ≡ l.at - count_in_others (view_others l.others.items);
 }

@@ -4,7 +4,7 @@ use Rattle.std.specs.declared.vec.Vec.{Vec}
 use Rattle.std.specs.declared.alloc.Global.{Global}
 use Rattle.csv.specs.Records.{fields_of}
 use Rattle.sbl_bench.specs.Classes.{view_class, words_of}
-use Rattle.sbl_formats.specs.Rows.{class_fields}
+use Rattle.sbl_formats.specs.RowRecords.{class_fields}
 use Rattle.sbl_formats.proofs.RecordFacts.{writes_same}
 use Rattle.sbl_formats.proofs.records.ClassRecord.write.Goals as goal
 

@@ -1,4 +1,4 @@
--- What a command behind a prefix does, and one within a limit.
+-- What a command after a prefix does, and one within a limit.
 use Rattle.std.proofs.Common.{◌≡◌, true, false, Err, sym, ap, ◌∙◌, rules}
 use Rattle.sbl_interpreter.proofs.Arms.{by_fault, stops_at, either_way, follows_at, limited_signals, limited_halts}
 use Rattle.sbl_semantics.specs.State.{State, Ending, Signals, after, then_on, saved_cursor, put_back}

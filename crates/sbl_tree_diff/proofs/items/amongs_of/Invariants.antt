@@ -1,6 +1,0 @@
-use Rattle.std.proofs.Common.{◌≡◌, map, take, string_bytes}
-use Rattle.sbl_semantics.specs.TouchedItems.{Among, item_of}
-use Rattle.sbl_tree_diff.proofs.items.amongs_of.Given as goal
-
-abbrev pub invariant-loop-number : goal.invariant-loop-number
-invariant-loop-number l = map item_of l.items.items ≡ map (Among (string_bytes l.name)) (take l.number-index l.numbers.items)
