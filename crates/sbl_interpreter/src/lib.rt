@@ -3,15 +3,12 @@
 
 mod choices;
 mod halt;
-mod parts;
-mod run;
 mod slots;
 mod state;
 mod table;
 mod touches;
 
 pub use halt::Halt;
-pub use run::Runner;
 pub use sbl_semantics::{Event, RunFault, Touch};
 pub use state::numbers::count_of;
 pub use state::{MAX_WORD_LENGTH, State};

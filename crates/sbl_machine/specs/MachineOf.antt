@@ -18,7 +18,7 @@ listed_in S entries mode m k = listed_by S entries mode (slice_get m.tables.tabl
 
 -- the program of a machine
 abbrev pub machine_plan : (S : Type 0) → (S → List (List ℕ)) → (S → Mode) → Machine S → Program
-machine_plan S entries mode m = program_of (listed_in S entries mode m) m.program
+machine_plan S entries mode m = program_of (listed_in S entries mode m) m.code
 
 -- a machine is that of a script if its program and its names are those of the script
 unfoldable pub IsMachineOf : (S : Type 0) → (S → List (List ℕ)) → (S → Mode) → Machine S → Source → Type 0

@@ -1,10 +1,15 @@
 //! The machine.
 
-ghost use Rattle.std.specs.Prelude.{◌≡◌, ◌<◌, ◌≤◌, ◌+◌, true, length, map, slice_index_or, [], IfOk, MatchResult, ◌↔◌, Err};
+ghost use Rattle.std.specs.Prelude.{◌≡◌, ℕ, ◌<◌, ◌≤◌, ◌+◌, true, length, map, slice_index_or, [], IfOk, MatchResult, ◌↔◌, Err};
 ghost use Rattle.std.specs.List.{list_all, list_any};
+ghost use Rattle.sbl_ast.specs.declared.mode.Mode.TheVariants.{Forward};
+ghost use Rattle.sbl_program.specs.AmongStrings.{Listing};
+ghost use Rattle.sbl_program.specs.ProgramOf.{program_of};
 ghost use Rattle.sbl_interpreter.specs.Endings.{Follows};
-ghost use Rattle.sbl_semantics.specs.Limit.{max_word_length};
-ghost use Rattle.sbl_machine.specs.MachineOf.{IsMachineOf};
+ghost use Rattle.sbl_interpreter.specs.Run.{calls};
+ghost use Rattle.sbl_interpreter.specs.Start.{start};
+ghost use Rattle.sbl_semantics.specs.Limit.{max_levels, max_word_length};
+ghost use Rattle.sbl_machine.specs.MachineOf.{IsMachineOf, machine_plan};
 ghost use Rattle.sbl_machine.specs.Marks.{AreMarksOf, has_item};
 ghost use Rattle.sbl_semantics.specs.Outcome.{integers_at, integers_of, outcome_at, outcome_of, run_of, touched_at, touches_of, used_at, used_of, events_at, events_in, events_of};
 ghost use Rattle.sbl_semantics.specs.TouchedItems.{item_of, items_in, items_of, item_of_touch, names_of, same_item, touched_items};
@@ -22,12 +27,12 @@ use sbl_among_search::AmongSearch;
 use sbl_ast::Mode;
 use sbl_compiler::{Compilation, compile_items};
 use sbl_interpreter::{
-    Event, Halt, RunFault, Runner, State, TableList, Touch, TouchLog, tables_of,
+    Event, Halt, RunFault, State, TableList, Touch, TouchLog, tables_of,
 };
-use sbl_program::Program;
 use sbl_script::Script;
 use sbl_script::laws::is_spelled;
 use sbl_semantics::{Item, Outcome};
+use sbl_threaded_code::{Code, Runner};
 use std::alloc::{AllocError, Global};
 use std::collections::BTreeSet;
 
@@ -38,7 +43,7 @@ const MAX_LEVELS: u32 = 32;
 #[derive(Drop)]
 pub struct Machine<S> {
     tables: TableList<S>,
-    program: Program,
+    code: Code,
     names: Names,
 }
 
@@ -56,9 +61,10 @@ impl<S: AmongSearch> Machine<S> {
             groupings,
         } = compile_items(alloc, script.items(), script.external())?;
         let tables = tables_of(alloc, &amongs)?;
+        let code = Code::new(alloc, program)?;
         Ok(Machine {
             tables: TableList { tables },
-            program,
+            code,
             names: Names {
                 routines,
                 groupings,
@@ -245,16 +251,9 @@ impl<S: AmongSearch> Machine<S> {
         ensures used { (script : Source) → IsMachineOf S S.entries S.mode self.now script → IfOk result (λ why. why.used ≡ used_of script word.now limit) }
         ensures integers { (script : Source) → IsMachineOf S S.entries S.mode self.now script → IfOk result (λ why. why.integers.items ≡ integers_of script word.now limit) }
     {
-        state.restart(&self.program, word, limit)?;
+        self.restart(state, word, limit)?;
         state.record_events();
-        let runner = Runner {
-            tables: &self.tables,
-            program: &self.program,
-            levels: MAX_LEVELS,
-            mode: Mode::Forward,
-        };
-        let routine = self.program.external;
-        let end = runner.run_call(routine, state);
+        let end = self.call_external(state);
         let traced = result_of_end(alloc, end, limit, state, Vec::new(alloc))?;
         let integers = state.integers(alloc)?;
         Ok(Why {
@@ -263,6 +262,27 @@ impl<S: AmongSearch> Machine<S> {
             integers,
             used: traced.used,
         })
+    }
+
+    // Starts a run in this state. Returns `AllocError` if an allocation fails.
+    fn restart(&self, state: &mut State, word: &[char], limit: u32) -> Result<(), AllocError>
+        requires { length word.now ≤ max_word_length }
+        ensures { (tables : ℕ → Listing) → IfOk result (λ _. state.new ≡ start (program_of tables self.now.code) word.now limit) }
+    {
+        state.restart(self.code.program(), word, limit)
+    }
+
+    // Calls the external.
+    fn call_external(&self, state: &mut State) -> Result<bool, Halt>
+        ensures { Follows result state.new (calls (machine_plan S S.entries S.mode self.now) max_levels self.now.code.external Forward state.old) }
+    {
+        let runner = Runner {
+            tables: &self.tables,
+            code: &self.code,
+            levels: MAX_LEVELS,
+            mode: Mode::Forward,
+        };
+        runner.run_call(self.code.program().external, state)
     }
 
     // Makes the run.
@@ -279,14 +299,8 @@ impl<S: AmongSearch> Machine<S> {
         ensures touches { (script : Source) → IsMachineOf S S.entries S.mode self.now script → IfOk result (λ traced. traced.touches.items ≡ touches_of script word.now limit) }
         ensures used { (script : Source) → IsMachineOf S S.entries S.mode self.now script → IfOk result (λ traced. traced.used ≡ used_of script word.now limit) }
     {
-        state.restart(&self.program, word, limit)?;
-        let runner = Runner {
-            tables: &self.tables,
-            program: &self.program,
-            levels: MAX_LEVELS,
-            mode: Mode::Forward,
-        };
-        let end = runner.run_call(self.program.external, state);
+        self.restart(state, word, limit)?;
+        let end = self.call_external(state);
         result_of_end(alloc, end, limit, state, spare)
     }
 }

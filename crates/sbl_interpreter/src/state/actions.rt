@@ -44,21 +44,6 @@ impl State {
         }
     }
 
-    /// Uses a step, and does a command as `act` does. Returns `Steps` if no step is left.
-    #[inline(always)]
-    pub fn pay_and_act(
-        &mut self,
-        groupings: &[CharacterClass],
-        mode: Mode,
-        action: &Action,
-    ) -> Result<bool, Halt>
-        ensures follows { Follows result self.new (pay_first (acts (map members groupings.now) (view_action action.now)) mode self.old) }
-        ensures fewer { IfOk result (λ _. self.new.steps < self.old.steps) }
-    {
-        self.pay()?;
-        self.act_here(groupings, mode, action)
-    }
-
     /// Does a command without a command inside, after its step is paid, and returns its signal. `groupings` has the
     /// class of each grouping.
     ///

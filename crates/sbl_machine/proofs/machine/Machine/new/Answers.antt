@@ -9,6 +9,8 @@ use Rattle.sbl_compiler.specs.NumberedItems.{numbered_items}
 use Rattle.sbl_machine.specs.MachineOf.{IsMachineOf}
 use Rattle.sbl_program.specs.FoundView.{listing_found}
 use Rattle.sbl_program.specs.ProgramOf.{program_of}
+use Rattle.std.specs.Prelude.{slice_get}
+use Rattle.sbl_interpreter.specs.Listing.{listed_by}
 use Rattle.sbl_interpreter.proofs.NumberingTables.{same_tables}
 use Rattle.sbl_ast.specs.View.{view_items}
 use Rattle.sbl_machine.proofs.machine.Machine.new.Goals as goal
@@ -22,7 +24,8 @@ returns g c =
     let made = c.in_ok-program.field-0 in
     let tables = c.in_ok-tables.ensures ∙ ap (map listing_found) c.deref.ensures.value in
     let items = view_items c.args.script.now.items in (
-      ap (λ (T : ℕ → Listing). program_of T made.program) (same_tables _ g.S.AmongSearch.entries g.S.AmongSearch.mode c.in_ok-tables.tables.items made.amongs.items tables)
+      ap (λ x. program_of (λ k. listed_by _ g.S.AmongSearch.entries g.S.AmongSearch.mode (slice_get c.in_ok-tables.tables.items k)) x) c.in_ok-code.ensures
+          ∙ ap (λ (T : ℕ → Listing). program_of T made.program) (same_tables _ g.S.AmongSearch.entries g.S.AmongSearch.mode c.in_ok-tables.tables.items made.amongs.items tables)
           ∙ c.in_ok-program.ensures.program
           ∙ ap (λ is. numbered_items (view_items is) c.external.result.now) c.items.ensures
           ∙ ap (numbered_items items) c.external.ensures,

@@ -15,45 +15,45 @@ unfolding IsMachineOf
 returns-clause-outcome g c script h =
     let m = c.args.self.now in
     let T = listed_in _ g.S.AmongSearch.entries g.S.AmongSearch.mode m in
-    let does = calls (machine_plan _ g.S.AmongSearch.entries g.S.AmongSearch.mode m) 32 m.program.external Forward in
+    let does = calls (machine_plan _ g.S.AmongSearch.entries g.S.AmongSearch.mode m) 32 m.code.external Forward in
     let begun = c.record_events.new.self in
     let same : does begun ≡ ending_with_events script c.args.word.now c.args.limit =
     ap does (c.record_events.ensures ∙ ap (λ (s : State). record s { events = Some [] }) (c.in_ok-restart.ensures T))
     ∙ ap (λ (p : Program). telling_of p c.args.word.now c.args.limit) h.0 ∙ telling_same script c.args.word.now c.args.limit in
-    c.in_ok-traced.ensures.outcome (does begun) c.run_call-end.ensures.follows ∙ ap outcome_at same ∙ (events_change_nothing script c.args.word.now c.args.limit).outcome
+    c.in_ok-traced.ensures.outcome (does begun) c.call_external-end.ensures.follows ∙ ap outcome_at same ∙ (events_change_nothing script c.args.word.now c.args.limit).outcome
 
 pub returns-clause-events : goal.returns-clause-events
 unfolding IsMachineOf events_of
 returns-clause-events g c script h =
     let m = c.args.self.now in
     let T = listed_in _ g.S.AmongSearch.entries g.S.AmongSearch.mode m in
-    let does = calls (machine_plan _ g.S.AmongSearch.entries g.S.AmongSearch.mode m) 32 m.program.external Forward in
+    let does = calls (machine_plan _ g.S.AmongSearch.entries g.S.AmongSearch.mode m) 32 m.code.external Forward in
     let begun = c.record_events.new.self in
     let same : does begun ≡ ending_with_events script c.args.word.now c.args.limit =
     ap does (c.record_events.ensures ∙ ap (λ (s : State). record s { events = Some [] }) (c.in_ok-restart.ensures T))
     ∙ ap (λ (p : Program). telling_of p c.args.word.now c.args.limit) h.0 ∙ telling_same script c.args.word.now c.args.limit in
-    c.events_or_none.ensures ∙ ap events_in c.take_events.ensures.events ∙ c.in_ok-traced.ensures.events (does begun) c.run_call-end.ensures.follows ∙ ap events_at same
+    c.events_or_none.ensures ∙ ap events_in c.take_events.ensures.events ∙ c.in_ok-traced.ensures.events (does begun) c.call_external-end.ensures.follows ∙ ap events_at same
 
 pub returns-clause-used : goal.returns-clause-used
 unfolding IsMachineOf
 returns-clause-used g c script h =
     let m = c.args.self.now in
     let T = listed_in _ g.S.AmongSearch.entries g.S.AmongSearch.mode m in
-    let does = calls (machine_plan _ g.S.AmongSearch.entries g.S.AmongSearch.mode m) 32 m.program.external Forward in
+    let does = calls (machine_plan _ g.S.AmongSearch.entries g.S.AmongSearch.mode m) 32 m.code.external Forward in
     let begun = c.record_events.new.self in
     let same : does begun ≡ ending_with_events script c.args.word.now c.args.limit =
     ap does (c.record_events.ensures ∙ ap (λ (s : State). record s { events = Some [] }) (c.in_ok-restart.ensures T))
     ∙ ap (λ (p : Program). telling_of p c.args.word.now c.args.limit) h.0 ∙ telling_same script c.args.word.now c.args.limit in
-    c.in_ok-traced.ensures.used (does begun) c.run_call-end.ensures.follows ∙ ap (used_at c.args.limit) same ∙ (events_change_nothing script c.args.word.now c.args.limit).used
+    c.in_ok-traced.ensures.used (does begun) c.call_external-end.ensures.follows ∙ ap (used_at c.args.limit) same ∙ (events_change_nothing script c.args.word.now c.args.limit).used
 
 pub returns-clause-integers : goal.returns-clause-integers
 unfolding IsMachineOf
 returns-clause-integers g c script h =
     let m = c.args.self.now in
     let T = listed_in _ g.S.AmongSearch.entries g.S.AmongSearch.mode m in
-    let does = calls (machine_plan _ g.S.AmongSearch.entries g.S.AmongSearch.mode m) 32 m.program.external Forward in
+    let does = calls (machine_plan _ g.S.AmongSearch.entries g.S.AmongSearch.mode m) 32 m.code.external Forward in
     let begun = c.record_events.new.self in
     let same : does begun ≡ ending_with_events script c.args.word.now c.args.limit =
     ap does (c.record_events.ensures ∙ ap (λ (s : State). record s { events = Some [] }) (c.in_ok-restart.ensures T))
     ∙ ap (λ (p : Program). telling_of p c.args.word.now c.args.limit) h.0 ∙ telling_same script c.args.word.now c.args.limit in
-    c.in_ok-integers.ensures ∙ c.in_ok-traced.ensures.integers (does begun) c.run_call-end.ensures.follows ∙ ap integers_at same ∙ (events_change_nothing script c.args.word.now c.args.limit).integers
+    c.in_ok-integers.ensures ∙ c.in_ok-traced.ensures.integers (does begun) c.call_external-end.ensures.follows ∙ ap integers_at same ∙ (events_change_nothing script c.args.word.now c.args.limit).integers
