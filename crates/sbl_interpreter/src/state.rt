@@ -1,6 +1,6 @@
 //! The state of a run: its text, the offsets in it, and its variables.
 
-ghost use Rattle.std.specs.Prelude.{◌≡◌, ℕ, ◌+◌, ◌-◌, ◌<◌, ◌≤◌, [], length, IfOk, Some, None, false};
+ghost use Rattle.std.specs.Prelude.{◌≡◌, ℕ, ◌+◌, ◌-◌, ◌<◌, ◌≤◌, [], suc, length, IfOk, Some, None, false};
 ghost use Rattle.sbl_semantics.specs.Fitting.{read_as};
 ghost use Rattle.sbl_semantics.specs.State.{State as RunState, pay, at_place, at_difference, to_limit, saved_cursor, put_back, step_over, place_after, ahead, room, note_event};
 ghost use Rattle.sbl_program.specs.AmongStrings.{Listing};
@@ -224,6 +224,20 @@ impl State {
             return Err(Halt::Steps);
         }
         self.steps -= count as u32;
+        Ok(())
+    }
+
+    /// Uses this many steps, and one more. Returns `Steps` if fewer are left; then these are used.
+    #[inline(always)]
+    pub fn pay_with_own(&mut self, count: usize) -> Result<(), Halt>
+        ensures leads { Leads result self.new (pays (suc count) self.old) }
+        ensures fewer { IfOk result (λ _. self.new.steps < self.old.steps) }
+    {
+        if count >= self.steps as usize {
+            self.steps = 0;
+            return Err(Halt::Steps);
+        }
+        self.steps -= count as u32 + 1;
         Ok(())
     }
 

@@ -1,6 +1,6 @@
 //! Moving and testing.
 
-ghost use Rattle.std.specs.Prelude.{◌≡◌, ℕ, List, false, ◌≤◌, ◌<◌, length, map, nat_eq, IfOk, IsTrue, slice_get};
+ghost use Rattle.std.specs.Prelude.{◌≡◌, ℕ, List, [], ◌∷◌, false, ◌≤◌, ◌<◌, length, map, nat_eq, IfOk, IsTrue, slice_get};
 ghost use Rattle.std.specs.List.{starts_with};
 ghost use Rattle.sbl_char_class.specs.CharacterClasses.{members};
 ghost use Rattle.sbl_char_class.specs.Terms.{class_at};
@@ -55,6 +55,35 @@ impl State {
         let length = string.len();
         if found {
             self.advance(mode, length);
+        }
+        found
+    }
+
+    /// Moves over a literal, and returns whether it is a prefix of the text ahead.
+    #[inline(always)]
+    pub fn take_literal(&mut self, mode: Mode, string: &[char]) -> bool
+        ensures leads { match string.now mode self.old ≡ Signals result self.new }
+        ensures same_steps { self.new.steps ≡ self.old.steps }
+    {
+        if is_other(self.next_character(mode), first_read(mode, string)) {
+            return false;
+        }
+        let found = is_prefix(mode, self.part_ahead(mode), string);
+        if found {
+            self.advance(mode, string.len());
+        }
+        found
+    }
+
+    /// Moves over this character, and returns whether it is the next one.
+    #[inline(always)]
+    pub fn take_character(&mut self, mode: Mode, wanted: char) -> bool
+        ensures leads { match (wanted ∷ []) mode self.old ≡ Signals result self.new }
+        ensures same_steps { self.new.steps ≡ self.old.steps }
+    {
+        let found = is_character(self.next_character(mode), wanted);
+        if found {
+            self.advance(mode, 1);
         }
         found
     }
@@ -200,6 +229,18 @@ fn is_other(character: Option<char>, wanted: Option<char>) -> bool
             None => true,
             Some(character) => character != wanted,
         },
+    }
+}
+
+// Returns whether there is a character that is this one.
+#[inline(always)]
+fn is_character(character: Option<char>, wanted: char) -> bool
+    ensures value { (text : List ℕ) → character ≡ slice_get text 0 → starts_with nat_eq text (wanted ∷ []) ≡ result }
+    ensures there { (text : List ℕ) → character ≡ slice_get text 0 → IsTrue result → 1 ≤ length text }
+{
+    match character {
+        None => false,
+        Some(character) => character == wanted,
     }
 }
 
