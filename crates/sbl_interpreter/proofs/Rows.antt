@@ -93,7 +93,7 @@ then_then (Signals false s) f g = refl
 then_then (Stops fault s) f g = refl
 
 -- the last of some steps
-pays_last : (n : ℕ) (s : State) → pays (suc n) s ≡ then_on (pays n s) (λ u. pay u.steps u)
+pub pays_last : (n : ℕ) (s : State) → pays (suc n) s ≡ then_on (pays n s) (λ u. pay u.steps u)
 pays_last zero s = and_nothing (pay s.steps s)
 pays_last (suc n) s = ap (λ f. then_on (pay s.steps s) f) (fun_ext (λ u. pays_last n u)) ∙ sym (then_then (pay s.steps s) (pays n) (λ u. pay u.steps u))
 

@@ -12,8 +12,8 @@ no_tables : ℕ → Listing
 no_tables n = record { mode = Forward; entries = [] }
 
 pub coded_more :
-  (codes : List RoutineCode) (routines : List Routine) (code : RoutineCode) (routine : Routine) → AreCodeOf codes routines →
-  ((tables : ℕ → Listing) → IsCodeOf tables code (view_routine tables routine)) → AreCodeOf (codes ++ (code ∷ [])) (routines ++ (routine ∷ []))
+    (codes : List RoutineCode) (routines : List Routine) (code : RoutineCode) (routine : Routine) → AreCodeOf codes routines →
+    ((tables : ℕ → Listing) → IsCodeOf tables code (view_routine tables routine)) → AreCodeOf (codes ++ (code ∷ [])) (routines ++ (routine ∷ []))
 coded_more [] [] code routine are h tables zero = (view_routine tables routine, refl, h tables)
 coded_more [] [] code routine are h tables (suc i) = refl
 coded_more [] (r ∷ rs) code routine are h tables i = let e : Some (view_routine no_tables r) ≡ None = are no_tables zero in absurd (let none : ⊥ = cc in none)

@@ -1,5 +1,5 @@
 -- What a run does from each kind of instruction on: the equations of `flow`.
-use Rattle.std.proofs.Common.{◌≡◌, ℕ, Bool, true, false, List, map, refl, rules, Vec, Global}
+use Rattle.std.proofs.Common.{◌≡◌, ℕ, Bool, true, false, List, [], ◌∷◌, map, refl, rules, Vec, Global}
 use Rattle.std.specs.Prelude.{slice_set, slice_index_or}
 use Rattle.std.specs.declared.rc.Rc.{Rc}
 use Rattle.sbl_char_class.specs.Terms.{class_at}
@@ -15,11 +15,14 @@ use Rattle.sbl_interpreter.specs.Run.{calls}
 use Rattle.sbl_interpreter.specs.Search.{search_all}
 use Rattle.sbl_semantics.specs.Choices.{choice}
 use Rattle.sbl_semantics.specs.Control.{pay_first}
+use Rattle.sbl_semantics.specs.Moves.{match, test_boolean}
+use Rattle.sbl_semantics.specs.Moves as moves
+use Rattle.sbl_semantics.specs.Slices.{left_bracket, right_bracket}
 use Rattle.sbl_semantics.specs.State.{State, Signals, after, then_on, saved_cursor, put_back}
 use Rattle.sbl_semantics.specs.declared.cursor.SavedCursor.{SavedCursor}
 use Rattle.sbl_ast.specs.declared.mode.Mode.{Mode}
 use Rattle.sbl_threaded_code.specs.declared.instruction.Instruction.{Instruction}
-use Rattle.sbl_threaded_code.specs.declared.instruction.Instruction.TheVariants.{End, Pay, Act, Save, Restore, Nested, Repeat, Loop, AtLeast, Seek, SeekGrouping, Backwards, SetLimit, Call, Search, Choose}
+use Rattle.sbl_threaded_code.specs.declared.instruction.Instruction.TheVariants.{End, Pay, Character, Literal, Grouping, LeftBracket, RightBracket, Boolean, Next, Act, Save, Restore, Nested, Repeat, Loop, AtLeast, Seek, SeekGrouping, Backwards, SetLimit, Call, Search, Choose}
 use Rattle.sbl_threaded_code.specs.declared.instruction.Instruction.TheFolds.{fold_out-Instruction, fold_out-Group}
 use Rattle.sbl_threaded_code.specs.declared.instruction.Instruction.TheViews.{the_lemmas}
 use Rattle.sbl_threaded_code.specs.Slots.{no_cursor}
@@ -38,6 +41,27 @@ module _ (p : programs.Program) (levels : ℕ) (tables : ℕ → Listing) (m : M
 
   pub flow_pay : (cost : ℕ) (next : I) → F (Pay cost next) m ys s ≡ then_on (pays cost s) (F next.value m ys)
   flow_pay cost next = first_of (search (rules, the_lemmas), search (rules, the_lemmas, fold_out-Instruction))
+
+  pub flow_character : (cost c : ℕ) (next fail : I) → F (Character cost c next fail) m ys s ≡ then_on (pays cost s) (λ u. after (match (c ∷ []) m u) (F next.value m ys) (F fail.value m ys))
+  flow_character cost c next fail = first_of (search (rules, the_lemmas), search (rules, the_lemmas, fold_out-Instruction))
+
+  pub flow_literal : (cost : ℕ) (string : Vec ℕ Global) (next fail : I) → F (Literal cost string next fail) m ys s ≡ then_on (pays cost s) (λ u. after (match string.items m u) (F next.value m ys) (F fail.value m ys))
+  flow_literal cost string next fail = first_of (search (rules, the_lemmas), search (rules, the_lemmas, fold_out-Instruction))
+
+  pub flow_grouping : (cost : ℕ) (wanted : Bool) (g : ℕ) (next fail : I) → F (Grouping cost wanted g next fail) m ys s ≡ then_on (pays cost s) (λ u. after (test_grouping wanted (class_at p.groupings g) g m u) (F next.value m ys) (F fail.value m ys))
+  flow_grouping cost wanted g next fail = first_of (search (rules, the_lemmas), search (rules, the_lemmas, fold_out-Instruction))
+
+  pub flow_left_bracket : (cost : ℕ) (next : I) → F (LeftBracket cost next) m ys s ≡ then_on (pays cost s) (λ u. F next.value m ys (left_bracket m u))
+  flow_left_bracket cost next = first_of (search (rules, the_lemmas), search (rules, the_lemmas, fold_out-Instruction))
+
+  pub flow_right_bracket : (cost : ℕ) (next : I) → F (RightBracket cost next) m ys s ≡ then_on (pays cost s) (λ u. F next.value m ys (right_bracket m u))
+  flow_right_bracket cost next = first_of (search (rules, the_lemmas), search (rules, the_lemmas, fold_out-Instruction))
+
+  pub flow_boolean : (cost x : ℕ) (next fail : I) → F (Boolean cost x next fail) m ys s ≡ then_on (pays cost s) (λ u. after (test_boolean x u) (F next.value m ys) (F fail.value m ys))
+  flow_boolean cost x next fail = first_of (search (rules, the_lemmas), search (rules, the_lemmas, fold_out-Instruction))
+
+  pub flow_next : (cost : ℕ) (next fail : I) → F (Next cost next fail) m ys s ≡ then_on (pays cost s) (λ u. after (moves.next m u) (F next.value m ys) (F fail.value m ys))
+  flow_next cost next fail = first_of (search (rules, the_lemmas), search (rules, the_lemmas, fold_out-Instruction))
 
   pub flow_act : (cost : ℕ) (action : Action) (next fail : I) → F (Act cost action next fail) m ys s ≡ then_on (pays cost s) (λ u. after (acts p.groupings (view_action action) m u) (F next.value m ys) (F fail.value m ys))
   flow_act cost action next fail = first_of (search (rules, the_lemmas), search (rules, the_lemmas, fold_out-Instruction))

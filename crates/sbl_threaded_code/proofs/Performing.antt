@@ -202,35 +202,35 @@ runs_as tables d entry h p levels = fun_ext (λ m. fun_ext (λ s. h p levels m s
 
 -- something made of them
 pub made_of :
-  (tables : ℕ → Listing) (of : programs.Program → ℕ → Doing → Doing) (d : Meaning) (body : Instruction) (cost n : ℕ) (next fail entry : Instruction) → Runs tables d body →
-  Performs tables (λ p levels. pay_first (of p levels (alone (flow p levels tables body)))) cost n next fail entry →
-  Performs tables (λ p levels. pay_first (of p levels (d p levels))) cost n next fail entry
+    (tables : ℕ → Listing) (of : programs.Program → ℕ → Doing → Doing) (d : Meaning) (body : Instruction) (cost n : ℕ) (next fail entry : Instruction) → Runs tables d body →
+    Performs tables (λ p levels. pay_first (of p levels (alone (flow p levels tables body)))) cost n next fail entry →
+    Performs tables (λ p levels. pay_first (of p levels (d p levels))) cost n next fail entry
 made_of tables of d body cost n next fail entry r h =
     same_meaning tables (λ p levels. pay_first (of p levels (alone (flow p levels tables body)))) (λ p levels. pay_first (of p levels (d p levels))) cost n next fail entry
-      (λ p levels m s. ap (λ c. pay_first (of p levels c) m s) (runs_as tables d body r p levels)) h
+    (λ p levels m s. ap (λ c. pay_first (of p levels c) m s) (runs_as tables d body r p levels)) h
 
 -- ---- commands
 
 -- the instructions of a command, by what it does after its own step
 pub arm :
-  (tables : ℕ → Listing) (d : Meaning) (node x : Node) (cost n : ℕ) (next fail entry : Instruction) → node ≡ x →
-  ((p : programs.Program) (levels : ℕ) (m : Mode) (s : State) → runs_paid p levels (view_node tables x) m s ≡ d p levels m s) →
-  Performs tables (λ p levels. pay_first (d p levels)) cost n next fail entry → Performs tables (λ p levels. runs p levels (view_node tables node)) cost n next fail entry
+    (tables : ℕ → Listing) (d : Meaning) (node x : Node) (cost n : ℕ) (next fail entry : Instruction) → node ≡ x →
+    ((p : programs.Program) (levels : ℕ) (m : Mode) (s : State) → runs_paid p levels (view_node tables x) m s ≡ d p levels m s) →
+    Performs tables (λ p levels. pay_first (d p levels)) cost n next fail entry → Performs tables (λ p levels. runs p levels (view_node tables node)) cost n next fail entry
 arm tables d node x cost n next fail entry e q =
     same_meaning tables (λ p levels. pay_first (d p levels)) (λ p levels. runs p levels (view_node tables node)) cost n next fail entry
-      (λ p levels m s. ap (λ f. then_on (pay s.steps s) f) (fun_ext (λ u. sym (q p levels m u))) ∙ ap (λ y. runs p levels (view_node tables y) m s) (sym e))
+    (λ p levels m s. ap (λ f. then_on (pay s.steps s) f) (fun_ext (λ u. sym (q p levels m u))) ∙ ap (λ y. runs p levels (view_node tables y) m s) (sym e))
 
 -- one step, and then a command
 pub one_step :
-  (tables : ℕ → Listing) (d : Meaning) (cost n : ℕ) (next fail entry : Instruction) →
-  Performs tables (λ p levels m s. then_on (pays 1 s) (d p levels m)) cost n next fail entry → Performs tables (λ p levels. pay_first (d p levels)) cost n next fail entry
+    (tables : ℕ → Listing) (d : Meaning) (cost n : ℕ) (next fail entry : Instruction) →
+    Performs tables (λ p levels m s. then_on (pays 1 s) (d p levels m)) cost n next fail entry → Performs tables (λ p levels. pay_first (d p levels)) cost n next fail entry
 one_step tables d cost n next fail entry =
     same_meaning tables (λ p levels m s. then_on (pays 1 s) (d p levels m)) (λ p levels. pay_first (d p levels)) cost n next fail entry (λ p levels m s. own_step 0 s (d p levels) m)
 
 -- whatever it signals, f
 pub failing :
-  (tables : ℕ → Listing) (c : Meaning) (cost n : ℕ) (next fail a b entry : Instruction) → a ≡ fail → b ≡ fail →
-  Performs tables c cost n a b entry → Performs tables (λ p levels. fail_of (c p levels)) cost n next fail entry
+    (tables : ℕ → Listing) (c : Meaning) (cost n : ℕ) (next fail a b entry : Instruction) → a ≡ fail → b ≡ fail →
+    Performs tables c cost n a b entry → Performs tables (λ p levels. fail_of (c p levels)) cost n next fail entry
 failing tables c cost n next fail a b entry x y h p levels m slots go stop l g k ys w s =
     let g' = λ (zs : List SavedCursor) (v : Agree n slots zs) (t : State). ap (λ i. flow p levels tables i m zs t) x ∙ k zs v t in
     let k' = λ (zs : List SavedCursor) (v : Agree n slots zs) (t : State). ap (λ i. flow p levels tables i m zs t) y ∙ k zs v t in
@@ -257,9 +257,9 @@ placed_at : (b c : Bool) (cost own slot : ℕ) (exits : Exits) (place : Place) �
 placed_at b c cost own slot exits place e h = subst (λ x. IsPlaced x cost own slot exits place) e h
 
 pub here_place :
-  (tables : ℕ → Listing) (d : Meaning) (cost own slot : ℕ) (exits : Exits) (place : Place) (entry : Instruction) → IsPlace cost own slot exits place → place.nested ≡ false →
-  Performs tables d place.cost place.slot place.exits.next.value place.exits.fail.value entry →
-  Performs tables (λ p levels m s. then_on (pays own s) (d p levels m)) cost slot exits.next.value exits.fail.value entry
+    (tables : ℕ → Listing) (d : Meaning) (cost own slot : ℕ) (exits : Exits) (place : Place) (entry : Instruction) → IsPlace cost own slot exits place → place.nested ≡ false →
+    Performs tables d place.cost place.slot place.exits.next.value place.exits.fail.value entry →
+    Performs tables (λ p levels m s. then_on (pays own s) (d p levels m)) cost slot exits.next.value exits.fail.value entry
 here_place tables d cost own slot exits place entry is unless h =
     let q = placed_at place.nested false cost own slot exits place unless is.2 in
     let h1 = subst (λ n. Performs tables d place.cost n place.exits.next.value place.exits.fail.value entry) q.0 h in
@@ -268,10 +268,10 @@ here_place tables d cost own slot exits place entry is unless h =
     first_steps tables d cost own place.cost slot exits.next.value exits.fail.value entry q.1 h3
 
 pub nested_place :
-  (tables : ℕ → Listing) (d : Meaning) (cost own slot : ℕ) (exits : Exits) (place : Place) (entry made : Instruction) → IsPlace cost own slot exits place → place.nested ≡ true →
-  Performs tables d place.cost place.slot place.exits.next.value place.exits.fail.value entry →
-  ((n : ℕ) → Performs tables (λ p levels. pay_first (alone (flow p levels tables entry))) cost n exits.next.value exits.fail.value made) →
-  Performs tables (λ p levels m s. then_on (pays own s) (d p levels m)) cost slot exits.next.value exits.fail.value made
+    (tables : ℕ → Listing) (d : Meaning) (cost own slot : ℕ) (exits : Exits) (place : Place) (entry made : Instruction) → IsPlace cost own slot exits place → place.nested ≡ true →
+    Performs tables d place.cost place.slot place.exits.next.value place.exits.fail.value entry →
+    ((n : ℕ) → Performs tables (λ p levels. pay_first (alone (flow p levels tables entry))) cost n exits.next.value exits.fail.value made) →
+    Performs tables (λ p levels m s. then_on (pays own s) (d p levels m)) cost slot exits.next.value exits.fail.value made
 nested_place tables d cost own slot exits place entry made is when h k =
     let q = placed_at place.nested true cost own slot exits place when is.2 in
     let c : Meaning = λ p levels m s. then_on (pays place.cost s) (d p levels m) in
@@ -281,8 +281,8 @@ nested_place tables d cost own slot exits place entry made is when h k =
     let r = by_itself tables c place.exits.next.value place.exits.fail.value entry q.2 q.3 h2 in
     let one : suc place.cost ≡ own = omega (arith, q.1) in
     same_meaning tables (λ p levels. pay_first (c p levels)) (λ p levels m s. then_on (pays own s) (d p levels m)) cost slot exits.next.value exits.fail.value made
-      (λ p levels m s. sym (after_after (pay s.steps s) (pays place.cost) (Signals false) (d p levels m) (Signals false)) ∙ ap (λ j. then_on (pays j s) (d p levels m)) one)
-      (made_of tables (λ p levels x. x) c entry cost slot exits.next.value exits.fail.value made r (k slot))
+    (λ p levels m s. sym (after_after (pay s.steps s) (pays place.cost) (Signals false) (d p levels m) (Signals false)) ∙ ap (λ j. then_on (pays j s) (d p levels m)) one)
+    (made_of tables (λ p levels x. x) c entry cost slot exits.next.value exits.fail.value made r (k slot))
 
 -- ---- the groups of an among
 
@@ -291,29 +291,29 @@ module _ (tables : ℕ → Listing) (p : programs.Program) (levels n : ℕ) (exi
   group_is x = first_of (search (rules, the_lemmas), search (rules, the_lemmas, fold_out-Group, fold_out-Instruction))
 
   nth_group :
-    length slots ≡ 4 → GoesOn (flow p levels tables exits.next.value) m n slots go → GoesOn (flow p levels tables exits.fail.value) m n slots stop →
-    (nodes : List Node) (groups : List Group) (g : ℕ) → ArePerformed tables nodes n exits groups →
-    (ys : List SavedCursor) → Agree n slots ys → (u : State) →
-    option_map_or (λ f. f) (slice_get (map (group_flow p levels tables) groups) g) (flow p levels tables exits.next.value) m ys u ≡ after (nth_runs p levels (view_nodes tables nodes) g m u) go stop
+      length slots ≡ 4 → GoesOn (flow p levels tables exits.next.value) m n slots go → GoesOn (flow p levels tables exits.fail.value) m n slots stop →
+      (nodes : List Node) (groups : List Group) (g : ℕ) → ArePerformed tables nodes n exits groups →
+      (ys : List SavedCursor) → Agree n slots ys → (u : State) →
+      option_map_or (λ f. f) (slice_get (map (group_flow p levels tables) groups) g) (flow p levels tables exits.next.value) m ys u ≡ after (nth_runs p levels (view_nodes tables nodes) g m u) go stop
   nth_group l h k nodes [] g are ys a u = h ys a u ∙ ap (λ ns. after (nth_runs p levels (view_nodes tables ns) g m u) go stop) (sym are)
   nth_group l h k [] (x ∷ xs) g are ys a u = absurd are
   nth_group l h k (node ∷ nodes) (x ∷ xs) zero are ys a u = ap (λ f. f m ys u) (group_is x) ∙ are.0 p levels m slots go stop l h k ys a u
   nth_group l h k (node ∷ nodes) (x ∷ xs) (suc g) are ys a u = nth_group l h k nodes xs g are.1 ys a u
 
   pub chosen_group :
-    length slots ≡ 4 → GoesOn (flow p levels tables exits.next.value) m n slots go → GoesOn (flow p levels tables exits.fail.value) m n slots stop →
-    (nodes : List Node) (groups : List Group) (o : Option ℕ) → ArePerformed tables nodes n exits groups →
-    (ys : List SavedCursor) → Agree n slots ys → (u : State) →
-    chosen o (map (group_flow p levels tables) groups) (flow p levels tables exits.next.value) (flow p levels tables exits.fail.value) m ys u ≡ after (group_runs p levels (view_nodes tables nodes) o m u) go stop
+      length slots ≡ 4 → GoesOn (flow p levels tables exits.next.value) m n slots go → GoesOn (flow p levels tables exits.fail.value) m n slots stop →
+      (nodes : List Node) (groups : List Group) (o : Option ℕ) → ArePerformed tables nodes n exits groups →
+      (ys : List SavedCursor) → Agree n slots ys → (u : State) →
+      chosen o (map (group_flow p levels tables) groups) (flow p levels tables exits.next.value) (flow p levels tables exits.fail.value) m ys u ≡ after (group_runs p levels (view_nodes tables nodes) o m u) go stop
   chosen_group l h k nodes groups None are ys a u = k ys a u
   chosen_group l h k nodes groups (Some g) are ys a u = nth_group l h k nodes groups g are ys a u
 
 pub choosing :
-  (tables : ℕ → Listing) (cost among n : ℕ) (exits : Exits) (nodes : List Node) (groups : List Group) (a b made : Instruction) → a ≡ exits.next.value → b ≡ exits.fail.value →
-  ((p : programs.Program) (levels : ℕ) (m : Mode) (ys : List SavedCursor) (s : State) →
-   flow p levels tables made m ys s ≡ then_on (pays cost s) (λ u. chosen (choice among u) (map (group_flow p levels tables) groups) (flow p levels tables a) (flow p levels tables b) m ys u)) →
-  ArePerformed tables nodes n exits groups →
-  Performs tables (λ p levels m t. group_runs p levels (view_nodes tables nodes) (choice among t) m t) cost n exits.next.value exits.fail.value made
+    (tables : ℕ → Listing) (cost among n : ℕ) (exits : Exits) (nodes : List Node) (groups : List Group) (a b made : Instruction) → a ≡ exits.next.value → b ≡ exits.fail.value →
+    ((p : programs.Program) (levels : ℕ) (m : Mode) (ys : List SavedCursor) (s : State) →
+    flow p levels tables made m ys s ≡ then_on (pays cost s) (λ u. chosen (choice among u) (map (group_flow p levels tables) groups) (flow p levels tables a) (flow p levels tables b) m ys u)) →
+    ArePerformed tables nodes n exits groups →
+    Performs tables (λ p levels m t. group_runs p levels (view_nodes tables nodes) (choice among t) m t) cost n exits.next.value exits.fail.value made
 choosing tables cost among n exits nodes groups a b made x y is are p levels m slots go stop l h k ys w s =
     let gs = map (group_flow p levels tables) groups in
     let d = λ (u : State). group_runs p levels (view_nodes tables nodes) (choice among u) m u in
@@ -321,5 +321,5 @@ choosing tables cost among n exits nodes groups a b made x y is are p levels m s
     ∙ ap (λ i. then_on (pays cost s) (λ u. chosen (choice among u) gs (flow p levels tables i) (flow p levels tables b) m ys u)) x
     ∙ ap (λ i. then_on (pays cost s) (λ u. chosen (choice among u) gs (flow p levels tables exits.next.value) (flow p levels tables i) m ys u)) y
     ∙ after_same (pays cost s) (λ u. chosen (choice among u) gs (flow p levels tables exits.next.value) (flow p levels tables exits.fail.value) m ys u) (Signals false) (λ u. after (d u) go stop) (Signals false)
-        (λ u. chosen_group tables p levels n exits m slots go stop l h k nodes groups (choice among u) are ys w u) (λ u. refl)
+    (λ u. chosen_group tables p levels n exits m slots go stop l h k nodes groups (choice among u) are ys w u) (λ u. refl)
     ∙ after_steps cost s d go stop go stop (λ t. refl) (λ t. refl)

@@ -26,8 +26,8 @@ use Rattle.sbl_threaded_code.proofs.Performing.{agree_self, agree_then, agree_se
 module _ (p : programs.Program) (levels : ℕ) (m : Mode) where
   -- what is left of a row after an ending is what is left after its signal
   others_split : (from : SavedCursor) (os : List JoinedView) (e : Ending) (go stop : State → Ending) →
-    after (others_run p levels m from os e) go stop
-    ≡ after e (λ t. after (others_run p levels m from os (Signals true t)) go stop) (λ f. after (others_run p levels m from os (Signals false f)) go stop)
+      after (others_run p levels m from os e) go stop
+      ≡ after e (λ t. after (others_run p levels m from os (Signals true t)) go stop) (λ f. after (others_run p levels m from os (Signals false f)) go stop)
   others_split from os (Signals true s) go stop = refl
   others_split from os (Signals false s) go stop = refl
   others_split from os (Stops fault s) go stop = ap (λ r. after r go stop) (others_stop p levels m from os fault s)
@@ -40,9 +40,10 @@ module _ (p : programs.Program) (levels : ℕ) (m : Mode) where
 
 -- after the last command
 pub rest_none : (tables : ℕ → Listing) (n : ℕ) (exits rest : Exits) → rest.next.value ≡ exits.next.value → rest.fail.value ≡ exits.fail.value → IsRest tables n [] exits rest
-rest_none tables n exits rest x y p levels m slots ys go stop l g h a =
-    (λ zs b s. ap (λ i. flow p levels tables i m zs s) x ∙ goes_deeper (flow p levels tables exits.next.value) m n slots ys go a g zs b s,
-     λ zs b s. ap (λ i. flow p levels tables i m zs s) y ∙ goes_deeper (flow p levels tables exits.fail.value) m n slots ys stop a h zs b s)
+rest_none tables n exits rest x y p levels m slots ys go stop l g h a = (
+  λ zs b s. ap (λ i. flow p levels tables i m zs s) x ∙ goes_deeper (flow p levels tables exits.next.value) m n slots ys go a g zs b s,
+  λ zs b s. ap (λ i. flow p levels tables i m zs s) y ∙ goes_deeper (flow p levels tables exits.fail.value) m n slots ys stop a h zs b s,
+)
 
 module _ (tables : ℕ → Listing) (n : ℕ) (exits rest : Exits) (o : JoinedView) (os : List JoinedView) (p : programs.Program) (levels : ℕ) (m : Mode) (slots ys : List SavedCursor) (go stop : State → Ending) where
   abbrev from : SavedCursor
@@ -62,10 +63,10 @@ module _ (tables : ℕ → Listing) (n : ℕ) (exits rest : Exits) (o : JoinedVi
 
   -- a signal after which the next command runs
   goes_back : (entry back : Instruction) → length ys ≡ 4 → Restores n entry back →
-    Performs tables (λ p levels. runs p levels o.1) 0 (suc n) rest.next.value rest.fail.value entry →
-    GoesOn (flow p levels tables rest.next.value) m (suc n) ys (left true) → GoesOn (flow p levels tables rest.fail.value) m (suc n) ys (left false) →
-    (b : Bool) → is_settled o.0 b ≡ false →
-    GoesOn (flow p levels tables back) m (suc n) ys (λ s. after (others_run p levels m from (o ∷ os) (Signals b s)) go stop)
+      Performs tables (λ p levels. runs p levels o.1) 0 (suc n) rest.next.value rest.fail.value entry →
+      GoesOn (flow p levels tables rest.next.value) m (suc n) ys (left true) → GoesOn (flow p levels tables rest.fail.value) m (suc n) ys (left false) →
+      (b : Bool) → is_settled o.0 b ≡ false →
+      GoesOn (flow p levels tables back) m (suc n) ys (λ s. after (others_run p levels m from (o ∷ os) (Signals b s)) go stop)
   goes_back entry back l r h g k b e zs a s =
       let D = λ (t : State). after (runs p levels o.1 m t) (left true) (left false) in
       r p levels tables m zs s
@@ -78,50 +79,52 @@ module _ (tables : ℕ → Listing) (n : ℕ) (exits rest : Exits) (o : JoinedVi
 
 -- before a command after `or`
 pub rest_or :
-  (tables : ℕ → Listing) (n k : ℕ) (exits rest made : Exits) (o : JoinedView) (os : List JoinedView) (entry back : Instruction) → k ≡ n + 1 → o.0 ≡ Or →
-  Performs tables (λ p levels. runs p levels o.1) 0 k rest.next.value rest.fail.value entry → Restores n entry back →
-  made.next.value ≡ rest.next.value → made.fail.value ≡ back → IsRest tables n os exits rest → IsRest tables n (o ∷ os) exits made
+    (tables : ℕ → Listing) (n k : ℕ) (exits rest made : Exits) (o : JoinedView) (os : List JoinedView) (entry back : Instruction) → k ≡ n + 1 → o.0 ≡ Or →
+    Performs tables (λ p levels. runs p levels o.1) 0 k rest.next.value rest.fail.value entry → Restores n entry back →
+    made.next.value ≡ rest.next.value → made.fail.value ≡ back → IsRest tables n os exits rest → IsRest tables n (o ∷ os) exits made
 rest_or tables n deep exits rest made o os entry back one e h' r x y is p levels m slots ys go stop l g k a =
     let next : deep ≡ suc n = omega (arith, one) in
     let h = subst (λ j. Performs tables (λ p levels. runs p levels o.1) 0 j rest.next.value rest.fail.value entry) next h' in
-    let q = is p levels m slots ys go stop l g k a in
-    (λ zs b s. ap (λ i. flow p levels tables i m zs s) x ∙ q.0 zs b s ∙ sym (decided tables n exits rest o os p levels m slots ys go stop true s (ap (λ j. is_settled j true) e)),
-     λ zs b s. ap (λ i. flow p levels tables i m zs s) y ∙ goes_back tables n exits rest o os p levels m slots ys go stop entry back (a.as_many ∙ l) r h q.0 q.1 false (ap (λ j. is_settled j false) e) zs b s)
+    let q = is p levels m slots ys go stop l g k a in (
+      λ zs b s. ap (λ i. flow p levels tables i m zs s) x ∙ q.0 zs b s ∙ sym (decided tables n exits rest o os p levels m slots ys go stop true s (ap (λ j. is_settled j true) e)),
+      λ zs b s. ap (λ i. flow p levels tables i m zs s) y ∙ goes_back tables n exits rest o os p levels m slots ys go stop entry back (a.as_many ∙ l) r h q.0 q.1 false (ap (λ j. is_settled j false) e) zs b s,
+    )
 
 -- before a command after `and`
 pub rest_and :
-  (tables : ℕ → Listing) (n k : ℕ) (exits rest made : Exits) (o : JoinedView) (os : List JoinedView) (entry back : Instruction) → k ≡ n + 1 → o.0 ≡ And →
-  Performs tables (λ p levels. runs p levels o.1) 0 k rest.next.value rest.fail.value entry → Restores n entry back →
-  made.next.value ≡ back → made.fail.value ≡ rest.fail.value → IsRest tables n os exits rest → IsRest tables n (o ∷ os) exits made
+    (tables : ℕ → Listing) (n k : ℕ) (exits rest made : Exits) (o : JoinedView) (os : List JoinedView) (entry back : Instruction) → k ≡ n + 1 → o.0 ≡ And →
+    Performs tables (λ p levels. runs p levels o.1) 0 k rest.next.value rest.fail.value entry → Restores n entry back →
+    made.next.value ≡ back → made.fail.value ≡ rest.fail.value → IsRest tables n os exits rest → IsRest tables n (o ∷ os) exits made
 rest_and tables n deep exits rest made o os entry back one e h' r x y is p levels m slots ys go stop l g k a =
     let next : deep ≡ suc n = omega (arith, one) in
     let h = subst (λ j. Performs tables (λ p levels. runs p levels o.1) 0 j rest.next.value rest.fail.value entry) next h' in
-    let q = is p levels m slots ys go stop l g k a in
-    (λ zs b s. ap (λ i. flow p levels tables i m zs s) x ∙ goes_back tables n exits rest o os p levels m slots ys go stop entry back (a.as_many ∙ l) r h q.0 q.1 true (ap (λ j. is_settled j true) e) zs b s,
-     λ zs b s. ap (λ i. flow p levels tables i m zs s) y ∙ q.1 zs b s ∙ sym (decided tables n exits rest o os p levels m slots ys go stop false s (ap (λ j. is_settled j false) e)))
+    let q = is p levels m slots ys go stop l g k a in (
+      λ zs b s. ap (λ i. flow p levels tables i m zs s) x ∙ goes_back tables n exits rest o os p levels m slots ys go stop entry back (a.as_many ∙ l) r h q.0 q.1 true (ap (λ j. is_settled j true) e) zs b s,
+      λ zs b s. ap (λ i. flow p levels tables i m zs s) y ∙ q.1 zs b s ∙ sym (decided tables n exits rest o os p levels m slots ys go stop false s (ap (λ j. is_settled j false) e)),
+    )
 
 -- a row whose cursor is saved, and what is left of it
 pub saving_row :
-  (tables : ℕ → Listing) (c : Meaning) (os : List JoinedView) (cost n k : ℕ) (exits rest : Exits) (inner entry : Instruction) →
-  k ≡ n + 1 → n < 4 → Saves cost n inner entry →
-  Performs tables c 0 k rest.next.value rest.fail.value inner → IsRest tables n os exits rest →
-  Performs tables (λ p levels m s. others_run p levels m (saved_cursor s) os (c p levels m s)) cost n exits.next.value exits.fail.value entry
+    (tables : ℕ → Listing) (c : Meaning) (os : List JoinedView) (cost n k : ℕ) (exits rest : Exits) (inner entry : Instruction) →
+    k ≡ n + 1 → n < 4 → Saves cost n inner entry →
+    Performs tables c 0 k rest.next.value rest.fail.value inner → IsRest tables n os exits rest →
+    Performs tables (λ p levels m s. others_run p levels m (saved_cursor s) os (c p levels m s)) cost n exits.next.value exits.fail.value entry
 saving_row tables c os cost n deep exits rest inner entry is small saves h' row p levels m slots go stop l g k ys a s =
     let one : deep ≡ suc n = omega (arith, is) in
     let h = subst (λ j. Performs tables c 0 j rest.next.value rest.fail.value inner) one h' in
     let d = λ (u : State). others_run p levels m (saved_cursor u) os (c p levels m u) in
     let room : n < length ys = omega (arith, a.as_many, l) in
     let inside = λ (u : State).
-      let v = saved_cursor u in
-      let zs = slice_set ys n v in
-      let kept : Agree n slots zs = agree_then n slots ys zs a (agree_set n ys v) in
-      let many : length zs ≡ 4 = length-set ys n v ∙ a.as_many ∙ l in
-      let got : slice_index_or zs n no_cursor ≡ v = get_or-set_same ys n v no_cursor room in
-      let at = λ (w : SavedCursor) (b : Bool) (t : State). after (others_run p levels m w os (Signals b t)) go stop in
-      let q = row p levels m slots zs go stop l g k kept in
-      h p levels m zs (at (slice_index_or zs n no_cursor) true) (at (slice_index_or zs n no_cursor) false) many q.0 q.1 zs (agree_self (suc n) zs) u
-      ∙ ap (λ w. after (c p levels m u) (at w true) (at w false)) got
-      ∙ sym (others_split p levels m v os (c p levels m u) go stop)
+    let v = saved_cursor u in
+    let zs = slice_set ys n v in
+    let kept : Agree n slots zs = agree_then n slots ys zs a (agree_set n ys v) in
+    let many : length zs ≡ 4 = length-set ys n v ∙ a.as_many ∙ l in
+    let got : slice_index_or zs n no_cursor ≡ v = get_or-set_same ys n v no_cursor room in
+    let at = λ (w : SavedCursor) (b : Bool) (t : State). after (others_run p levels m w os (Signals b t)) go stop in
+    let q = row p levels m slots zs go stop l g k kept in
+    h p levels m zs (at (slice_index_or zs n no_cursor) true) (at (slice_index_or zs n no_cursor) false) many q.0 q.1 zs (agree_self (suc n) zs) u
+    ∙ ap (λ w. after (c p levels m u) (at w true) (at w false)) got
+    ∙ sym (others_split p levels m v os (c p levels m u) go stop)
     in
     saves p levels tables m ys s
     ∙ after_same (pays cost s) (λ u. flow p levels tables inner m (slice_set ys n (saved_cursor u)) u) (Signals false) (λ u. after (d u) go stop) (Signals false) inside (λ u. refl)
@@ -129,8 +132,8 @@ saving_row tables c os cost n deep exits rest inner entry is small saves h' row 
 
 -- one more group
 pub performed_more : (tables : ℕ → Listing) (nodes : List Node) (n : ℕ) (exits : Exits) (groups : List Group) (node : Node) (x : Group) →
-  ArePerformed tables nodes n exits groups → Exited tables (λ p levels. runs p levels (view_node tables node)) 0 n exits (out-Group x).first.value →
-  ArePerformed tables (nodes ++ (node ∷ [])) n exits (groups ++ (x ∷ []))
+    ArePerformed tables nodes n exits groups → Exited tables (λ p levels. runs p levels (view_node tables node)) 0 n exits (out-Group x).first.value →
+    ArePerformed tables (nodes ++ (node ∷ [])) n exits (groups ++ (x ∷ []))
 performed_more tables nodes n exits [] node x are h = subst (λ ns. ArePerformed tables (ns ++ (node ∷ [])) n exits (x ∷ [])) (sym are) (h, refl)
 performed_more tables [] n exits (g ∷ gs) node x are h = absurd are
 performed_more tables (k ∷ ks) n exits (g ∷ gs) node x are h = (are.0, performed_more tables ks n exits gs node x are.1 h)

@@ -1,5 +1,5 @@
 -- Parts of a program without memory addresses: what the assembler reads of them.
-use Rattle.std.proofs.Common.{◌≡◌, ℕ, ap, rules}
+use Rattle.std.proofs.Common.{◌≡◌, ℕ, List, [], ◌∷◌, length, get_or, sym, ap, arith, rules}
 use Rattle.sbl_ast.specs.declared.tree.Joiner.{Joiner}
 use Rattle.sbl_ast.specs.declared.mode.Mode.{Mode}
 use Rattle.sbl_program.specs.AmongStrings.{Listing}
@@ -31,3 +31,8 @@ view_joiner T o = first_of (search (rules, the_lemmas), search (rules, the_lemma
 
 pub view_command : (T : ℕ → Listing) (o : JoinedNode) → (view_next_command T o).1 ≡ view_node T (out-JoinedNode o).command
 view_command T o = first_of (search (rules, the_lemmas), search (rules, the_lemmas, fold_out-JoinedNode, fold_out-Node))
+
+pub one_character : (cs : List ℕ) (c : ℕ) → length cs ≡ 1 → c ≡ get_or cs 0 c → cs ≡ c ∷ []
+one_character [] c l e = absurd (omega (arith, l))
+one_character (x ∷ []) c l e = ap (λ y. y ∷ []) (sym e)
+one_character (x ∷ (y ∷ ys)) c l e = absurd (omega (arith, l))

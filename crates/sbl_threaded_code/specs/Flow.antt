@@ -1,6 +1,6 @@
 -- What a run does from an instruction on. You need not believe anything here: it is what the assembler and the runner
 -- promise each other.
-use Rattle.std.specs.Prelude.{ℕ, suc, Bool, true, false, List, Option, Some, None, replicate, slice_get, slice_set, slice_index_or}
+use Rattle.std.specs.Prelude.{ℕ, suc, Bool, true, false, List, [], ◌∷◌, Option, Some, None, replicate, slice_get, slice_set, slice_index_or}
 use Rattle.std.specs.Option.{option_map_or}
 use Rattle.sbl_char_class.specs.Terms.{class_at}
 use Rattle.sbl_program.specs.AmongStrings.{Listing}
@@ -13,7 +13,10 @@ use Rattle.sbl_program.specs.Program as programs
 use Rattle.sbl_interpreter.specs.Search.{search_all}
 use Rattle.sbl_semantics.specs.Choices.{choice}
 use Rattle.sbl_semantics.specs.Control.{turns, times, count_of, seeks, limits, limit_here, restore_limit, backwards_from, backwards_end, pay_first}
+use Rattle.sbl_semantics.specs.Moves.{match, test_boolean}
+use Rattle.sbl_semantics.specs.Moves as moves
 use Rattle.sbl_semantics.specs.Numbers.{continue_with}
+use Rattle.sbl_semantics.specs.Slices.{left_bracket, right_bracket}
 use Rattle.sbl_semantics.specs.State.{State, Ending, Signals, Doing, after, then_on, saved_cursor, put_back}
 use Rattle.sbl_semantics.specs.declared.cursor.SavedCursor.{SavedCursor}
 use Rattle.sbl_ast.specs.declared.mode.Mode.{Mode}
@@ -77,6 +80,18 @@ chosen (Some g) bodies next fail = option_map_or (λ f. f) (slice_get bodies g) 
 abbrev pub flow_step : programs.Program → ℕ → (ℕ → Listing) → Instruction-F Flow Flow → Flow
 flow_step p levels tables (code.End b) m slots s = Signals b s
 flow_step p levels tables (code.Pay cost next) m slots s = then_on (pays cost s) (next.value m slots)
+flow_step p levels tables (code.Character cost c next fail) m slots s =
+    then_on (pays cost s) (λ u. after (match (c ∷ []) m u) (next.value m slots) (fail.value m slots))
+flow_step p levels tables (code.Literal cost string next fail) m slots s =
+    then_on (pays cost s) (λ u. after (match string.items m u) (next.value m slots) (fail.value m slots))
+flow_step p levels tables (code.Grouping cost wanted g next fail) m slots s =
+    then_on (pays cost s) (λ u. after (test_grouping wanted (class_at p.groupings g) g m u) (next.value m slots) (fail.value m slots))
+flow_step p levels tables (code.LeftBracket cost next) m slots s = then_on (pays cost s) (λ u. next.value m slots (left_bracket m u))
+flow_step p levels tables (code.RightBracket cost next) m slots s = then_on (pays cost s) (λ u. next.value m slots (right_bracket m u))
+flow_step p levels tables (code.Boolean cost x next fail) m slots s =
+    then_on (pays cost s) (λ u. after (test_boolean x u) (next.value m slots) (fail.value m slots))
+flow_step p levels tables (code.Next cost next fail) m slots s =
+    then_on (pays cost s) (λ u. after (moves.next m u) (next.value m slots) (fail.value m slots))
 flow_step p levels tables (code.Act cost action next fail) m slots s =
     then_on (pays cost s) (λ u. after (acts p.groupings (view_action action) m u) (next.value m slots) (fail.value m slots))
 flow_step p levels tables (code.Save cost slot next) m slots s =

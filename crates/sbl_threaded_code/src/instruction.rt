@@ -15,7 +15,52 @@ pub enum Instruction {
         cost: usize,
         next: Rc<Instruction>,
     },
-    /// A command that contains no command.
+    /// A literal of one character.
+    Character {
+        cost: usize,
+        character: char,
+        next: Rc<Instruction>,
+        fail: Rc<Instruction>,
+    },
+    /// Any other literal.
+    Literal {
+        cost: usize,
+        string: Vec<char>,
+        next: Rc<Instruction>,
+        fail: Rc<Instruction>,
+    },
+    /// A grouping, or `non` and a grouping.
+    Grouping {
+        cost: usize,
+        wanted: bool,
+        grouping: usize,
+        next: Rc<Instruction>,
+        fail: Rc<Instruction>,
+    },
+    /// `[`
+    LeftBracket {
+        cost: usize,
+        next: Rc<Instruction>,
+    },
+    /// `]`
+    RightBracket {
+        cost: usize,
+        next: Rc<Instruction>,
+    },
+    /// The name of a boolean variable.
+    Boolean {
+        cost: usize,
+        number: usize,
+        next: Rc<Instruction>,
+        fail: Rc<Instruction>,
+    },
+    /// `next`
+    Next {
+        cost: usize,
+        next: Rc<Instruction>,
+        fail: Rc<Instruction>,
+    },
+    /// Any other command that contains no command.
     Act {
         cost: usize,
         action: Action,

@@ -27,8 +27,7 @@ fn pay_all(cost: usize, state: &mut State) -> Result<(), Halt>
     ensures leads { Leads result state.new (then_on (pays cost state.old) (λ u. pay u.steps u)) }
     ensures fewer { IfOk result (λ _. state.new.steps < state.old.steps) }
 {
-    state.pay_for(cost)?;
-    state.pay()
+    state.pay_with_own(cost)
 }
 
 /// The fixed part of a run. A call and `backwards` run with a runner of their own.
@@ -68,7 +67,7 @@ impl<'a, T: Tables> Runner<'a, T> {
                     fail,
                 } => {
                     state.pay_for(*cost)?;
-                    at = if state.act_here(&self.code.program().groupings, self.mode, action)? {
+                    at = if state.act(&self.code.program().groupings, self.mode, action)? {
                         next
                     } else {
                         fail
@@ -233,6 +232,78 @@ impl<'a, T: Tables> Runner<'a, T> {
                             None => next,
                             Some(body) => &body.first,
                         },
+                    };
+                }
+                Instruction::Character {
+                    cost,
+                    character,
+                    next,
+                    fail,
+                } => {
+                    state.pay_for(*cost)?;
+                    at = if state.take_character(self.mode, *character) {
+                        next
+                    } else {
+                        fail
+                    };
+                }
+                Instruction::Literal {
+                    cost,
+                    string,
+                    next,
+                    fail,
+                } => {
+                    state.pay_for(*cost)?;
+                    at = if state.take_literal(self.mode, string) {
+                        next
+                    } else {
+                        fail
+                    };
+                }
+                Instruction::Grouping {
+                    cost,
+                    wanted,
+                    grouping,
+                    next,
+                    fail,
+                } => {
+                    state.pay_for(*cost)?;
+                    let groupings = &self.code.program().groupings;
+                    at = if state.take_grouping(self.mode, groupings, *grouping, *wanted)? {
+                        next
+                    } else {
+                        fail
+                    };
+                }
+                Instruction::LeftBracket { cost, next } => {
+                    state.pay_for(*cost)?;
+                    state.left_bracket(self.mode);
+                    at = next;
+                }
+                Instruction::RightBracket { cost, next } => {
+                    state.pay_for(*cost)?;
+                    state.right_bracket(self.mode);
+                    at = next;
+                }
+                Instruction::Boolean {
+                    cost,
+                    number,
+                    next,
+                    fail,
+                } => {
+                    state.pay_for(*cost)?;
+                    at = if state.test_boolean(*number) {
+                        next
+                    } else {
+                        fail
+                    };
+                }
+                Instruction::Next { cost, next, fail } => {
+                    state.pay_for(*cost)?;
+                    at = if state.take_next(self.mode) {
+                        next
+                    } else {
+                        fail
                     };
                 }
             }

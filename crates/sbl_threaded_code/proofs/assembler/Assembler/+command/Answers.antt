@@ -33,12 +33,12 @@ backwards-returns t c =
     let o = c.in_ok-next.field-0 in
     let body = c.in_ok-body.body in
     IfOk-weaker c.emit.result _ _
-      (λ made is. λ tables n.
-        let of = λ (p : programs.Program) (levels : ℕ) (d : Doing). backwards_of d in
-        made_of tables of (λ p levels. runs p levels (view_node tables c.args.inner.now)) body.value c.args.cost n e.next.value e.fail.value made.value (c.in_ok-body.ensures tables)
-          (emitted_at tables (λ p levels. pay_first (of p levels (alone (flow p levels tables body.value)))) c.args.cost o.next.value o.fail.value e.next.value e.fail.value made.value c.in_ok-next.ensures.0 c.in_ok-next.ensures.1
-            (λ p levels m ys s. ap (λ i. flow p levels tables i m ys s) is ∙ flow_backwards p levels tables m ys s c.args.cost body o.next o.fail) n))
-      c.emit.ensures
+    (λ made is. λ tables n.
+    let of = λ (p : programs.Program) (levels : ℕ) (d : Doing). backwards_of d in
+    made_of tables of (λ p levels. runs p levels (view_node tables c.args.inner.now)) body.value c.args.cost n e.next.value e.fail.value made.value (c.in_ok-body.ensures tables)
+    (emitted_at tables (λ p levels. pay_first (of p levels (alone (flow p levels tables body.value)))) c.args.cost o.next.value o.fail.value e.next.value e.fail.value made.value c.in_ok-next.ensures.0 c.in_ok-next.ensures.1
+    (λ p levels m ys s. ap (λ i. flow p levels tables i m ys s) is ∙ flow_backwards p levels tables m ys s c.args.cost body o.next o.fail) n))
+    c.emit.ensures
 
 pub seek_any-returns : goal.seek_any-returns
 seek_any-returns t c =
@@ -46,12 +46,12 @@ seek_any-returns t c =
     let o = c.in_ok-next.field-0 in
     let body = c.in_ok-body.body in
     IfOk-weaker c.emit.result _ _
-      (λ made is. λ tables n.
-        let of = λ (p : programs.Program) (levels : ℕ) (d : Doing). seek_of c.args.past d in
-        made_of tables of (λ p levels. runs p levels (view_node tables c.args.inner.now)) body.value c.args.cost n e.next.value e.fail.value made.value (c.in_ok-body.ensures tables)
-          (emitted_at tables (λ p levels. pay_first (of p levels (alone (flow p levels tables body.value)))) c.args.cost o.next.value o.fail.value e.next.value e.fail.value made.value c.in_ok-next.ensures.0 c.in_ok-next.ensures.1
-            (λ p levels m ys s. ap (λ i. flow p levels tables i m ys s) is ∙ flow_seek p levels tables m ys s c.args.cost c.args.past body o.next o.fail) n))
-      c.emit.ensures
+    (λ made is. λ tables n.
+    let of = λ (p : programs.Program) (levels : ℕ) (d : Doing). seek_of c.args.past d in
+    made_of tables of (λ p levels. runs p levels (view_node tables c.args.inner.now)) body.value c.args.cost n e.next.value e.fail.value made.value (c.in_ok-body.ensures tables)
+    (emitted_at tables (λ p levels. pay_first (of p levels (alone (flow p levels tables body.value)))) c.args.cost o.next.value o.fail.value e.next.value e.fail.value made.value c.in_ok-next.ensures.0 c.in_ok-next.ensures.1
+    (λ p levels m ys s. ap (λ i. flow p levels tables i m ys s) is ∙ flow_seek p levels tables m ys s c.args.cost c.args.past body o.next o.fail) n))
+    c.emit.ensures
 
 pub turns-returns : goal.turns-returns
 turns-returns t c =
@@ -59,12 +59,12 @@ turns-returns t c =
     let o = c.in_ok-next.field-0 in
     let body = c.in_ok-body.body in
     IfOk-weaker c.emit.result _ _
-      (λ made is. λ tables n.
-        let of = λ (p : programs.Program) (levels : ℕ) (d : Doing). loop_of (view_number c.args.count.now) d in
-        made_of tables of (λ p levels. runs p levels (view_node tables c.args.inner.now)) body.value c.args.cost n e.next.value e.fail.value made.value (c.in_ok-body.ensures tables)
-          (emitted_at tables (λ p levels. pay_first (of p levels (alone (flow p levels tables body.value)))) c.args.cost o.next.value o.fail.value e.next.value e.fail.value made.value c.in_ok-next.ensures.0 c.in_ok-next.ensures.1
-            (λ p levels m ys s. ap (λ i. flow p levels tables i m ys s) is ∙ flow_loop p levels tables m ys s c.args.cost c.in_ok-count.count body o.next o.fail ∙ ap (λ a. then_on (pays c.args.cost s) (λ u. after (pay_first (loop_of a (alone (flow p levels tables body.value))) m u) (flow p levels tables o.next.value m ys) (flow p levels tables o.fail.value m ys))) c.in_ok-count.ensures) n))
-      c.emit.ensures
+    (λ made is. λ tables n.
+    let of = λ (p : programs.Program) (levels : ℕ) (d : Doing). loop_of (view_number c.args.count.now) d in
+    made_of tables of (λ p levels. runs p levels (view_node tables c.args.inner.now)) body.value c.args.cost n e.next.value e.fail.value made.value (c.in_ok-body.ensures tables)
+    (emitted_at tables (λ p levels. pay_first (of p levels (alone (flow p levels tables body.value)))) c.args.cost o.next.value o.fail.value e.next.value e.fail.value made.value c.in_ok-next.ensures.0 c.in_ok-next.ensures.1
+    (λ p levels m ys s. ap (λ i. flow p levels tables i m ys s) is ∙ flow_loop p levels tables m ys s c.args.cost c.in_ok-count.count body o.next o.fail ∙ ap (λ a. then_on (pays c.args.cost s) (λ u. after (pay_first (loop_of a (alone (flow p levels tables body.value))) m u) (flow p levels tables o.next.value m ys) (flow p levels tables o.fail.value m ys))) c.in_ok-count.ensures) n))
+    c.emit.ensures
 
 pub at_least-returns : goal.at_least-returns
 at_least-returns t c =
@@ -72,12 +72,12 @@ at_least-returns t c =
     let o = c.in_ok-next.field-0 in
     let body = c.in_ok-body.body in
     IfOk-weaker c.emit.result _ _
-      (λ made is. λ tables n.
-        let of = λ (p : programs.Program) (levels : ℕ) (d : Doing). at_least_of (view_number c.args.count.now) d in
-        made_of tables of (λ p levels. runs p levels (view_node tables c.args.inner.now)) body.value c.args.cost n e.next.value e.fail.value made.value (c.in_ok-body.ensures tables)
-          (emitted_at tables (λ p levels. pay_first (of p levels (alone (flow p levels tables body.value)))) c.args.cost o.next.value o.fail.value e.next.value e.fail.value made.value c.in_ok-next.ensures.0 c.in_ok-next.ensures.1
-            (λ p levels m ys s. ap (λ i. flow p levels tables i m ys s) is ∙ flow_at_least p levels tables m ys s c.args.cost c.in_ok-count.count body o.next o.fail ∙ ap (λ a. then_on (pays c.args.cost s) (λ u. after (pay_first (at_least_of a (alone (flow p levels tables body.value))) m u) (flow p levels tables o.next.value m ys) (flow p levels tables o.fail.value m ys))) c.in_ok-count.ensures) n))
-      c.emit.ensures
+    (λ made is. λ tables n.
+    let of = λ (p : programs.Program) (levels : ℕ) (d : Doing). at_least_of (view_number c.args.count.now) d in
+    made_of tables of (λ p levels. runs p levels (view_node tables c.args.inner.now)) body.value c.args.cost n e.next.value e.fail.value made.value (c.in_ok-body.ensures tables)
+    (emitted_at tables (λ p levels. pay_first (of p levels (alone (flow p levels tables body.value)))) c.args.cost o.next.value o.fail.value e.next.value e.fail.value made.value c.in_ok-next.ensures.0 c.in_ok-next.ensures.1
+    (λ p levels m ys s. ap (λ i. flow p levels tables i m ys s) is ∙ flow_at_least p levels tables m ys s c.args.cost c.in_ok-count.count body o.next o.fail ∙ ap (λ a. then_on (pays c.args.cost s) (λ u. after (pay_first (at_least_of a (alone (flow p levels tables body.value))) m u) (flow p levels tables o.next.value m ys) (flow p levels tables o.fail.value m ys))) c.in_ok-count.ensures) n))
+    c.emit.ensures
 
 pub set_limit-returns : goal.set_limit-returns
 set_limit-returns t c =
@@ -85,12 +85,12 @@ set_limit-returns t c =
     let o = c.in_ok-next.field-0 in
     let body = c.in_ok-first.first in
     IfOk-weaker c.emit.result _ _
-      (λ made is. λ tables n.
-        let of = λ (p : programs.Program) (levels : ℕ) (d : Doing). limited_of d (alone (flow p levels tables c.args.second.value)) in
-        made_of tables of (λ p levels. runs p levels (view_node tables c.args.first.now)) body.value c.args.cost n e.next.value e.fail.value made.value (c.in_ok-first.ensures tables)
-          (emitted_at tables (λ p levels. pay_first (of p levels (alone (flow p levels tables body.value)))) c.args.cost o.next.value o.fail.value e.next.value e.fail.value made.value c.in_ok-next.ensures.0 c.in_ok-next.ensures.1
-            (λ p levels m ys s. ap (λ i. flow p levels tables i m ys s) is ∙ flow_set_limit p levels tables m ys s c.args.cost body c.args.second o.next o.fail) n))
-      c.emit.ensures
+    (λ made is. λ tables n.
+    let of = λ (p : programs.Program) (levels : ℕ) (d : Doing). limited_of d (alone (flow p levels tables c.args.second.value)) in
+    made_of tables of (λ p levels. runs p levels (view_node tables c.args.first.now)) body.value c.args.cost n e.next.value e.fail.value made.value (c.in_ok-first.ensures tables)
+    (emitted_at tables (λ p levels. pay_first (of p levels (alone (flow p levels tables body.value)))) c.args.cost o.next.value o.fail.value e.next.value e.fail.value made.value c.in_ok-next.ensures.0 c.in_ok-next.ensures.1
+    (λ p levels m ys s. ap (λ i. flow p levels tables i m ys s) is ∙ flow_set_limit p levels tables m ys s c.args.cost body c.args.second o.next o.fail) n))
+    c.emit.ensures
 
 pub repeat-returns : goal.repeat-returns
 repeat-returns t c =
@@ -98,22 +98,22 @@ repeat-returns t c =
     let o = c.in_ok-next.next in
     let body = c.in_ok-body.body in
     IfOk-weaker c.emit.result _ _
-      (λ made is. λ tables n.
-        let of = λ (p : programs.Program) (levels : ℕ) (d : Doing). turns_of d in
-        made_of tables of (λ p levels. runs p levels (view_node tables c.args.inner.now)) body.value c.args.cost n e.next.value e.fail.value made.value (c.in_ok-body.ensures tables)
-          (emitted_at tables (λ p levels. pay_first (turns_of (alone (flow p levels tables body.value)))) c.args.cost o.value e.fail.value e.next.value e.fail.value made.value c.in_ok-next.ensures.cases refl
-            (λ p levels m ys s.
-              let w = λ (u : State). pay_first (turns_of (alone (flow p levels tables body.value))) m u in
-              ap (λ i. flow p levels tables i m ys s) is ∙ flow_repeat p levels tables m ys s c.args.cost body o
-              ∙ after_same (pays c.args.cost s) (λ u. after (w u) (flow p levels tables o.value m ys) (Signals false)) (Signals false) (λ u. after (w u) (flow p levels tables o.value m ys) (flow p levels tables e.fail.value m ys)) (Signals false)
-                  (λ u. repeating (alone (flow p levels tables body.value)) m u (flow p levels tables o.value m ys) (Signals false) (flow p levels tables e.fail.value m ys)) (λ u. refl)) n))
-      c.emit.ensures
+    (λ made is. λ tables n.
+    let of = λ (p : programs.Program) (levels : ℕ) (d : Doing). turns_of d in
+    made_of tables of (λ p levels. runs p levels (view_node tables c.args.inner.now)) body.value c.args.cost n e.next.value e.fail.value made.value (c.in_ok-body.ensures tables)
+    (emitted_at tables (λ p levels. pay_first (turns_of (alone (flow p levels tables body.value)))) c.args.cost o.value e.fail.value e.next.value e.fail.value made.value c.in_ok-next.ensures.cases refl
+    (λ p levels m ys s.
+    let w = λ (u : State). pay_first (turns_of (alone (flow p levels tables body.value))) m u in
+    ap (λ i. flow p levels tables i m ys s) is ∙ flow_repeat p levels tables m ys s c.args.cost body o
+    ∙ after_same (pays c.args.cost s) (λ u. after (w u) (flow p levels tables o.value m ys) (Signals false)) (Signals false) (λ u. after (w u) (flow p levels tables o.value m ys) (flow p levels tables e.fail.value m ys)) (Signals false)
+    (λ u. repeating (alone (flow p levels tables body.value)) m u (flow p levels tables o.value m ys) (Signals false) (flow p levels tables e.fail.value m ys)) (λ u. refl)) n))
+    c.emit.ensures
 
 pub body-returns : goal.body-returns
 body-returns t c =
     IfOk-weaker c.command.result _ _
-      (λ made h. λ tables. by_itself tables (λ p levels. runs p levels (view_node tables c.args.inner.now)) c.in_ok-ends.ends.next.value c.in_ok-ends.ends.fail.value made.value c.in_ok-ends.ensures.0 c.in_ok-ends.ensures.1 (h tables))
-      c.command.ensures
+    (λ made h. λ tables. by_itself tables (λ p levels. runs p levels (view_node tables c.args.inner.now)) c.in_ok-ends.ends.next.value c.in_ok-ends.ends.fail.value made.value c.in_ok-ends.ensures.0 c.in_ok-ends.ensures.1 (h tables))
+    c.command.ensures
 
 pub groups-returns : goal.groups-returns
 groups-returns t c =
@@ -123,22 +123,22 @@ pub among-returns : goal.among-returns
 among-returns t c =
     let e = c.args.exits.now in
     IfOk-weaker c.sequence.result _ _
-      (λ made h. λ tables chosen choosing.
-        let run = λ (p : programs.Program) (levels : ℕ). all_run p levels (view_nodes tables c.args.before.now) in
-        let q = subst (λ x. Performs tables run c.in_ok-more.field-0 c.args.slot c.args.choose.value x made.value) c.in_ok-clone.ensures.cases (h tables) in
-        first_step tables (λ p levels m s. after (run p levels m s) (chosen p levels m) (Signals false)) c.args.cost c.in_ok-more.field-0 c.args.slot e.next.value e.fail.value made.value c.in_ok-more.ensures
-          (in_turn tables run chosen c.in_ok-more.field-0 c.args.slot e.next.value e.fail.value c.args.choose.value made.value q choosing))
-      c.sequence.ensures
+    (λ made h. λ tables chosen choosing.
+    let run = λ (p : programs.Program) (levels : ℕ). all_run p levels (view_nodes tables c.args.before.now) in
+    let q = subst (λ x. Performs tables run c.in_ok-more.field-0 c.args.slot c.args.choose.value x made.value) c.in_ok-clone.ensures.cases (h tables) in
+    first_step tables (λ p levels m s. after (run p levels m s) (chosen p levels m) (Signals false)) c.args.cost c.in_ok-more.field-0 c.args.slot e.next.value e.fail.value made.value c.in_ok-more.ensures
+    (in_turn tables run chosen c.in_ok-more.field-0 c.args.slot e.next.value e.fail.value c.args.choose.value made.value q choosing))
+    c.sequence.ensures
 
 pub fail-returns : goal.fail-returns
 fail-returns t c =
     let e = c.args.exits.now in
     IfOk-weaker c.command.result _ _
-      (λ made h. λ tables.
-        let run = λ (p : programs.Program) (levels : ℕ). runs p levels (view_node tables c.args.inner.now) in
-        first_step tables (λ p levels. fail_of (run p levels)) c.args.cost c.in_ok-more.field-0 c.args.slot e.next.value e.fail.value made.value c.in_ok-more.ensures
-          (failing tables run c.in_ok-more.field-0 c.args.slot e.next.value e.fail.value c.in_ok-clone.field-0.value c.in_ok-clone-2.field-0.value made.value c.in_ok-clone.ensures.cases c.in_ok-clone-2.ensures.cases (h tables)))
-      c.command.ensures
+    (λ made h. λ tables.
+    let run = λ (p : programs.Program) (levels : ℕ). runs p levels (view_node tables c.args.inner.now) in
+    first_step tables (λ p levels. fail_of (run p levels)) c.args.cost c.in_ok-more.field-0 c.args.slot e.next.value e.fail.value made.value c.in_ok-more.ensures
+    (failing tables run c.in_ok-more.field-0 c.args.slot e.next.value e.fail.value c.in_ok-clone.field-0.value c.in_ok-clone-2.field-0.value made.value c.in_ok-clone.ensures.cases c.in_ok-clone-2.ensures.cases (h tables)))
+    c.command.ensures
 
 pub not-returns : goal.not-returns
 not-returns t c =
@@ -146,14 +146,14 @@ not-returns t c =
     let place = c.in_ok-place.place in
     let x = place.exits in
     IfOk-weaker c.saved.result _ _
-      (λ made h. λ tables.
-        let run = λ (p : programs.Program) (levels : ℕ). runs p levels (view_node tables c.args.inner.now) in
-        one_step tables (λ p levels. not_of (run p levels)) c.args.cost c.args.slot e.next.value e.fail.value made.value
-          (h tables (λ p levels. not_of (run p levels)) 1 c.args.slot c.in_ok-place.ensures
-            (λ entry saves.
-              saving tables run (λ m from. Signals false) put_back place.cost place.slot (place.slot + 1) x.next.value x.fail.value c.in_ok-clone.field-0.value c.in_ok-restore.field-0.value c.in_ok-entry.entry.value entry refl c.in_ok-place.ensures.0 saves (c.in_ok-entry.ensures tables)
-                (leaves_fail tables place.slot x.next.value x.fail.value c.in_ok-clone.field-0.value c.in_ok-clone.ensures.cases) (leaves_back tables place.slot x.next.value x.fail.value c.in_ok-restore.field-0.value c.in_ok-restore.ensures))))
-      c.saved.ensures
+    (λ made h. λ tables.
+    let run = λ (p : programs.Program) (levels : ℕ). runs p levels (view_node tables c.args.inner.now) in
+    one_step tables (λ p levels. not_of (run p levels)) c.args.cost c.args.slot e.next.value e.fail.value made.value
+    (h tables (λ p levels. not_of (run p levels)) 1 c.args.slot c.in_ok-place.ensures
+    (λ entry saves.
+    saving tables run (λ m from. Signals false) put_back place.cost place.slot (place.slot + 1) x.next.value x.fail.value c.in_ok-clone.field-0.value c.in_ok-restore.field-0.value c.in_ok-entry.entry.value entry refl c.in_ok-place.ensures.0 saves (c.in_ok-entry.ensures tables)
+    (leaves_fail tables place.slot x.next.value x.fail.value c.in_ok-clone.field-0.value c.in_ok-clone.ensures.cases) (leaves_back tables place.slot x.next.value x.fail.value c.in_ok-restore.field-0.value c.in_ok-restore.ensures))))
+    c.saved.ensures
 
 pub test-returns : goal.test-returns
 test-returns t c =
@@ -161,14 +161,14 @@ test-returns t c =
     let place = c.in_ok-place.place in
     let x = place.exits in
     IfOk-weaker c.saved.result _ _
-      (λ made h. λ tables.
-        let run = λ (p : programs.Program) (levels : ℕ). runs p levels (view_node tables c.args.inner.now) in
-        one_step tables (λ p levels. test_of (run p levels)) c.args.cost c.args.slot e.next.value e.fail.value made.value
-          (h tables (λ p levels. test_of (run p levels)) 1 c.args.slot c.in_ok-place.ensures
-            (λ entry saves.
-              saving tables run put_back (λ m from. Signals false) place.cost place.slot (place.slot + 1) x.next.value x.fail.value c.in_ok-restore.field-0.value c.in_ok-clone.field-0.value c.in_ok-entry.entry.value entry refl c.in_ok-place.ensures.0 saves (c.in_ok-entry.ensures tables)
-                (leaves_back tables place.slot x.next.value x.fail.value c.in_ok-restore.field-0.value c.in_ok-restore.ensures) (leaves_fail tables place.slot x.next.value x.fail.value c.in_ok-clone.field-0.value c.in_ok-clone.ensures.cases))))
-      c.saved.ensures
+    (λ made h. λ tables.
+    let run = λ (p : programs.Program) (levels : ℕ). runs p levels (view_node tables c.args.inner.now) in
+    one_step tables (λ p levels. test_of (run p levels)) c.args.cost c.args.slot e.next.value e.fail.value made.value
+    (h tables (λ p levels. test_of (run p levels)) 1 c.args.slot c.in_ok-place.ensures
+    (λ entry saves.
+    saving tables run put_back (λ m from. Signals false) place.cost place.slot (place.slot + 1) x.next.value x.fail.value c.in_ok-restore.field-0.value c.in_ok-clone.field-0.value c.in_ok-entry.entry.value entry refl c.in_ok-place.ensures.0 saves (c.in_ok-entry.ensures tables)
+    (leaves_back tables place.slot x.next.value x.fail.value c.in_ok-restore.field-0.value c.in_ok-restore.ensures) (leaves_fail tables place.slot x.next.value x.fail.value c.in_ok-clone.field-0.value c.in_ok-clone.ensures.cases))))
+    c.saved.ensures
 
 pub attempt-returns : goal.attempt-returns
 attempt-returns t c =
@@ -176,14 +176,14 @@ attempt-returns t c =
     let place = c.in_ok-place.place in
     let x = place.exits in
     IfOk-weaker c.saved.result _ _
-      (λ made h. λ tables.
-        let run = λ (p : programs.Program) (levels : ℕ). runs p levels (view_node tables c.args.inner.now) in
-        one_step tables (λ p levels. try_of (run p levels)) c.args.cost c.args.slot e.next.value e.fail.value made.value
-          (h tables (λ p levels. try_of (run p levels)) 1 c.args.slot c.in_ok-place.ensures
-            (λ entry saves.
-              saving tables run (λ m from. Signals true) put_back place.cost place.slot (place.slot + 1) x.next.value x.fail.value c.in_ok-clone.field-0.value c.in_ok-restore.field-0.value c.in_ok-entry.entry.value entry refl c.in_ok-place.ensures.0 saves (c.in_ok-entry.ensures tables)
-                (leaves_next tables place.slot x.next.value x.fail.value c.in_ok-clone.field-0.value c.in_ok-clone.ensures.cases) (leaves_back tables place.slot x.next.value x.fail.value c.in_ok-restore.field-0.value c.in_ok-restore.ensures))))
-      c.saved.ensures
+    (λ made h. λ tables.
+    let run = λ (p : programs.Program) (levels : ℕ). runs p levels (view_node tables c.args.inner.now) in
+    one_step tables (λ p levels. try_of (run p levels)) c.args.cost c.args.slot e.next.value e.fail.value made.value
+    (h tables (λ p levels. try_of (run p levels)) 1 c.args.slot c.in_ok-place.ensures
+    (λ entry saves.
+    saving tables run (λ m from. Signals true) put_back place.cost place.slot (place.slot + 1) x.next.value x.fail.value c.in_ok-clone.field-0.value c.in_ok-restore.field-0.value c.in_ok-entry.entry.value entry refl c.in_ok-place.ensures.0 saves (c.in_ok-entry.ensures tables)
+    (leaves_next tables place.slot x.next.value x.fail.value c.in_ok-clone.field-0.value c.in_ok-clone.ensures.cases) (leaves_back tables place.slot x.next.value x.fail.value c.in_ok-restore.field-0.value c.in_ok-restore.ensures))))
+    c.saved.ensures
 
 pub do_always-returns : goal.do_always-returns
 do_always-returns t c =
@@ -191,30 +191,30 @@ do_always-returns t c =
     let place = c.in_ok-place.place in
     let x = place.exits in
     IfOk-weaker c.saved.result _ _
-      (λ made h. λ tables.
-        let run = λ (p : programs.Program) (levels : ℕ). runs p levels (view_node tables c.args.inner.now) in
-        one_step tables (λ p levels. do_of (run p levels)) c.args.cost c.args.slot e.next.value e.fail.value made.value
-          (h tables (λ p levels. do_of (run p levels)) 1 c.args.slot c.in_ok-place.ensures
-            (λ entry saves.
-              saving tables run put_back put_back place.cost place.slot (place.slot + 1) x.next.value x.fail.value c.in_ok-restore.field-0.value c.in_ok-restore-2.field-0.value c.in_ok-entry.entry.value entry refl c.in_ok-place.ensures.0 saves (c.in_ok-entry.ensures tables)
-                (leaves_back tables place.slot x.next.value x.fail.value c.in_ok-restore.field-0.value c.in_ok-restore.ensures) (leaves_back tables place.slot x.next.value x.fail.value c.in_ok-restore-2.field-0.value c.in_ok-restore-2.ensures))))
-      c.saved.ensures
+    (λ made h. λ tables.
+    let run = λ (p : programs.Program) (levels : ℕ). runs p levels (view_node tables c.args.inner.now) in
+    one_step tables (λ p levels. do_of (run p levels)) c.args.cost c.args.slot e.next.value e.fail.value made.value
+    (h tables (λ p levels. do_of (run p levels)) 1 c.args.slot c.in_ok-place.ensures
+    (λ entry saves.
+    saving tables run put_back put_back place.cost place.slot (place.slot + 1) x.next.value x.fail.value c.in_ok-restore.field-0.value c.in_ok-restore-2.field-0.value c.in_ok-entry.entry.value entry refl c.in_ok-place.ensures.0 saves (c.in_ok-entry.ensures tables)
+    (leaves_back tables place.slot x.next.value x.fail.value c.in_ok-restore.field-0.value c.in_ok-restore.ensures) (leaves_back tables place.slot x.next.value x.fail.value c.in_ok-restore-2.field-0.value c.in_ok-restore-2.ensures))))
+    c.saved.ensures
 
 pub joined-returns-in-Or : goal.joined-returns-in-Or
 joined-returns-in-Or t c =
     λ tables exits others small row.
-      let o = view_next_command tables c.args.other.now in
-      rest_or tables c.args.slot c.saturating_add.result exits c.args.rest.now (record { next = c.in_ok-clone-in-Or.field-0; fail = c.in_ok-back.back }) o others c.in_ok-entry.entry.value c.in_ok-back.back.value (omega (arith, c.saturating_add.ensures, small)) (view_joiner tables c.args.other.now ∙ c.in-Or.is)
-        (subst (λ n. Performs tables (λ p levels. runs p levels n) 0 c.saturating_add.result c.args.rest.now.next.value c.args.rest.now.fail.value c.in_ok-entry.entry.value) (sym (view_command tables c.args.other.now)) (c.in_ok-entry.ensures tables))
-        c.in_ok-back.ensures c.in_ok-clone-in-Or.ensures.cases refl row
+    let o = view_next_command tables c.args.other.now in
+    rest_or tables c.args.slot c.saturating_add.result exits c.args.rest.now (record { next = c.in_ok-clone-in-Or.field-0; fail = c.in_ok-back.back }) o others c.in_ok-entry.entry.value c.in_ok-back.back.value (omega (arith, c.saturating_add.ensures, small)) (view_joiner tables c.args.other.now ∙ c.in-Or.is)
+    (subst (λ n. Performs tables (λ p levels. runs p levels n) 0 c.saturating_add.result c.args.rest.now.next.value c.args.rest.now.fail.value c.in_ok-entry.entry.value) (sym (view_command tables c.args.other.now)) (c.in_ok-entry.ensures tables))
+    c.in_ok-back.ensures c.in_ok-clone-in-Or.ensures.cases refl row
 
 pub joined-returns : goal.joined-returns
 joined-returns t c =
     λ tables exits others small row.
-      let o = view_next_command tables c.args.other.now in
-      rest_and tables c.args.slot c.saturating_add.result exits c.args.rest.now (record { next = c.in_ok-back.back; fail = c.in_ok-clone-in-And.field-0 }) o others c.in_ok-entry.entry.value c.in_ok-back.back.value (omega (arith, c.saturating_add.ensures, small)) (view_joiner tables c.args.other.now ∙ c.in-And.is)
-        (subst (λ n. Performs tables (λ p levels. runs p levels n) 0 c.saturating_add.result c.args.rest.now.next.value c.args.rest.now.fail.value c.in_ok-entry.entry.value) (sym (view_command tables c.args.other.now)) (c.in_ok-entry.ensures tables))
-        c.in_ok-back.ensures refl c.in_ok-clone-in-And.ensures.cases row
+    let o = view_next_command tables c.args.other.now in
+    rest_and tables c.args.slot c.saturating_add.result exits c.args.rest.now (record { next = c.in_ok-back.back; fail = c.in_ok-clone-in-And.field-0 }) o others c.in_ok-entry.entry.value c.in_ok-back.back.value (omega (arith, c.saturating_add.ensures, small)) (view_joiner tables c.args.other.now ∙ c.in-And.is)
+    (subst (λ n. Performs tables (λ p levels. runs p levels n) 0 c.saturating_add.result c.args.rest.now.next.value c.args.rest.now.fail.value c.in_ok-entry.entry.value) (sym (view_command tables c.args.other.now)) (c.in_ok-entry.ensures tables))
+    c.in_ok-back.ensures refl c.in_ok-clone-in-And.ensures.cases row
 
 pub rest-loop-i-preserved : goal.rest-loop-i-preserved
 rest-loop-i-preserved t c =
@@ -224,12 +224,13 @@ rest-loop-i-preserved t c =
     let x = c.index-others-i.result in
     let l : i < length os = omega (arith, inv.0, c.loop-i-test.true) in
     let back : i + 1 ≡ c.loop-i.i = omega (arith, c.loop-i-test.true) in
-    let at : x ≡ get_or os i x = search rules in
-    (omega (arith, inv.0),
-     λ tables small.
-       subst (λ xs. IsRest tables c.args.slot xs c.args.exits.now c.in_ok-rest-2.rest)
-         (ap (λ k. view_next_command tables x ∷ map (view_next_command tables) (drop k os)) (sym back) ∙ sym (part_is (view_next_command tables) os i x l at))
-         (c.in_ok-rest-2.ensures tables c.args.exits.now (map (view_next_command tables) (drop c.loop-i.i os)) small (inv.1 tables small)))
+    let at : x ≡ get_or os i x = search rules in (
+      omega (arith, inv.0),
+      λ tables small.
+          subst (λ xs. IsRest tables c.args.slot xs c.args.exits.now c.in_ok-rest-2.rest)
+          (ap (λ k. view_next_command tables x ∷ map (view_next_command tables) (drop k os)) (sym back) ∙ sym (part_is (view_next_command tables) os i x l at))
+          (c.in_ok-rest-2.ensures tables c.args.exits.now (map (view_next_command tables) (drop c.loop-i.i os)) small (inv.1 tables small)),
+    )
 
 pub rest-returns : goal.rest-returns
 rest-returns t c =
@@ -245,9 +246,9 @@ bodies-loop-body-preserved t c =
     let l : i < length nodes = search rules in
     let at : x ≡ get_or nodes i x = search rules in
     λ tables.
-      let all = performed_more tables (take i nodes) c.args.slot c.args.exits.now c.loop-body.entries.items x _ (c.loop-body.invariant tables) (c.in_ok-first.ensures tables) in
-      subst (λ xs. ArePerformed tables xs c.args.slot c.args.exits.now c.push.new.self.items) (ap (λ y. take i nodes ++ (y ∷ [])) at ∙ sym (take_more nodes i x l))
-        (subst (λ gs. ArePerformed tables (take i nodes ++ (x ∷ [])) c.args.slot c.args.exits.now gs) (sym c.in_ok-push.ensures.items) all)
+    let all = performed_more tables (take i nodes) c.args.slot c.args.exits.now c.loop-body.entries.items x _ (c.loop-body.invariant tables) (c.in_ok-first.ensures tables) in
+    subst (λ xs. ArePerformed tables xs c.args.slot c.args.exits.now c.push.new.self.items) (ap (λ y. take i nodes ++ (y ∷ [])) at ∙ sym (take_more nodes i x l))
+    (subst (λ gs. ArePerformed tables (take i nodes ++ (x ∷ [])) c.args.slot c.args.exits.now gs) (sym c.in_ok-push.ensures.items) all)
 
 pub sequence-returns-then-is_empty : goal.sequence-returns-then-is_empty
 sequence-returns-then-is_empty t c =
@@ -255,10 +256,10 @@ sequence-returns-then-is_empty t c =
     let zero : length c.args.commands.now ≡ 0 = grind (arith, nat_tests, c.if-is_empty.ensures) in
     let none = nil_from_length c.args.commands.now zero in
     IfOk-weaker c.pay.result _ _
-      (λ made h. λ tables.
-        same_meaning tables (λ p levels m s. Signals true s) (λ p levels. all_run p levels (view_nodes tables c.args.commands.now)) c.args.cost c.args.slot e.next.value e.fail.value made.value
-          (λ p levels m s. ap (λ xs. all_run p levels (view_nodes tables xs) m s) (sym none)) (h tables c.args.slot))
-      c.pay.ensures
+    (λ made h. λ tables.
+    same_meaning tables (λ p levels m s. Signals true s) (λ p levels. all_run p levels (view_nodes tables c.args.commands.now)) c.args.cost c.args.slot e.next.value e.fail.value made.value
+    (λ p levels m s. ap (λ xs. all_run p levels (view_nodes tables xs) m s) (sym none)) (h tables c.args.slot))
+    c.pay.ensures
 
 pub sequence-loop-i-preserved : goal.sequence-loop-i-preserved
 sequence-loop-i-preserved t c =
@@ -269,15 +270,18 @@ sequence-loop-i-preserved t c =
     let x = c.index-commands-i.result in
     let l : i < length cs = omega (arith, inv.1, c.loop-i-test.true) in
     let back : i + 1 ≡ c.loop-i.i = omega (arith, c.loop-i-test.true) in
-    let at : x ≡ get_or cs i x = search rules in
-    (omega (arith, c.loop-i-test.true), omega (arith, inv.1), inv.2,
-     λ tables.
-       let run = λ (p : programs.Program) (levels : ℕ). runs p levels (view_node tables x) in
-       let rest = λ (k : ℕ) (p : programs.Program) (levels : ℕ). all_run p levels (view_nodes tables (drop k cs)) in
-       let q = subst (λ y. Performs tables run 0 c.args.slot c.loop-i.now.next.value y c.in_ok-now-2.field-0.value) inv.2 (c.in_ok-now-2.ensures tables) in
-       same_meaning tables (λ p levels m s. after (run p levels m s) (rest c.loop-i.i p levels m) (Signals false)) (rest i) 0 c.args.slot e.next.value e.fail.value c.in_ok-now-2.field-0.value
-         (λ p levels m s. ap (λ k. after (run p levels m s) (rest k p levels m) (Signals false)) (sym back) ∙ sym (turn_is tables p levels cs i x m s l at))
-         (in_turn tables run (rest c.loop-i.i) 0 c.args.slot e.next.value e.fail.value c.loop-i.now.next.value c.in_ok-now-2.field-0.value q (inv.3 tables)))
+    let at : x ≡ get_or cs i x = search rules in (
+      omega (arith, c.loop-i-test.true),
+      omega (arith, inv.1),
+      inv.2,
+      λ tables.
+          let run = λ (p : programs.Program) (levels : ℕ). runs p levels (view_node tables x) in
+          let rest = λ (k : ℕ) (p : programs.Program) (levels : ℕ). all_run p levels (view_nodes tables (drop k cs)) in
+          let q = subst (λ y. Performs tables run 0 c.args.slot c.loop-i.now.next.value y c.in_ok-now-2.field-0.value) inv.2 (c.in_ok-now-2.ensures tables) in
+          same_meaning tables (λ p levels m s. after (run p levels m s) (rest c.loop-i.i p levels m) (Signals false)) (rest i) 0 c.args.slot e.next.value e.fail.value c.in_ok-now-2.field-0.value
+          (λ p levels m s. ap (λ k. after (run p levels m s) (rest k p levels m) (Signals false)) (sym back) ∙ sym (turn_is tables p levels cs i x m s l at))
+          (in_turn tables run (rest c.loop-i.i) 0 c.args.slot e.next.value e.fail.value c.loop-i.now.next.value c.in_ok-now-2.field-0.value q (inv.3 tables)),
+    )
 
 pub sequence-returns : goal.sequence-returns
 sequence-returns t c =
@@ -289,14 +293,14 @@ sequence-returns t c =
     let l : 0 < length cs = omega (arith, inv.0, inv.1) in
     let at : x ≡ get_or cs 0 x = search rules in
     IfOk-weaker c.command-2.result _ _
-      (λ made h. λ tables.
-        let run = λ (p : programs.Program) (levels : ℕ). runs p levels (view_node tables x) in
-        let rest = λ (k : ℕ) (p : programs.Program) (levels : ℕ). all_run p levels (view_nodes tables (drop k cs)) in
-        let q = subst (λ y. Performs tables run c.args.cost c.args.slot c.loop-i.now.next.value y made.value) inv.2 (h tables) in
-        same_meaning tables (λ p levels m s. after (run p levels m s) (rest c.loop-i.i p levels m) (Signals false)) (λ p levels. all_run p levels (view_nodes tables cs)) c.args.cost c.args.slot e.next.value e.fail.value made.value
-          (λ p levels m s. ap (λ k. after (run p levels m s) (rest k p levels m) (Signals false)) one ∙ sym (turn_is tables p levels cs 0 x m s l at))
-          (in_turn tables run (rest c.loop-i.i) c.args.cost c.args.slot e.next.value e.fail.value c.loop-i.now.next.value made.value q (inv.3 tables)))
-      c.command-2.ensures
+    (λ made h. λ tables.
+    let run = λ (p : programs.Program) (levels : ℕ). runs p levels (view_node tables x) in
+    let rest = λ (k : ℕ) (p : programs.Program) (levels : ℕ). all_run p levels (view_nodes tables (drop k cs)) in
+    let q = subst (λ y. Performs tables run c.args.cost c.args.slot c.loop-i.now.next.value y made.value) inv.2 (h tables) in
+    same_meaning tables (λ p levels m s. after (run p levels m s) (rest c.loop-i.i p levels m) (Signals false)) (λ p levels. all_run p levels (view_nodes tables cs)) c.args.cost c.args.slot e.next.value e.fail.value made.value
+    (λ p levels m s. ap (λ k. after (run p levels m s) (rest k p levels m) (Signals false)) one ∙ sym (turn_is tables p levels cs 0 x m s l at))
+    (in_turn tables run (rest c.loop-i.i) c.args.cost c.args.slot e.next.value e.fail.value c.loop-i.now.next.value made.value q (inv.3 tables)))
+    c.command-2.ensures
 
 pub seek-returns-in_ok-more-in-Grouping : goal.seek-returns-in_ok-more-in-Grouping
 seek-returns-in_ok-more-in-Grouping t c =
@@ -304,12 +308,12 @@ seek-returns-in_ok-more-in-Grouping t c =
     let n = c.in-Grouping.number in
     let more = c.in_ok-more-in-Grouping in
     IfOk-weaker c.seek_grouping.result _ _
-      (λ made h. λ tables k.
-        let test = λ (p : programs.Program). pay_first (test_grouping true (class_at p.groupings n) n) in
-        same_meaning tables (λ p levels. pay_first (seek_of c.args.past (test p))) (λ p levels. pay_first (seek_of c.args.past (runs p levels (view_node tables c.args.inner.now)))) c.args.cost k e.next.value e.fail.value made.value
-          (λ p levels m s. ap (λ d. pay_first (seek_of c.args.past d) m s) (sym (ap (λ y. runs p levels (view_node tables y)) c.in-Act.is ∙ ap (λ y. runs p levels (view_node tables (Act y))) c.in-Grouping.is ∙ grouping_does tables p levels n)))
-          (first_step tables (λ p levels. seek_of c.args.past (test p)) c.args.cost more.field-0 k e.next.value e.fail.value made.value more.ensures (h tables k)))
-      c.seek_grouping.ensures
+    (λ made h. λ tables k.
+    let test = λ (p : programs.Program). pay_first (test_grouping true (class_at p.groupings n) n) in
+    same_meaning tables (λ p levels. pay_first (seek_of c.args.past (test p))) (λ p levels. pay_first (seek_of c.args.past (runs p levels (view_node tables c.args.inner.now)))) c.args.cost k e.next.value e.fail.value made.value
+    (λ p levels m s. ap (λ d. pay_first (seek_of c.args.past d) m s) (sym (ap (λ y. runs p levels (view_node tables y)) c.in-Act.is ∙ ap (λ y. runs p levels (view_node tables (Act y))) c.in-Grouping.is ∙ grouping_does tables p levels n)))
+    (first_step tables (λ p levels. seek_of c.args.past (test p)) c.args.cost more.field-0 k e.next.value e.fail.value made.value more.ensures (h tables k)))
+    c.seek_grouping.ensures
 
 pub seek-returns-in_ok-more-in-NonGrouping : goal.seek-returns-in_ok-more-in-NonGrouping
 seek-returns-in_ok-more-in-NonGrouping t c =
@@ -317,148 +321,148 @@ seek-returns-in_ok-more-in-NonGrouping t c =
     let n = c.in-NonGrouping.number in
     let more = c.in_ok-more-in-NonGrouping in
     IfOk-weaker c.seek_grouping-in-NonGrouping.result _ _
-      (λ made h. λ tables k.
-        let test = λ (p : programs.Program). pay_first (test_grouping false (class_at p.groupings n) n) in
-        same_meaning tables (λ p levels. pay_first (seek_of c.args.past (test p))) (λ p levels. pay_first (seek_of c.args.past (runs p levels (view_node tables c.args.inner.now)))) c.args.cost k e.next.value e.fail.value made.value
-          (λ p levels m s. ap (λ d. pay_first (seek_of c.args.past d) m s) (sym (ap (λ y. runs p levels (view_node tables y)) c.in-Act.is ∙ ap (λ y. runs p levels (view_node tables (Act y))) c.in-NonGrouping.is ∙ non_does tables p levels n)))
-          (first_step tables (λ p levels. seek_of c.args.past (test p)) c.args.cost more.field-0 k e.next.value e.fail.value made.value more.ensures (h tables k)))
-      c.seek_grouping-in-NonGrouping.ensures
+    (λ made h. λ tables k.
+    let test = λ (p : programs.Program). pay_first (test_grouping false (class_at p.groupings n) n) in
+    same_meaning tables (λ p levels. pay_first (seek_of c.args.past (test p))) (λ p levels. pay_first (seek_of c.args.past (runs p levels (view_node tables c.args.inner.now)))) c.args.cost k e.next.value e.fail.value made.value
+    (λ p levels m s. ap (λ d. pay_first (seek_of c.args.past d) m s) (sym (ap (λ y. runs p levels (view_node tables y)) c.in-Act.is ∙ ap (λ y. runs p levels (view_node tables (Act y))) c.in-NonGrouping.is ∙ non_does tables p levels n)))
+    (first_step tables (λ p levels. seek_of c.args.past (test p)) c.args.cost more.field-0 k e.next.value e.fail.value made.value more.ensures (h tables k)))
+    c.seek_grouping-in-NonGrouping.ensures
 
 pub command-returns-in_ok-more-in-Act : goal.command-returns-in_ok-more-in-Act
 command-returns-in_ok-more-in-Act t c =
     let e = c.args.exits.now in
     let node = c.args.node.now in
     IfOk-weaker c.act.result _ _
-      (λ made h. λ tables. arm tables (λ p levels. acts p.groupings (view_action c.in-Act.action)) node (Act c.in-Act.action) c.args.cost c.args.slot e.next.value e.fail.value made.value c.in-Act.is (λ p levels m s. act_does tables p levels c.in-Act.action m s) (first_step tables (λ p levels. acts p.groupings (view_action c.in-Act.action)) c.args.cost c.in_ok-more-in-Act.field-0 c.args.slot e.next.value e.fail.value made.value c.in_ok-more-in-Act.ensures (h tables c.args.slot)))
-      c.act.ensures
+    (λ made h. λ tables. arm tables (λ p levels. acts p.groupings (view_action c.in-Act.action)) node (Act c.in-Act.action) c.args.cost c.args.slot e.next.value e.fail.value made.value c.in-Act.is (λ p levels m s. act_does tables p levels c.in-Act.action m s) (first_step tables (λ p levels. acts p.groupings (view_action c.in-Act.action)) c.args.cost c.in_ok-more-in-Act.field-0 c.args.slot e.next.value e.fail.value made.value c.in_ok-more-in-Act.ensures (h tables c.args.slot)))
+    c.act.ensures
 
 pub command-returns-in_ok-more-in-Sequence : goal.command-returns-in_ok-more-in-Sequence
 command-returns-in_ok-more-in-Sequence t c =
     let e = c.args.exits.now in
     let node = c.args.node.now in
     IfOk-weaker c.sequence.result _ _
-      (λ made h. λ tables. arm tables (λ p levels. all_run p levels (view_nodes tables c.deref.result.now)) node (Sequence c.in-Sequence.commands) c.args.cost c.args.slot e.next.value e.fail.value made.value c.in-Sequence.is (λ p levels m s. sequence_does tables p levels c.in-Sequence.commands m s ∙ ap (λ xs. all_run p levels (view_nodes tables xs) m s) (sym c.deref.ensures.value)) (first_step tables (λ p levels. all_run p levels (view_nodes tables c.deref.result.now)) c.args.cost c.in_ok-more-in-Sequence.field-0 c.args.slot e.next.value e.fail.value made.value c.in_ok-more-in-Sequence.ensures (h tables)))
-      c.sequence.ensures
+    (λ made h. λ tables. arm tables (λ p levels. all_run p levels (view_nodes tables c.deref.result.now)) node (Sequence c.in-Sequence.commands) c.args.cost c.args.slot e.next.value e.fail.value made.value c.in-Sequence.is (λ p levels m s. sequence_does tables p levels c.in-Sequence.commands m s ∙ ap (λ xs. all_run p levels (view_nodes tables xs) m s) (sym c.deref.ensures.value)) (first_step tables (λ p levels. all_run p levels (view_nodes tables c.deref.result.now)) c.args.cost c.in_ok-more-in-Sequence.field-0 c.args.slot e.next.value e.fail.value made.value c.in_ok-more-in-Sequence.ensures (h tables)))
+    c.sequence.ensures
 
 pub command-returns-in-Not : goal.command-returns-in-Not
 command-returns-in-Not t c =
     let e = c.args.exits.now in
     let node = c.args.node.now in
     IfOk-weaker c.not.result _ _
-      (λ made h. λ tables. arm tables (λ p levels. not_of (runs p levels (view_node tables c.deref-in-Not.result.now))) node (Not c.in-Not.inner) c.args.cost c.args.slot e.next.value e.fail.value made.value c.in-Not.is (λ p levels m s. not_does tables p levels c.in-Not.inner m s ∙ ap (λ y. not_of (runs p levels (view_node tables y)) m s) (sym c.deref-in-Not.ensures)) (h tables))
-      c.not.ensures
+    (λ made h. λ tables. arm tables (λ p levels. not_of (runs p levels (view_node tables c.deref-in-Not.result.now))) node (Not c.in-Not.inner) c.args.cost c.args.slot e.next.value e.fail.value made.value c.in-Not.is (λ p levels m s. not_does tables p levels c.in-Not.inner m s ∙ ap (λ y. not_of (runs p levels (view_node tables y)) m s) (sym c.deref-in-Not.ensures)) (h tables))
+    c.not.ensures
 
 pub command-returns-in-Test : goal.command-returns-in-Test
 command-returns-in-Test t c =
     let e = c.args.exits.now in
     let node = c.args.node.now in
     IfOk-weaker c.test.result _ _
-      (λ made h. λ tables. arm tables (λ p levels. test_of (runs p levels (view_node tables c.deref-in-Test.result.now))) node (Test c.in-Test.inner) c.args.cost c.args.slot e.next.value e.fail.value made.value c.in-Test.is (λ p levels m s. test_does tables p levels c.in-Test.inner m s ∙ ap (λ y. test_of (runs p levels (view_node tables y)) m s) (sym c.deref-in-Test.ensures)) (h tables))
-      c.test.ensures
+    (λ made h. λ tables. arm tables (λ p levels. test_of (runs p levels (view_node tables c.deref-in-Test.result.now))) node (Test c.in-Test.inner) c.args.cost c.args.slot e.next.value e.fail.value made.value c.in-Test.is (λ p levels m s. test_does tables p levels c.in-Test.inner m s ∙ ap (λ y. test_of (runs p levels (view_node tables y)) m s) (sym c.deref-in-Test.ensures)) (h tables))
+    c.test.ensures
 
 pub command-returns-in-Try : goal.command-returns-in-Try
 command-returns-in-Try t c =
     let e = c.args.exits.now in
     let node = c.args.node.now in
     IfOk-weaker c.attempt.result _ _
-      (λ made h. λ tables. arm tables (λ p levels. try_of (runs p levels (view_node tables c.deref-in-Try.result.now))) node (Try c.in-Try.inner) c.args.cost c.args.slot e.next.value e.fail.value made.value c.in-Try.is (λ p levels m s. try_does tables p levels c.in-Try.inner m s ∙ ap (λ y. try_of (runs p levels (view_node tables y)) m s) (sym c.deref-in-Try.ensures)) (h tables))
-      c.attempt.ensures
+    (λ made h. λ tables. arm tables (λ p levels. try_of (runs p levels (view_node tables c.deref-in-Try.result.now))) node (Try c.in-Try.inner) c.args.cost c.args.slot e.next.value e.fail.value made.value c.in-Try.is (λ p levels m s. try_does tables p levels c.in-Try.inner m s ∙ ap (λ y. try_of (runs p levels (view_node tables y)) m s) (sym c.deref-in-Try.ensures)) (h tables))
+    c.attempt.ensures
 
 pub command-returns-in-Do : goal.command-returns-in-Do
 command-returns-in-Do t c =
     let e = c.args.exits.now in
     let node = c.args.node.now in
     IfOk-weaker c.do_always.result _ _
-      (λ made h. λ tables. arm tables (λ p levels. do_of (runs p levels (view_node tables c.deref-in-Do.result.now))) node (Do c.in-Do.inner) c.args.cost c.args.slot e.next.value e.fail.value made.value c.in-Do.is (λ p levels m s. do_does tables p levels c.in-Do.inner m s ∙ ap (λ y. do_of (runs p levels (view_node tables y)) m s) (sym c.deref-in-Do.ensures)) (h tables))
-      c.do_always.ensures
+    (λ made h. λ tables. arm tables (λ p levels. do_of (runs p levels (view_node tables c.deref-in-Do.result.now))) node (Do c.in-Do.inner) c.args.cost c.args.slot e.next.value e.fail.value made.value c.in-Do.is (λ p levels m s. do_does tables p levels c.in-Do.inner m s ∙ ap (λ y. do_of (runs p levels (view_node tables y)) m s) (sym c.deref-in-Do.ensures)) (h tables))
+    c.do_always.ensures
 
 pub command-returns-in-Fail : goal.command-returns-in-Fail
 command-returns-in-Fail t c =
     let e = c.args.exits.now in
     let node = c.args.node.now in
     IfOk-weaker c.fail.result _ _
-      (λ made h. λ tables. arm tables (λ p levels. fail_of (runs p levels (view_node tables c.deref-in-Fail.result.now))) node (Fail c.in-Fail.inner) c.args.cost c.args.slot e.next.value e.fail.value made.value c.in-Fail.is (λ p levels m s. fail_does tables p levels c.in-Fail.inner m s ∙ ap (λ y. fail_of (runs p levels (view_node tables y)) m s) (sym c.deref-in-Fail.ensures)) (h tables))
-      c.fail.ensures
+    (λ made h. λ tables. arm tables (λ p levels. fail_of (runs p levels (view_node tables c.deref-in-Fail.result.now))) node (Fail c.in-Fail.inner) c.args.cost c.args.slot e.next.value e.fail.value made.value c.in-Fail.is (λ p levels m s. fail_does tables p levels c.in-Fail.inner m s ∙ ap (λ y. fail_of (runs p levels (view_node tables y)) m s) (sym c.deref-in-Fail.ensures)) (h tables))
+    c.fail.ensures
 
 pub command-returns-in-Repeat : goal.command-returns-in-Repeat
 command-returns-in-Repeat t c =
     let e = c.args.exits.now in
     let node = c.args.node.now in
     IfOk-weaker c.repeat.result _ _
-      (λ made h. λ tables. arm tables (λ p levels. turns_of (runs p levels (view_node tables c.deref-in-Repeat.result.now))) node (Repeat c.in-Repeat.inner) c.args.cost c.args.slot e.next.value e.fail.value made.value c.in-Repeat.is (λ p levels m s. repeat_does tables p levels c.in-Repeat.inner m s ∙ ap (λ y. turns_of (runs p levels (view_node tables y)) m s) (sym c.deref-in-Repeat.ensures)) (h tables c.args.slot))
-      c.repeat.ensures
+    (λ made h. λ tables. arm tables (λ p levels. turns_of (runs p levels (view_node tables c.deref-in-Repeat.result.now))) node (Repeat c.in-Repeat.inner) c.args.cost c.args.slot e.next.value e.fail.value made.value c.in-Repeat.is (λ p levels m s. repeat_does tables p levels c.in-Repeat.inner m s ∙ ap (λ y. turns_of (runs p levels (view_node tables y)) m s) (sym c.deref-in-Repeat.ensures)) (h tables c.args.slot))
+    c.repeat.ensures
 
 pub command-returns-in-Backwards : goal.command-returns-in-Backwards
 command-returns-in-Backwards t c =
     let e = c.args.exits.now in
     let node = c.args.node.now in
     IfOk-weaker c.backwards.result _ _
-      (λ made h. λ tables. arm tables (λ p levels. backwards_of (runs p levels (view_node tables c.deref-in-Backwards.result.now))) node (Backwards c.in-Backwards.inner) c.args.cost c.args.slot e.next.value e.fail.value made.value c.in-Backwards.is (λ p levels m s. backwards_does tables p levels c.in-Backwards.inner m s ∙ ap (λ y. backwards_of (runs p levels (view_node tables y)) m s) (sym c.deref-in-Backwards.ensures)) (h tables c.args.slot))
-      c.backwards.ensures
+    (λ made h. λ tables. arm tables (λ p levels. backwards_of (runs p levels (view_node tables c.deref-in-Backwards.result.now))) node (Backwards c.in-Backwards.inner) c.args.cost c.args.slot e.next.value e.fail.value made.value c.in-Backwards.is (λ p levels m s. backwards_does tables p levels c.in-Backwards.inner m s ∙ ap (λ y. backwards_of (runs p levels (view_node tables y)) m s) (sym c.deref-in-Backwards.ensures)) (h tables c.args.slot))
+    c.backwards.ensures
 
 pub command-returns-in-Goto : goal.command-returns-in-Goto
 command-returns-in-Goto t c =
     let e = c.args.exits.now in
     let node = c.args.node.now in
     IfOk-weaker c.seek.result _ _
-      (λ made h. λ tables. arm tables (λ p levels. seek_of false (runs p levels (view_node tables c.deref-in-Goto.result.now))) node (Goto c.in-Goto.inner) c.args.cost c.args.slot e.next.value e.fail.value made.value c.in-Goto.is (λ p levels m s. goto_does tables p levels c.in-Goto.inner m s ∙ ap (λ y. seek_of false (runs p levels (view_node tables y)) m s) (sym c.deref-in-Goto.ensures)) (h tables c.args.slot))
-      c.seek.ensures
+    (λ made h. λ tables. arm tables (λ p levels. seek_of false (runs p levels (view_node tables c.deref-in-Goto.result.now))) node (Goto c.in-Goto.inner) c.args.cost c.args.slot e.next.value e.fail.value made.value c.in-Goto.is (λ p levels m s. goto_does tables p levels c.in-Goto.inner m s ∙ ap (λ y. seek_of false (runs p levels (view_node tables y)) m s) (sym c.deref-in-Goto.ensures)) (h tables c.args.slot))
+    c.seek.ensures
 
 pub command-returns-in-GoPast : goal.command-returns-in-GoPast
 command-returns-in-GoPast t c =
     let e = c.args.exits.now in
     let node = c.args.node.now in
     IfOk-weaker c.seek-in-GoPast.result _ _
-      (λ made h. λ tables. arm tables (λ p levels. seek_of true (runs p levels (view_node tables c.deref-in-GoPast.result.now))) node (GoPast c.in-GoPast.inner) c.args.cost c.args.slot e.next.value e.fail.value made.value c.in-GoPast.is (λ p levels m s. gopast_does tables p levels c.in-GoPast.inner m s ∙ ap (λ y. seek_of true (runs p levels (view_node tables y)) m s) (sym c.deref-in-GoPast.ensures)) (h tables c.args.slot))
-      c.seek-in-GoPast.ensures
+    (λ made h. λ tables. arm tables (λ p levels. seek_of true (runs p levels (view_node tables c.deref-in-GoPast.result.now))) node (GoPast c.in-GoPast.inner) c.args.cost c.args.slot e.next.value e.fail.value made.value c.in-GoPast.is (λ p levels m s. gopast_does tables p levels c.in-GoPast.inner m s ∙ ap (λ y. seek_of true (runs p levels (view_node tables y)) m s) (sym c.deref-in-GoPast.ensures)) (h tables c.args.slot))
+    c.seek-in-GoPast.ensures
 
 pub command-returns-in-Loop : goal.command-returns-in-Loop
 command-returns-in-Loop t c =
     let e = c.args.exits.now in
     let node = c.args.node.now in
     IfOk-weaker c.turns.result _ _
-      (λ made h. λ tables. arm tables (λ p levels. loop_of (view_number c.in-Loop.count) (runs p levels (view_node tables c.deref-in-Loop.result.now))) node (Loop c.in-Loop.count c.in-Loop.inner) c.args.cost c.args.slot e.next.value e.fail.value made.value c.in-Loop.is (λ p levels m s. loop_does tables p levels c.in-Loop.count c.in-Loop.inner m s ∙ ap (λ y. loop_of (view_number c.in-Loop.count) (runs p levels (view_node tables y)) m s) (sym c.deref-in-Loop.ensures)) (h tables c.args.slot))
-      c.turns.ensures
+    (λ made h. λ tables. arm tables (λ p levels. loop_of (view_number c.in-Loop.count) (runs p levels (view_node tables c.deref-in-Loop.result.now))) node (Loop c.in-Loop.count c.in-Loop.inner) c.args.cost c.args.slot e.next.value e.fail.value made.value c.in-Loop.is (λ p levels m s. loop_does tables p levels c.in-Loop.count c.in-Loop.inner m s ∙ ap (λ y. loop_of (view_number c.in-Loop.count) (runs p levels (view_node tables y)) m s) (sym c.deref-in-Loop.ensures)) (h tables c.args.slot))
+    c.turns.ensures
 
 pub command-returns-in-AtLeast : goal.command-returns-in-AtLeast
 command-returns-in-AtLeast t c =
     let e = c.args.exits.now in
     let node = c.args.node.now in
     IfOk-weaker c.at_least.result _ _
-      (λ made h. λ tables. arm tables (λ p levels. at_least_of (view_number c.in-AtLeast.count) (runs p levels (view_node tables c.deref-in-AtLeast.result.now))) node (AtLeast c.in-AtLeast.count c.in-AtLeast.inner) c.args.cost c.args.slot e.next.value e.fail.value made.value c.in-AtLeast.is (λ p levels m s. atleast_does tables p levels c.in-AtLeast.count c.in-AtLeast.inner m s ∙ ap (λ y. at_least_of (view_number c.in-AtLeast.count) (runs p levels (view_node tables y)) m s) (sym c.deref-in-AtLeast.ensures)) (h tables c.args.slot))
-      c.at_least.ensures
+    (λ made h. λ tables. arm tables (λ p levels. at_least_of (view_number c.in-AtLeast.count) (runs p levels (view_node tables c.deref-in-AtLeast.result.now))) node (AtLeast c.in-AtLeast.count c.in-AtLeast.inner) c.args.cost c.args.slot e.next.value e.fail.value made.value c.in-AtLeast.is (λ p levels m s. atleast_does tables p levels c.in-AtLeast.count c.in-AtLeast.inner m s ∙ ap (λ y. at_least_of (view_number c.in-AtLeast.count) (runs p levels (view_node tables y)) m s) (sym c.deref-in-AtLeast.ensures)) (h tables c.args.slot))
+    c.at_least.ensures
 
 pub command-returns-in-Call : goal.command-returns-in-Call
 command-returns-in-Call t c =
     let e = c.args.exits.now in
     let node = c.args.node.now in
     IfOk-weaker c.call.result _ _
-      (λ made h. λ tables. arm tables (λ p levels. calls p levels c.in-Call.number) node (Call c.in-Call.number) c.args.cost c.args.slot e.next.value e.fail.value made.value c.in-Call.is (λ p levels m s. call_does tables p levels c.in-Call.number m s) (h tables c.args.slot))
-      c.call.ensures
+    (λ made h. λ tables. arm tables (λ p levels. calls p levels c.in-Call.number) node (Call c.in-Call.number) c.args.cost c.args.slot e.next.value e.fail.value made.value c.in-Call.is (λ p levels m s. call_does tables p levels c.in-Call.number m s) (h tables c.args.slot))
+    c.call.ensures
 
 pub command-returns-in-Search : goal.command-returns-in-Search
 command-returns-in-Search t c =
     let e = c.args.exits.now in
     let node = c.args.node.now in
     IfOk-weaker c.search.result _ _
-      (λ made h. λ tables. arm tables (λ p levels. search_all (calls p levels) c.in-Search.among c.deref-in-Search.result.now (tables c.in-Search.table)) node (Search c.in-Search.among c.in-Search.table c.in-Search.entries) c.args.cost c.args.slot e.next.value e.fail.value made.value c.in-Search.is (λ p levels m s. search_does tables p levels c.in-Search.among c.in-Search.table c.in-Search.entries m s ∙ ap (λ xs. search_all (calls p levels) c.in-Search.among xs (tables c.in-Search.table) m s) (sym c.deref-in-Search.ensures.value)) (h tables c.args.slot))
-      c.search.ensures
+    (λ made h. λ tables. arm tables (λ p levels. search_all (calls p levels) c.in-Search.among c.deref-in-Search.result.now (tables c.in-Search.table)) node (Search c.in-Search.among c.in-Search.table c.in-Search.entries) c.args.cost c.args.slot e.next.value e.fail.value made.value c.in-Search.is (λ p levels m s. search_does tables p levels c.in-Search.among c.in-Search.table c.in-Search.entries m s ∙ ap (λ xs. search_all (calls p levels) c.in-Search.among xs (tables c.in-Search.table) m s) (sym c.deref-in-Search.ensures.value)) (h tables c.args.slot))
+    c.search.ensures
 
 pub command-returns-in_ok-second-in-SetLimit : goal.command-returns-in_ok-second-in-SetLimit
 command-returns-in_ok-second-in-SetLimit t c =
     let e = c.args.exits.now in
     let node = c.args.node.now in
     IfOk-weaker c.set_limit.result _ _
-      (λ made h. λ tables. arm tables (λ p levels. limited_of (runs p levels (view_node tables c.deref-in-SetLimit-2.result.now)) (alone (flow p levels tables c.in_ok-second-in-SetLimit.second.value))) node (SetLimit c.in-SetLimit.first c.in-SetLimit.second) c.args.cost c.args.slot e.next.value e.fail.value made.value c.in-SetLimit.is (λ p levels m s. setlimit_does tables p levels c.in-SetLimit.first c.in-SetLimit.second m s ∙ ap (λ y. limited_of (runs p levels (view_node tables y)) (runs p levels (view_node tables c.in-SetLimit.second.value)) m s) (sym c.deref-in-SetLimit-2.ensures) ∙ ap (λ y. limited_of (runs p levels (view_node tables c.deref-in-SetLimit-2.result.now)) (runs p levels (view_node tables y)) m s) (sym c.deref-in-SetLimit.ensures) ∙ ap (λ d. limited_of (runs p levels (view_node tables c.deref-in-SetLimit-2.result.now)) d m s) (sym (runs_as tables (λ p levels. runs p levels (view_node tables c.deref-in-SetLimit.result.now)) c.in_ok-second-in-SetLimit.second.value (c.in_ok-second-in-SetLimit.ensures tables) p levels))) (h tables c.args.slot))
-      c.set_limit.ensures
+    (λ made h. λ tables. arm tables (λ p levels. limited_of (runs p levels (view_node tables c.deref-in-SetLimit-2.result.now)) (alone (flow p levels tables c.in_ok-second-in-SetLimit.second.value))) node (SetLimit c.in-SetLimit.first c.in-SetLimit.second) c.args.cost c.args.slot e.next.value e.fail.value made.value c.in-SetLimit.is (λ p levels m s. setlimit_does tables p levels c.in-SetLimit.first c.in-SetLimit.second m s ∙ ap (λ y. limited_of (runs p levels (view_node tables y)) (runs p levels (view_node tables c.in-SetLimit.second.value)) m s) (sym c.deref-in-SetLimit-2.ensures) ∙ ap (λ y. limited_of (runs p levels (view_node tables c.deref-in-SetLimit-2.result.now)) (runs p levels (view_node tables y)) m s) (sym c.deref-in-SetLimit.ensures) ∙ ap (λ d. limited_of (runs p levels (view_node tables c.deref-in-SetLimit-2.result.now)) d m s) (sym (runs_as tables (λ p levels. runs p levels (view_node tables c.deref-in-SetLimit.result.now)) c.in_ok-second-in-SetLimit.second.value (c.in_ok-second-in-SetLimit.ensures tables) p levels))) (h tables c.args.slot))
+    c.set_limit.ensures
 
 pub command-returns-in_ok-choose-in-Among : goal.command-returns-in_ok-choose-in-Among
 command-returns-in_ok-choose-in-Among t c =
     let e = c.args.exits.now in
     let node = c.args.node.now in
     IfOk-weaker c.among.result _ _
-      (λ made h. λ tables. arm tables (λ p levels m s. after (all_run p levels (view_nodes tables c.deref-in-Among-2.result.now) m s) (λ t. group_runs p levels (view_nodes tables c.deref-in-Among.result.now) (choice c.in-Among.among t) m t) (Signals false)) node (Among c.in-Among.among c.in-Among.before c.in-Among.bodies) c.args.cost c.args.slot e.next.value e.fail.value made.value c.in-Among.is (λ p levels m s. among_does tables p levels c.in-Among.among c.in-Among.before c.in-Among.bodies m s ∙ ap (λ xs. after (all_run p levels (view_nodes tables xs) m s) (λ t. group_runs p levels (view_nodes tables c.in-Among.bodies.items) (choice c.in-Among.among t) m t) (Signals false)) (sym c.deref-in-Among-2.ensures.value) ∙ ap (λ xs. after (all_run p levels (view_nodes tables c.deref-in-Among-2.result.now) m s) (λ t. group_runs p levels (view_nodes tables xs) (choice c.in-Among.among t) m t) (Signals false)) (sym c.deref-in-Among.ensures.value)) (h tables (λ p levels m t. group_runs p levels (view_nodes tables c.deref-in-Among.result.now) (choice c.in-Among.among t) m t) (c.in_ok-choose-in-Among.ensures tables)))
-      c.among.ensures
+    (λ made h. λ tables. arm tables (λ p levels m s. after (all_run p levels (view_nodes tables c.deref-in-Among-2.result.now) m s) (λ t. group_runs p levels (view_nodes tables c.deref-in-Among.result.now) (choice c.in-Among.among t) m t) (Signals false)) node (Among c.in-Among.among c.in-Among.before c.in-Among.bodies) c.args.cost c.args.slot e.next.value e.fail.value made.value c.in-Among.is (λ p levels m s. among_does tables p levels c.in-Among.among c.in-Among.before c.in-Among.bodies m s ∙ ap (λ xs. after (all_run p levels (view_nodes tables xs) m s) (λ t. group_runs p levels (view_nodes tables c.in-Among.bodies.items) (choice c.in-Among.among t) m t) (Signals false)) (sym c.deref-in-Among-2.ensures.value) ∙ ap (λ xs. after (all_run p levels (view_nodes tables c.deref-in-Among-2.result.now) m s) (λ t. group_runs p levels (view_nodes tables xs) (choice c.in-Among.among t) m t) (Signals false)) (sym c.deref-in-Among.ensures.value)) (h tables (λ p levels m t. group_runs p levels (view_nodes tables c.deref-in-Among.result.now) (choice c.in-Among.among t) m t) (c.in_ok-choose-in-Among.ensures tables)))
+    c.among.ensures
 
 pub command-returns-then-is_empty : goal.command-returns-then-is_empty
 command-returns-then-is_empty t c =
@@ -469,12 +473,12 @@ command-returns-then-is_empty t c =
     let zero : length a.others.items ≡ 0 = grind (arith, nat_tests, c.if-is_empty.ensures) in
     let none = nil_from_length a.others.items zero in
     IfOk-weaker c.command.result _ _
-      (λ made h. λ tables.
-        let run = λ (p : programs.Program) (levels : ℕ). runs p levels (view_node tables first) in
-        arm tables run c.args.node.now (Row a.first a.others) c.args.cost c.args.slot e.next.value e.fail.value made.value a.is
-          (λ p levels m s. row_does tables p levels a.first a.others m s ∙ ap (λ xs. row_runs p levels (view_node tables a.first.value) (map (view_next_command tables) xs) m s) none ∙ ap (λ y. runs p levels (view_node tables y) m s) (sym c.deref-then-is_empty.ensures))
-          (first_step tables run c.args.cost more.field-0 c.args.slot e.next.value e.fail.value made.value more.ensures (h tables)))
-      c.command.ensures
+    (λ made h. λ tables.
+    let run = λ (p : programs.Program) (levels : ℕ). runs p levels (view_node tables first) in
+    arm tables run c.args.node.now (Row a.first a.others) c.args.cost c.args.slot e.next.value e.fail.value made.value a.is
+    (λ p levels m s. row_does tables p levels a.first a.others m s ∙ ap (λ xs. row_runs p levels (view_node tables a.first.value) (map (view_next_command tables) xs) m s) none ∙ ap (λ y. runs p levels (view_node tables y) m s) (sym c.deref-then-is_empty.ensures))
+    (first_step tables run c.args.cost more.field-0 c.args.slot e.next.value e.fail.value made.value more.ensures (h tables)))
+    c.command.ensures
 
 pub command-returns-in_ok-entry-in-Row : goal.command-returns-in_ok-entry-in-Row
 command-returns-in_ok-entry-in-Row t c =
@@ -487,15 +491,15 @@ command-returns-in_ok-entry-in-Row t c =
     let own = c.len.result in
     let some : length others ≡ own = search rules in
     IfOk-weaker c.saved.result _ _
-      (λ made h. λ tables.
-        let run = λ (p : programs.Program) (levels : ℕ). runs p levels (view_node tables first) in
-        let os = map (view_next_command tables) others in
-        let many : suc (length os - 1) ≡ own = omega (arith, some, length-map others (view_next_command tables), c.in_ok-place-in-Row.ensures.1) in
-        let d = λ (p : programs.Program) (levels : ℕ) (m : Mode) (s : State). others_run p levels m (saved_cursor s) os (run p levels m s) in
-        arm tables (λ p levels m s. row_runs p levels (view_node tables first) os m s) c.args.node.now (Row a.first a.others) c.args.cost c.args.slot e.next.value e.fail.value made.value a.is
-          (λ p levels m s. row_does tables p levels a.first a.others m s ∙ ap (λ xs. row_runs p levels (view_node tables a.first.value) (map (view_next_command tables) xs) m s) (sym c.deref-in-Row.ensures.value) ∙ ap (λ y. row_runs p levels (view_node tables y) os m s) (sym c.deref-in-Row-2.ensures))
-          (same_meaning tables (λ p levels m s. then_on (pays own s) (d p levels m)) (λ p levels. pay_first (row_runs p levels (view_node tables first) os)) c.args.cost c.args.slot e.next.value e.fail.value made.value
-            (λ p levels m s. ap (λ k. then_on (pays k s) (d p levels m)) (sym many) ∙ after_after (pay s.steps s) (pays (length os - 1)) (Signals false) (d p levels m) (Signals false))
-            (h tables d own c.args.slot c.in_ok-place-in-Row.ensures
-              (λ entry saves. saving_row tables run os place.cost place.slot (place.slot + 1) place.exits rest c.in_ok-entry-in-Row.entry.value entry refl c.in_ok-place-in-Row.ensures.0 saves (c.in_ok-entry-in-Row.ensures tables) (c.in_ok-rest-in-Row.ensures tables c.in_ok-place-in-Row.ensures.0)))))
-      c.saved.ensures
+    (λ made h. λ tables.
+    let run = λ (p : programs.Program) (levels : ℕ). runs p levels (view_node tables first) in
+    let os = map (view_next_command tables) others in
+    let many : suc (length os - 1) ≡ own = omega (arith, some, length-map others (view_next_command tables), c.in_ok-place-in-Row.ensures.1) in
+    let d = λ (p : programs.Program) (levels : ℕ) (m : Mode) (s : State). others_run p levels m (saved_cursor s) os (run p levels m s) in
+    arm tables (λ p levels m s. row_runs p levels (view_node tables first) os m s) c.args.node.now (Row a.first a.others) c.args.cost c.args.slot e.next.value e.fail.value made.value a.is
+    (λ p levels m s. row_does tables p levels a.first a.others m s ∙ ap (λ xs. row_runs p levels (view_node tables a.first.value) (map (view_next_command tables) xs) m s) (sym c.deref-in-Row.ensures.value) ∙ ap (λ y. row_runs p levels (view_node tables y) os m s) (sym c.deref-in-Row-2.ensures))
+    (same_meaning tables (λ p levels m s. then_on (pays own s) (d p levels m)) (λ p levels. pay_first (row_runs p levels (view_node tables first) os)) c.args.cost c.args.slot e.next.value e.fail.value made.value
+    (λ p levels m s. ap (λ k. then_on (pays k s) (d p levels m)) (sym many) ∙ after_after (pay s.steps s) (pays (length os - 1)) (Signals false) (d p levels m) (Signals false))
+    (h tables d own c.args.slot c.in_ok-place-in-Row.ensures
+    (λ entry saves. saving_row tables run os place.cost place.slot (place.slot + 1) place.exits rest c.in_ok-entry-in-Row.entry.value entry refl c.in_ok-place-in-Row.ensures.0 saves (c.in_ok-entry-in-Row.ensures tables) (c.in_ok-rest-in-Row.ensures tables c.in_ok-place-in-Row.ensures.0)))))
+    c.saved.ensures

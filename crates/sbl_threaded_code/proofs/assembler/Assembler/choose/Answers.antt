@@ -9,7 +9,7 @@ pub returns : goal.returns
 returns c =
     let o = c.in_ok-next.field-0 in
     IfOk-weaker c.emit.result _ _
-      (λ made is. λ tables nodes n are.
-        choosing tables c.args.cost c.args.among n c.args.exits.now nodes c.args.bodies.items o.next.value o.fail.value made.value c.in_ok-next.ensures.0 c.in_ok-next.ensures.1
-          (λ p levels m ys s. ap (λ i. flow p levels tables i m ys s) is ∙ flow_choose p levels tables m ys s c.args.cost c.args.among c.args.bodies o.next o.fail) are)
-      c.emit.ensures
+    (λ made is. λ tables nodes n are.
+    choosing tables c.args.cost c.args.among n c.args.exits.now nodes c.args.bodies.items o.next.value o.fail.value made.value c.in_ok-next.ensures.0 c.in_ok-next.ensures.1
+    (λ p levels m ys s. ap (λ i. flow p levels tables i m ys s) is ∙ flow_choose p levels tables m ys s c.args.cost c.args.among c.args.bodies o.next o.fail) are)
+    c.emit.ensures

@@ -13,7 +13,7 @@ loop-routine-preserved c =
     let at : x ≡ get_or rs i x = search rules in
     let all = coded_more c.loop-routine.codes.items (take i rs) c.in_ok-code.code x c.loop-routine.invariant c.in_ok-code.ensures in
     subst (λ xs. AreCodeOf c.push.new.self.items xs) (ap (λ y. take i rs ++ (y ∷ [])) at ∙ sym (take_more rs i x l))
-      (subst (λ cs. AreCodeOf cs (take i rs ++ (x ∷ []))) (sym c.in_ok-push.ensures.items) all)
+    (subst (λ cs. AreCodeOf cs (take i rs ++ (x ∷ []))) (sym c.in_ok-push.ensures.items) all)
 
 pub returns : goal.returns
 returns c =

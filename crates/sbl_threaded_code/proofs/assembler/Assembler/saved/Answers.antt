@@ -5,9 +5,9 @@ use Rattle.sbl_threaded_code.proofs.assembler.Assembler.saved.Goals as goal
 pub returns-then-place : goal.returns-then-place
 returns-then-place c =
     IfOk-weaker c.nested.result _ _
-      (λ made is. λ tables d own slot at h.
-        nested_place tables d c.args.cost own slot c.args.exits.now c.args.place.now c.in_ok-entry.entry.value made.value at c.if-place.true (h c.in_ok-entry.entry.value c.in_ok-entry.ensures) (is tables))
-      c.nested.ensures
+    (λ made is. λ tables d own slot at h.
+    nested_place tables d c.args.cost own slot c.args.exits.now c.args.place.now c.in_ok-entry.entry.value made.value at c.if-place.true (h c.in_ok-entry.entry.value c.in_ok-entry.ensures) (is tables))
+    c.nested.ensures
 
 pub returns-else-place : goal.returns-else-place
 returns-else-place c = λ tables d own slot at h. here_place tables d c.args.cost own slot c.args.exits.now c.args.place.now c.in_ok-entry.entry.value at c.if-place.false (h c.in_ok-entry.entry.value c.in_ok-entry.ensures)

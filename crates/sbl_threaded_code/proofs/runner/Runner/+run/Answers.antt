@@ -65,8 +65,14 @@ run_from-loop-at-preserved-else-branch-10 = instructions.run_from-loop-at-preser
 pub run_from-loop-at-preserved-in-None-get : goal.run_from-loop-at-preserved-in-None-get
 run_from-loop-at-preserved-in-None-get = instructions.run_from-loop-at-preserved-in-None-get
 
-pub run_from-loop-at-preserved : goal.run_from-loop-at-preserved
-run_from-loop-at-preserved = instructions.run_from-loop-at-preserved
+pub run_from-loop-at-preserved-in-Some-get : goal.run_from-loop-at-preserved-in-Some-get
+run_from-loop-at-preserved-in-Some-get = instructions.run_from-loop-at-preserved-in-Some-get
+
+pub run_from-loop-at-preserved-then-branch-11 : goal.run_from-loop-at-preserved-then-branch-11
+run_from-loop-at-preserved-then-branch-11 = instructions.run_from-loop-at-preserved-then-branch-11
+
+pub run_from-loop-at-preserved-else-branch-11 : goal.run_from-loop-at-preserved-else-branch-11
+run_from-loop-at-preserved-else-branch-11 = instructions.run_from-loop-at-preserved-else-branch-11
 
 pub run_search-loop-place-init : goal.run_search-loop-place-init
 run_search-loop-place-init = calls.run_search-loop-place-init
