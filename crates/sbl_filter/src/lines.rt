@@ -35,7 +35,7 @@ pub(crate) fn next_line<'f>(
     ensures between { OnOk result (IsBetweenLines lines.new) }
 {
     if MOST < lines.get_ref().len() {
-        *lines = line_writer(alloc);
+        forget_lines(alloc, lines);
     }
     let before = lines.get_ref().len();
     let written = lines.write_fields(&[word, kind, text]);
@@ -43,4 +43,13 @@ pub(crate) fn next_line<'f>(
         return Err(AllocError);
     }
     Vec::from_slice(alloc, &lines.get_ref()[before..])
+}
+
+// Replaces the writer by one that has no line yet. A new writer is 8 KB on the stack, which the function that makes it clears. So
+// that is no part of `next_line`.
+#[inline(never)]
+fn forget_lines(alloc: Global, lines: &mut Writer<Vec<u8>>)
+    ensures { IsBetweenLines lines.new }
+{
+    *lines = line_writer(alloc);
 }

@@ -2,15 +2,15 @@
 
 ghost use Rattle.std.specs.Prelude.{◌≡◌, ℕ, ◌<◌, ◌≤◌, ◌+◌, true, length, map, slice_index_or, [], IfOk, MatchResult, ◌↔◌, Err};
 ghost use Rattle.std.specs.List.{list_all, list_any};
+ghost use Rattle.sbl_semantics.specs.Limit.{max_levels, max_word_length};
 ghost use Rattle.sbl_ast.specs.declared.mode.Mode.TheVariants.{Forward};
 ghost use Rattle.sbl_program.specs.AmongStrings.{Listing};
+ghost use Rattle.sbl_machine.specs.MachineOf.{IsMachineOf, machine_plan};
 ghost use Rattle.sbl_program.specs.ProgramOf.{program_of};
 ghost use Rattle.sbl_interpreter.specs.Endings.{Follows};
+ghost use Rattle.sbl_machine.specs.Marks.{AreMarksOf, has_item};
 ghost use Rattle.sbl_interpreter.specs.Run.{calls};
 ghost use Rattle.sbl_interpreter.specs.Start.{start};
-ghost use Rattle.sbl_semantics.specs.Limit.{max_levels, max_word_length};
-ghost use Rattle.sbl_machine.specs.MachineOf.{IsMachineOf, machine_plan};
-ghost use Rattle.sbl_machine.specs.Marks.{AreMarksOf, has_item};
 ghost use Rattle.sbl_semantics.specs.Outcome.{integers_at, integers_of, outcome_at, outcome_of, run_of, touched_at, touches_of, used_at, used_of, events_at, events_in, events_of};
 ghost use Rattle.sbl_semantics.specs.TouchedItems.{item_of, items_in, items_of, item_of_touch, names_of, same_item, touched_items};
 ghost use Rattle.sbl_ast.specs.Source.{Source};
@@ -26,9 +26,7 @@ use crate::run_stop::RunStop;
 use sbl_among_search::AmongSearch;
 use sbl_ast::Mode;
 use sbl_compiler::{Compilation, compile_items};
-use sbl_interpreter::{
-    Event, Halt, RunFault, State, TableList, Touch, TouchLog, tables_of,
-};
+use sbl_interpreter::{Event, Halt, RunFault, State, TableList, Touch, TouchLog, tables_of};
 use sbl_script::Script;
 use sbl_script::laws::is_spelled;
 use sbl_semantics::{Item, Outcome};

@@ -1,10 +1,10 @@
 //! The code of a program.
 
+ghost use Rattle.sbl_threaded_code.specs.CodeOf.{IsCodeOfAny, AreCodeOf};
 ghost use Rattle.std.specs.Prelude.{◌≡◌, ℕ, IfOk, slice_get};
 ghost use Rattle.std.specs.Option.{option_copied};
 ghost use Rattle.sbl_program.specs.AmongStrings.{Listing};
 ghost use Rattle.sbl_program.specs.ProgramOf.{program_of};
-ghost use Rattle.sbl_threaded_code.specs.CodeOf.{IsCodeOfAny, AreCodeOf};
 
 use crate::assembler::Assembler;
 use crate::instruction::Instruction;

@@ -6,6 +6,21 @@ ghost use Rattle.sbl_program.specs.ProgramOf.{view_text, view_number, view_next_
 use sbl_program::{Action, Addend, Arithmetic, Multiplicand, StringTerm};
 use std::alloc::{AllocError, Global};
 
+// Copies each of some numbers with the sign before it. The names of the loop are the caller's, so that its proof has them.
+macro_rules! copy_each {
+    ($alloc:ident, $others:ident, $kind:ident, $copies:ident, $other:ident, $number:ident) => {{
+        let mut $copies = Vec::new($alloc);
+        for $other in $others {
+            let $number = copy_number($alloc, &$other.number)?;
+            $copies.push($kind {
+                operator: $other.operator,
+                number: $number,
+            })?;
+        }
+        Ok($copies)
+    }};
+}
+
 /// Returns a copy of a string.
 pub fn copy_term(alloc: Global, term: &StringTerm) -> Result<StringTerm, AllocError>
     ensures { IfOk result (λ copy. view_text copy ≡ view_text term.now) }
@@ -53,34 +68,20 @@ pub fn copy_number(alloc: Global, number: &Arithmetic) -> Result<Arithmetic, All
     }
 }
 
+// Copies the terms after the first one of a sum.
 #[cycle(copy)]
 fn copy_addends(alloc: Global, others: &[Addend]) -> Result<Vec<Addend>, AllocError>
     ensures { IfOk result (λ copies. map view_next_product copies.items ≡ map view_next_product others.now) }
 {
-    let mut copies = Vec::new(alloc);
-    for other in others {
-        let number = copy_number(alloc, &other.number)?;
-        copies.push(Addend {
-            operator: other.operator,
-            number,
-        })?;
-    }
-    Ok(copies)
+    copy_each!(alloc, others, Addend, copies, other, number)
 }
 
+// Copies the factors after the first one of a product.
 #[cycle(copy)]
 fn copy_factors(alloc: Global, others: &[Multiplicand]) -> Result<Vec<Multiplicand>, AllocError>
     ensures { IfOk result (λ copies. map view_next_factor copies.items ≡ map view_next_factor others.now) }
 {
-    let mut copies = Vec::new(alloc);
-    for other in others {
-        let number = copy_number(alloc, &other.number)?;
-        copies.push(Multiplicand {
-            operator: other.operator,
-            number,
-        })?;
-    }
-    Ok(copies)
+    copy_each!(alloc, others, Multiplicand, copies, other, number)
 }
 
 /// Returns a copy of an action.

@@ -143,12 +143,12 @@ impl<'a, T: Tables> Runner<'a, T> {
                     };
                 }
                 Instruction::SeekGrouping {
+                    next,
+                    fail,
                     cost,
                     past,
                     grouping,
                     wanted,
-                    next,
-                    fail,
                 } => {
                     state.pay_for(*cost)?;
                     at = if state.seek_one(
@@ -204,12 +204,12 @@ impl<'a, T: Tables> Runner<'a, T> {
                     };
                 }
                 Instruction::Search {
+                    next,
+                    fail,
                     cost,
                     among,
                     table,
                     entries,
-                    next,
-                    fail,
                 } => {
                     pay_all(*cost, state)?;
                     at = if self.run_search_all(*among, *table, entries, state)? {

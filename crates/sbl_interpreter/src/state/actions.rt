@@ -3,7 +3,6 @@
 ghost use Rattle.std.specs.Prelude.{◌≡◌, ◌<◌, map, IfOk};
 ghost use Rattle.sbl_char_class.specs.CharacterClasses.{members};
 ghost use Rattle.sbl_interpreter.specs.Actions.{acts};
-ghost use Rattle.sbl_semantics.specs.Control.{pay_first};
 ghost use Rattle.sbl_semantics.specs.Numbers.{continue_with, natural};
 ghost use Rattle.sbl_interpreter.specs.Arithmetic.{value};
 ghost use Rattle.sbl_semantics.specs.Moves.{hop, at_mark, to_mark};
@@ -18,32 +17,6 @@ use sbl_char_class::CharacterClass;
 use sbl_program::{Action, Arithmetic};
 
 impl State {
-    /// Does a command as `act` does. The commands that are most of a run are done here, without a call of `act`.
-    #[inline(always)]
-    pub fn act_here(
-        &mut self,
-        groupings: &[CharacterClass],
-        mode: Mode,
-        action: &Action,
-    ) -> Result<bool, Halt>
-        ensures follows { Follows result self.new (acts (map members groupings.now) (view_action action.now) mode self.old) }
-        ensures same_steps { IfOk result (λ _. self.new.steps ≡ self.old.steps) }
-    {
-        match action {
-            Action::LeftBracket => {
-                self.left_bracket(mode);
-                Ok(true)
-            }
-            Action::RightBracket => {
-                self.right_bracket(mode);
-                Ok(true)
-            }
-            Action::Match(term) => Ok(self.take_term(mode, term)),
-            Action::Grouping(number) => self.take_grouping(mode, groupings, *number, true),
-            _ => self.act(groupings, mode, action),
-        }
-    }
-
     /// Does a command without a command inside, after its step is paid, and returns its signal. `groupings` has the
     /// class of each grouping.
     ///

@@ -80,7 +80,7 @@ impl State {
 
     /// Tests the grouping with this number at the cursor and further on, up to the first t. The cursor stays after the
     /// match if `past`, and else goes before it. The first test touches the grouping, and no later one does.
-    #[inline(always)]
+    #[inline(never)]
     pub fn seek_one(
         &mut self,
         past: bool,
