@@ -1,4 +1,4 @@
-//! Runs programs: what each command does to the state of a run, what it costs, and what it touches.
+//! The state of a run: what each command does to it, what a run costs, and what it touches.
 #![tactic(auto)]
 
 mod choices;

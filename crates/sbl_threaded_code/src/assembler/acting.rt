@@ -1,0 +1,173 @@
+//! Commands that contain no command.
+
+ghost use Rattle.std.specs.Prelude.{◌<◌, ℕ, [], true, false, ◌∷◌, IfOk};
+ghost use Rattle.sbl_char_class.specs.Terms.{class_at};
+ghost use Rattle.sbl_program.specs.AmongStrings.{Listing};
+ghost use Rattle.sbl_program.specs.ProgramOf.{view_action};
+ghost use Rattle.sbl_interpreter.specs.Actions.{acts, test_grouping};
+ghost use Rattle.sbl_semantics.specs.Moves.{match, test_boolean, next as move_next};
+ghost use Rattle.sbl_semantics.specs.Slices.{left_bracket, right_bracket};
+ghost use Rattle.sbl_semantics.specs.State.{Signals};
+ghost use Rattle.sbl_threaded_code.specs.Performs.{Exited};
+
+use crate::assembler::{Assembler, Exits};
+use crate::copies::copy_action;
+use crate::instruction::Instruction;
+use sbl_program::{Action, StringTerm};
+use std::alloc::AllocError;
+use std::rc::Rc;
+
+impl Assembler {
+    // A command that contains no command.
+    pub(super) fn act(
+        &mut self,
+        action: &Action,
+        cost: usize,
+        exits: &Exits,
+    ) -> Result<Rc<Instruction>, AllocError>
+        ensures { IfOk result (λ made. (tables : ℕ → Listing) (n : ℕ) → Exited tables (λ p levels. acts p.groupings (view_action action.now)) cost n exits.now made.value) }
+    {
+        match action {
+            Action::Match(term) => match term {
+                StringTerm::Literal(string) => self.literal(string, cost, exits),
+                _ => self.act_any(action, cost, exits),
+            },
+            Action::Grouping(number) => self.grouping(true, *number, cost, exits),
+            Action::NonGrouping(number) => self.grouping(false, *number, cost, exits),
+            Action::Next => self.next(cost, exits),
+            Action::LeftBracket => self.left_bracket(cost, exits),
+            Action::RightBracket => self.right_bracket(cost, exits),
+            Action::Boolean(number) => self.boolean(*number, cost, exits),
+            _ => self.act_any(action, cost, exits),
+        }
+    }
+
+    // Any other command that contains no command.
+    pub(super) fn act_any(
+        &mut self,
+        action: &Action,
+        cost: usize,
+        exits: &Exits,
+    ) -> Result<Rc<Instruction>, AllocError>
+        ensures { IfOk result (λ made. (tables : ℕ → Listing) (n : ℕ) → Exited tables (λ p levels. acts p.groupings (view_action action.now)) cost n exits.now made.value) }
+    {
+        let action = copy_action(self.alloc, action)?;
+        let Exits { next, fail } = exits.again()?;
+        self.emit(Instruction::Act {
+            cost,
+            action,
+            next,
+            fail,
+        })
+    }
+
+    // A literal of one character.
+    pub(super) fn character(
+        &mut self,
+        character: char,
+        cost: usize,
+        exits: &Exits,
+    ) -> Result<Rc<Instruction>, AllocError>
+        ensures { IfOk result (λ made. (tables : ℕ → Listing) (n : ℕ) → Exited tables (λ p levels m s. match (character ∷ []) m s) cost n exits.now made.value) }
+    {
+        let Exits { next, fail } = exits.again()?;
+        self.emit(Instruction::Character {
+            cost,
+            character,
+            next,
+            fail,
+        })
+    }
+
+    // A literal.
+    pub(super) fn literal(
+        &mut self,
+        string: &[char],
+        cost: usize,
+        exits: &Exits,
+    ) -> Result<Rc<Instruction>, AllocError>
+        ensures { IfOk result (λ made. (tables : ℕ → Listing) (n : ℕ) → Exited tables (λ p levels m s. match string.now m s) cost n exits.now made.value) }
+    {
+        if string.len() == 1 {
+            return self.character(string[0], cost, exits);
+        }
+        let string = Vec::from_slice(self.alloc, string)?;
+        let Exits { next, fail } = exits.again()?;
+        self.emit(Instruction::Literal {
+            cost,
+            string,
+            next,
+            fail,
+        })
+    }
+
+    // A grouping, or `non` and a grouping.
+    pub(super) fn grouping(
+        &mut self,
+        wanted: bool,
+        grouping: usize,
+        cost: usize,
+        exits: &Exits,
+    ) -> Result<Rc<Instruction>, AllocError>
+        ensures { IfOk result (λ made. (tables : ℕ → Listing) (n : ℕ) → Exited tables (λ p levels m s. test_grouping wanted (class_at p.groupings grouping) grouping m s) cost n exits.now made.value) }
+    {
+        let Exits { next, fail } = exits.again()?;
+        self.emit(Instruction::Grouping {
+            cost,
+            wanted,
+            grouping,
+            next,
+            fail,
+        })
+    }
+
+    // `next`
+    pub(super) fn next(&mut self, cost: usize, exits: &Exits) -> Result<Rc<Instruction>, AllocError>
+        ensures { IfOk result (λ made. (tables : ℕ → Listing) (n : ℕ) → Exited tables (λ p levels m s. move_next m s) cost n exits.now made.value) }
+    {
+        let Exits { next, fail } = exits.again()?;
+        self.emit(Instruction::Next { cost, next, fail })
+    }
+
+    // The name of a boolean variable.
+    pub(super) fn boolean(
+        &mut self,
+        number: usize,
+        cost: usize,
+        exits: &Exits,
+    ) -> Result<Rc<Instruction>, AllocError>
+        ensures { IfOk result (λ made. (tables : ℕ → Listing) (n : ℕ) → Exited tables (λ p levels m s. test_boolean number s) cost n exits.now made.value) }
+    {
+        let Exits { next, fail } = exits.again()?;
+        self.emit(Instruction::Boolean {
+            cost,
+            number,
+            next,
+            fail,
+        })
+    }
+
+    // `[`
+    pub(super) fn left_bracket(
+        &mut self,
+        cost: usize,
+        exits: &Exits,
+    ) -> Result<Rc<Instruction>, AllocError>
+        ensures { IfOk result (λ made. (tables : ℕ → Listing) (n : ℕ) → Exited tables (λ p levels m s. Signals true (left_bracket m s)) cost n exits.now made.value) }
+    {
+        let next = exits.next.clone()?;
+        self.emit(Instruction::LeftBracket { cost, next })
+    }
+
+    // `]`
+    pub(super) fn right_bracket(
+        &mut self,
+        cost: usize,
+        exits: &Exits,
+    ) -> Result<Rc<Instruction>, AllocError>
+        ensures { IfOk result (λ made. (tables : ℕ → Listing) (n : ℕ) → Exited tables (λ p levels m s. Signals true (right_bracket m s)) cost n exits.now made.value) }
+    {
+        let next = exits.next.clone()?;
+        self.emit(Instruction::RightBracket { cost, next })
+    }
+}

@@ -1,0 +1,194 @@
+//! Commands that save the cursor.
+
+ghost use Rattle.std.specs.Prelude.{◌<◌, ◌+◌, ℕ, List, true, false, map, ◌∷◌, IfOk};
+ghost use Rattle.sbl_program.specs.AmongStrings.{Listing};
+ghost use Rattle.sbl_program.specs.Chains.{JoinedView};
+ghost use Rattle.sbl_program.specs.ProgramOf.{view_node, view_next_command};
+ghost use Rattle.sbl_interpreter.specs.Rows.{pays};
+ghost use Rattle.sbl_interpreter.specs.Run.{runs};
+ghost use Rattle.sbl_semantics.specs.Control.{pay_first};
+ghost use Rattle.sbl_semantics.specs.Moves.{match};
+ghost use Rattle.sbl_semantics.specs.State.{after, then_on};
+ghost use Rattle.sbl_threaded_code.specs.declared.assembler.Exits.{Exits as TheExits};
+ghost use Rattle.sbl_threaded_code.specs.Flow.{not_of, test_of, try_of, do_of};
+ghost use Rattle.sbl_threaded_code.specs.Performs.{Meaning, Exited, Saves, IsPlace, IsRest};
+ghost use Rattle.sbl_threaded_code.specs.declared.instruction.Instruction.{Instruction as TheInstruction};
+
+use crate::assembler::{Assembler, Exits, Place, more};
+use crate::instruction::Instruction;
+use crate::slots::SLOTS;
+use sbl_ast::Joiner;
+use sbl_program::{JoinedNode, Node};
+use std::alloc::AllocError;
+use std::rc::Rc;
+
+impl Assembler {
+    // Returns where a command saves the cursor that uses `own` steps, and where it goes on: in this slot, or in instructions
+    // that run by themselves if no slot is left.
+    pub(super) fn place(
+        &mut self,
+        cost: usize,
+        own: usize,
+        slot: usize,
+        exits: &Exits,
+    ) -> Result<Place, AllocError>
+        requires { 0 < own }
+        ensures { IfOk result (λ place. IsPlace cost own slot exits.now place) }
+    {
+        if slot < SLOTS {
+            return Ok(Place {
+                cost: more(cost, own)?,
+                slot,
+                exits: exits.again()?,
+                nested: false,
+            });
+        }
+        Ok(Place {
+            cost: own - 1,
+            slot: 0,
+            exits: self.ends()?,
+            nested: true,
+        })
+    }
+
+    // Saves the cursor in that slot before these instructions.
+    pub(super) fn saved(
+        &mut self,
+        place: &Place,
+        inner: Rc<Instruction>,
+        cost: usize,
+        exits: &Exits,
+    ) -> Result<Rc<Instruction>, AllocError>
+        ensures { IfOk result (λ made. (tables : ℕ → Listing) (meaning : Meaning) (own slot : ℕ) → IsPlace cost own slot exits.now place.now → ((entry : TheInstruction) → Saves place.now.cost place.now.slot inner.value entry → Exited tables meaning place.now.cost place.now.slot place.now.exits entry) → Exited tables (λ p levels m s. then_on (pays own s) (meaning p levels m)) cost slot exits.now made.value) }
+    {
+        let entry = self.save(place.cost, place.slot, inner)?;
+        if place.nested {
+            self.nested(entry, cost, exits)
+        } else {
+            Ok(entry)
+        }
+    }
+
+    // `not C`
+    #[cycle(command)]
+    pub(super) fn not(
+        &mut self,
+        inner: &Node,
+        cost: usize,
+        slot: usize,
+        exits: &Exits,
+    ) -> Result<Rc<Instruction>, AllocError>
+        ensures { IfOk result (λ made. (tables : ℕ → Listing) → Exited tables (λ p levels. pay_first (not_of (runs p levels (view_node tables inner.now)))) cost slot exits.now made.value) }
+    {
+        let place = self.place(cost, 1, slot, exits)?;
+        let own = Exits {
+            next: place.exits.fail.clone()?,
+            fail: self.restore(place.slot, &place.exits.next)?,
+        };
+        let entry = self.command(inner, 0, place.slot + 1, &own)?;
+        self.saved(&place, entry, cost, exits)
+    }
+
+    // `test C`
+    #[cycle(command)]
+    pub(super) fn test(
+        &mut self,
+        inner: &Node,
+        cost: usize,
+        slot: usize,
+        exits: &Exits,
+    ) -> Result<Rc<Instruction>, AllocError>
+        ensures { IfOk result (λ made. (tables : ℕ → Listing) → Exited tables (λ p levels. pay_first (test_of (runs p levels (view_node tables inner.now)))) cost slot exits.now made.value) }
+    {
+        let place = self.place(cost, 1, slot, exits)?;
+        let own = Exits {
+            next: self.restore(place.slot, &place.exits.next)?,
+            fail: place.exits.fail.clone()?,
+        };
+        let entry = self.command(inner, 0, place.slot + 1, &own)?;
+        self.saved(&place, entry, cost, exits)
+    }
+
+    // `try C`
+    #[cycle(command)]
+    pub(super) fn attempt(
+        &mut self,
+        inner: &Node,
+        cost: usize,
+        slot: usize,
+        exits: &Exits,
+    ) -> Result<Rc<Instruction>, AllocError>
+        ensures { IfOk result (λ made. (tables : ℕ → Listing) → Exited tables (λ p levels. pay_first (try_of (runs p levels (view_node tables inner.now)))) cost slot exits.now made.value) }
+    {
+        let place = self.place(cost, 1, slot, exits)?;
+        let own = Exits {
+            next: place.exits.next.clone()?,
+            fail: self.restore(place.slot, &place.exits.next)?,
+        };
+        let entry = self.command(inner, 0, place.slot + 1, &own)?;
+        self.saved(&place, entry, cost, exits)
+    }
+
+    // `do C`
+    #[cycle(command)]
+    pub(super) fn do_always(
+        &mut self,
+        inner: &Node,
+        cost: usize,
+        slot: usize,
+        exits: &Exits,
+    ) -> Result<Rc<Instruction>, AllocError>
+        ensures { IfOk result (λ made. (tables : ℕ → Listing) → Exited tables (λ p levels. pay_first (do_of (runs p levels (view_node tables inner.now)))) cost slot exits.now made.value) }
+    {
+        let place = self.place(cost, 1, slot, exits)?;
+        let own = Exits {
+            next: self.restore(place.slot, &place.exits.next)?,
+            fail: self.restore(place.slot, &place.exits.next)?,
+        };
+        let entry = self.command(inner, 0, place.slot + 1, &own)?;
+        self.saved(&place, entry, cost, exits)
+    }
+
+    // Where a row goes on after its first command.
+    #[cycle(command)]
+    pub(super) fn rest(
+        &mut self,
+        others: &[JoinedNode],
+        slot: usize,
+        exits: &Exits,
+    ) -> Result<Exits, AllocError>
+        ensures { IfOk result (λ rest. (tables : ℕ → Listing) → slot < 4 → IsRest tables slot (map (view_next_command tables) others.now) exits.now rest) }
+    {
+        let mut rest = exits.again()?;
+        let mut i = others.len();
+        while 0 < i {
+            i -= 1;
+            rest = self.joined(&others[i], slot, &rest)?;
+        }
+        Ok(rest)
+    }
+
+    // Where a row goes on before one of its commands, if it goes on like this after it.
+    #[cycle(command)]
+    pub(super) fn joined(
+        &mut self,
+        other: &JoinedNode,
+        slot: usize,
+        rest: &Exits,
+    ) -> Result<Exits, AllocError>
+        ensures { IfOk result (λ made. (tables : ℕ → Listing) (exits : TheExits) (others : List JoinedView) → slot < 4 → IsRest tables slot others exits rest.now → IsRest tables slot (view_next_command tables other.now ∷ others) exits made) }
+    {
+        let entry = self.command(&other.command, 0, slot.saturating_add(1), rest)?;
+        let back = self.restore(slot, &entry)?;
+        match other.joiner {
+            Joiner::Or => Ok(Exits {
+                next: rest.next.clone()?,
+                fail: back,
+            }),
+            Joiner::And => Ok(Exits {
+                next: back,
+                fail: rest.fail.clone()?,
+            }),
+        }
+    }
+}
