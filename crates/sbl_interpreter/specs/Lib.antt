@@ -7,7 +7,7 @@ pub mod Run
 pub mod Start
 pub mod Halts
 pub mod Endings
--- what the functions inside the crate promise each other; no public contract depends on these
 pub mod Rows
+-- what the functions inside the crate promise each other; no public contract depends on these
 pub mod Slots
 pub mod Marks

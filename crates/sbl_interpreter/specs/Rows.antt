@@ -1,5 +1,5 @@
--- Rows, sums and products as the machine runs them, one part after another. You need not believe anything here: it is
--- what the functions that run a row, a sum and a product promise each other.
+-- Rows, sums and products one part after another, and several steps at once. A definition that must be believed rests on none
+-- of these: functions that run a row, a sum or a product promise them.
 use Rattle.std.specs.Prelude.{ℕ, ℤ, zero, suc, ◌-◌, ◌+ℤ◌, ◌-ℤ◌, ◌*ℤ◌, Bool, true, false, not, List, [], ◌∷◌, length, if◌then◌else◌}
 use Rattle.sbl_ast.specs.declared.tree.Joiner.{Joiner}
 use Rattle.sbl_ast.specs.declared.tree.Joiner.TheVariants.{Or, And}
