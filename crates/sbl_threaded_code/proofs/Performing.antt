@@ -22,8 +22,8 @@ use Rattle.sbl_threaded_code.specs.declared.instruction.Group.{Group, out-Group}
 use Rattle.sbl_threaded_code.specs.declared.assembler.Exits.{Exits}
 use Rattle.sbl_threaded_code.specs.declared.assembler.Place.{Place}
 use Rattle.sbl_threaded_code.specs.Slots.{no_cursor, no_cursors}
-use Rattle.sbl_threaded_code.specs.Flow.{Flow, flow, group_flow, alone, chosen, fail_of, turns_of}
-use Rattle.sbl_threaded_code.specs.Performs.{Agree, GoesOn, Meaning, Performs, Ends, Restores, Saves, Runs, IsPlaced, IsPlace, ArePerformed}
+use Rattle.sbl_threaded_code.specs.Flow.{Flow, flow, group_flow, alone, chosen, fail_of, turns_of, wrapped_of}
+use Rattle.sbl_threaded_code.specs.Performs.{Agree, GoesOn, Leaves, Meaning, Performs, Ends, Restores, Saves, Runs, IsPlaced, IsPlace, ArePerformed}
 use Rattle.sbl_threaded_code.proofs.Endings.{after_after, after_same, as_it_is, Passes, passes_then, pay_passes, pays_pass, back_passes, own_step, steps_more}
 
 -- ---- slots
@@ -132,15 +132,6 @@ in_turn tables c d cost n next fail middle entry h k p levels m slots go stop l 
 
 -- ---- saved cursors
 
--- what follows a command in it, in which the cursor is saved in slot n
-abbrev pub Leaves : (ℕ → Listing) → ℕ → Instruction → Instruction → Instruction → (Mode → SavedCursor → State → Ending) → Type 0
-Leaves tables n next fail own on =
-    (p : programs.Program) (levels : ℕ) (m : Mode) (slots ys : List SavedCursor) (go stop : State → Ending) →
-    GoesOn (flow p levels tables next) m n slots go →
-    GoesOn (flow p levels tables fail) m n slots stop →
-    Agree n slots ys →
-    GoesOn (flow p levels tables own) m (suc n) ys (λ t. after (on m (slice_index_or ys n no_cursor) t) go stop)
-
 pub leaves_next : (tables : ℕ → Listing) (n : ℕ) (next fail own : Instruction) → own ≡ next → Leaves tables n next fail own (λ m from. Signals true)
 leaves_next tables n next fail own e p levels m slots ys go stop g h a zs b s =
     ap (λ x. flow p levels tables x m zs s) e ∙ goes_deeper (flow p levels tables next) m n slots ys go a g zs b s
@@ -157,20 +148,16 @@ leaves_back tables n next fail own r p levels m slots ys go stop g h a zs b s =
     ∙ after_same (put_back m from s) (flow p levels tables next m zs) (Signals false) go (Signals false) (goes_deeper (flow p levels tables next) m n slots ys go a g zs b) (λ u. refl)
     ∙ back_passes m from s go (Signals false) stop
 
--- what a command does with the cursor saved before it
-abbrev pub wrapped : (Mode → SavedCursor → State → Ending) → (Mode → SavedCursor → State → Ending) → Doing → Doing
-wrapped on_t on_f c m s = after (c m s) (on_t m (saved_cursor s)) (on_f m (saved_cursor s))
-
 pub saving :
     (tables : ℕ → Listing) (c : Meaning) (on_t on_f : Mode → SavedCursor → State → Ending) (cost n k : ℕ) (next fail own_next own_fail inner entry : Instruction) →
     k ≡ n + 1 → n < 4 → Saves cost n inner entry →
     Performs tables c 0 k own_next own_fail inner →
     Leaves tables n next fail own_next on_t → Leaves tables n next fail own_fail on_f →
-    Performs tables (λ p levels. wrapped on_t on_f (c p levels)) cost n next fail entry
+    Performs tables (λ p levels. wrapped_of on_t on_f (c p levels)) cost n next fail entry
 saving tables c on_t on_f cost n deep next fail own_next own_fail inner entry is small saves h' lt lf p levels m slots go stop l g k ys a s =
     let one : deep ≡ suc n = omega (arith, is) in
     let h = subst (λ j. Performs tables c 0 j own_next own_fail inner) one h' in
-    let d = λ (u : State). wrapped on_t on_f (c p levels) m u in
+    let d = λ (u : State). wrapped_of on_t on_f (c p levels) m u in
     let room : n < length ys = omega (arith, a.as_many, l) in
     let inside = λ (u : State).
     let v = saved_cursor u in

@@ -22,6 +22,8 @@ use Rattle.sbl_semantics.specs.declared.cursor.SavedCursor.{SavedCursor}
 use Rattle.sbl_ast.specs.declared.mode.Mode.{Mode}
 use Rattle.sbl_ast.specs.declared.mode.Mode.TheVariants.{Backward}
 use Rattle.sbl_threaded_code.specs.Slots.{no_cursor, no_cursors}
+use Rattle.sbl_threaded_code.specs.declared.assembler.Way.{Way}
+use Rattle.sbl_threaded_code.specs.declared.assembler.Way.TheVariants.{Next, Fail, Back}
 use Rattle.sbl_threaded_code.specs.declared.instruction.Instruction.{Instruction}
 use Rattle.sbl_threaded_code.specs.declared.instruction.Instruction.TheOpen.{Instruction-F, Group-F}
 use Rattle.sbl_threaded_code.specs.declared.instruction.Instruction.TheOpen as code
@@ -37,6 +39,16 @@ abbrev pub alone : Flow → Doing
 alone f m s = f m no_cursors s
 
 -- ---- what commands do, given what the commands in them do
+
+-- how it goes on after the command in it, with this saved cursor
+abbrev pub way_does : Way → Mode → SavedCursor → State → Ending
+way_does Next m from s = Signals true s
+way_does Fail m from s = Signals false s
+way_does Back m from s = put_back m from s
+
+-- a command that saves the cursor before the command in it
+abbrev pub wrapped_of : (Mode → SavedCursor → State → Ending) → (Mode → SavedCursor → State → Ending) → Doing → Doing
+wrapped_of on_t on_f c m s = after (c m s) (on_t m (saved_cursor s)) (on_f m (saved_cursor s))
 
 abbrev pub not_of : Doing → Doing
 not_of c m s = after (c m s) (Signals false) (put_back m (saved_cursor s))
@@ -61,6 +73,14 @@ loop_of n c m s = continue_with (value n m s) s (λ z. times (count_of z) c m s)
 
 abbrev pub at_least_of : programs.Arithmetic → Doing → Doing
 at_least_of n c m s = after (loop_of n c m s) (turns_of c m) (Signals false)
+
+abbrev pub counted_of : Bool → programs.Arithmetic → Doing → Doing
+counted_of true = at_least_of
+counted_of false = loop_of
+
+abbrev pub bracket_of : Bool → Mode → State → State
+bracket_of true = left_bracket
+bracket_of false = right_bracket
 
 abbrev pub seek_of : Bool → Doing → Doing
 seek_of past c m s = seeks (suc s.steps) past c m s

@@ -77,6 +77,15 @@ IsPlaced true cost own slot exits place =
 abbrev pub IsPlace : ℕ → ℕ → ℕ → Exits → Place → Type 0
 IsPlace cost own slot exits place = (place.slot < 4) × (0 < own) × IsPlaced place.nested cost own slot exits place
 
+-- what follows a command in it, in which the cursor is saved in slot n
+abbrev pub Leaves : (ℕ → Listing) → ℕ → Instruction → Instruction → Instruction → (Mode → SavedCursor → State → Ending) → Type 0
+Leaves tables n next fail own on =
+    (p : programs.Program) (levels : ℕ) (m : Mode) (slots ys : List SavedCursor) (go stop : State → Ending) →
+    GoesOn (flow p levels tables next) m n slots go →
+    GoesOn (flow p levels tables fail) m n slots stop →
+    Agree n slots ys →
+    GoesOn (flow p levels tables own) m (suc n) ys (λ t. after (on m (slice_index_or ys n no_cursor) t) go stop)
+
 -- From these exits on, a run does what is left of a row after t and after f. The cursor at the beginning of the row is in
 -- slot n.
 abbrev pub IsRest : (ℕ → Listing) → ℕ → List JoinedView → Exits → Exits → Type 0

@@ -1,15 +1,27 @@
 //! Makes the code of a program.
 
-ghost use Rattle.std.specs.Prelude.{◌≡◌, ◌<◌, ◌+◌, ℕ, true, false, IfOk};
+ghost use Rattle.std.specs.Prelude.{◌≡◌, ◌+◌, ℕ, false, IfOk};
 ghost use Rattle.sbl_program.specs.AmongStrings.{Listing};
 ghost use Rattle.sbl_program.specs.ProgramOf.{view_node, view_nodes, view_routine};
-ghost use Rattle.sbl_interpreter.specs.Run.{runs, all_run, group_runs};
 ghost use Rattle.sbl_semantics.specs.Choices.{choice};
+ghost use Rattle.sbl_interpreter.specs.Run.{runs, all_run, group_runs};
 ghost use Rattle.sbl_semantics.specs.Control.{pay_first};
+ghost use Rattle.sbl_threaded_code.specs.Performs.{Meaning, Exited, Runs};
+ghost use Rattle.sbl_threaded_code.specs.Flow.{fail_of};
 ghost use Rattle.sbl_semantics.specs.State.{Signals, after};
 ghost use Rattle.sbl_threaded_code.specs.CodeOf.{IsCodeOf, AreCodeOf};
-ghost use Rattle.sbl_threaded_code.specs.Flow.{fail_of};
-ghost use Rattle.sbl_threaded_code.specs.Performs.{Meaning, Exited, Runs, ArePerformed};
+
+// Makes an instruction that goes on with the exits of a command.
+macro_rules! emit {
+    ($assembler:ident, $exits:ident, $kind:ident { $($field:ident),* }) => {{
+        let Exits { next, fail } = $exits.again()?;
+        $assembler.emit(Instruction::$kind {
+            $($field,)*
+            next,
+            fail,
+        })
+    }};
+}
 
 mod acting;
 mod emitting;
@@ -34,6 +46,17 @@ pub struct Assembler {
 pub struct Exits {
     next: Rc<Instruction>,
     fail: Rc<Instruction>,
+}
+
+/// How a command that saved the cursor goes on after the command in it.
+#[derive(Clone, Copy)]
+pub enum Way {
+    /// With what follows t.
+    Next,
+    /// With what follows f.
+    Fail,
+    /// It puts the cursor back, and goes on with what follows t.
+    Back,
 }
 
 /// Where a command saves the cursor, and where it goes on from there.
@@ -129,17 +152,17 @@ impl Assembler {
                 let entry = self.command(first, 0, place.slot + 1, &rest)?;
                 self.saved(&place, entry, cost, exits)
             }
-            Node::Not(inner) => self.not(inner, cost, slot, exits),
-            Node::Test(inner) => self.test(inner, cost, slot, exits),
-            Node::Try(inner) => self.attempt(inner, cost, slot, exits),
-            Node::Do(inner) => self.do_always(inner, cost, slot, exits),
+            Node::Not(inner) => self.wrapped(inner, Way::Fail, Way::Back, cost, slot, exits),
+            Node::Test(inner) => self.wrapped(inner, Way::Back, Way::Fail, cost, slot, exits),
+            Node::Try(inner) => self.wrapped(inner, Way::Next, Way::Back, cost, slot, exits),
+            Node::Do(inner) => self.wrapped(inner, Way::Back, Way::Back, cost, slot, exits),
             Node::Fail(inner) => self.fail(inner, cost, slot, exits),
             Node::Repeat(inner) => self.repeat(inner, cost, exits),
-            Node::Loop(count, inner) => self.turns(inner, count, cost, exits),
-            Node::AtLeast(count, inner) => self.at_least(inner, count, cost, exits),
+            Node::Loop(count, inner) => self.counted(inner, count, false, cost, exits),
+            Node::AtLeast(count, inner) => self.counted(inner, count, true, cost, exits),
             Node::Goto(inner) => self.seek(false, inner, cost, exits),
             Node::GoPast(inner) => self.seek(true, inner, cost, exits),
-            Node::Backwards(inner) => self.backwards(inner, cost, exits),
+            Node::Backwards(inner) => self.backwards(cost, exits, inner),
             Node::SetLimit(first, second) => {
                 let second = self.body(second)?;
                 self.set_limit(first, second, cost, exits)
@@ -155,7 +178,7 @@ impl Assembler {
                 before,
                 bodies,
             } => {
-                let choose = self.groups(bodies, *among, slot, exits)?;
+                let choose = self.groups(*among, slot, exits, bodies)?;
                 self.among(before, choose, cost, slot, exits)
             }
         }
@@ -234,32 +257,18 @@ impl Assembler {
     #[cycle(command)]
     fn groups(
         &mut self,
-        bodies: &[Node],
         among: usize,
         slot: usize,
         exits: &Exits,
+        bodies: &[Node],
     ) -> Result<Rc<Instruction>, AllocError>
         ensures { IfOk result (λ made. (tables : ℕ → Listing) → Exited tables (λ p levels m t. group_runs p levels (view_nodes tables bodies.now) (choice among t) m t) 0 slot exits.now made.value) }
-    {
-        let entries = self.bodies(bodies, slot, exits)?;
-        self.choose(among, entries, 0, exits)
-    }
-
-    // The commands of an among's groups.
-    #[cycle(command)]
-    fn bodies(
-        &mut self,
-        bodies: &[Node],
-        slot: usize,
-        exits: &Exits,
-    ) -> Result<Vec<Group>, AllocError>
-        ensures { IfOk result (λ made. (tables : ℕ → Listing) → ArePerformed tables bodies.now slot exits.now made.items) }
     {
         let mut entries = Vec::new(self.alloc);
         for body in bodies {
             let first = self.command(body, 0, slot, exits)?;
             entries.push(Group { first })?;
         }
-        Ok(entries)
+        self.choose(among, entries, 0, exits)
     }
 }

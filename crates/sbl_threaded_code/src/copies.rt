@@ -59,10 +59,10 @@ pub fn copy_number(alloc: Global, number: &Arithmetic) -> Result<Arithmetic, All
         }
         Arithmetic::Product { first, others } => {
             let copy = copy_number(alloc, first)?;
-            let rest = copy_factors(alloc, others)?;
+            let rest = copy_factors(others, alloc)?;
             Ok(Arithmetic::Product {
-                first: Box::new(alloc, copy)?,
                 others: rest,
+                first: Box::new(alloc, copy)?,
             })
         }
     }
@@ -78,7 +78,7 @@ fn copy_addends(alloc: Global, others: &[Addend]) -> Result<Vec<Addend>, AllocEr
 
 // Copies the factors after the first one of a product.
 #[cycle(copy)]
-fn copy_factors(alloc: Global, others: &[Multiplicand]) -> Result<Vec<Multiplicand>, AllocError>
+fn copy_factors(others: &[Multiplicand], alloc: Global) -> Result<Vec<Multiplicand>, AllocError>
     ensures { IfOk result (λ copies. map view_next_factor copies.items ≡ map view_next_factor others.now) }
 {
     copy_each!(alloc, others, Multiplicand, copies, other, number)

@@ -1,14 +1,14 @@
 //! Commands that contain no command.
 
-ghost use Rattle.std.specs.Prelude.{◌<◌, ℕ, [], true, false, ◌∷◌, IfOk};
-ghost use Rattle.sbl_char_class.specs.Terms.{class_at};
-ghost use Rattle.sbl_program.specs.AmongStrings.{Listing};
-ghost use Rattle.sbl_program.specs.ProgramOf.{view_action};
-ghost use Rattle.sbl_interpreter.specs.Actions.{acts, test_grouping};
 ghost use Rattle.sbl_semantics.specs.Moves.{match, test_boolean, next as move_next};
-ghost use Rattle.sbl_semantics.specs.Slices.{left_bracket, right_bracket};
-ghost use Rattle.sbl_semantics.specs.State.{Signals};
+ghost use Rattle.sbl_program.specs.AmongStrings.{Listing};
+ghost use Rattle.sbl_char_class.specs.Terms.{class_at};
+ghost use Rattle.std.specs.Prelude.{ℕ, [], true, ◌∷◌, IfOk};
 ghost use Rattle.sbl_threaded_code.specs.Performs.{Exited};
+ghost use Rattle.sbl_threaded_code.specs.Flow.{bracket_of};
+ghost use Rattle.sbl_semantics.specs.State.{Signals};
+ghost use Rattle.sbl_interpreter.specs.Actions.{acts, test_grouping};
+ghost use Rattle.sbl_program.specs.ProgramOf.{view_action};
 
 use crate::assembler::{Assembler, Exits};
 use crate::copies::copy_action;
@@ -30,35 +30,29 @@ impl Assembler {
         match action {
             Action::Match(term) => match term {
                 StringTerm::Literal(string) => self.literal(string, cost, exits),
-                _ => self.act_any(action, cost, exits),
+                _ => self.act_any(cost, exits, action),
             },
             Action::Grouping(number) => self.grouping(true, *number, cost, exits),
             Action::NonGrouping(number) => self.grouping(false, *number, cost, exits),
             Action::Next => self.next(cost, exits),
-            Action::LeftBracket => self.left_bracket(cost, exits),
-            Action::RightBracket => self.right_bracket(cost, exits),
+            Action::LeftBracket => self.bracket(true, cost, exits),
+            Action::RightBracket => self.bracket(false, cost, exits),
             Action::Boolean(number) => self.boolean(*number, cost, exits),
-            _ => self.act_any(action, cost, exits),
+            _ => self.act_any(cost, exits, action),
         }
     }
 
     // Any other command that contains no command.
     pub(super) fn act_any(
         &mut self,
-        action: &Action,
         cost: usize,
         exits: &Exits,
+        action: &Action,
     ) -> Result<Rc<Instruction>, AllocError>
         ensures { IfOk result (λ made. (tables : ℕ → Listing) (n : ℕ) → Exited tables (λ p levels. acts p.groupings (view_action action.now)) cost n exits.now made.value) }
     {
         let action = copy_action(self.alloc, action)?;
-        let Exits { next, fail } = exits.again()?;
-        self.emit(Instruction::Act {
-            cost,
-            action,
-            next,
-            fail,
-        })
+        emit!(self, exits, Act { cost, action })
     }
 
     // A literal of one character.
@@ -70,13 +64,7 @@ impl Assembler {
     ) -> Result<Rc<Instruction>, AllocError>
         ensures { IfOk result (λ made. (tables : ℕ → Listing) (n : ℕ) → Exited tables (λ p levels m s. match (character ∷ []) m s) cost n exits.now made.value) }
     {
-        let Exits { next, fail } = exits.again()?;
-        self.emit(Instruction::Character {
-            cost,
-            character,
-            next,
-            fail,
-        })
+        emit!(self, exits, Character { cost, character })
     }
 
     // A literal.
@@ -92,13 +80,7 @@ impl Assembler {
             return self.character(string[0], cost, exits);
         }
         let string = Vec::from_slice(self.alloc, string)?;
-        let Exits { next, fail } = exits.again()?;
-        self.emit(Instruction::Literal {
-            cost,
-            string,
-            next,
-            fail,
-        })
+        emit!(self, exits, Literal { cost, string })
     }
 
     // A grouping, or `non` and a grouping.
@@ -111,14 +93,15 @@ impl Assembler {
     ) -> Result<Rc<Instruction>, AllocError>
         ensures { IfOk result (λ made. (tables : ℕ → Listing) (n : ℕ) → Exited tables (λ p levels m s. test_grouping wanted (class_at p.groupings grouping) grouping m s) cost n exits.now made.value) }
     {
-        let Exits { next, fail } = exits.again()?;
-        self.emit(Instruction::Grouping {
-            cost,
-            wanted,
-            grouping,
-            next,
-            fail,
-        })
+        emit!(
+            self,
+            exits,
+            Grouping {
+                cost,
+                wanted,
+                grouping
+            }
+        )
     }
 
     // `next`
@@ -138,36 +121,23 @@ impl Assembler {
     ) -> Result<Rc<Instruction>, AllocError>
         ensures { IfOk result (λ made. (tables : ℕ → Listing) (n : ℕ) → Exited tables (λ p levels m s. test_boolean number s) cost n exits.now made.value) }
     {
-        let Exits { next, fail } = exits.again()?;
-        self.emit(Instruction::Boolean {
-            cost,
-            number,
-            next,
-            fail,
-        })
+        emit!(self, exits, Boolean { cost, number })
     }
 
-    // `[`
-    pub(super) fn left_bracket(
+    // `[` if `left`, and else `]`.
+    fn bracket(
         &mut self,
+        left: bool,
         cost: usize,
         exits: &Exits,
     ) -> Result<Rc<Instruction>, AllocError>
-        ensures { IfOk result (λ made. (tables : ℕ → Listing) (n : ℕ) → Exited tables (λ p levels m s. Signals true (left_bracket m s)) cost n exits.now made.value) }
+        ensures { IfOk result (λ made. (tables : ℕ → Listing) (n : ℕ) → Exited tables (λ p levels m s. Signals true (bracket_of left m s)) cost n exits.now made.value) }
     {
         let next = exits.next.clone()?;
-        self.emit(Instruction::LeftBracket { cost, next })
-    }
-
-    // `]`
-    pub(super) fn right_bracket(
-        &mut self,
-        cost: usize,
-        exits: &Exits,
-    ) -> Result<Rc<Instruction>, AllocError>
-        ensures { IfOk result (λ made. (tables : ℕ → Listing) (n : ℕ) → Exited tables (λ p levels m s. Signals true (right_bracket m s)) cost n exits.now made.value) }
-    {
-        let next = exits.next.clone()?;
-        self.emit(Instruction::RightBracket { cost, next })
+        if left {
+            self.emit(Instruction::LeftBracket { cost, next })
+        } else {
+            self.emit(Instruction::RightBracket { cost, next })
+        }
     }
 }

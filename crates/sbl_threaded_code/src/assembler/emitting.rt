@@ -1,17 +1,17 @@
 //! Instructions of all kinds but the commonest, and their exits.
 
-ghost use Rattle.std.specs.Prelude.{◌≡◌, ◌<◌, ℕ, List, true, false, IfOk};
+ghost use Rattle.std.specs.Prelude.{◌≡◌, ℕ, List, true, false, IfOk};
 ghost use Rattle.sbl_char_class.specs.Terms.{class_at};
+ghost use Rattle.sbl_threaded_code.specs.Performs.{Exited, Ends, Restores, Saves, ArePerformed};
 ghost use Rattle.sbl_program.specs.AmongStrings.{Listing};
+ghost use Rattle.sbl_threaded_code.specs.Flow.{flow, alone, seek_of};
 ghost use Rattle.sbl_program.specs.ProgramOf.{view_nodes};
-ghost use Rattle.sbl_interpreter.specs.Actions.{test_grouping};
 ghost use Rattle.sbl_interpreter.specs.Run.{group_runs, calls};
+ghost use Rattle.sbl_interpreter.specs.Actions.{test_grouping};
 ghost use Rattle.sbl_interpreter.specs.Search.{search_all};
 ghost use Rattle.sbl_semantics.specs.Choices.{choice};
 ghost use Rattle.sbl_semantics.specs.Control.{pay_first};
-ghost use Rattle.sbl_semantics.specs.State.{Signals, after};
-ghost use Rattle.sbl_threaded_code.specs.Flow.{flow, alone, seek_of};
-ghost use Rattle.sbl_threaded_code.specs.Performs.{Exited, Ends, Restores, Saves, ArePerformed};
+ghost use Rattle.sbl_semantics.specs.State.{Signals};
 
 use crate::assembler::{Assembler, Exits};
 use crate::instruction::{Group, Instruction};
@@ -80,13 +80,7 @@ impl Assembler {
     ) -> Result<Rc<Instruction>, AllocError>
         ensures { IfOk result (λ made. (tables : ℕ → Listing) (n : ℕ) → Exited tables (λ p levels. pay_first (calls p levels routine)) cost n exits.now made.value) }
     {
-        let Exits { next, fail } = exits.again()?;
-        self.emit(Instruction::Call {
-            cost,
-            routine,
-            next,
-            fail,
-        })
+        emit!(self, exits, Call { cost, routine })
     }
 
     // The search of an among.
@@ -101,15 +95,16 @@ impl Assembler {
         ensures { IfOk result (λ made. (tables : ℕ → Listing) (n : ℕ) → Exited tables (λ p levels. pay_first (search_all (calls p levels) among entries.now (tables table))) cost n exits.now made.value) }
     {
         let entries = Vec::from_slice(self.alloc, entries)?;
-        let Exits { next, fail } = exits.again()?;
-        self.emit(Instruction::Search {
-            cost,
-            among,
-            table,
-            entries,
-            next,
-            fail,
-        })
+        emit!(
+            self,
+            exits,
+            Search {
+                cost,
+                among,
+                table,
+                entries
+            }
+        )
     }
 
     // `goto` and `gopast` of a grouping, or of `non` and a grouping.
@@ -123,15 +118,16 @@ impl Assembler {
     ) -> Result<Rc<Instruction>, AllocError>
         ensures { IfOk result (λ made. (tables : ℕ → Listing) (n : ℕ) → Exited tables (λ p levels. seek_of past (pay_first (test_grouping wanted (class_at p.groupings grouping) grouping))) cost n exits.now made.value) }
     {
-        let Exits { next, fail } = exits.again()?;
-        self.emit(Instruction::SeekGrouping {
-            cost,
-            past,
-            grouping,
-            wanted,
-            next,
-            fail,
-        })
+        emit!(
+            self,
+            exits,
+            SeekGrouping {
+                cost,
+                past,
+                grouping,
+                wanted
+            }
+        )
     }
 
     // Instructions that run with slots of their own, after one step.
@@ -143,13 +139,7 @@ impl Assembler {
     ) -> Result<Rc<Instruction>, AllocError>
         ensures { IfOk result (λ made. (tables : ℕ → Listing) (n : ℕ) → Exited tables (λ p levels. pay_first (alone (flow p levels tables body.value))) cost n exits.now made.value) }
     {
-        let Exits { next, fail } = exits.again()?;
-        self.emit(Instruction::Nested {
-            cost,
-            body,
-            next,
-            fail,
-        })
+        emit!(self, exits, Nested { cost, body })
     }
 
     // Goes on with the command of the chosen group.
@@ -162,13 +152,14 @@ impl Assembler {
     ) -> Result<Rc<Instruction>, AllocError>
         ensures { IfOk result (λ made. (tables : ℕ → Listing) (nodes : List Node) (n : ℕ) → ArePerformed tables nodes n exits.now bodies.items → Exited tables (λ p levels m t. group_runs p levels (view_nodes tables nodes) (choice among t) m t) cost n exits.now made.value) }
     {
-        let Exits { next, fail } = exits.again()?;
-        self.emit(Instruction::Choose {
-            cost,
-            among,
-            bodies,
-            next,
-            fail,
-        })
+        emit!(
+            self,
+            exits,
+            Choose {
+                cost,
+                among,
+                bodies
+            }
+        )
     }
 }

@@ -1,13 +1,12 @@
 //! Loops, `backwards` and `setlimit`: their commands run by themselves.
 
-ghost use Rattle.std.specs.Prelude.{◌<◌, ℕ, true, false, IfOk};
 ghost use Rattle.sbl_program.specs.AmongStrings.{Listing};
+ghost use Rattle.std.specs.Prelude.{ℕ, IfOk};
 ghost use Rattle.sbl_program.specs.ProgramOf.{view_number, view_node};
-ghost use Rattle.sbl_interpreter.specs.Run.{runs};
 ghost use Rattle.sbl_semantics.specs.Control.{pay_first};
-ghost use Rattle.sbl_semantics.specs.Moves.{match};
-ghost use Rattle.sbl_threaded_code.specs.Flow.{flow, alone, turns_of, loop_of, at_least_of, seek_of, backwards_of, limited_of};
 ghost use Rattle.sbl_threaded_code.specs.Performs.{Exited};
+ghost use Rattle.sbl_threaded_code.specs.Flow.{flow, alone, turns_of, counted_of, seek_of, backwards_of, limited_of};
+ghost use Rattle.sbl_interpreter.specs.Run.{runs};
 
 use crate::assembler::{Assembler, Exits, more};
 use crate::copies::copy_number;
@@ -51,9 +50,9 @@ impl Assembler {
                 Action::NonGrouping(number) => {
                     self.seek_grouping(past, *number, false, more(cost, 1)?, exits)
                 }
-                _ => self.seek_any(past, inner, cost, exits),
+                _ => self.seek_any(inner, past, exits, cost),
             },
-            _ => self.seek_any(past, inner, cost, exits),
+            _ => self.seek_any(inner, past, exits, cost),
         }
     }
 
@@ -61,88 +60,29 @@ impl Assembler {
     #[cycle(command)]
     pub(super) fn seek_any(
         &mut self,
-        past: bool,
         inner: &Node,
-        cost: usize,
+        past: bool,
         exits: &Exits,
+        cost: usize,
     ) -> Result<Rc<Instruction>, AllocError>
         ensures { IfOk result (λ made. (tables : ℕ → Listing) (n : ℕ) → Exited tables (λ p levels. pay_first (seek_of past (runs p levels (view_node tables inner.now)))) cost n exits.now made.value) }
     {
         let body = self.body(inner)?;
-        let Exits { next, fail } = exits.again()?;
-        self.emit(Instruction::Seek {
-            cost,
-            past,
-            body,
-            next,
-            fail,
-        })
-    }
-
-    // `loop AE C`
-    #[cycle(command)]
-    pub(super) fn turns(
-        &mut self,
-        inner: &Node,
-        count: &Arithmetic,
-        cost: usize,
-        exits: &Exits,
-    ) -> Result<Rc<Instruction>, AllocError>
-        ensures { IfOk result (λ made. (tables : ℕ → Listing) (n : ℕ) → Exited tables (λ p levels. pay_first (loop_of (view_number count.now) (runs p levels (view_node tables inner.now)))) cost n exits.now made.value) }
-    {
-        let body = self.body(inner)?;
-        let count = copy_number(self.alloc, count)?;
-        let Exits { next, fail } = exits.again()?;
-        self.emit(Instruction::Loop {
-            cost,
-            count,
-            body,
-            next,
-            fail,
-        })
-    }
-
-    // `atleast AE C`
-    #[cycle(command)]
-    pub(super) fn at_least(
-        &mut self,
-        inner: &Node,
-        count: &Arithmetic,
-        cost: usize,
-        exits: &Exits,
-    ) -> Result<Rc<Instruction>, AllocError>
-        ensures { IfOk result (λ made. (tables : ℕ → Listing) (n : ℕ) → Exited tables (λ p levels. pay_first (at_least_of (view_number count.now) (runs p levels (view_node tables inner.now)))) cost n exits.now made.value) }
-    {
-        let body = self.body(inner)?;
-        let count = copy_number(self.alloc, count)?;
-        let Exits { next, fail } = exits.again()?;
-        self.emit(Instruction::AtLeast {
-            cost,
-            count,
-            body,
-            next,
-            fail,
-        })
+        emit!(self, exits, Seek { cost, past, body })
     }
 
     // `backwards C`
     #[cycle(command)]
     pub(super) fn backwards(
         &mut self,
-        inner: &Node,
         cost: usize,
         exits: &Exits,
+        inner: &Node,
     ) -> Result<Rc<Instruction>, AllocError>
         ensures { IfOk result (λ made. (tables : ℕ → Listing) (n : ℕ) → Exited tables (λ p levels. pay_first (backwards_of (runs p levels (view_node tables inner.now)))) cost n exits.now made.value) }
     {
         let body = self.body(inner)?;
-        let Exits { next, fail } = exits.again()?;
-        self.emit(Instruction::Backwards {
-            cost,
-            body,
-            next,
-            fail,
-        })
+        emit!(self, exits, Backwards { cost, body })
     }
 
     // `setlimit C1 for C2`, after C2 is made.
@@ -157,13 +97,35 @@ impl Assembler {
         ensures { IfOk result (λ made. (tables : ℕ → Listing) (n : ℕ) → Exited tables (λ p levels. pay_first (limited_of (runs p levels (view_node tables first.now)) (alone (flow p levels tables second.value)))) cost n exits.now made.value) }
     {
         let first = self.body(first)?;
-        let Exits { next, fail } = exits.again()?;
-        self.emit(Instruction::SetLimit {
-            cost,
-            first,
-            second,
-            next,
-            fail,
-        })
+        emit!(
+            self,
+            exits,
+            SetLimit {
+                cost,
+                first,
+                second
+            }
+        )
+    }
+
+    // `loop AE C`, and `atleast AE C` if `repeats`.
+    #[cycle(command)]
+    pub(super) fn counted(
+        &mut self,
+        inner: &Node,
+        count: &Arithmetic,
+        repeats: bool,
+        cost: usize,
+        exits: &Exits,
+    ) -> Result<Rc<Instruction>, AllocError>
+        ensures { IfOk result (λ made. (tables : ℕ → Listing) (n : ℕ) → Exited tables (λ p levels. pay_first (counted_of repeats (view_number count.now) (runs p levels (view_node tables inner.now)))) cost n exits.now made.value) }
+    {
+        let body = self.body(inner)?;
+        let count = copy_number(self.alloc, count)?;
+        if repeats {
+            emit!(self, exits, AtLeast { cost, count, body })
+        } else {
+            emit!(self, exits, Loop { cost, count, body })
+        }
     }
 }

@@ -1,20 +1,19 @@
 //! Commands that save the cursor.
 
-ghost use Rattle.std.specs.Prelude.{◌<◌, ◌+◌, ℕ, List, true, false, map, ◌∷◌, IfOk};
+ghost use Rattle.std.specs.Prelude.{◌<◌, ℕ, List, map, ◌∷◌, IfOk};
 ghost use Rattle.sbl_program.specs.AmongStrings.{Listing};
+ghost use Rattle.sbl_threaded_code.specs.Performs.{Leaves, Meaning, Exited, Saves, IsPlace, IsRest};
 ghost use Rattle.sbl_program.specs.Chains.{JoinedView};
 ghost use Rattle.sbl_program.specs.ProgramOf.{view_node, view_next_command};
 ghost use Rattle.sbl_interpreter.specs.Rows.{pays};
+ghost use Rattle.sbl_threaded_code.specs.Flow.{way_does, wrapped_of};
 ghost use Rattle.sbl_interpreter.specs.Run.{runs};
 ghost use Rattle.sbl_semantics.specs.Control.{pay_first};
-ghost use Rattle.sbl_semantics.specs.Moves.{match};
-ghost use Rattle.sbl_semantics.specs.State.{after, then_on};
+ghost use Rattle.sbl_semantics.specs.State.{then_on};
 ghost use Rattle.sbl_threaded_code.specs.declared.assembler.Exits.{Exits as TheExits};
-ghost use Rattle.sbl_threaded_code.specs.Flow.{not_of, test_of, try_of, do_of};
-ghost use Rattle.sbl_threaded_code.specs.Performs.{Meaning, Exited, Saves, IsPlace, IsRest};
 ghost use Rattle.sbl_threaded_code.specs.declared.instruction.Instruction.{Instruction as TheInstruction};
 
-use crate::assembler::{Assembler, Exits, Place, more};
+use crate::assembler::{Assembler, Exits, Place, Way, more};
 use crate::instruction::Instruction;
 use crate::slots::SLOTS;
 use sbl_ast::Joiner;
@@ -69,81 +68,34 @@ impl Assembler {
         }
     }
 
-    // `not C`
-    #[cycle(command)]
-    pub(super) fn not(
-        &mut self,
-        inner: &Node,
-        cost: usize,
-        slot: usize,
-        exits: &Exits,
-    ) -> Result<Rc<Instruction>, AllocError>
-        ensures { IfOk result (λ made. (tables : ℕ → Listing) → Exited tables (λ p levels. pay_first (not_of (runs p levels (view_node tables inner.now)))) cost slot exits.now made.value) }
+    // Where a command that saved the cursor goes on after the command in it.
+    fn way(&mut self, way: Way, place: &Place) -> Result<Rc<Instruction>, AllocError>
+        ensures { IfOk result (λ made. (tables : ℕ → Listing) → Leaves tables place.now.slot place.now.exits.next.value place.now.exits.fail.value made.value (way_does way)) }
     {
-        let place = self.place(cost, 1, slot, exits)?;
-        let own = Exits {
-            next: place.exits.fail.clone()?,
-            fail: self.restore(place.slot, &place.exits.next)?,
-        };
-        let entry = self.command(inner, 0, place.slot + 1, &own)?;
-        self.saved(&place, entry, cost, exits)
+        match way {
+            Way::Next => Ok(place.exits.next.clone()?),
+            Way::Fail => Ok(place.exits.fail.clone()?),
+            Way::Back => self.restore(place.slot, &place.exits.next),
+        }
     }
 
-    // `test C`
+    // `not C`, `test C`, `try C` and `do C`.
     #[cycle(command)]
-    pub(super) fn test(
+    pub(super) fn wrapped(
         &mut self,
         inner: &Node,
+        after_t: Way,
+        after_f: Way,
         cost: usize,
         slot: usize,
         exits: &Exits,
     ) -> Result<Rc<Instruction>, AllocError>
-        ensures { IfOk result (λ made. (tables : ℕ → Listing) → Exited tables (λ p levels. pay_first (test_of (runs p levels (view_node tables inner.now)))) cost slot exits.now made.value) }
+        ensures { IfOk result (λ made. (tables : ℕ → Listing) → Exited tables (λ p levels. pay_first (wrapped_of (way_does after_t) (way_does after_f) (runs p levels (view_node tables inner.now)))) cost slot exits.now made.value) }
     {
         let place = self.place(cost, 1, slot, exits)?;
         let own = Exits {
-            next: self.restore(place.slot, &place.exits.next)?,
-            fail: place.exits.fail.clone()?,
-        };
-        let entry = self.command(inner, 0, place.slot + 1, &own)?;
-        self.saved(&place, entry, cost, exits)
-    }
-
-    // `try C`
-    #[cycle(command)]
-    pub(super) fn attempt(
-        &mut self,
-        inner: &Node,
-        cost: usize,
-        slot: usize,
-        exits: &Exits,
-    ) -> Result<Rc<Instruction>, AllocError>
-        ensures { IfOk result (λ made. (tables : ℕ → Listing) → Exited tables (λ p levels. pay_first (try_of (runs p levels (view_node tables inner.now)))) cost slot exits.now made.value) }
-    {
-        let place = self.place(cost, 1, slot, exits)?;
-        let own = Exits {
-            next: place.exits.next.clone()?,
-            fail: self.restore(place.slot, &place.exits.next)?,
-        };
-        let entry = self.command(inner, 0, place.slot + 1, &own)?;
-        self.saved(&place, entry, cost, exits)
-    }
-
-    // `do C`
-    #[cycle(command)]
-    pub(super) fn do_always(
-        &mut self,
-        inner: &Node,
-        cost: usize,
-        slot: usize,
-        exits: &Exits,
-    ) -> Result<Rc<Instruction>, AllocError>
-        ensures { IfOk result (λ made. (tables : ℕ → Listing) → Exited tables (λ p levels. pay_first (do_of (runs p levels (view_node tables inner.now)))) cost slot exits.now made.value) }
-    {
-        let place = self.place(cost, 1, slot, exits)?;
-        let own = Exits {
-            next: self.restore(place.slot, &place.exits.next)?,
-            fail: self.restore(place.slot, &place.exits.next)?,
+            next: self.way(after_t, &place)?,
+            fail: self.way(after_f, &place)?,
         };
         let entry = self.command(inner, 0, place.slot + 1, &own)?;
         self.saved(&place, entry, cost, exits)

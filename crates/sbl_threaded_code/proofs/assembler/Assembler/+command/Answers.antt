@@ -1,6 +1,6 @@
 -- What the functions of the assembler's cycle owe.
 use Rattle.std.proofs.Common.{◌≡◌, ℕ, ◌+◌, ◌-◌, ◌<◌, ◌≤◌, suc, true, false, List, [], ◌∷◌, ◌++◌, length, map, take, drop, get_or, refl, sym, ap, subst, ◌∙◌, arith, rules}
-use Rattle.std.proofs.lemmas.List.{length-map, take_more, nil_from_length}
+use Rattle.std.proofs.lemmas.List.{length-map, take_more, take_all, nil_from_length}
 use Rattle.std.proofs.lemmas.Bool.Decides.{nat_tests}
 use Rattle.std.proofs.lemmas.Result.{IfOk-weaker}
 use Rattle.sbl_char_class.specs.Terms.{class_at}
@@ -18,11 +18,11 @@ use Rattle.sbl_interpreter.proofs.Rows.{part_is, row_does}
 use Rattle.sbl_semantics.specs.Choices.{choice}
 use Rattle.sbl_semantics.specs.Control.{pay_first}
 use Rattle.sbl_semantics.specs.State.{State, Doing, Signals, after, then_on, pay, saved_cursor, put_back}
-use Rattle.sbl_threaded_code.specs.Flow.{flow, alone, not_of, test_of, try_of, do_of, fail_of, turns_of, loop_of, at_least_of, seek_of, backwards_of, limited_of}
+use Rattle.sbl_threaded_code.specs.Flow.{flow, alone, way_does, wrapped_of, not_of, test_of, try_of, do_of, fail_of, turns_of, loop_of, at_least_of, counted_of, seek_of, backwards_of, limited_of}
 use Rattle.sbl_threaded_code.specs.Performs.{Performs, IsRest, ArePerformed}
 use Rattle.sbl_threaded_code.proofs.Endings.{after_after, after_same}
 use Rattle.sbl_threaded_code.proofs.Instructions.{flow_repeat, flow_loop, flow_at_least, flow_seek, flow_backwards, flow_set_limit}
-use Rattle.sbl_threaded_code.proofs.Performing.{emitted_at, made_of, runs_as, same_meaning, first_step, one_step, in_turn, saving, leaves_next, leaves_fail, leaves_back, by_itself, arm, failing, repeating}
+use Rattle.sbl_threaded_code.proofs.Performing.{emitted_at, made_of, runs_as, same_meaning, first_step, one_step, in_turn, saving, by_itself, arm, failing, repeating}
 use Rattle.sbl_threaded_code.proofs.Rests.{rest_or, rest_and, saving_row, performed_more}
 use Rattle.sbl_threaded_code.proofs.Views.{act_does, call_does, view_joiner, view_command}
 use Rattle.sbl_threaded_code.proofs.assembler.Assembler.+command.Goals as goal
@@ -53,31 +53,35 @@ seek_any-returns t c =
     (λ p levels m ys s. ap (λ i. flow p levels tables i m ys s) is ∙ flow_seek p levels tables m ys s c.args.cost c.args.past body o.next o.fail) n))
     c.emit.ensures
 
-pub turns-returns : goal.turns-returns
-turns-returns t c =
-    let e = c.args.exits.now in
-    let o = c.in_ok-next.field-0 in
-    let body = c.in_ok-body.body in
-    IfOk-weaker c.emit.result _ _
-    (λ made is. λ tables n.
-    let of = λ (p : programs.Program) (levels : ℕ) (d : Doing). loop_of (view_number c.args.count.now) d in
-    made_of tables of (λ p levels. runs p levels (view_node tables c.args.inner.now)) body.value c.args.cost n e.next.value e.fail.value made.value (c.in_ok-body.ensures tables)
-    (emitted_at tables (λ p levels. pay_first (of p levels (alone (flow p levels tables body.value)))) c.args.cost o.next.value o.fail.value e.next.value e.fail.value made.value c.in_ok-next.ensures.0 c.in_ok-next.ensures.1
-    (λ p levels m ys s. ap (λ i. flow p levels tables i m ys s) is ∙ flow_loop p levels tables m ys s c.args.cost c.in_ok-count.count body o.next o.fail ∙ ap (λ a. then_on (pays c.args.cost s) (λ u. after (pay_first (loop_of a (alone (flow p levels tables body.value))) m u) (flow p levels tables o.next.value m ys) (flow p levels tables o.fail.value m ys))) c.in_ok-count.ensures) n))
-    c.emit.ensures
-
-pub at_least-returns : goal.at_least-returns
-at_least-returns t c =
+pub counted-returns-in_ok-next : goal.counted-returns-in_ok-next
+counted-returns-in_ok-next t c =
     let e = c.args.exits.now in
     let o = c.in_ok-next.field-0 in
     let body = c.in_ok-body.body in
     IfOk-weaker c.emit.result _ _
     (λ made is. λ tables n.
     let of = λ (p : programs.Program) (levels : ℕ) (d : Doing). at_least_of (view_number c.args.count.now) d in
-    made_of tables of (λ p levels. runs p levels (view_node tables c.args.inner.now)) body.value c.args.cost n e.next.value e.fail.value made.value (c.in_ok-body.ensures tables)
+    same_meaning tables (λ p levels. pay_first (at_least_of (view_number c.args.count.now) (runs p levels (view_node tables c.args.inner.now)))) (λ p levels. pay_first (counted_of c.args.repeats (view_number c.args.count.now) (runs p levels (view_node tables c.args.inner.now)))) c.args.cost n e.next.value e.fail.value made.value
+    (λ p levels m s. ap (λ b. pay_first (counted_of b (view_number c.args.count.now) (runs p levels (view_node tables c.args.inner.now))) m s) (sym c.if-repeats.true))
+    (made_of tables of (λ p levels. runs p levels (view_node tables c.args.inner.now)) body.value c.args.cost n e.next.value e.fail.value made.value (c.in_ok-body.ensures tables)
     (emitted_at tables (λ p levels. pay_first (of p levels (alone (flow p levels tables body.value)))) c.args.cost o.next.value o.fail.value e.next.value e.fail.value made.value c.in_ok-next.ensures.0 c.in_ok-next.ensures.1
-    (λ p levels m ys s. ap (λ i. flow p levels tables i m ys s) is ∙ flow_at_least p levels tables m ys s c.args.cost c.in_ok-count.count body o.next o.fail ∙ ap (λ a. then_on (pays c.args.cost s) (λ u. after (pay_first (at_least_of a (alone (flow p levels tables body.value))) m u) (flow p levels tables o.next.value m ys) (flow p levels tables o.fail.value m ys))) c.in_ok-count.ensures) n))
+    (λ p levels m ys s. ap (λ i. flow p levels tables i m ys s) is ∙ flow_at_least p levels tables m ys s c.args.cost c.in_ok-count.count body o.next o.fail ∙ ap (λ a. then_on (pays c.args.cost s) (λ u. after (pay_first (at_least_of a (alone (flow p levels tables body.value))) m u) (flow p levels tables o.next.value m ys) (flow p levels tables o.fail.value m ys))) c.in_ok-count.ensures) n)))
     c.emit.ensures
+
+pub counted-returns-in_ok-next-2 : goal.counted-returns-in_ok-next-2
+counted-returns-in_ok-next-2 t c =
+    let e = c.args.exits.now in
+    let o = c.in_ok-next-2.field-0 in
+    let body = c.in_ok-body.body in
+    IfOk-weaker c.emit-else-repeats.result _ _
+    (λ made is. λ tables n.
+    let of = λ (p : programs.Program) (levels : ℕ) (d : Doing). loop_of (view_number c.args.count.now) d in
+    same_meaning tables (λ p levels. pay_first (loop_of (view_number c.args.count.now) (runs p levels (view_node tables c.args.inner.now)))) (λ p levels. pay_first (counted_of c.args.repeats (view_number c.args.count.now) (runs p levels (view_node tables c.args.inner.now)))) c.args.cost n e.next.value e.fail.value made.value
+    (λ p levels m s. ap (λ b. pay_first (counted_of b (view_number c.args.count.now) (runs p levels (view_node tables c.args.inner.now))) m s) (sym c.if-repeats.false))
+    (made_of tables of (λ p levels. runs p levels (view_node tables c.args.inner.now)) body.value c.args.cost n e.next.value e.fail.value made.value (c.in_ok-body.ensures tables)
+    (emitted_at tables (λ p levels. pay_first (of p levels (alone (flow p levels tables body.value)))) c.args.cost o.next.value o.fail.value e.next.value e.fail.value made.value c.in_ok-next-2.ensures.0 c.in_ok-next-2.ensures.1
+    (λ p levels m ys s. ap (λ i. flow p levels tables i m ys s) is ∙ flow_loop p levels tables m ys s c.args.cost c.in_ok-count.count body o.next o.fail ∙ ap (λ a. then_on (pays c.args.cost s) (λ u. after (pay_first (loop_of a (alone (flow p levels tables body.value))) m u) (flow p levels tables o.next.value m ys) (flow p levels tables o.fail.value m ys))) c.in_ok-count.ensures) n)))
+    c.emit-else-repeats.ensures
 
 pub set_limit-returns : goal.set_limit-returns
 set_limit-returns t c =
@@ -117,7 +121,11 @@ body-returns t c =
 
 pub groups-returns : goal.groups-returns
 groups-returns t c =
-    IfOk-weaker c.choose.result _ _ (λ made h. λ tables. h tables c.args.bodies.now c.args.slot (c.in_ok-entries.ensures tables)) c.choose.ensures
+    let nodes = c.args.bodies.now in
+    let i = c.loop-body.body-index in
+    IfOk-weaker c.choose.result _ _
+    (λ made h. λ tables. h tables nodes c.args.slot (subst (λ xs. ArePerformed tables xs c.args.slot c.args.exits.now c.loop-body.entries.items) (take_all i nodes (omega (arith, c.loop-body-test.false))) (c.loop-body.invariant tables)))
+    c.choose.ensures
 
 pub among-returns : goal.among-returns
 among-returns t c =
@@ -140,64 +148,21 @@ fail-returns t c =
     (failing tables run c.in_ok-more.field-0 c.args.slot e.next.value e.fail.value c.in_ok-clone.field-0.value c.in_ok-clone-2.field-0.value made.value c.in_ok-clone.ensures.cases c.in_ok-clone-2.ensures.cases (h tables)))
     c.command.ensures
 
-pub not-returns : goal.not-returns
-not-returns t c =
+pub wrapped-returns : goal.wrapped-returns
+wrapped-returns t c =
     let e = c.args.exits.now in
     let place = c.in_ok-place.place in
     let x = place.exits in
+    let t' = c.args.after_t in
+    let f' = c.args.after_f in
     IfOk-weaker c.saved.result _ _
     (λ made h. λ tables.
     let run = λ (p : programs.Program) (levels : ℕ). runs p levels (view_node tables c.args.inner.now) in
-    one_step tables (λ p levels. not_of (run p levels)) c.args.cost c.args.slot e.next.value e.fail.value made.value
-    (h tables (λ p levels. not_of (run p levels)) 1 c.args.slot c.in_ok-place.ensures
+    one_step tables (λ p levels. wrapped_of (way_does t') (way_does f') (run p levels)) c.args.cost c.args.slot e.next.value e.fail.value made.value
+    (h tables (λ p levels. wrapped_of (way_does t') (way_does f') (run p levels)) 1 c.args.slot c.in_ok-place.ensures
     (λ entry saves.
-    saving tables run (λ m from. Signals false) put_back place.cost place.slot (place.slot + 1) x.next.value x.fail.value c.in_ok-clone.field-0.value c.in_ok-restore.field-0.value c.in_ok-entry.entry.value entry refl c.in_ok-place.ensures.0 saves (c.in_ok-entry.ensures tables)
-    (leaves_fail tables place.slot x.next.value x.fail.value c.in_ok-clone.field-0.value c.in_ok-clone.ensures.cases) (leaves_back tables place.slot x.next.value x.fail.value c.in_ok-restore.field-0.value c.in_ok-restore.ensures))))
-    c.saved.ensures
-
-pub test-returns : goal.test-returns
-test-returns t c =
-    let e = c.args.exits.now in
-    let place = c.in_ok-place.place in
-    let x = place.exits in
-    IfOk-weaker c.saved.result _ _
-    (λ made h. λ tables.
-    let run = λ (p : programs.Program) (levels : ℕ). runs p levels (view_node tables c.args.inner.now) in
-    one_step tables (λ p levels. test_of (run p levels)) c.args.cost c.args.slot e.next.value e.fail.value made.value
-    (h tables (λ p levels. test_of (run p levels)) 1 c.args.slot c.in_ok-place.ensures
-    (λ entry saves.
-    saving tables run put_back (λ m from. Signals false) place.cost place.slot (place.slot + 1) x.next.value x.fail.value c.in_ok-restore.field-0.value c.in_ok-clone.field-0.value c.in_ok-entry.entry.value entry refl c.in_ok-place.ensures.0 saves (c.in_ok-entry.ensures tables)
-    (leaves_back tables place.slot x.next.value x.fail.value c.in_ok-restore.field-0.value c.in_ok-restore.ensures) (leaves_fail tables place.slot x.next.value x.fail.value c.in_ok-clone.field-0.value c.in_ok-clone.ensures.cases))))
-    c.saved.ensures
-
-pub attempt-returns : goal.attempt-returns
-attempt-returns t c =
-    let e = c.args.exits.now in
-    let place = c.in_ok-place.place in
-    let x = place.exits in
-    IfOk-weaker c.saved.result _ _
-    (λ made h. λ tables.
-    let run = λ (p : programs.Program) (levels : ℕ). runs p levels (view_node tables c.args.inner.now) in
-    one_step tables (λ p levels. try_of (run p levels)) c.args.cost c.args.slot e.next.value e.fail.value made.value
-    (h tables (λ p levels. try_of (run p levels)) 1 c.args.slot c.in_ok-place.ensures
-    (λ entry saves.
-    saving tables run (λ m from. Signals true) put_back place.cost place.slot (place.slot + 1) x.next.value x.fail.value c.in_ok-clone.field-0.value c.in_ok-restore.field-0.value c.in_ok-entry.entry.value entry refl c.in_ok-place.ensures.0 saves (c.in_ok-entry.ensures tables)
-    (leaves_next tables place.slot x.next.value x.fail.value c.in_ok-clone.field-0.value c.in_ok-clone.ensures.cases) (leaves_back tables place.slot x.next.value x.fail.value c.in_ok-restore.field-0.value c.in_ok-restore.ensures))))
-    c.saved.ensures
-
-pub do_always-returns : goal.do_always-returns
-do_always-returns t c =
-    let e = c.args.exits.now in
-    let place = c.in_ok-place.place in
-    let x = place.exits in
-    IfOk-weaker c.saved.result _ _
-    (λ made h. λ tables.
-    let run = λ (p : programs.Program) (levels : ℕ). runs p levels (view_node tables c.args.inner.now) in
-    one_step tables (λ p levels. do_of (run p levels)) c.args.cost c.args.slot e.next.value e.fail.value made.value
-    (h tables (λ p levels. do_of (run p levels)) 1 c.args.slot c.in_ok-place.ensures
-    (λ entry saves.
-    saving tables run put_back put_back place.cost place.slot (place.slot + 1) x.next.value x.fail.value c.in_ok-restore.field-0.value c.in_ok-restore-2.field-0.value c.in_ok-entry.entry.value entry refl c.in_ok-place.ensures.0 saves (c.in_ok-entry.ensures tables)
-    (leaves_back tables place.slot x.next.value x.fail.value c.in_ok-restore.field-0.value c.in_ok-restore.ensures) (leaves_back tables place.slot x.next.value x.fail.value c.in_ok-restore-2.field-0.value c.in_ok-restore-2.ensures))))
+    saving tables run (way_does t') (way_does f') place.cost place.slot (place.slot + 1) x.next.value x.fail.value c.in_ok-way.field-0.value c.in_ok-way-2.field-0.value c.in_ok-entry.entry.value entry refl c.in_ok-place.ensures.0 saves (c.in_ok-entry.ensures tables)
+    (c.in_ok-way.ensures tables) (c.in_ok-way-2.ensures tables))))
     c.saved.ensures
 
 pub joined-returns-in-Or : goal.joined-returns-in-Or
@@ -238,8 +203,8 @@ rest-returns t c =
     let none : c.loop-i.i ≡ 0 = omega (arith, c.loop-i-test.false) in
     λ tables small. subst (λ k. IsRest tables c.args.slot (map (view_next_command tables) (drop k c.args.others.now)) c.args.exits.now c.loop-i.rest) none (inv.1 tables small)
 
-pub bodies-loop-body-preserved : goal.bodies-loop-body-preserved
-bodies-loop-body-preserved t c =
+pub groups-loop-body-preserved : goal.groups-loop-body-preserved
+groups-loop-body-preserved t c =
     let nodes = c.args.bodies.now in
     let i = c.loop-body.body-index in
     let x = c.body-item.result in
@@ -348,33 +313,33 @@ pub command-returns-in-Not : goal.command-returns-in-Not
 command-returns-in-Not t c =
     let e = c.args.exits.now in
     let node = c.args.node.now in
-    IfOk-weaker c.not.result _ _
+    IfOk-weaker c.wrapped.result _ _
     (λ made h. λ tables. arm tables (λ p levels. not_of (runs p levels (view_node tables c.deref-in-Not.result.now))) node (Not c.in-Not.inner) c.args.cost c.args.slot e.next.value e.fail.value made.value c.in-Not.is (λ p levels m s. not_does tables p levels c.in-Not.inner m s ∙ ap (λ y. not_of (runs p levels (view_node tables y)) m s) (sym c.deref-in-Not.ensures)) (h tables))
-    c.not.ensures
+    c.wrapped.ensures
 
 pub command-returns-in-Test : goal.command-returns-in-Test
 command-returns-in-Test t c =
     let e = c.args.exits.now in
     let node = c.args.node.now in
-    IfOk-weaker c.test.result _ _
+    IfOk-weaker c.wrapped-in-Test.result _ _
     (λ made h. λ tables. arm tables (λ p levels. test_of (runs p levels (view_node tables c.deref-in-Test.result.now))) node (Test c.in-Test.inner) c.args.cost c.args.slot e.next.value e.fail.value made.value c.in-Test.is (λ p levels m s. test_does tables p levels c.in-Test.inner m s ∙ ap (λ y. test_of (runs p levels (view_node tables y)) m s) (sym c.deref-in-Test.ensures)) (h tables))
-    c.test.ensures
+    c.wrapped-in-Test.ensures
 
 pub command-returns-in-Try : goal.command-returns-in-Try
 command-returns-in-Try t c =
     let e = c.args.exits.now in
     let node = c.args.node.now in
-    IfOk-weaker c.attempt.result _ _
+    IfOk-weaker c.wrapped-in-Try.result _ _
     (λ made h. λ tables. arm tables (λ p levels. try_of (runs p levels (view_node tables c.deref-in-Try.result.now))) node (Try c.in-Try.inner) c.args.cost c.args.slot e.next.value e.fail.value made.value c.in-Try.is (λ p levels m s. try_does tables p levels c.in-Try.inner m s ∙ ap (λ y. try_of (runs p levels (view_node tables y)) m s) (sym c.deref-in-Try.ensures)) (h tables))
-    c.attempt.ensures
+    c.wrapped-in-Try.ensures
 
 pub command-returns-in-Do : goal.command-returns-in-Do
 command-returns-in-Do t c =
     let e = c.args.exits.now in
     let node = c.args.node.now in
-    IfOk-weaker c.do_always.result _ _
+    IfOk-weaker c.wrapped-in-Do.result _ _
     (λ made h. λ tables. arm tables (λ p levels. do_of (runs p levels (view_node tables c.deref-in-Do.result.now))) node (Do c.in-Do.inner) c.args.cost c.args.slot e.next.value e.fail.value made.value c.in-Do.is (λ p levels m s. do_does tables p levels c.in-Do.inner m s ∙ ap (λ y. do_of (runs p levels (view_node tables y)) m s) (sym c.deref-in-Do.ensures)) (h tables))
-    c.do_always.ensures
+    c.wrapped-in-Do.ensures
 
 pub command-returns-in-Fail : goal.command-returns-in-Fail
 command-returns-in-Fail t c =
@@ -420,17 +385,17 @@ pub command-returns-in-Loop : goal.command-returns-in-Loop
 command-returns-in-Loop t c =
     let e = c.args.exits.now in
     let node = c.args.node.now in
-    IfOk-weaker c.turns.result _ _
+    IfOk-weaker c.counted.result _ _
     (λ made h. λ tables. arm tables (λ p levels. loop_of (view_number c.in-Loop.count) (runs p levels (view_node tables c.deref-in-Loop.result.now))) node (Loop c.in-Loop.count c.in-Loop.inner) c.args.cost c.args.slot e.next.value e.fail.value made.value c.in-Loop.is (λ p levels m s. loop_does tables p levels c.in-Loop.count c.in-Loop.inner m s ∙ ap (λ y. loop_of (view_number c.in-Loop.count) (runs p levels (view_node tables y)) m s) (sym c.deref-in-Loop.ensures)) (h tables c.args.slot))
-    c.turns.ensures
+    c.counted.ensures
 
 pub command-returns-in-AtLeast : goal.command-returns-in-AtLeast
 command-returns-in-AtLeast t c =
     let e = c.args.exits.now in
     let node = c.args.node.now in
-    IfOk-weaker c.at_least.result _ _
+    IfOk-weaker c.counted-in-AtLeast.result _ _
     (λ made h. λ tables. arm tables (λ p levels. at_least_of (view_number c.in-AtLeast.count) (runs p levels (view_node tables c.deref-in-AtLeast.result.now))) node (AtLeast c.in-AtLeast.count c.in-AtLeast.inner) c.args.cost c.args.slot e.next.value e.fail.value made.value c.in-AtLeast.is (λ p levels m s. atleast_does tables p levels c.in-AtLeast.count c.in-AtLeast.inner m s ∙ ap (λ y. at_least_of (view_number c.in-AtLeast.count) (runs p levels (view_node tables y)) m s) (sym c.deref-in-AtLeast.ensures)) (h tables c.args.slot))
-    c.at_least.ensures
+    c.counted-in-AtLeast.ensures
 
 pub command-returns-in-Call : goal.command-returns-in-Call
 command-returns-in-Call t c =

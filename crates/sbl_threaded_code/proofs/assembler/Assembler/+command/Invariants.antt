@@ -22,5 +22,5 @@ invariant-rest-loop-i l =
 abbrev pub decreases-rest-loop-i : goal.decreases-rest-loop-i
 decreases-rest-loop-i l = l.i
 
-abbrev pub invariant-bodies-loop-body : goal.invariant-bodies-loop-body
-invariant-bodies-loop-body l = (tables : ℕ → Listing) → ArePerformed tables (take l.body-index l.bodies) l.slot l.exits l.entries.items
+abbrev pub invariant-groups-loop-body : goal.invariant-groups-loop-body
+invariant-groups-loop-body l = (tables : ℕ → Listing) → ArePerformed tables (take l.body-index l.bodies) l.slot l.exits l.entries.items

@@ -35,16 +35,16 @@ returns-in-Next c =
 pub returns-in-LeftBracket : goal.returns-in-LeftBracket
 returns-in-LeftBracket c =
     let e = c.args.exits.now in
-    IfOk-weaker c.left_bracket.result _ _
+    IfOk-weaker c.bracket.result _ _
     (λ made h. λ tables n. same_meaning tables (λ p levels m s. Signals true (left_bracket m s)) (λ p levels. acts p.groupings (view_action c.args.action.now)) c.args.cost n e.next.value e.fail.value made.value (λ p levels m s. ap (λ a. acts p.groupings (view_action a) m s) (sym c.in-LeftBracket.is)) (h tables n))
-    c.left_bracket.ensures
+    c.bracket.ensures
 
 pub returns-in-RightBracket : goal.returns-in-RightBracket
 returns-in-RightBracket c =
     let e = c.args.exits.now in
-    IfOk-weaker c.right_bracket.result _ _
+    IfOk-weaker c.bracket-in-RightBracket.result _ _
     (λ made h. λ tables n. same_meaning tables (λ p levels m s. Signals true (right_bracket m s)) (λ p levels. acts p.groupings (view_action c.args.action.now)) c.args.cost n e.next.value e.fail.value made.value (λ p levels m s. ap (λ a. acts p.groupings (view_action a) m s) (sym c.in-RightBracket.is)) (h tables n))
-    c.right_bracket.ensures
+    c.bracket-in-RightBracket.ensures
 
 pub returns-in-Boolean : goal.returns-in-Boolean
 returns-in-Boolean c =
