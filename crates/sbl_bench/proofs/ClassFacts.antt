@@ -27,7 +27,7 @@ use Rattle.sbl_bench.specs.Rows.{Row, rows_of}
 use Rattle.sbl_bench.proofs.PairFacts.{then_eq}
 use Rattle.sbl_bench.proofs.OrderFacts.{exact, sorted-sorted, total, words-rows}
 use Rattle.sbl_bench.proofs.Sorting.{mem, mem-inserted, mem-stays, from_mem, one_list}
-use Rattle.sbl_bench.proofs.Words.{is_key, key_found, shown, rows_shown}
+use Rattle.sbl_bench.proofs.MapEntries.{is_key, key_found, shown, rows_shown}
 
 abbrev is_in : Pair → List Pair → Bool
 is_in p ps = mem pair_cmp p ps

@@ -1,4 +1,4 @@
-pub mod Words
+pub mod MapEntries
 pub mod Refusals
 pub mod Opening
 pub mod Taking

@@ -9,7 +9,7 @@ use Rattle.sbl_bench.specs.KeptRuns.{KeptWord, AreFresh, IsFresh, words_in}
 use Rattle.sbl_bench.specs.Pairs.{find}
 use Rattle.sbl_bench.specs.Traces.{trace_of}
 use Rattle.sbl_bench.specs.Vocabulary.{is_word}
-use Rattle.sbl_bench.proofs.Words.{found_word}
+use Rattle.sbl_bench.proofs.MapEntries.{found_word}
 
 -- the run that a word has is fresh
 pub fresh_found : (script : Setting) (word : List ℕ) (es : List KeptWord) (t : RunTrace) → AreFresh script es → Some t ≡ find word es → IsFresh script word t

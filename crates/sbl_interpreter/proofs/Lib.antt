@@ -1,5 +1,5 @@
 pub mod Arms
-pub mod Rows
+pub mod ChainRuns
 pub mod Nothing
 pub mod NumberingTables
 pub mod Marked

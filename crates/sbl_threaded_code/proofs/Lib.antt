@@ -2,6 +2,6 @@ pub mod Endings
 pub mod Instructions
 pub mod Performing
 pub mod Rests
-pub mod Views
+pub mod ProgramViews
 pub mod Codes
 pub mod Flows

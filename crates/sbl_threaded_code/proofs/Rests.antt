@@ -10,7 +10,7 @@ use Rattle.sbl_program.specs.ProgramOf.{view_node}
 use Rattle.sbl_program.specs.declared.node.Node.{Node}
 use Rattle.sbl_interpreter.specs.Rows.{pays, is_settled, joined_runs, others_run}
 use Rattle.sbl_interpreter.specs.Run.{runs}
-use Rattle.sbl_interpreter.proofs.Rows.{others_stop}
+use Rattle.sbl_interpreter.proofs.ChainRuns.{others_stop}
 use Rattle.sbl_semantics.specs.State.{State, Ending, Signals, Stops, after, then_on, saved_cursor, put_back}
 use Rattle.sbl_semantics.specs.declared.cursor.SavedCursor.{SavedCursor}
 use Rattle.sbl_ast.specs.declared.mode.Mode.{Mode}
@@ -19,7 +19,7 @@ use Rattle.sbl_threaded_code.specs.declared.instruction.Group.{Group, out-Group}
 use Rattle.sbl_threaded_code.specs.declared.assembler.Exits.{Exits}
 use Rattle.sbl_threaded_code.specs.Slots.{no_cursor}
 use Rattle.sbl_threaded_code.specs.Flow.{flow}
-use Rattle.sbl_threaded_code.specs.Performs.{Agree, GoesOn, Meaning, Performs, Saves, Exited, Restores, IsRest, ArePerformed}
+use Rattle.sbl_threaded_code.specs.Performs.{Agree, GoesOn, Meaning, Performs, Saves, PerformsWithExits, Restores, IsRest, ArePerformed}
 use Rattle.sbl_threaded_code.proofs.Endings.{after_after, after_same, back_passes}
 use Rattle.sbl_threaded_code.proofs.Performing.{agree_self, agree_then, agree_set, after_steps, goes_deeper}
 
@@ -132,7 +132,7 @@ saving_row tables c os cost n deep exits rest inner entry is small saves h' row 
 
 -- one more group
 pub performed_more : (tables : ℕ → Listing) (nodes : List Node) (n : ℕ) (exits : Exits) (groups : List Group) (node : Node) (x : Group) →
-    ArePerformed tables nodes n exits groups → Exited tables (λ p levels. runs p levels (view_node tables node)) 0 n exits (out-Group x).first.value →
+    ArePerformed tables nodes n exits groups → PerformsWithExits tables (λ p levels. runs p levels (view_node tables node)) 0 n exits (out-Group x).first.value →
     ArePerformed tables (nodes ++ (node ∷ [])) n exits (groups ++ (x ∷ []))
 performed_more tables nodes n exits [] node x are h = subst (λ ns. ArePerformed tables (ns ++ (node ∷ [])) n exits (x ∷ [])) (sym are) (h, refl)
 performed_more tables [] n exits (g ∷ gs) node x are h = absurd are

@@ -41,8 +41,8 @@ Performs tables meaning cost n next fail entry =
     GoesOn (flow p levels tables entry) m n slots (λ s. after (then_on (pays cost s) (meaning p levels m)) go stop)
 
 -- the same with the exits of a command
-abbrev pub Exited : (ℕ → Listing) → Meaning → ℕ → ℕ → Exits → Instruction → Type 0
-Exited tables meaning cost n exits entry = Performs tables meaning cost n exits.next.value exits.fail.value entry
+abbrev pub PerformsWithExits : (ℕ → Listing) → Meaning → ℕ → ℕ → Exits → Instruction → Type 0
+PerformsWithExits tables meaning cost n exits entry = Performs tables meaning cost n exits.next.value exits.fail.value entry
 
 -- ---- instructions and exits that the assembler makes on the way
 
@@ -102,4 +102,4 @@ IsRest tables n others exits rest =
 abbrev pub ArePerformed : (ℕ → Listing) → List Node → ℕ → Exits → List Group → Type 0
 ArePerformed tables nodes n exits [] = nodes ≡ []
 ArePerformed tables [] n exits (x ∷ xs) = ⊥
-ArePerformed tables (node ∷ nodes) n exits (x ∷ xs) = Exited tables (λ p levels. runs p levels (view_node tables node)) 0 n exits (out-Group x).first.value × ArePerformed tables nodes n exits xs
+ArePerformed tables (node ∷ nodes) n exits (x ∷ xs) = PerformsWithExits tables (λ p levels. runs p levels (view_node tables node)) 0 n exits (out-Group x).first.value × ArePerformed tables nodes n exits xs

@@ -6,7 +6,7 @@ ghost use Rattle.sbl_program.specs.ProgramOf.{view_node, view_nodes, view_routin
 ghost use Rattle.sbl_semantics.specs.Choices.{choice};
 ghost use Rattle.sbl_interpreter.specs.Run.{runs, all_run, group_runs};
 ghost use Rattle.sbl_semantics.specs.Control.{pay_first};
-ghost use Rattle.sbl_threaded_code.specs.Performs.{Meaning, Exited, Runs};
+ghost use Rattle.sbl_threaded_code.specs.Performs.{Meaning, PerformsWithExits, Runs};
 ghost use Rattle.sbl_threaded_code.specs.Flow.{fail_of};
 ghost use Rattle.sbl_semantics.specs.State.{Signals, after};
 ghost use Rattle.sbl_threaded_code.specs.CodeOf.{IsCodeOf, AreCodeOf};
@@ -138,7 +138,7 @@ impl Assembler {
         slot: usize,
         exits: &Exits,
     ) -> Result<Rc<Instruction>, AllocError>
-        ensures { IfOk result (λ made. (tables : ℕ → Listing) → Exited tables (λ p levels. runs p levels (view_node tables node.now)) cost slot exits.now made.value) }
+        ensures { IfOk result (λ made. (tables : ℕ → Listing) → PerformsWithExits tables (λ p levels. runs p levels (view_node tables node.now)) cost slot exits.now made.value) }
     {
         match node {
             Node::Act(action) => self.act(action, more(cost, 1)?, exits),
@@ -202,7 +202,7 @@ impl Assembler {
         slot: usize,
         exits: &Exits,
     ) -> Result<Rc<Instruction>, AllocError>
-        ensures { IfOk result (λ made. (tables : ℕ → Listing) → Exited tables (λ p levels. all_run p levels (view_nodes tables commands.now)) cost slot exits.now made.value) }
+        ensures { IfOk result (λ made. (tables : ℕ → Listing) → PerformsWithExits tables (λ p levels. all_run p levels (view_nodes tables commands.now)) cost slot exits.now made.value) }
     {
         if commands.is_empty() {
             return self.pay(cost, exits);
@@ -225,7 +225,7 @@ impl Assembler {
         slot: usize,
         exits: &Exits,
     ) -> Result<Rc<Instruction>, AllocError>
-        ensures { IfOk result (λ made. (tables : ℕ → Listing) → Exited tables (λ p levels. pay_first (fail_of (runs p levels (view_node tables inner.now)))) cost slot exits.now made.value) }
+        ensures { IfOk result (λ made. (tables : ℕ → Listing) → PerformsWithExits tables (λ p levels. pay_first (fail_of (runs p levels (view_node tables inner.now)))) cost slot exits.now made.value) }
     {
         let own = Exits {
             next: exits.fail.clone()?,
@@ -244,7 +244,7 @@ impl Assembler {
         slot: usize,
         exits: &Exits,
     ) -> Result<Rc<Instruction>, AllocError>
-        ensures { IfOk result (λ made. (tables : ℕ → Listing) (chosen : Meaning) → Exited tables chosen 0 slot exits.now choose.value → Exited tables (λ p levels. pay_first (λ m s. after (all_run p levels (view_nodes tables before.now) m s) (chosen p levels m) (Signals false))) cost slot exits.now made.value) }
+        ensures { IfOk result (λ made. (tables : ℕ → Listing) (chosen : Meaning) → PerformsWithExits tables chosen 0 slot exits.now choose.value → PerformsWithExits tables (λ p levels. pay_first (λ m s. after (all_run p levels (view_nodes tables before.now) m s) (chosen p levels m) (Signals false))) cost slot exits.now made.value) }
     {
         let own = Exits {
             next: choose,
@@ -262,7 +262,7 @@ impl Assembler {
         exits: &Exits,
         bodies: &[Node],
     ) -> Result<Rc<Instruction>, AllocError>
-        ensures { IfOk result (λ made. (tables : ℕ → Listing) → Exited tables (λ p levels m t. group_runs p levels (view_nodes tables bodies.now) (choice among t) m t) 0 slot exits.now made.value) }
+        ensures { IfOk result (λ made. (tables : ℕ → Listing) → PerformsWithExits tables (λ p levels m t. group_runs p levels (view_nodes tables bodies.now) (choice among t) m t) 0 slot exits.now made.value) }
     {
         let mut entries = Vec::new(self.alloc);
         for body in bodies {

@@ -1,4 +1,4 @@
 -- definitions that the contracts of public functions use
 pub mod ItemsIn
 -- what the functions inside the crate promise each other: nothing in these need be believed
-pub mod Numbers
+pub mod WalkViews

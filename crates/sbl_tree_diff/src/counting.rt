@@ -1,7 +1,7 @@
 //! Counts the amongs of a part of a routine.
 
 ghost use Rattle.std.specs.Prelude.{◌≡◌, IfOk};
-ghost use Rattle.sbl_tree_diff.specs.Numbers.{after_among};
+ghost use Rattle.sbl_tree_diff.specs.WalkViews.{after_among};
 
 use sbl_amongs::among_count;
 use sbl_ast::Among;

@@ -5,7 +5,7 @@ ghost use Rattle.sbl_ast.specs.View.{view_item, view_plain};
 ghost use Rattle.sbl_semantics.specs.DiffersByParts as parts;
 ghost use Rattle.sbl_semantics.specs.TouchedItems.{Among, Grouping, Item', item_of};
 ghost use Rattle.sbl_tree_diff.specs.ItemsIn.{items_in};
-ghost use Rattle.sbl_tree_diff.specs.Numbers.{numbers_of};
+ghost use Rattle.sbl_tree_diff.specs.WalkViews.{numbers_of};
 
 use crate::command_diff::differ_bodies;
 use crate::same::{same_argument, same_base, same_literal, same_names, same_terms};

@@ -1,7 +1,7 @@
 //! The amongs in which two parts of a routine differ.
 
 ghost use Rattle.std.specs.Prelude.{◌≡◌, ◌++◌, [], ◌∷◌, suc, nat_eq, if◌then◌else◌, IfOk, IfSome, Some, None};
-ghost use Rattle.sbl_tree_diff.specs.Numbers.{after_among, numbers_in};
+ghost use Rattle.sbl_tree_diff.specs.WalkViews.{after_among, numbers_in};
 ghost use Rattle.sbl_semantics.specs.DiffersByParts as parts;
 ghost use Rattle.sbl_ast.specs.Counts.{count_in_among};
 ghost use Rattle.sbl_ast.specs.View.{view_among};

@@ -22,7 +22,7 @@ use Rattle.sbl_ast.specs.declared.tree.Constant.{Constant}
 use Rattle.sbl_ast.specs.declared.tree.Constant.TheVariants as constants
 use Rattle.sbl_why.specs.RoutineAmongs.{HasAmong, IsIn, IsInGroups, IsInOthers, IsInRows, IsInStarter}
 use Rattle.sbl_why.proofs.FirstAmongs.{first_is, none_is, others_are, rows_are}
-use Rattle.sbl_why.proofs.Parts.{Any_refusal, Family, GoodIn, Part, Some_end, at, forget, if_part, part_same, signals_good}
+use Rattle.sbl_why.proofs.RunParts.{Any_refusal, Family, GoodIn, Part, Some_end, at, forget, if_part, part_same, signals_good}
 use Rattle.sbl_why.proofs.Onward.{after_part, paid_good}
 use Rattle.sbl_why.proofs.Commands.{Unended, assigned_good, class_good, compared_good, edited_good, match_good, moved_good, named_good, simple_good, still}
 use Rattle.sbl_why.proofs.Compounds.{begins_good, chosen_good, counted_good, joined_good, limited_good, paid_pays, prefixed_good}

@@ -29,7 +29,7 @@ use Rattle.sbl_semantics.specs.Meaning.{Offer, prefixed_does, counted_does, join
 use Rattle.sbl_semantics.specs.declared.fault.RunFault.{RunFault}
 use Rattle.sbl_semantics.specs.declared.fault.RunFault.TheVariants as faults
 use Rattle.sbl_why.specs.Searches.{course}
-use Rattle.sbl_why.proofs.Parts.{Any_refusal, Ends, Family, Good, GoodIn, Part, PartX, Refused, Some_end, at, forget, given_part, here, here_with, if_part, noted_with, signals_good, stop, stop_with}
+use Rattle.sbl_why.proofs.RunParts.{Any_refusal, Ends, Family, Good, GoodIn, Part, PartX, Refused, Some_end, at, forget, given_part, here, here_with, if_part, noted_with, signals_good, stop, stop_with}
 use Rattle.sbl_why.proofs.Onward.{after_x, good_grows, grows_by}
 
 module _ (ns : DeclaredNames) (bodies : List ℕ → Option Body) (r : ℕ) where

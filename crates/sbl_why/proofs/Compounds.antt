@@ -18,7 +18,7 @@ use Rattle.sbl_semantics.specs.Choices.{choice}
 use Rattle.sbl_semantics.specs.State.{State, Ending, Signals, Stops, Doing, after, then_on, saved_cursor, put_back}
 use Rattle.sbl_semantics.specs.Meaning.{prefixed_does, counted_does, joined_does, limited_does, begins}
 use Rattle.sbl_semantics.specs.declared.fault.RunFault.TheVariants as faults
-use Rattle.sbl_why.proofs.Parts.{Any_refusal, Family, Good, GoodIn, Part, PartBy, Some_end, at, given_part, part_same, signals_good, stop}
+use Rattle.sbl_why.proofs.RunParts.{Any_refusal, Family, Good, GoodIn, Part, PartBy, Some_end, at, given_part, part_same, signals_good, stop}
 use Rattle.sbl_why.proofs.Onward.{after_part, then_part}
 use Rattle.sbl_why.proofs.Commands.{back_good, next_good, place_good, still, to_limit_good}
 

@@ -20,7 +20,7 @@ use Rattle.sbl_machine.specs.Why.{text_after}
 use Rattle.sbl_why.specs.RoutineAmongs.{HasAmong, IsInOthers}
 use Rattle.sbl_why.specs.Searches.{IsWhole, Course, EachSearchTakesFirst, EndsWith, SearchesTakeFirst, TakesFirst, call_of, course, fits, with_calls, within}
 use Rattle.sbl_why.proofs.FirstAmongs.{none_is, others_are}
-use Rattle.sbl_why.proofs.Parts.{Any_refusal, Each, Family, GoodIn, IsOne, Moment, Part, PartBy, PartX, Some_end, add, add_add, add_none, at, each_append, each_at, here_with, recorded, stop_with, text_append, with_add, with_one}
+use Rattle.sbl_why.proofs.RunParts.{Any_refusal, Each, Family, GoodIn, IsOne, Moment, Part, PartBy, PartX, Some_end, add, add_add, add_none, at, each_append, each_at, here_with, recorded, stop_with, text_append, with_add, with_one}
 use Rattle.sbl_why.proofs.Commands.{Unended}
 use Rattle.sbl_why.proofs.SearchesEnd.{Called, CallsAre, first_in, search_found}
 use Rattle.sbl_why.proofs.Bodies.{act_paid, others_paid}

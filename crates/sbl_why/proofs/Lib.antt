@@ -1,5 +1,5 @@
 mod Lines
-pub mod Parts
+pub mod RunParts
 pub mod Onward
 pub mod Commands
 pub mod Compounds

@@ -10,7 +10,7 @@ use Rattle.sbl_semantics.specs.Control.{pay_first}
 use Rattle.sbl_semantics.specs.State.{State, Ending, Signals, Stops, Doing, after, pay, then_on}
 use Rattle.sbl_ast.specs.declared.mode.Mode.{Mode}
 use Rattle.sbl_why.specs.Searches.{within}
-use Rattle.sbl_why.proofs.Parts.{Any_refusal, Each, Ends, Family, Good, GoodIn, Moment, Part, PartBy, PartX, Refused, Some_end, add, add_add, add_none, at, each_append, each_go, recorded, signals_good, text_append}
+use Rattle.sbl_why.proofs.RunParts.{Any_refusal, Each, Ends, Family, Good, GoodIn, Moment, Part, PartBy, PartX, Refused, Some_end, add, add_add, add_none, at, each_append, each_go, recorded, signals_good, text_append}
 
 module _ (ns : DeclaredNames) (bodies : List ℕ → Option Body) (r : ℕ) where
   -- ---- the moments of a later part

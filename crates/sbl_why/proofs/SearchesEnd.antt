@@ -23,7 +23,7 @@ use Rattle.std.proofs.Math.Path.{fun_ext}
 use Rattle.sbl_semantics.specs.declared.fault.RunFault.TheVariants as faults
 use Rattle.sbl_semantics.specs.Control.{pay_first}
 use Rattle.sbl_ast.specs.declared.mode.Mode.TheVariants.{Forward, Backward}
-use Rattle.sbl_why.proofs.Parts.{Each, Ends, Family, Moment, Part, PartBy, PartX, Refused, add, add_add, add_none, at, noted_with, part_same, recorded, signals_good, with_one}
+use Rattle.sbl_why.proofs.RunParts.{Each, Ends, Family, Moment, Part, PartBy, PartX, Refused, add, add_add, add_none, at, noted_with, part_same, recorded, signals_good, with_one}
 use Rattle.sbl_why.proofs.Onward.{Grows, added_by, after_x, each_shifts, good_grows, grows_by, paid_x}
 use Rattle.sbl_why.proofs.Commands.{Placed, Unended, conv, place_after_x}
 

@@ -5,5 +5,5 @@ pub mod Integers
 pub mod RoutineAmongs
 pub mod Searches
 -- definitions that functions inside the crate promise each other
-pub mod Views
+pub mod EventViews
 pub mod Places

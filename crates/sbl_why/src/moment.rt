@@ -3,7 +3,7 @@ ghost use Rattle.std.specs.Prelude.{◌≡◌, ◌-◌, IfOk, OnOk, length, take
 ghost use Rattle.std.specs.List.{splice};
 ghost use Rattle.sbl_semantics.specs.Events.{event_of};
 ghost use Rattle.sbl_why.specs.Moments as spec;
-ghost use Rattle.sbl_why.specs.Views.{view_search};
+ghost use Rattle.sbl_why.specs.EventViews.{view_search};
 
 use crate::slices::first;
 use sbl_ast::Mode;
@@ -34,7 +34,7 @@ pub struct Moment {
 impl Model for Moment {
     ghost use Rattle.std.specs.Prelude.{map};
     ghost use Rattle.sbl_why.specs.Moments as spec;
-    ghost use Rattle.sbl_why.specs.Views.{view_search};
+    ghost use Rattle.sbl_why.specs.EventViews.{view_search};
 
     ghost Value = { spec.Moment };
 

@@ -7,7 +7,7 @@ ghost use Rattle.sbl_io.specs.Records.{record_line, records_text};
 ghost use Rattle.sbl_semantics.specs.Events.{Finds, event_of};
 ghost use Rattle.sbl_why.specs.Moments.{after};
 ghost use Rattle.sbl_why.specs.Places.{names_at};
-ghost use Rattle.sbl_why.specs.Views.{fields_after, fields_before};
+ghost use Rattle.sbl_why.specs.EventViews.{fields_after, fields_before};
 ghost use Rattle.sbl_why.specs.WhyRows as spec;
 
 use crate::moment::Moment;

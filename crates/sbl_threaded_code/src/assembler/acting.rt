@@ -4,7 +4,7 @@ ghost use Rattle.sbl_semantics.specs.Moves.{match, test_boolean, next as move_ne
 ghost use Rattle.sbl_program.specs.AmongStrings.{Listing};
 ghost use Rattle.sbl_char_class.specs.Terms.{class_at};
 ghost use Rattle.std.specs.Prelude.{ℕ, [], true, ◌∷◌, IfOk};
-ghost use Rattle.sbl_threaded_code.specs.Performs.{Exited};
+ghost use Rattle.sbl_threaded_code.specs.Performs.{PerformsWithExits};
 ghost use Rattle.sbl_threaded_code.specs.Flow.{bracket_of};
 ghost use Rattle.sbl_semantics.specs.State.{Signals};
 ghost use Rattle.sbl_interpreter.specs.Actions.{acts, test_grouping};
@@ -25,7 +25,7 @@ impl Assembler {
         cost: usize,
         exits: &Exits,
     ) -> Result<Rc<Instruction>, AllocError>
-        ensures { IfOk result (λ made. (tables : ℕ → Listing) (n : ℕ) → Exited tables (λ p levels. acts p.groupings (view_action action.now)) cost n exits.now made.value) }
+        ensures { IfOk result (λ made. (tables : ℕ → Listing) (n : ℕ) → PerformsWithExits tables (λ p levels. acts p.groupings (view_action action.now)) cost n exits.now made.value) }
     {
         match action {
             Action::Match(term) => match term {
@@ -49,7 +49,7 @@ impl Assembler {
         exits: &Exits,
         action: &Action,
     ) -> Result<Rc<Instruction>, AllocError>
-        ensures { IfOk result (λ made. (tables : ℕ → Listing) (n : ℕ) → Exited tables (λ p levels. acts p.groupings (view_action action.now)) cost n exits.now made.value) }
+        ensures { IfOk result (λ made. (tables : ℕ → Listing) (n : ℕ) → PerformsWithExits tables (λ p levels. acts p.groupings (view_action action.now)) cost n exits.now made.value) }
     {
         let action = copy_action(self.alloc, action)?;
         emit!(self, exits, Act { cost, action })
@@ -62,7 +62,7 @@ impl Assembler {
         cost: usize,
         exits: &Exits,
     ) -> Result<Rc<Instruction>, AllocError>
-        ensures { IfOk result (λ made. (tables : ℕ → Listing) (n : ℕ) → Exited tables (λ p levels m s. match (character ∷ []) m s) cost n exits.now made.value) }
+        ensures { IfOk result (λ made. (tables : ℕ → Listing) (n : ℕ) → PerformsWithExits tables (λ p levels m s. match (character ∷ []) m s) cost n exits.now made.value) }
     {
         emit!(self, exits, Character { cost, character })
     }
@@ -74,7 +74,7 @@ impl Assembler {
         cost: usize,
         exits: &Exits,
     ) -> Result<Rc<Instruction>, AllocError>
-        ensures { IfOk result (λ made. (tables : ℕ → Listing) (n : ℕ) → Exited tables (λ p levels m s. match string.now m s) cost n exits.now made.value) }
+        ensures { IfOk result (λ made. (tables : ℕ → Listing) (n : ℕ) → PerformsWithExits tables (λ p levels m s. match string.now m s) cost n exits.now made.value) }
     {
         if string.len() == 1 {
             return self.character(string[0], cost, exits);
@@ -91,7 +91,7 @@ impl Assembler {
         cost: usize,
         exits: &Exits,
     ) -> Result<Rc<Instruction>, AllocError>
-        ensures { IfOk result (λ made. (tables : ℕ → Listing) (n : ℕ) → Exited tables (λ p levels m s. test_grouping wanted (class_at p.groupings grouping) grouping m s) cost n exits.now made.value) }
+        ensures { IfOk result (λ made. (tables : ℕ → Listing) (n : ℕ) → PerformsWithExits tables (λ p levels m s. test_grouping wanted (class_at p.groupings grouping) grouping m s) cost n exits.now made.value) }
     {
         emit!(
             self,
@@ -106,7 +106,7 @@ impl Assembler {
 
     // `next`
     pub(super) fn next(&mut self, cost: usize, exits: &Exits) -> Result<Rc<Instruction>, AllocError>
-        ensures { IfOk result (λ made. (tables : ℕ → Listing) (n : ℕ) → Exited tables (λ p levels m s. move_next m s) cost n exits.now made.value) }
+        ensures { IfOk result (λ made. (tables : ℕ → Listing) (n : ℕ) → PerformsWithExits tables (λ p levels m s. move_next m s) cost n exits.now made.value) }
     {
         let Exits { next, fail } = exits.again()?;
         self.emit(Instruction::Next { cost, next, fail })
@@ -119,7 +119,7 @@ impl Assembler {
         cost: usize,
         exits: &Exits,
     ) -> Result<Rc<Instruction>, AllocError>
-        ensures { IfOk result (λ made. (tables : ℕ → Listing) (n : ℕ) → Exited tables (λ p levels m s. test_boolean number s) cost n exits.now made.value) }
+        ensures { IfOk result (λ made. (tables : ℕ → Listing) (n : ℕ) → PerformsWithExits tables (λ p levels m s. test_boolean number s) cost n exits.now made.value) }
     {
         emit!(self, exits, Boolean { cost, number })
     }
@@ -131,7 +131,7 @@ impl Assembler {
         cost: usize,
         exits: &Exits,
     ) -> Result<Rc<Instruction>, AllocError>
-        ensures { IfOk result (λ made. (tables : ℕ → Listing) (n : ℕ) → Exited tables (λ p levels m s. Signals true (bracket_of left m s)) cost n exits.now made.value) }
+        ensures { IfOk result (λ made. (tables : ℕ → Listing) (n : ℕ) → PerformsWithExits tables (λ p levels m s. Signals true (bracket_of left m s)) cost n exits.now made.value) }
     {
         let next = exits.next.clone()?;
         if left {

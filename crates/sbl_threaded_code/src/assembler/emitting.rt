@@ -2,7 +2,7 @@
 
 ghost use Rattle.std.specs.Prelude.{◌≡◌, ℕ, List, true, false, IfOk};
 ghost use Rattle.sbl_char_class.specs.Terms.{class_at};
-ghost use Rattle.sbl_threaded_code.specs.Performs.{Exited, Ends, Restores, Saves, ArePerformed};
+ghost use Rattle.sbl_threaded_code.specs.Performs.{PerformsWithExits, Ends, Restores, Saves, ArePerformed};
 ghost use Rattle.sbl_program.specs.AmongStrings.{Listing};
 ghost use Rattle.sbl_threaded_code.specs.Flow.{flow, alone, seek_of};
 ghost use Rattle.sbl_program.specs.ProgramOf.{view_nodes};
@@ -41,7 +41,7 @@ impl Assembler {
 
     // Uses steps.
     pub(super) fn pay(&mut self, cost: usize, exits: &Exits) -> Result<Rc<Instruction>, AllocError>
-        ensures { IfOk result (λ made. (tables : ℕ → Listing) (n : ℕ) → Exited tables (λ p levels m s. Signals true s) cost n exits.now made.value) }
+        ensures { IfOk result (λ made. (tables : ℕ → Listing) (n : ℕ) → PerformsWithExits tables (λ p levels m s. Signals true s) cost n exits.now made.value) }
     {
         let next = exits.next.clone()?;
         self.emit(Instruction::Pay { cost, next })
@@ -78,7 +78,7 @@ impl Assembler {
         cost: usize,
         exits: &Exits,
     ) -> Result<Rc<Instruction>, AllocError>
-        ensures { IfOk result (λ made. (tables : ℕ → Listing) (n : ℕ) → Exited tables (λ p levels. pay_first (calls p levels routine)) cost n exits.now made.value) }
+        ensures { IfOk result (λ made. (tables : ℕ → Listing) (n : ℕ) → PerformsWithExits tables (λ p levels. pay_first (calls p levels routine)) cost n exits.now made.value) }
     {
         emit!(self, exits, Call { cost, routine })
     }
@@ -92,7 +92,7 @@ impl Assembler {
         cost: usize,
         exits: &Exits,
     ) -> Result<Rc<Instruction>, AllocError>
-        ensures { IfOk result (λ made. (tables : ℕ → Listing) (n : ℕ) → Exited tables (λ p levels. pay_first (search_all (calls p levels) among entries.now (tables table))) cost n exits.now made.value) }
+        ensures { IfOk result (λ made. (tables : ℕ → Listing) (n : ℕ) → PerformsWithExits tables (λ p levels. pay_first (search_all (calls p levels) among entries.now (tables table))) cost n exits.now made.value) }
     {
         let entries = Vec::from_slice(self.alloc, entries)?;
         emit!(
@@ -116,7 +116,7 @@ impl Assembler {
         cost: usize,
         exits: &Exits,
     ) -> Result<Rc<Instruction>, AllocError>
-        ensures { IfOk result (λ made. (tables : ℕ → Listing) (n : ℕ) → Exited tables (λ p levels. seek_of past (pay_first (test_grouping wanted (class_at p.groupings grouping) grouping))) cost n exits.now made.value) }
+        ensures { IfOk result (λ made. (tables : ℕ → Listing) (n : ℕ) → PerformsWithExits tables (λ p levels. seek_of past (pay_first (test_grouping wanted (class_at p.groupings grouping) grouping))) cost n exits.now made.value) }
     {
         emit!(
             self,
@@ -137,7 +137,7 @@ impl Assembler {
         cost: usize,
         exits: &Exits,
     ) -> Result<Rc<Instruction>, AllocError>
-        ensures { IfOk result (λ made. (tables : ℕ → Listing) (n : ℕ) → Exited tables (λ p levels. pay_first (alone (flow p levels tables body.value))) cost n exits.now made.value) }
+        ensures { IfOk result (λ made. (tables : ℕ → Listing) (n : ℕ) → PerformsWithExits tables (λ p levels. pay_first (alone (flow p levels tables body.value))) cost n exits.now made.value) }
     {
         emit!(self, exits, Nested { cost, body })
     }
@@ -150,7 +150,7 @@ impl Assembler {
         cost: usize,
         exits: &Exits,
     ) -> Result<Rc<Instruction>, AllocError>
-        ensures { IfOk result (λ made. (tables : ℕ → Listing) (nodes : List Node) (n : ℕ) → ArePerformed tables nodes n exits.now bodies.items → Exited tables (λ p levels m t. group_runs p levels (view_nodes tables nodes) (choice among t) m t) cost n exits.now made.value) }
+        ensures { IfOk result (λ made. (tables : ℕ → Listing) (nodes : List Node) (n : ℕ) → ArePerformed tables nodes n exits.now bodies.items → PerformsWithExits tables (λ p levels m t. group_runs p levels (view_nodes tables nodes) (choice among t) m t) cost n exits.now made.value) }
     {
         emit!(
             self,

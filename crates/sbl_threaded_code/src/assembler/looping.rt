@@ -4,7 +4,7 @@ ghost use Rattle.sbl_program.specs.AmongStrings.{Listing};
 ghost use Rattle.std.specs.Prelude.{ℕ, IfOk};
 ghost use Rattle.sbl_program.specs.ProgramOf.{view_number, view_node};
 ghost use Rattle.sbl_semantics.specs.Control.{pay_first};
-ghost use Rattle.sbl_threaded_code.specs.Performs.{Exited};
+ghost use Rattle.sbl_threaded_code.specs.Performs.{PerformsWithExits};
 ghost use Rattle.sbl_threaded_code.specs.Flow.{flow, alone, turns_of, counted_of, seek_of, backwards_of, limited_of};
 ghost use Rattle.sbl_interpreter.specs.Run.{runs};
 
@@ -24,7 +24,7 @@ impl Assembler {
         cost: usize,
         exits: &Exits,
     ) -> Result<Rc<Instruction>, AllocError>
-        ensures { IfOk result (λ made. (tables : ℕ → Listing) (n : ℕ) → Exited tables (λ p levels. pay_first (turns_of (runs p levels (view_node tables inner.now)))) cost n exits.now made.value) }
+        ensures { IfOk result (λ made. (tables : ℕ → Listing) (n : ℕ) → PerformsWithExits tables (λ p levels. pay_first (turns_of (runs p levels (view_node tables inner.now)))) cost n exits.now made.value) }
     {
         let body = self.body(inner)?;
         let next = exits.next.clone()?;
@@ -40,7 +40,7 @@ impl Assembler {
         cost: usize,
         exits: &Exits,
     ) -> Result<Rc<Instruction>, AllocError>
-        ensures { IfOk result (λ made. (tables : ℕ → Listing) (n : ℕ) → Exited tables (λ p levels. pay_first (seek_of past (runs p levels (view_node tables inner.now)))) cost n exits.now made.value) }
+        ensures { IfOk result (λ made. (tables : ℕ → Listing) (n : ℕ) → PerformsWithExits tables (λ p levels. pay_first (seek_of past (runs p levels (view_node tables inner.now)))) cost n exits.now made.value) }
     {
         match inner {
             Node::Act(action) => match action {
@@ -65,7 +65,7 @@ impl Assembler {
         exits: &Exits,
         cost: usize,
     ) -> Result<Rc<Instruction>, AllocError>
-        ensures { IfOk result (λ made. (tables : ℕ → Listing) (n : ℕ) → Exited tables (λ p levels. pay_first (seek_of past (runs p levels (view_node tables inner.now)))) cost n exits.now made.value) }
+        ensures { IfOk result (λ made. (tables : ℕ → Listing) (n : ℕ) → PerformsWithExits tables (λ p levels. pay_first (seek_of past (runs p levels (view_node tables inner.now)))) cost n exits.now made.value) }
     {
         let body = self.body(inner)?;
         emit!(self, exits, Seek { cost, past, body })
@@ -79,7 +79,7 @@ impl Assembler {
         exits: &Exits,
         inner: &Node,
     ) -> Result<Rc<Instruction>, AllocError>
-        ensures { IfOk result (λ made. (tables : ℕ → Listing) (n : ℕ) → Exited tables (λ p levels. pay_first (backwards_of (runs p levels (view_node tables inner.now)))) cost n exits.now made.value) }
+        ensures { IfOk result (λ made. (tables : ℕ → Listing) (n : ℕ) → PerformsWithExits tables (λ p levels. pay_first (backwards_of (runs p levels (view_node tables inner.now)))) cost n exits.now made.value) }
     {
         let body = self.body(inner)?;
         emit!(self, exits, Backwards { cost, body })
@@ -94,7 +94,7 @@ impl Assembler {
         cost: usize,
         exits: &Exits,
     ) -> Result<Rc<Instruction>, AllocError>
-        ensures { IfOk result (λ made. (tables : ℕ → Listing) (n : ℕ) → Exited tables (λ p levels. pay_first (limited_of (runs p levels (view_node tables first.now)) (alone (flow p levels tables second.value)))) cost n exits.now made.value) }
+        ensures { IfOk result (λ made. (tables : ℕ → Listing) (n : ℕ) → PerformsWithExits tables (λ p levels. pay_first (limited_of (runs p levels (view_node tables first.now)) (alone (flow p levels tables second.value)))) cost n exits.now made.value) }
     {
         let first = self.body(first)?;
         emit!(
@@ -118,7 +118,7 @@ impl Assembler {
         cost: usize,
         exits: &Exits,
     ) -> Result<Rc<Instruction>, AllocError>
-        ensures { IfOk result (λ made. (tables : ℕ → Listing) (n : ℕ) → Exited tables (λ p levels. pay_first (counted_of repeats (view_number count.now) (runs p levels (view_node tables inner.now)))) cost n exits.now made.value) }
+        ensures { IfOk result (λ made. (tables : ℕ → Listing) (n : ℕ) → PerformsWithExits tables (λ p levels. pay_first (counted_of repeats (view_number count.now) (runs p levels (view_node tables inner.now)))) cost n exits.now made.value) }
     {
         let body = self.body(inner)?;
         let count = copy_number(self.alloc, count)?;

@@ -2,7 +2,7 @@
 
 ghost use Rattle.std.specs.Prelude.{◌<◌, ℕ, List, map, ◌∷◌, IfOk};
 ghost use Rattle.sbl_program.specs.AmongStrings.{Listing};
-ghost use Rattle.sbl_threaded_code.specs.Performs.{Leaves, Meaning, Exited, Saves, IsPlace, IsRest};
+ghost use Rattle.sbl_threaded_code.specs.Performs.{Leaves, Meaning, PerformsWithExits, Saves, IsPlace, IsRest};
 ghost use Rattle.sbl_program.specs.Chains.{JoinedView};
 ghost use Rattle.sbl_program.specs.ProgramOf.{view_node, view_next_command};
 ghost use Rattle.sbl_interpreter.specs.Rows.{pays};
@@ -58,7 +58,7 @@ impl Assembler {
         cost: usize,
         exits: &Exits,
     ) -> Result<Rc<Instruction>, AllocError>
-        ensures { IfOk result (λ made. (tables : ℕ → Listing) (meaning : Meaning) (own slot : ℕ) → IsPlace cost own slot exits.now place.now → ((entry : TheInstruction) → Saves place.now.cost place.now.slot inner.value entry → Exited tables meaning place.now.cost place.now.slot place.now.exits entry) → Exited tables (λ p levels m s. then_on (pays own s) (meaning p levels m)) cost slot exits.now made.value) }
+        ensures { IfOk result (λ made. (tables : ℕ → Listing) (meaning : Meaning) (own slot : ℕ) → IsPlace cost own slot exits.now place.now → ((entry : TheInstruction) → Saves place.now.cost place.now.slot inner.value entry → PerformsWithExits tables meaning place.now.cost place.now.slot place.now.exits entry) → PerformsWithExits tables (λ p levels m s. then_on (pays own s) (meaning p levels m)) cost slot exits.now made.value) }
     {
         let entry = self.save(place.cost, place.slot, inner)?;
         if place.nested {
@@ -90,7 +90,7 @@ impl Assembler {
         slot: usize,
         exits: &Exits,
     ) -> Result<Rc<Instruction>, AllocError>
-        ensures { IfOk result (λ made. (tables : ℕ → Listing) → Exited tables (λ p levels. pay_first (wrapped_of (way_does after_t) (way_does after_f) (runs p levels (view_node tables inner.now)))) cost slot exits.now made.value) }
+        ensures { IfOk result (λ made. (tables : ℕ → Listing) → PerformsWithExits tables (λ p levels. pay_first (wrapped_of (way_does after_t) (way_does after_f) (runs p levels (view_node tables inner.now)))) cost slot exits.now made.value) }
     {
         let place = self.place(cost, 1, slot, exits)?;
         let own = Exits {

@@ -9,7 +9,7 @@ use Rattle.sbl_bench.specs.KeptRuns.{words_in, IsKept, IsWord}
 use Rattle.sbl_semantics.specs.Limit.{default_limit}
 use Rattle.sbl_bench.specs.Setting.{under}
 use Rattle.sbl_bench.specs.Vocabulary.{with_word}
-use Rattle.sbl_bench.proofs.Words.{found_word, words-push, kept-push}
+use Rattle.sbl_bench.proofs.MapEntries.{found_word, words-push, kept-push}
 use Rattle.sbl_bench.proofs.Taking.{comes_home, goes_last, skips, takes}
 use Rattle.sbl_bench.proofs.open.take_word.Goals as goal
 

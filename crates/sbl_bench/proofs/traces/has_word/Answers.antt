@@ -1,5 +1,5 @@
 use Rattle.std.proofs.Common.{◌∙◌}
-use Rattle.sbl_bench.proofs.Words.{found_word}
+use Rattle.sbl_bench.proofs.MapEntries.{found_word}
 use Rattle.sbl_bench.proofs.traces.has_word.Goals as goal
 
 pub returns : goal.returns

@@ -1,6 +1,6 @@
 use Rattle.std.proofs.Common.{subst}
 use Rattle.sbl_interpreter.specs.Endings.{Leads}
-use Rattle.sbl_interpreter.proofs.Rows.{pays_last}
+use Rattle.sbl_interpreter.proofs.ChainRuns.{pays_last}
 use Rattle.sbl_threaded_code.proofs.runner.pay_all.Goals as goal
 
 pub returns-clause-leads : goal.returns-clause-leads

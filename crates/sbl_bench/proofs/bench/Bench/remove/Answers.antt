@@ -12,7 +12,7 @@ use Rattle.sbl_bench.specs.Contents.{Contents}
 use Rattle.sbl_bench.specs.Setting.{under}
 use Rattle.sbl_bench.proofs.Refusals.{no_word, removes}
 use Rattle.sbl_bench.specs.Pairs.{IsIndexed}
-use Rattle.sbl_bench.proofs.Words.{found_word, kept-remove, key_taken, words-remove}
+use Rattle.sbl_bench.proofs.MapEntries.{found_word, kept-remove, key_taken, words-remove}
 use Rattle.sbl_bench.proofs.bench.Bench.remove.Goals as goal
 
 pub returns-in_default-clause-edits : goal.returns-in_default-clause-edits

@@ -3,7 +3,7 @@ use Rattle.sbl_script.specs.ParsedScript.{source_of}
 use Rattle.sbl_bench.specs.Setting.{under}
 use Rattle.sbl_bench.specs.KeptRuns.{setting_of, KeptWord, KeptRuns}
 use Rattle.sbl_bench.specs.Rows.{rows_of}
-use Rattle.sbl_bench.proofs.Words.{shown, rows_shown}
+use Rattle.sbl_bench.proofs.MapEntries.{shown, rows_shown}
 use Rattle.sbl_bench.proofs.bench.Bench.rows.Goals as goal
 
 pub loop-word-init : goal.loop-word-init

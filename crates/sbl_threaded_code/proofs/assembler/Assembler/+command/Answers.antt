@@ -14,7 +14,7 @@ use Rattle.sbl_interpreter.specs.Rows.{pays, row_runs, others_run}
 use Rattle.sbl_interpreter.specs.Run.{runs, all_run, group_runs, calls}
 use Rattle.sbl_interpreter.specs.Search.{search_all}
 use Rattle.sbl_interpreter.proofs.Arms.{sequence_does, not_does, test_does, try_does, do_does, fail_does, repeat_does, loop_does, atleast_does, goto_does, gopast_does, backwards_does, setlimit_does, search_does, among_does, turn_is, grouping_does, non_does}
-use Rattle.sbl_interpreter.proofs.Rows.{part_is, row_does}
+use Rattle.sbl_interpreter.proofs.ChainRuns.{part_is, row_does}
 use Rattle.sbl_semantics.specs.Choices.{choice}
 use Rattle.sbl_semantics.specs.Control.{pay_first}
 use Rattle.sbl_semantics.specs.State.{State, Doing, Signals, after, then_on, pay, saved_cursor, put_back}
@@ -24,7 +24,7 @@ use Rattle.sbl_threaded_code.proofs.Endings.{after_after, after_same}
 use Rattle.sbl_threaded_code.proofs.Instructions.{flow_repeat, flow_loop, flow_at_least, flow_seek, flow_backwards, flow_set_limit}
 use Rattle.sbl_threaded_code.proofs.Performing.{emitted_at, made_of, runs_as, same_meaning, first_step, one_step, in_turn, saving, by_itself, arm, failing, repeating}
 use Rattle.sbl_threaded_code.proofs.Rests.{rest_or, rest_and, saving_row, performed_more}
-use Rattle.sbl_threaded_code.proofs.Views.{act_does, call_does, view_joiner, view_command}
+use Rattle.sbl_threaded_code.proofs.ProgramViews.{act_does, call_does, view_joiner, view_command}
 use Rattle.sbl_threaded_code.proofs.assembler.Assembler.+command.Goals as goal
 
 pub backwards-returns : goal.backwards-returns

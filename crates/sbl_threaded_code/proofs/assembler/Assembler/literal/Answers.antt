@@ -6,7 +6,7 @@ use Rattle.sbl_semantics.specs.State.{after, then_on}
 use Rattle.sbl_threaded_code.specs.Flow.{flow}
 use Rattle.sbl_threaded_code.proofs.Instructions.{flow_literal}
 use Rattle.sbl_threaded_code.proofs.Performing.{emitted_at, same_meaning}
-use Rattle.sbl_threaded_code.proofs.Views.{one_character}
+use Rattle.sbl_threaded_code.proofs.ProgramViews.{one_character}
 use Rattle.sbl_threaded_code.proofs.assembler.Assembler.literal.Goals as goal
 
 pub returns-then-string-eq1 : goal.returns-then-string-eq1
