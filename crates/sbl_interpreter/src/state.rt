@@ -215,29 +215,29 @@ impl State {
 
     // Uses this many steps. Returns `Steps` if fewer are left; then these are used.
     #[inline(always)]
-    pub fn pay_for(&mut self, count: usize) -> Result<(), Halt>
+    pub fn pay_for(&mut self, count: u32) -> Result<(), Halt>
         ensures leads { Leads result self.new (pays count self.old) }
         ensures no_more { IfOk result (λ _. self.new.steps ≤ self.old.steps) }
     {
-        if count > self.steps as usize {
+        if count > self.steps {
             self.steps = 0;
             return Err(Halt::Steps);
         }
-        self.steps -= count as u32;
+        self.steps -= count;
         Ok(())
     }
 
     /// Uses this many steps, and one more. Returns `Steps` if fewer are left; then these are used.
     #[inline(always)]
-    pub fn pay_with_own(&mut self, count: usize) -> Result<(), Halt>
+    pub fn pay_with_own(&mut self, count: u32) -> Result<(), Halt>
         ensures leads { Leads result self.new (pays (suc count) self.old) }
         ensures fewer { IfOk result (λ _. self.new.steps < self.old.steps) }
     {
-        if count >= self.steps as usize {
+        if count >= self.steps {
             self.steps = 0;
             return Err(Halt::Steps);
         }
-        self.steps -= count as u32 + 1;
+        self.steps -= count + 1;
         Ok(())
     }
 

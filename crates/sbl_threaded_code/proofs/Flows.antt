@@ -1,11 +1,10 @@
 -- What a kind of instruction does from the state in which its steps are paid.
-use Rattle.std.proofs.Common.{◌≡◌, ℕ, zero, suc, ◌<◌, ◌≤◌, Bool, true, false, List, [], ◌∷◌, map, length, get_or, Option, Some, Result, Err, arith, rules, refl, sym, ap, ◌∙◌, Vec, Global}
+use Rattle.std.proofs.Common.{◌≡◌, ℕ, zero, suc, ◌<◌, ◌≤◌, Bool, true, false, List, [], ◌∷◌, map, length, get_or, Option, Some, Result, Err, arith, rules, refl, sym, ap, ◌∙◌, Box, Vec, Global}
 use Rattle.std.specs.declared.rc.Rc.{Rc}
 use Rattle.sbl_program.specs.AmongStrings.{Listing}
 use Rattle.sbl_program.specs.Program as programs
 use Rattle.sbl_program.specs.ProgramOf.{view_number}
 use Rattle.sbl_program.specs.declared.action.Arithmetic.{Arithmetic}
-use Rattle.sbl_program.specs.declared.node.Candidate.{Candidate}
 use Rattle.sbl_interpreter.specs.declared.halt.Halt.{Halt}
 use Rattle.sbl_interpreter.specs.Endings.{Follows}
 use Rattle.sbl_interpreter.specs.Rows.{pays}
@@ -17,6 +16,7 @@ use Rattle.sbl_semantics.specs.State.{State, Ending, Signals, Stops, after, pay,
 use Rattle.sbl_semantics.specs.declared.cursor.SavedCursor.{SavedCursor}
 use Rattle.sbl_ast.specs.declared.mode.Mode.{Mode}
 use Rattle.sbl_threaded_code.specs.declared.instruction.Group.{Group, out-Group}
+use Rattle.sbl_threaded_code.specs.declared.instruction.Site.{Site}
 use Rattle.sbl_threaded_code.specs.declared.instruction.Instruction.{Instruction}
 use Rattle.sbl_threaded_code.specs.declared.instruction.Instruction.TheVariants.{Nested, Repeat, Loop, AtLeast, Seek, SetLimit, Search, Choose}
 use Rattle.sbl_threaded_code.specs.declared.instruction.Instruction.TheFolds.{fold_out-Group}
@@ -79,19 +79,21 @@ module _ (p : programs.Program) (levels : ℕ) (tables : ℕ → Listing) (m : M
       ∙ paid cost s u (turns_of (alone (F body.value)) m) (F next.value m slots) (Signals false) h
       ∙ ap (λ (z : Instruction). after (turns_of (alone (F z)) m u) (F next.value m slots) (Signals false)) (sym hx)
 
-  pub loop_paid : (cost : ℕ) (count : Arithmetic) (body next fail : I) (x : Instruction) (u : State) → at ≡ Loop cost count body next fail → IsPaid cost s u → x ≡ body.value → F at m slots s ≡ after (loop_of (view_number count) (alone (F x)) m u) (F next.value m slots) (F fail.value m slots)
-  loop_paid cost count body next fail x u is h hx =
+  pub loop_paid : (cost : ℕ) (count : Box Arithmetic Global) (body next fail : I) (k : Arithmetic) (x : Instruction) (u : State) → at ≡ Loop cost count body next fail → IsPaid cost s u → k ≡ count.value → x ≡ body.value → F at m slots s ≡ after (loop_of (view_number k) (alone (F x)) m u) (F next.value m slots) (F fail.value m slots)
+  loop_paid cost count body next fail k x u is h hk hx =
       ap (λ (i : Instruction). F i m slots s) is
       ∙ flow_loop p levels tables m slots s cost count body next fail
-      ∙ paid cost s u (loop_of (view_number count) (alone (F body.value)) m) (F next.value m slots) (F fail.value m slots) h
-      ∙ ap (λ (z : Instruction). after (loop_of (view_number count) (alone (F z)) m u) (F next.value m slots) (F fail.value m slots)) (sym hx)
+      ∙ paid cost s u (loop_of (view_number count.value) (alone (F body.value)) m) (F next.value m slots) (F fail.value m slots) h
+      ∙ ap (λ (z : Instruction). after (loop_of (view_number count.value) (alone (F z)) m u) (F next.value m slots) (F fail.value m slots)) (sym hx)
+      ∙ ap (λ (z : Arithmetic). after (loop_of (view_number z) (alone (F x)) m u) (F next.value m slots) (F fail.value m slots)) (sym hk)
 
-  pub at_least_paid : (cost : ℕ) (count : Arithmetic) (body next fail : I) (x : Instruction) (u : State) → at ≡ AtLeast cost count body next fail → IsPaid cost s u → x ≡ body.value → F at m slots s ≡ after (at_least_of (view_number count) (alone (F x)) m u) (F next.value m slots) (F fail.value m slots)
-  at_least_paid cost count body next fail x u is h hx =
+  pub at_least_paid : (cost : ℕ) (count : Box Arithmetic Global) (body next fail : I) (k : Arithmetic) (x : Instruction) (u : State) → at ≡ AtLeast cost count body next fail → IsPaid cost s u → k ≡ count.value → x ≡ body.value → F at m slots s ≡ after (at_least_of (view_number k) (alone (F x)) m u) (F next.value m slots) (F fail.value m slots)
+  at_least_paid cost count body next fail k x u is h hk hx =
       ap (λ (i : Instruction). F i m slots s) is
       ∙ flow_at_least p levels tables m slots s cost count body next fail
-      ∙ paid cost s u (at_least_of (view_number count) (alone (F body.value)) m) (F next.value m slots) (F fail.value m slots) h
-      ∙ ap (λ (z : Instruction). after (at_least_of (view_number count) (alone (F z)) m u) (F next.value m slots) (F fail.value m slots)) (sym hx)
+      ∙ paid cost s u (at_least_of (view_number count.value) (alone (F body.value)) m) (F next.value m slots) (F fail.value m slots) h
+      ∙ ap (λ (z : Instruction). after (at_least_of (view_number count.value) (alone (F z)) m u) (F next.value m slots) (F fail.value m slots)) (sym hx)
+      ∙ ap (λ (z : Arithmetic). after (at_least_of (view_number z) (alone (F x)) m u) (F next.value m slots) (F fail.value m slots)) (sym hk)
 
   pub seek_paid : (cost : ℕ) (past : Bool) (body next fail : I) (x : Instruction) (u : State) → at ≡ Seek cost past body next fail → IsPaid cost s u → x ≡ body.value → F at m slots s ≡ after (seek_of past (alone (F x)) m u) (F next.value m slots) (F fail.value m slots)
   seek_paid cost past body next fail x u is h hx =
@@ -108,30 +110,30 @@ module _ (p : programs.Program) (levels : ℕ) (tables : ℕ → Listing) (m : M
       ∙ ap (λ (z : Instruction). after (limited_of (alone (F z)) (alone (F second.value)) m u) (F next.value m slots) (F fail.value m slots)) (sym hx)
       ∙ ap (λ (z : Instruction). after (limited_of (alone (F x)) (alone (F z)) m u) (F next.value m slots) (F fail.value m slots)) (sym hy)
 
-  pub search_paid : (cost among table : ℕ) (entries : Vec Candidate Global) (next fail : I) (es : List Candidate) (u : State) → at ≡ Search cost among table entries next fail → IsPaid cost s u → es ≡ entries.items → F at m slots s ≡ after (search_all (calls p levels) among es (tables table) m u) (F next.value m slots) (F fail.value m slots)
-  search_paid cost among table entries next fail es u is h hes =
+  pub search_paid : (cost among : ℕ) (site : Box Site Global) (next fail : I) (x : Site) (u : State) → at ≡ Search cost among site next fail → IsPaid cost s u → x ≡ site.value → F at m slots s ≡ after (search_all (calls p levels) among x.entries.items (tables x.table) m u) (F next.value m slots) (F fail.value m slots)
+  search_paid cost among site next fail x u is h hx =
       ap (λ (i : Instruction). F i m slots s) is
-      ∙ flow_search p levels tables m slots s cost among table entries next fail
-      ∙ paid cost s u (search_all (calls p levels) among entries.items (tables table) m) (F next.value m slots) (F fail.value m slots) h
-      ∙ ap (λ (z : List Candidate). after (search_all (calls p levels) among z (tables table) m u) (F next.value m slots) (F fail.value m slots)) (sym hes)
+      ∙ flow_search p levels tables m slots s cost among site next fail
+      ∙ paid cost s u (search_all (calls p levels) among site.value.entries.items (tables site.value.table) m) (F next.value m slots) (F fail.value m slots) h
+      ∙ ap (λ (z : Site). after (search_all (calls p levels) among z.entries.items (tables z.table) m u) (F next.value m slots) (F fail.value m slots)) (sym hx)
 
-  choose_paid : (cost among : ℕ) (bodies : Vec Group Global) (next fail : I) (u : State) (g : ℕ) → at ≡ Choose cost among bodies next fail → pays cost s ≡ Signals true u → choice among u ≡ Some g → F at m slots s ≡ chosen (Some g) (map (group_flow p levels tables) bodies.items) (F next.value) (F fail.value) m slots u
+  choose_paid : (cost among : ℕ) (bodies : Box (Vec Group Global) Global) (next fail : I) (u : State) (g : ℕ) → at ≡ Choose cost among bodies next fail → pays cost s ≡ Signals true u → choice among u ≡ Some g → F at m slots s ≡ chosen (Some g) (map (group_flow p levels tables) bodies.value.items) (F next.value) (F fail.value) m slots u
   choose_paid cost among bodies next fail u g is h k =
-      let pick = λ (o : Option ℕ) (v : State). chosen o (map (group_flow p levels tables) bodies.items) (F next.value) (F fail.value) m slots v in
+      let pick = λ (o : Option ℕ) (v : State). chosen o (map (group_flow p levels tables) bodies.value.items) (F next.value) (F fail.value) m slots v in
       ap (λ (i : Instruction). F i m slots s) is
       ∙ flow_choose p levels tables m slots s cost among bodies next fail
       ∙ ap (λ r. then_on r (λ v. pick (choice among v) v)) h
       ∙ ap (λ o. pick o u) k
 
   -- the chosen group has a command
-  pub chosen_at : (cost among : ℕ) (bodies : Vec Group Global) (next fail : I) (u : State) (g : ℕ) (ds : List Group) (x : Group) → at ≡ Choose cost among bodies next fail → pays cost s ≡ Signals true u → choice among u ≡ Some g → ds ≡ bodies.items → g < length ds → x ≡ get_or ds g x → F at m slots s ≡ group_flow p levels tables x m slots u
+  pub chosen_at : (cost among : ℕ) (bodies : Box (Vec Group Global) Global) (next fail : I) (u : State) (g : ℕ) (ds : List Group) (x : Group) → at ≡ Choose cost among bodies next fail → pays cost s ≡ Signals true u → choice among u ≡ Some g → ds ≡ bodies.value.items → g < length ds → x ≡ get_or ds g x → F at m slots s ≡ group_flow p levels tables x m slots u
   chosen_at cost among bodies next fail u g ds x is h k same l e =
       choose_paid cost among bodies next fail u g is h k
       ∙ ap (λ xs. chosen (Some g) (map (group_flow p levels tables) xs) (F next.value) (F fail.value) m slots u) (sym same)
       ∙ ap (λ (f : Flow). f m slots u) (picked_at (group_flow p levels tables) ds g x (F next.value) (F fail.value) l e)
 
   -- it has none
-  pub chosen_past : (cost among : ℕ) (bodies : Vec Group Global) (next fail : I) (u : State) (g : ℕ) (ds : List Group) → at ≡ Choose cost among bodies next fail → pays cost s ≡ Signals true u → choice among u ≡ Some g → ds ≡ bodies.items → length ds ≤ g → F at m slots s ≡ F next.value m slots u
+  pub chosen_past : (cost among : ℕ) (bodies : Box (Vec Group Global) Global) (next fail : I) (u : State) (g : ℕ) (ds : List Group) → at ≡ Choose cost among bodies next fail → pays cost s ≡ Signals true u → choice among u ≡ Some g → ds ≡ bodies.value.items → length ds ≤ g → F at m slots s ≡ F next.value m slots u
   chosen_past cost among bodies next fail u g ds is h k same l =
       choose_paid cost among bodies next fail u g is h k
       ∙ ap (λ xs. chosen (Some g) (map (group_flow p levels tables) xs) (F next.value) (F fail.value) m slots u) (sym same)

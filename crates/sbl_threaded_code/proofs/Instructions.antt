@@ -1,5 +1,5 @@
 -- What a run does from each kind of instruction on: the equations of `flow`.
-use Rattle.std.proofs.Common.{◌≡◌, ℕ, Bool, true, false, List, [], ◌∷◌, map, refl, rules, Vec, Global}
+use Rattle.std.proofs.Common.{◌≡◌, ℕ, Bool, true, false, List, [], ◌∷◌, map, refl, rules, Box, Vec, Global}
 use Rattle.std.specs.Prelude.{slice_set, slice_index_or}
 use Rattle.std.specs.declared.rc.Rc.{Rc}
 use Rattle.sbl_char_class.specs.Terms.{class_at}
@@ -8,7 +8,6 @@ use Rattle.sbl_program.specs.Program as programs
 use Rattle.sbl_program.specs.ProgramOf.{view_action, view_number}
 use Rattle.sbl_program.specs.declared.action.Action.{Action}
 use Rattle.sbl_program.specs.declared.action.Arithmetic.{Arithmetic}
-use Rattle.sbl_program.specs.declared.node.Candidate.{Candidate}
 use Rattle.sbl_interpreter.specs.Actions.{acts, test_grouping}
 use Rattle.sbl_interpreter.specs.Rows.{pays}
 use Rattle.sbl_interpreter.specs.Run.{calls}
@@ -27,6 +26,7 @@ use Rattle.sbl_threaded_code.specs.declared.instruction.Instruction.TheFolds.{fo
 use Rattle.sbl_threaded_code.specs.declared.instruction.Instruction.TheViews.{the_lemmas}
 use Rattle.sbl_threaded_code.specs.Slots.{no_cursor}
 use Rattle.sbl_threaded_code.specs.declared.instruction.Group.{Group}
+use Rattle.sbl_threaded_code.specs.declared.instruction.Site.{Site}
 use Rattle.sbl_threaded_code.specs.Flow.{Flow, flow, group_flow, alone, chosen, turns_of, loop_of, at_least_of, seek_of, backwards_of, limited_of}
 
 abbrev I : Type 0
@@ -45,7 +45,7 @@ module _ (p : programs.Program) (levels : ℕ) (tables : ℕ → Listing) (m : M
   pub flow_character : (cost c : ℕ) (next fail : I) → F (Character cost c next fail) m ys s ≡ then_on (pays cost s) (λ u. after (match (c ∷ []) m u) (F next.value m ys) (F fail.value m ys))
   flow_character cost c next fail = first_of (search (rules, the_lemmas), search (rules, the_lemmas, fold_out-Instruction))
 
-  pub flow_literal : (cost : ℕ) (string : Vec ℕ Global) (next fail : I) → F (Literal cost string next fail) m ys s ≡ then_on (pays cost s) (λ u. after (match string.items m u) (F next.value m ys) (F fail.value m ys))
+  pub flow_literal : (cost : ℕ) (string : Box (Vec ℕ Global) Global) (next fail : I) → F (Literal cost string next fail) m ys s ≡ then_on (pays cost s) (λ u. after (match string.value.items m u) (F next.value m ys) (F fail.value m ys))
   flow_literal cost string next fail = first_of (search (rules, the_lemmas), search (rules, the_lemmas, fold_out-Instruction))
 
   pub flow_grouping : (cost : ℕ) (wanted : Bool) (g : ℕ) (next fail : I) → F (Grouping cost wanted g next fail) m ys s ≡ then_on (pays cost s) (λ u. after (test_grouping wanted (class_at p.groupings g) g m u) (F next.value m ys) (F fail.value m ys))
@@ -63,7 +63,7 @@ module _ (p : programs.Program) (levels : ℕ) (tables : ℕ → Listing) (m : M
   pub flow_next : (cost : ℕ) (next fail : I) → F (Next cost next fail) m ys s ≡ then_on (pays cost s) (λ u. after (moves.next m u) (F next.value m ys) (F fail.value m ys))
   flow_next cost next fail = first_of (search (rules, the_lemmas), search (rules, the_lemmas, fold_out-Instruction))
 
-  pub flow_act : (cost : ℕ) (action : Action) (next fail : I) → F (Act cost action next fail) m ys s ≡ then_on (pays cost s) (λ u. after (acts p.groupings (view_action action) m u) (F next.value m ys) (F fail.value m ys))
+  pub flow_act : (cost : ℕ) (action : Box Action Global) (next fail : I) → F (Act cost action next fail) m ys s ≡ then_on (pays cost s) (λ u. after (acts p.groupings (view_action action.value) m u) (F next.value m ys) (F fail.value m ys))
   flow_act cost action next fail = first_of (search (rules, the_lemmas), search (rules, the_lemmas, fold_out-Instruction))
 
   pub flow_save : (cost slot : ℕ) (next : I) → F (Save cost slot next) m ys s ≡ then_on (pays cost s) (λ u. F next.value m (slice_set ys slot (saved_cursor u)) u)
@@ -78,10 +78,10 @@ module _ (p : programs.Program) (levels : ℕ) (tables : ℕ → Listing) (m : M
   pub flow_repeat : (cost : ℕ) (body next : I) → F (Repeat cost body next) m ys s ≡ then_on (pays cost s) (λ u. after (pay_first (turns_of (alone (F body.value))) m u) (F next.value m ys) (Signals false))
   flow_repeat cost body next = first_of (search (rules, the_lemmas), search (rules, the_lemmas, fold_out-Instruction))
 
-  pub flow_loop : (cost : ℕ) (count : Arithmetic) (body next fail : I) → F (Loop cost count body next fail) m ys s ≡ then_on (pays cost s) (λ u. after (pay_first (loop_of (view_number count) (alone (F body.value))) m u) (F next.value m ys) (F fail.value m ys))
+  pub flow_loop : (cost : ℕ) (count : Box Arithmetic Global) (body next fail : I) → F (Loop cost count body next fail) m ys s ≡ then_on (pays cost s) (λ u. after (pay_first (loop_of (view_number count.value) (alone (F body.value))) m u) (F next.value m ys) (F fail.value m ys))
   flow_loop cost count body next fail = first_of (search (rules, the_lemmas), search (rules, the_lemmas, fold_out-Instruction))
 
-  pub flow_at_least : (cost : ℕ) (count : Arithmetic) (body next fail : I) → F (AtLeast cost count body next fail) m ys s ≡ then_on (pays cost s) (λ u. after (pay_first (at_least_of (view_number count) (alone (F body.value))) m u) (F next.value m ys) (F fail.value m ys))
+  pub flow_at_least : (cost : ℕ) (count : Box Arithmetic Global) (body next fail : I) → F (AtLeast cost count body next fail) m ys s ≡ then_on (pays cost s) (λ u. after (pay_first (at_least_of (view_number count.value) (alone (F body.value))) m u) (F next.value m ys) (F fail.value m ys))
   flow_at_least cost count body next fail = first_of (search (rules, the_lemmas), search (rules, the_lemmas, fold_out-Instruction))
 
   pub flow_seek : (cost : ℕ) (past : Bool) (body next fail : I) → F (Seek cost past body next fail) m ys s ≡ then_on (pays cost s) (λ u. after (pay_first (seek_of past (alone (F body.value))) m u) (F next.value m ys) (F fail.value m ys))
@@ -99,8 +99,8 @@ module _ (p : programs.Program) (levels : ℕ) (tables : ℕ → Listing) (m : M
   pub flow_call : (cost routine : ℕ) (next fail : I) → F (Call cost routine next fail) m ys s ≡ then_on (pays cost s) (λ u. after (pay_first (calls p levels routine) m u) (F next.value m ys) (F fail.value m ys))
   flow_call cost routine next fail = first_of (search (rules, the_lemmas), search (rules, the_lemmas, fold_out-Instruction))
 
-  pub flow_search : (cost among table : ℕ) (entries : Vec Candidate Global) (next fail : I) → F (Search cost among table entries next fail) m ys s ≡ then_on (pays cost s) (λ u. after (pay_first (search_all (calls p levels) among entries.items (tables table)) m u) (F next.value m ys) (F fail.value m ys))
-  flow_search cost among table entries next fail = first_of (search (rules, the_lemmas), search (rules, the_lemmas, fold_out-Instruction))
+  pub flow_search : (cost among : ℕ) (site : Box Site Global) (next fail : I) → F (Search cost among site next fail) m ys s ≡ then_on (pays cost s) (λ u. after (pay_first (search_all (calls p levels) among site.value.entries.items (tables site.value.table)) m u) (F next.value m ys) (F fail.value m ys))
+  flow_search cost among site next fail = first_of (search (rules, the_lemmas), search (rules, the_lemmas, fold_out-Instruction))
 
-  pub flow_choose : (cost among : ℕ) (bodies : Vec Group Global) (next fail : I) → F (Choose cost among bodies next fail) m ys s ≡ then_on (pays cost s) (λ u. chosen (choice among u) (map (group_flow p levels tables) bodies.items) (F next.value) (F fail.value) m ys u)
+  pub flow_choose : (cost among : ℕ) (bodies : Box (Vec Group Global) Global) (next fail : I) → F (Choose cost among bodies next fail) m ys s ≡ then_on (pays cost s) (λ u. chosen (choice among u) (map (group_flow p levels tables) bodies.value.items) (F next.value) (F fail.value) m ys u)
   flow_choose cost among bodies next fail = first_of (search (rules, the_lemmas), search (rules, the_lemmas, fold_out-Instruction))

@@ -103,7 +103,7 @@ flow_step p levels tables (code.Pay cost next) m slots s = then_on (pays cost s)
 flow_step p levels tables (code.Character cost c next fail) m slots s =
     then_on (pays cost s) (λ u. after (match (c ∷ []) m u) (next.value m slots) (fail.value m slots))
 flow_step p levels tables (code.Literal cost string next fail) m slots s =
-    then_on (pays cost s) (λ u. after (match string.items m u) (next.value m slots) (fail.value m slots))
+    then_on (pays cost s) (λ u. after (match string.value.items m u) (next.value m slots) (fail.value m slots))
 flow_step p levels tables (code.Grouping cost wanted g next fail) m slots s =
     then_on (pays cost s) (λ u. after (test_grouping wanted (class_at p.groupings g) g m u) (next.value m slots) (fail.value m slots))
 flow_step p levels tables (code.LeftBracket cost next) m slots s = then_on (pays cost s) (λ u. next.value m slots (left_bracket m u))
@@ -113,7 +113,7 @@ flow_step p levels tables (code.Boolean cost x next fail) m slots s =
 flow_step p levels tables (code.Next cost next fail) m slots s =
     then_on (pays cost s) (λ u. after (moves.next m u) (next.value m slots) (fail.value m slots))
 flow_step p levels tables (code.Act cost action next fail) m slots s =
-    then_on (pays cost s) (λ u. after (acts p.groupings (view_action action) m u) (next.value m slots) (fail.value m slots))
+    then_on (pays cost s) (λ u. after (acts p.groupings (view_action action.value) m u) (next.value m slots) (fail.value m slots))
 flow_step p levels tables (code.Save cost slot next) m slots s =
     then_on (pays cost s) (λ u. next.value m (slice_set slots slot (saved_cursor u)) u)
 flow_step p levels tables (code.Restore slot next) m slots s =
@@ -123,9 +123,9 @@ flow_step p levels tables (code.Nested cost body next fail) m slots s =
 flow_step p levels tables (code.Repeat cost body next) m slots s =
     then_on (pays cost s) (λ u. after (pay_first (turns_of (alone body.value)) m u) (next.value m slots) (Signals false))
 flow_step p levels tables (code.Loop cost count body next fail) m slots s =
-    then_on (pays cost s) (λ u. after (pay_first (loop_of (view_number count) (alone body.value)) m u) (next.value m slots) (fail.value m slots))
+    then_on (pays cost s) (λ u. after (pay_first (loop_of (view_number count.value) (alone body.value)) m u) (next.value m slots) (fail.value m slots))
 flow_step p levels tables (code.AtLeast cost count body next fail) m slots s =
-    then_on (pays cost s) (λ u. after (pay_first (at_least_of (view_number count) (alone body.value)) m u) (next.value m slots) (fail.value m slots))
+    then_on (pays cost s) (λ u. after (pay_first (at_least_of (view_number count.value) (alone body.value)) m u) (next.value m slots) (fail.value m slots))
 flow_step p levels tables (code.Seek cost past body next fail) m slots s =
     then_on (pays cost s) (λ u. after (pay_first (seek_of past (alone body.value)) m u) (next.value m slots) (fail.value m slots))
 flow_step p levels tables (code.SeekGrouping cost past g wanted next fail) m slots s =
@@ -136,10 +136,10 @@ flow_step p levels tables (code.SetLimit cost first second next fail) m slots s 
     then_on (pays cost s) (λ u. after (pay_first (limited_of (alone first.value) (alone second.value)) m u) (next.value m slots) (fail.value m slots))
 flow_step p levels tables (code.Call cost routine next fail) m slots s =
     then_on (pays cost s) (λ u. after (pay_first (calls p levels routine) m u) (next.value m slots) (fail.value m slots))
-flow_step p levels tables (code.Search cost among table entries next fail) m slots s =
-    then_on (pays cost s) (λ u. after (pay_first (search_all (calls p levels) among entries.items (tables table)) m u) (next.value m slots) (fail.value m slots))
+flow_step p levels tables (code.Search cost among site next fail) m slots s =
+    then_on (pays cost s) (λ u. after (pay_first (search_all (calls p levels) among site.value.entries.items (tables site.value.table)) m u) (next.value m slots) (fail.value m slots))
 flow_step p levels tables (code.Choose cost among bodies next fail) m slots s =
-    then_on (pays cost s) (λ u. chosen (choice among u) bodies.items next.value fail.value m slots u)
+    then_on (pays cost s) (λ u. chosen (choice among u) bodies.value.items next.value fail.value m slots u)
 
 abbrev pub group_step : Group-F Flow Flow → Flow
 group_step g = g.first.value

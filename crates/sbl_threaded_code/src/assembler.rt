@@ -62,19 +62,29 @@ pub enum Way {
 /// Where a command saves the cursor, and where it goes on from there.
 #[derive(Drop)]
 pub struct Place {
-    cost: usize,
+    cost: u32,
     slot: usize,
     exits: Exits,
     nested: bool,
 }
 
-// Returns the sum of two numbers of steps. Returns `AllocError` if it is above `usize::MAX`: no script has so many commands.
-fn more(cost: usize, count: usize) -> Result<usize, AllocError>
+// Returns the sum of two numbers of steps. Returns `AllocError` if it is above `u32::MAX`: no script has so many commands.
+fn more(cost: u32, count: u32) -> Result<u32, AllocError>
     ensures { IfOk result (λ sum. sum ≡ cost + count) }
 {
     match cost.checked_add(count) {
         None => Err(AllocError),
         Some(sum) => Ok(sum),
+    }
+}
+
+// Returns the number of steps of this many commands. Returns `AllocError` if it is above `u32::MAX`.
+fn steps_of(count: usize) -> Result<u32, AllocError>
+    ensures { IfOk result (λ steps. steps ≡ count) }
+{
+    match u32::try_from(count) {
+        Err(_) => Err(AllocError),
+        Ok(steps) => Ok(steps),
     }
 }
 
@@ -134,7 +144,7 @@ impl Assembler {
     fn command(
         &mut self,
         node: &Node,
-        cost: usize,
+        cost: u32,
         slot: usize,
         exits: &Exits,
     ) -> Result<Rc<Instruction>, AllocError>
@@ -147,7 +157,8 @@ impl Assembler {
                 if others.is_empty() {
                     return self.command(first, more(cost, 1)?, slot, exits);
                 }
-                let place = self.place(cost, others.len(), slot, exits)?;
+                let own = steps_of(others.len())?;
+                let place = self.place(cost, own, slot, exits)?;
                 let rest = self.rest(others, place.slot, &place.exits)?;
                 let entry = self.command(first, 0, place.slot + 1, &rest)?;
                 self.saved(&place, entry, cost, exits)
@@ -198,7 +209,7 @@ impl Assembler {
     fn sequence(
         &mut self,
         commands: &[Node],
-        cost: usize,
+        cost: u32,
         slot: usize,
         exits: &Exits,
     ) -> Result<Rc<Instruction>, AllocError>
@@ -221,7 +232,7 @@ impl Assembler {
     fn fail(
         &mut self,
         inner: &Node,
-        cost: usize,
+        cost: u32,
         slot: usize,
         exits: &Exits,
     ) -> Result<Rc<Instruction>, AllocError>
@@ -240,7 +251,7 @@ impl Assembler {
         &mut self,
         before: &[Node],
         choose: Rc<Instruction>,
-        cost: usize,
+        cost: u32,
         slot: usize,
         exits: &Exits,
     ) -> Result<Rc<Instruction>, AllocError>

@@ -12,26 +12,26 @@ pub enum Instruction {
     End(bool),
     /// Uses steps.
     Pay {
-        cost: usize,
+        cost: u32,
         next: Rc<Instruction>,
     },
     /// A literal of one character.
     Character {
-        cost: usize,
+        cost: u32,
         character: char,
         next: Rc<Instruction>,
         fail: Rc<Instruction>,
     },
     /// Any other literal.
     Literal {
-        cost: usize,
-        string: Vec<char>,
+        cost: u32,
+        string: Box<Vec<char>>,
         next: Rc<Instruction>,
         fail: Rc<Instruction>,
     },
     /// A grouping, or `non` and a grouping.
     Grouping {
-        cost: usize,
+        cost: u32,
         wanted: bool,
         grouping: usize,
         next: Rc<Instruction>,
@@ -39,37 +39,37 @@ pub enum Instruction {
     },
     /// `[`
     LeftBracket {
-        cost: usize,
+        cost: u32,
         next: Rc<Instruction>,
     },
     /// `]`
     RightBracket {
-        cost: usize,
+        cost: u32,
         next: Rc<Instruction>,
     },
     /// The name of a boolean variable.
     Boolean {
-        cost: usize,
+        cost: u32,
         number: usize,
         next: Rc<Instruction>,
         fail: Rc<Instruction>,
     },
     /// `next`
     Next {
-        cost: usize,
+        cost: u32,
         next: Rc<Instruction>,
         fail: Rc<Instruction>,
     },
     /// Any other command that contains no command.
     Act {
-        cost: usize,
-        action: Action,
+        cost: u32,
+        action: Box<Action>,
         next: Rc<Instruction>,
         fail: Rc<Instruction>,
     },
     /// Saves the cursor in a slot.
     Save {
-        cost: usize,
+        cost: u32,
         slot: usize,
         next: Rc<Instruction>,
     },
@@ -80,36 +80,36 @@ pub enum Instruction {
     },
     /// Runs other instructions with slots of their own.
     Nested {
-        cost: usize,
+        cost: u32,
         body: Rc<Instruction>,
         next: Rc<Instruction>,
         fail: Rc<Instruction>,
     },
     /// `repeat C`
     Repeat {
-        cost: usize,
+        cost: u32,
         body: Rc<Instruction>,
         next: Rc<Instruction>,
     },
     /// `loop AE C`
     Loop {
-        cost: usize,
-        count: Arithmetic,
+        cost: u32,
+        count: Box<Arithmetic>,
         body: Rc<Instruction>,
         next: Rc<Instruction>,
         fail: Rc<Instruction>,
     },
     /// `atleast AE C`
     AtLeast {
-        cost: usize,
-        count: Arithmetic,
+        cost: u32,
+        count: Box<Arithmetic>,
         body: Rc<Instruction>,
         next: Rc<Instruction>,
         fail: Rc<Instruction>,
     },
     /// `goto C` and `gopast C`
     Seek {
-        cost: usize,
+        cost: u32,
         past: bool,
         body: Rc<Instruction>,
         next: Rc<Instruction>,
@@ -117,7 +117,7 @@ pub enum Instruction {
     },
     /// `goto` and `gopast` of a grouping, or of `non` and a grouping.
     SeekGrouping {
-        cost: usize,
+        cost: u32,
         past: bool,
         grouping: usize,
         wanted: bool,
@@ -126,14 +126,14 @@ pub enum Instruction {
     },
     /// `backwards C`
     Backwards {
-        cost: usize,
+        cost: u32,
         body: Rc<Instruction>,
         next: Rc<Instruction>,
         fail: Rc<Instruction>,
     },
     /// `setlimit C1 for C2`
     SetLimit {
-        cost: usize,
+        cost: u32,
         first: Rc<Instruction>,
         second: Rc<Instruction>,
         next: Rc<Instruction>,
@@ -141,28 +141,36 @@ pub enum Instruction {
     },
     /// The call of a routine, by its number.
     Call {
-        cost: usize,
+        cost: u32,
         routine: usize,
         next: Rc<Instruction>,
         fail: Rc<Instruction>,
     },
     /// The search of an among.
     Search {
-        cost: usize,
+        cost: u32,
         among: usize,
-        table: usize,
-        entries: Vec<Candidate>,
+        site: Box<Site>,
         next: Rc<Instruction>,
         fail: Rc<Instruction>,
     },
     /// Goes on with the command of the group that the search of an among chose.
     Choose {
-        cost: usize,
+        cost: u32,
         among: usize,
-        bodies: Vec<Group>,
+        bodies: Box<Vec<Group>>,
         next: Rc<Instruction>,
         fail: Rc<Instruction>,
     },
+}
+
+/// What an among searches: the strings of a table, and the candidate of each.
+#[derive(Drop)]
+pub struct Site {
+    /// The number of the table.
+    pub table: usize,
+    /// The candidates.
+    pub entries: Vec<Candidate>,
 }
 
 /// The command of a group of an among.

@@ -14,7 +14,7 @@ ghost use Rattle.sbl_threaded_code.specs.Slots.{no_cursors};
 ghost use Rattle.sbl_threaded_code.specs.Flow.{flow, alone, turns_of, backwards_of, limited_of};
 
 use crate::code::Code;
-use crate::instruction::Instruction;
+use crate::instruction::{Instruction, Site};
 use crate::slots::SavedCursors;
 use sbl_ast::Mode;
 use sbl_interpreter::{Halt, State, Tables, count_of};
@@ -23,7 +23,7 @@ use sbl_semantics::SavedCursor;
 
 // Uses the steps of `cost`, and the command's own. Returns `Steps` if fewer are left.
 #[inline(always)]
-fn pay_all(cost: usize, state: &mut State) -> Result<(), Halt>
+fn pay_all(cost: u32, state: &mut State) -> Result<(), Halt>
     ensures leads { Leads result state.new (then_on (pays cost state.old) (λ u. pay u.steps u)) }
     ensures fewer { IfOk result (λ _. state.new.steps < state.old.steps) }
 {
@@ -208,11 +208,10 @@ impl<'a, T: Tables> Runner<'a, T> {
                     fail,
                     cost,
                     among,
-                    table,
-                    entries,
+                    site,
                 } => {
                     pay_all(*cost, state)?;
-                    at = if self.run_search_all(*among, *table, entries, state)? {
+                    at = if self.run_search_all(*among, site, state)? {
                         next
                     } else {
                         fail
@@ -480,15 +479,14 @@ impl<'a, T: Tables> Runner<'a, T> {
     fn run_search_all(
         &self,
         among: usize,
-        table: usize,
-        entries: &[Candidate],
+        site: &Site,
         state: &mut State,
     ) -> Result<bool, Halt>
-        ensures follows { Follows result state.new (search_all (calls (program_of (T.listed self.now.tables.now) self.now.code.now) self.now.levels) among entries.now (T.listed self.now.tables.now table) self.now.mode state.old) }
+        ensures follows { Follows result state.new (search_all (calls (program_of (T.listed self.now.tables.now) self.now.code.now) self.now.levels) among site.now.entries.items (T.listed self.now.tables.now site.now.table) self.now.mode state.old) }
         ensures no_more { IfOk result (λ _. state.new.steps ≤ state.old.steps) }
     {
         state.touch_among(among, self.mode)?;
-        self.run_search(among, table, entries, state)
+        self.run_search(among, site.table, &site.entries, state)
     }
 
     /// Tries the strings that match, the longest first.

@@ -22,7 +22,7 @@ impl Assembler {
     pub(super) fn act(
         &mut self,
         action: &Action,
-        cost: usize,
+        cost: u32,
         exits: &Exits,
     ) -> Result<Rc<Instruction>, AllocError>
         ensures { IfOk result (λ made. (tables : ℕ → Listing) (n : ℕ) → PerformsWithExits tables (λ p levels. acts p.groupings (view_action action.now)) cost n exits.now made.value) }
@@ -45,13 +45,14 @@ impl Assembler {
     // Any other command that contains no command.
     pub(super) fn act_any(
         &mut self,
-        cost: usize,
+        cost: u32,
         exits: &Exits,
         action: &Action,
     ) -> Result<Rc<Instruction>, AllocError>
         ensures { IfOk result (λ made. (tables : ℕ → Listing) (n : ℕ) → PerformsWithExits tables (λ p levels. acts p.groupings (view_action action.now)) cost n exits.now made.value) }
     {
-        let action = copy_action(self.alloc, action)?;
+        let copy = copy_action(self.alloc, action)?;
+        let action = Box::new(self.alloc, copy)?;
         emit!(self, exits, Act { cost, action })
     }
 
@@ -59,7 +60,7 @@ impl Assembler {
     pub(super) fn character(
         &mut self,
         character: char,
-        cost: usize,
+        cost: u32,
         exits: &Exits,
     ) -> Result<Rc<Instruction>, AllocError>
         ensures { IfOk result (λ made. (tables : ℕ → Listing) (n : ℕ) → PerformsWithExits tables (λ p levels m s. match (character ∷ []) m s) cost n exits.now made.value) }
@@ -71,7 +72,7 @@ impl Assembler {
     pub(super) fn literal(
         &mut self,
         string: &[char],
-        cost: usize,
+        cost: u32,
         exits: &Exits,
     ) -> Result<Rc<Instruction>, AllocError>
         ensures { IfOk result (λ made. (tables : ℕ → Listing) (n : ℕ) → PerformsWithExits tables (λ p levels m s. match string.now m s) cost n exits.now made.value) }
@@ -79,7 +80,8 @@ impl Assembler {
         if string.len() == 1 {
             return self.character(string[0], cost, exits);
         }
-        let string = Vec::from_slice(self.alloc, string)?;
+        let copy = Vec::from_slice(self.alloc, string)?;
+        let string = Box::new(self.alloc, copy)?;
         emit!(self, exits, Literal { cost, string })
     }
 
@@ -88,7 +90,7 @@ impl Assembler {
         &mut self,
         wanted: bool,
         grouping: usize,
-        cost: usize,
+        cost: u32,
         exits: &Exits,
     ) -> Result<Rc<Instruction>, AllocError>
         ensures { IfOk result (λ made. (tables : ℕ → Listing) (n : ℕ) → PerformsWithExits tables (λ p levels m s. test_grouping wanted (class_at p.groupings grouping) grouping m s) cost n exits.now made.value) }
@@ -105,7 +107,7 @@ impl Assembler {
     }
 
     // `next`
-    pub(super) fn next(&mut self, cost: usize, exits: &Exits) -> Result<Rc<Instruction>, AllocError>
+    pub(super) fn next(&mut self, cost: u32, exits: &Exits) -> Result<Rc<Instruction>, AllocError>
         ensures { IfOk result (λ made. (tables : ℕ → Listing) (n : ℕ) → PerformsWithExits tables (λ p levels m s. move_next m s) cost n exits.now made.value) }
     {
         let Exits { next, fail } = exits.again()?;
@@ -116,7 +118,7 @@ impl Assembler {
     pub(super) fn boolean(
         &mut self,
         number: usize,
-        cost: usize,
+        cost: u32,
         exits: &Exits,
     ) -> Result<Rc<Instruction>, AllocError>
         ensures { IfOk result (λ made. (tables : ℕ → Listing) (n : ℕ) → PerformsWithExits tables (λ p levels m s. test_boolean number s) cost n exits.now made.value) }
@@ -128,7 +130,7 @@ impl Assembler {
     fn bracket(
         &mut self,
         left: bool,
-        cost: usize,
+        cost: u32,
         exits: &Exits,
     ) -> Result<Rc<Instruction>, AllocError>
         ensures { IfOk result (λ made. (tables : ℕ → Listing) (n : ℕ) → PerformsWithExits tables (λ p levels m s. Signals true (bracket_of left m s)) cost n exits.now made.value) }

@@ -14,7 +14,7 @@ ghost use Rattle.sbl_semantics.specs.Control.{pay_first};
 ghost use Rattle.sbl_semantics.specs.State.{Signals};
 
 use crate::assembler::{Assembler, Exits};
-use crate::instruction::{Group, Instruction};
+use crate::instruction::{Group, Instruction, Site};
 use sbl_program::{Candidate, Node};
 use std::alloc::AllocError;
 use std::rc::Rc;
@@ -40,7 +40,7 @@ impl Assembler {
     }
 
     // Uses steps.
-    pub(super) fn pay(&mut self, cost: usize, exits: &Exits) -> Result<Rc<Instruction>, AllocError>
+    pub(super) fn pay(&mut self, cost: u32, exits: &Exits) -> Result<Rc<Instruction>, AllocError>
         ensures { IfOk result (λ made. (tables : ℕ → Listing) (n : ℕ) → PerformsWithExits tables (λ p levels m s. Signals true s) cost n exits.now made.value) }
     {
         let next = exits.next.clone()?;
@@ -62,7 +62,7 @@ impl Assembler {
     // Saves the cursor in a slot.
     pub(super) fn save(
         &mut self,
-        cost: usize,
+        cost: u32,
         slot: usize,
         next: Rc<Instruction>,
     ) -> Result<Rc<Instruction>, AllocError>
@@ -75,7 +75,7 @@ impl Assembler {
     pub(super) fn call(
         &mut self,
         routine: usize,
-        cost: usize,
+        cost: u32,
         exits: &Exits,
     ) -> Result<Rc<Instruction>, AllocError>
         ensures { IfOk result (λ made. (tables : ℕ → Listing) (n : ℕ) → PerformsWithExits tables (λ p levels. pay_first (calls p levels routine)) cost n exits.now made.value) }
@@ -89,22 +89,14 @@ impl Assembler {
         among: usize,
         table: usize,
         entries: &[Candidate],
-        cost: usize,
+        cost: u32,
         exits: &Exits,
     ) -> Result<Rc<Instruction>, AllocError>
         ensures { IfOk result (λ made. (tables : ℕ → Listing) (n : ℕ) → PerformsWithExits tables (λ p levels. pay_first (search_all (calls p levels) among entries.now (tables table))) cost n exits.now made.value) }
     {
         let entries = Vec::from_slice(self.alloc, entries)?;
-        emit!(
-            self,
-            exits,
-            Search {
-                cost,
-                among,
-                table,
-                entries
-            }
-        )
+        let site = Box::new(self.alloc, Site { table, entries })?;
+        emit!(self, exits, Search { cost, among, site })
     }
 
     // `goto` and `gopast` of a grouping, or of `non` and a grouping.
@@ -113,7 +105,7 @@ impl Assembler {
         past: bool,
         grouping: usize,
         wanted: bool,
-        cost: usize,
+        cost: u32,
         exits: &Exits,
     ) -> Result<Rc<Instruction>, AllocError>
         ensures { IfOk result (λ made. (tables : ℕ → Listing) (n : ℕ) → PerformsWithExits tables (λ p levels. seek_of past (pay_first (test_grouping wanted (class_at p.groupings grouping) grouping))) cost n exits.now made.value) }
@@ -134,7 +126,7 @@ impl Assembler {
     pub(super) fn nested(
         &mut self,
         body: Rc<Instruction>,
-        cost: usize,
+        cost: u32,
         exits: &Exits,
     ) -> Result<Rc<Instruction>, AllocError>
         ensures { IfOk result (λ made. (tables : ℕ → Listing) (n : ℕ) → PerformsWithExits tables (λ p levels. pay_first (alone (flow p levels tables body.value))) cost n exits.now made.value) }
@@ -146,12 +138,13 @@ impl Assembler {
     pub(super) fn choose(
         &mut self,
         among: usize,
-        bodies: Vec<Group>,
-        cost: usize,
+        groups: Vec<Group>,
+        cost: u32,
         exits: &Exits,
     ) -> Result<Rc<Instruction>, AllocError>
-        ensures { IfOk result (λ made. (tables : ℕ → Listing) (nodes : List Node) (n : ℕ) → ArePerformed tables nodes n exits.now bodies.items → PerformsWithExits tables (λ p levels m t. group_runs p levels (view_nodes tables nodes) (choice among t) m t) cost n exits.now made.value) }
+        ensures { IfOk result (λ made. (tables : ℕ → Listing) (nodes : List Node) (n : ℕ) → ArePerformed tables nodes n exits.now groups.items → PerformsWithExits tables (λ p levels m t. group_runs p levels (view_nodes tables nodes) (choice among t) m t) cost n exits.now made.value) }
     {
+        let bodies = Box::new(self.alloc, groups)?;
         emit!(
             self,
             exits,

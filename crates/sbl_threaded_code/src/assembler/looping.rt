@@ -21,7 +21,7 @@ impl Assembler {
     pub(super) fn repeat(
         &mut self,
         inner: &Node,
-        cost: usize,
+        cost: u32,
         exits: &Exits,
     ) -> Result<Rc<Instruction>, AllocError>
         ensures { IfOk result (λ made. (tables : ℕ → Listing) (n : ℕ) → PerformsWithExits tables (λ p levels. pay_first (turns_of (runs p levels (view_node tables inner.now)))) cost n exits.now made.value) }
@@ -37,7 +37,7 @@ impl Assembler {
         &mut self,
         past: bool,
         inner: &Node,
-        cost: usize,
+        cost: u32,
         exits: &Exits,
     ) -> Result<Rc<Instruction>, AllocError>
         ensures { IfOk result (λ made. (tables : ℕ → Listing) (n : ℕ) → PerformsWithExits tables (λ p levels. pay_first (seek_of past (runs p levels (view_node tables inner.now)))) cost n exits.now made.value) }
@@ -63,7 +63,7 @@ impl Assembler {
         inner: &Node,
         past: bool,
         exits: &Exits,
-        cost: usize,
+        cost: u32,
     ) -> Result<Rc<Instruction>, AllocError>
         ensures { IfOk result (λ made. (tables : ℕ → Listing) (n : ℕ) → PerformsWithExits tables (λ p levels. pay_first (seek_of past (runs p levels (view_node tables inner.now)))) cost n exits.now made.value) }
     {
@@ -75,7 +75,7 @@ impl Assembler {
     #[cycle(command)]
     pub(super) fn backwards(
         &mut self,
-        cost: usize,
+        cost: u32,
         exits: &Exits,
         inner: &Node,
     ) -> Result<Rc<Instruction>, AllocError>
@@ -91,7 +91,7 @@ impl Assembler {
         &mut self,
         first: &Node,
         second: Rc<Instruction>,
-        cost: usize,
+        cost: u32,
         exits: &Exits,
     ) -> Result<Rc<Instruction>, AllocError>
         ensures { IfOk result (λ made. (tables : ℕ → Listing) (n : ℕ) → PerformsWithExits tables (λ p levels. pay_first (limited_of (runs p levels (view_node tables first.now)) (alone (flow p levels tables second.value)))) cost n exits.now made.value) }
@@ -115,13 +115,14 @@ impl Assembler {
         inner: &Node,
         count: &Arithmetic,
         repeats: bool,
-        cost: usize,
+        cost: u32,
         exits: &Exits,
     ) -> Result<Rc<Instruction>, AllocError>
         ensures { IfOk result (λ made. (tables : ℕ → Listing) (n : ℕ) → PerformsWithExits tables (λ p levels. pay_first (counted_of repeats (view_number count.now) (runs p levels (view_node tables inner.now)))) cost n exits.now made.value) }
     {
         let body = self.body(inner)?;
-        let count = copy_number(self.alloc, count)?;
+        let copy = copy_number(self.alloc, count)?;
+        let count = Box::new(self.alloc, copy)?;
         if repeats {
             emit!(self, exits, AtLeast { cost, count, body })
         } else {

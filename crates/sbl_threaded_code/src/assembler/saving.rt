@@ -26,8 +26,8 @@ impl Assembler {
     // that run by themselves if no slot is left.
     pub(super) fn place(
         &mut self,
-        cost: usize,
-        own: usize,
+        cost: u32,
+        own: u32,
         slot: usize,
         exits: &Exits,
     ) -> Result<Place, AllocError>
@@ -55,7 +55,7 @@ impl Assembler {
         &mut self,
         place: &Place,
         inner: Rc<Instruction>,
-        cost: usize,
+        cost: u32,
         exits: &Exits,
     ) -> Result<Rc<Instruction>, AllocError>
         ensures { IfOk result (λ made. (tables : ℕ → Listing) (meaning : Meaning) (own slot : ℕ) → IsPlace cost own slot exits.now place.now → ((entry : TheInstruction) → Saves place.now.cost place.now.slot inner.value entry → PerformsWithExits tables meaning place.now.cost place.now.slot place.now.exits entry) → PerformsWithExits tables (λ p levels m s. then_on (pays own s) (meaning p levels m)) cost slot exits.now made.value) }
@@ -86,7 +86,7 @@ impl Assembler {
         inner: &Node,
         after_t: Way,
         after_f: Way,
-        cost: usize,
+        cost: u32,
         slot: usize,
         exits: &Exits,
     ) -> Result<Rc<Instruction>, AllocError>

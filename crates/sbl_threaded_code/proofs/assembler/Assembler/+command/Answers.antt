@@ -65,7 +65,7 @@ counted-returns-in_ok-next t c =
     (λ p levels m s. ap (λ b. pay_first (counted_of b (view_number c.args.count.now) (runs p levels (view_node tables c.args.inner.now))) m s) (sym c.if-repeats.true))
     (made_of tables of (λ p levels. runs p levels (view_node tables c.args.inner.now)) body.value c.args.cost n e.next.value e.fail.value made.value (c.in_ok-body.ensures tables)
     (emitted_at tables (λ p levels. pay_first (of p levels (alone (flow p levels tables body.value)))) c.args.cost o.next.value o.fail.value e.next.value e.fail.value made.value c.in_ok-next.ensures.0 c.in_ok-next.ensures.1
-    (λ p levels m ys s. ap (λ i. flow p levels tables i m ys s) is ∙ flow_at_least p levels tables m ys s c.args.cost c.in_ok-count.count body o.next o.fail ∙ ap (λ a. then_on (pays c.args.cost s) (λ u. after (pay_first (at_least_of a (alone (flow p levels tables body.value))) m u) (flow p levels tables o.next.value m ys) (flow p levels tables o.fail.value m ys))) c.in_ok-count.ensures) n)))
+    (λ p levels m ys s. ap (λ i. flow p levels tables i m ys s) is ∙ flow_at_least p levels tables m ys s c.args.cost c.in_ok-count.count body o.next o.fail ∙ ap (λ a. then_on (pays c.args.cost s) (λ u. after (pay_first (at_least_of a (alone (flow p levels tables body.value))) m u) (flow p levels tables o.next.value m ys) (flow p levels tables o.fail.value m ys))) (ap view_number c.in_ok-count.ensures ∙ c.in_ok-copy.ensures)) n)))
     c.emit.ensures
 
 pub counted-returns-in_ok-next-2 : goal.counted-returns-in_ok-next-2
@@ -80,7 +80,7 @@ counted-returns-in_ok-next-2 t c =
     (λ p levels m s. ap (λ b. pay_first (counted_of b (view_number c.args.count.now) (runs p levels (view_node tables c.args.inner.now))) m s) (sym c.if-repeats.false))
     (made_of tables of (λ p levels. runs p levels (view_node tables c.args.inner.now)) body.value c.args.cost n e.next.value e.fail.value made.value (c.in_ok-body.ensures tables)
     (emitted_at tables (λ p levels. pay_first (of p levels (alone (flow p levels tables body.value)))) c.args.cost o.next.value o.fail.value e.next.value e.fail.value made.value c.in_ok-next-2.ensures.0 c.in_ok-next-2.ensures.1
-    (λ p levels m ys s. ap (λ i. flow p levels tables i m ys s) is ∙ flow_loop p levels tables m ys s c.args.cost c.in_ok-count.count body o.next o.fail ∙ ap (λ a. then_on (pays c.args.cost s) (λ u. after (pay_first (loop_of a (alone (flow p levels tables body.value))) m u) (flow p levels tables o.next.value m ys) (flow p levels tables o.fail.value m ys))) c.in_ok-count.ensures) n)))
+    (λ p levels m ys s. ap (λ i. flow p levels tables i m ys s) is ∙ flow_loop p levels tables m ys s c.args.cost c.in_ok-count.count body o.next o.fail ∙ ap (λ a. then_on (pays c.args.cost s) (λ u. after (pay_first (loop_of a (alone (flow p levels tables body.value))) m u) (flow p levels tables o.next.value m ys) (flow p levels tables o.fail.value m ys))) (ap view_number c.in_ok-count.ensures ∙ c.in_ok-copy.ensures)) n)))
     c.emit-else-repeats.ensures
 
 pub set_limit-returns : goal.set_limit-returns
@@ -453,7 +453,7 @@ command-returns-in_ok-entry-in-Row t c =
     let others = c.deref-in-Row.result.now in
     let place = c.in_ok-place-in-Row.place in
     let rest = c.in_ok-rest-in-Row.rest in
-    let own = c.len.result in
+    let own = c.in_ok-own-in-Row.own in
     let some : length others ≡ own = search rules in
     IfOk-weaker c.saved.result _ _
     (λ made h. λ tables.
