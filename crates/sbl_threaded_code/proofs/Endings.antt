@@ -24,6 +24,12 @@ as_it_is (Signals true s) = refl
 as_it_is (Signals false s) = refl
 as_it_is (Stops fault s) = refl
 
+-- the same, of the states in which it signals t
+pub then_same : (e : Ending) (f g : State → Ending) → ((s : State) → e ≡ Signals true s → f s ≡ g s) → then_on e f ≡ then_on e g
+then_same (Signals true s) f g h = h s refl
+then_same (Signals false s) f g h = refl
+then_same (Stops fault s) f g h = refl
+
 -- an ending that is not f
 abbrev pub Passes : Ending → Type 0
 Passes e = (a b c : State → Ending) → after e a b ≡ after e a c

@@ -27,7 +27,7 @@ use Rattle.sbl_threaded_code.specs.declared.instruction.Instruction.TheViews.{th
 use Rattle.sbl_threaded_code.specs.Slots.{no_cursor}
 use Rattle.sbl_threaded_code.specs.declared.instruction.Group.{Group}
 use Rattle.sbl_threaded_code.specs.declared.instruction.Site.{Site}
-use Rattle.sbl_threaded_code.specs.Flow.{Flow, flow, group_flow, alone, chosen, turns_of, loop_of, at_least_of, seek_of, backwards_of, limited_of}
+use Rattle.sbl_threaded_code.specs.Flow.{Flow, flow, back_if, group_flow, alone, chosen, turns_of, loop_of, at_least_of, seek_of, backwards_of, limited_of}
 
 abbrev I : Type 0
 I = Rc Instruction Global
@@ -42,14 +42,14 @@ module _ (p : programs.Program) (levels : ℕ) (tables : ℕ → Listing) (m : M
   pub flow_pay : (cost : ℕ) (next : I) → F (Pay cost next) m ys s ≡ then_on (pays cost s) (F next.value m ys)
   flow_pay cost next = first_of (search (rules, the_lemmas), search (rules, the_lemmas, fold_out-Instruction))
 
-  pub flow_character : (cost c : ℕ) (next fail : I) → F (Character cost c next fail) m ys s ≡ then_on (pays cost s) (λ u. after (match (c ∷ []) m u) (F next.value m ys) (F fail.value m ys))
-  flow_character cost c next fail = first_of (search (rules, the_lemmas), search (rules, the_lemmas, fold_out-Instruction))
+  pub flow_character : (cost c : ℕ) (back : Bool) (next fail : I) → F (Character cost c back next fail) m ys s ≡ then_on (pays cost s) (λ u. after (match (c ∷ []) m u) (F next.value m ys) (back_if back m u (F fail.value m ys)))
+  flow_character cost c back next fail = first_of (search (rules, the_lemmas), search (rules, the_lemmas, fold_out-Instruction))
 
-  pub flow_literal : (cost : ℕ) (string : Box (Vec ℕ Global) Global) (next fail : I) → F (Literal cost string next fail) m ys s ≡ then_on (pays cost s) (λ u. after (match string.value.items m u) (F next.value m ys) (F fail.value m ys))
-  flow_literal cost string next fail = first_of (search (rules, the_lemmas), search (rules, the_lemmas, fold_out-Instruction))
+  pub flow_literal : (cost : ℕ) (string : Box (Vec ℕ Global) Global) (back : Bool) (next fail : I) → F (Literal cost string back next fail) m ys s ≡ then_on (pays cost s) (λ u. after (match string.value.items m u) (F next.value m ys) (back_if back m u (F fail.value m ys)))
+  flow_literal cost string back next fail = first_of (search (rules, the_lemmas), search (rules, the_lemmas, fold_out-Instruction))
 
-  pub flow_grouping : (cost : ℕ) (wanted : Bool) (g : ℕ) (next fail : I) → F (Grouping cost wanted g next fail) m ys s ≡ then_on (pays cost s) (λ u. after (test_grouping wanted (class_at p.groupings g) g m u) (F next.value m ys) (F fail.value m ys))
-  flow_grouping cost wanted g next fail = first_of (search (rules, the_lemmas), search (rules, the_lemmas, fold_out-Instruction))
+  pub flow_grouping : (cost : ℕ) (wanted : Bool) (g : ℕ) (back : Bool) (next fail : I) → F (Grouping cost wanted g back next fail) m ys s ≡ then_on (pays cost s) (λ u. after (test_grouping wanted (class_at p.groupings g) g m u) (F next.value m ys) (back_if back m u (F fail.value m ys)))
+  flow_grouping cost wanted g back next fail = first_of (search (rules, the_lemmas), search (rules, the_lemmas, fold_out-Instruction))
 
   pub flow_left_bracket : (cost : ℕ) (next : I) → F (LeftBracket cost next) m ys s ≡ then_on (pays cost s) (λ u. F next.value m ys (left_bracket m u))
   flow_left_bracket cost next = first_of (search (rules, the_lemmas), search (rules, the_lemmas, fold_out-Instruction))

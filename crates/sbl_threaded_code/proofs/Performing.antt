@@ -23,7 +23,7 @@ use Rattle.sbl_threaded_code.specs.declared.assembler.Exits.{Exits}
 use Rattle.sbl_threaded_code.specs.declared.assembler.Place.{Place}
 use Rattle.sbl_threaded_code.specs.Slots.{no_cursor, no_cursors}
 use Rattle.sbl_threaded_code.specs.Flow.{Flow, flow, group_flow, alone, chosen, fail_of, turns_of, wrapped_of}
-use Rattle.sbl_threaded_code.specs.Performs.{Agree, GoesOn, Leaves, Meaning, Performs, Ends, Restores, Saves, Runs, IsPlaced, IsPlace, ArePerformed}
+use Rattle.sbl_threaded_code.specs.Performs.{Agree, GoesOn, Leaves, Meaning, Performs, PerformsAt, Ends, Restores, Saves, Runs, IsPlaced, IsPlace, ArePerformed}
 use Rattle.sbl_threaded_code.proofs.Endings.{after_after, after_same, as_it_is, Passes, passes_then, pay_passes, pays_pass, back_passes, own_step, steps_more}
 
 -- ---- slots
@@ -149,14 +149,12 @@ leaves_back tables n next fail own r p levels m slots ys go stop g h a zs b s =
     ∙ back_passes m from s go (Signals false) stop
 
 pub saving :
-    (tables : ℕ → Listing) (c : Meaning) (on_t on_f : Mode → SavedCursor → State → Ending) (cost n k : ℕ) (next fail own_next own_fail inner entry : Instruction) →
-    k ≡ n + 1 → n < 4 → Saves cost n inner entry →
-    Performs tables c 0 k own_next own_fail inner →
+    (tables : ℕ → Listing) (c : Meaning) (on_t on_f : Mode → SavedCursor → State → Ending) (cost n : ℕ) (next fail own_next own_fail inner entry : Instruction) →
+    n < 4 → Saves cost n inner entry →
+    PerformsAt tables c 0 n own_next own_fail inner →
     Leaves tables n next fail own_next on_t → Leaves tables n next fail own_fail on_f →
     Performs tables (λ p levels. wrapped_of on_t on_f (c p levels)) cost n next fail entry
-saving tables c on_t on_f cost n deep next fail own_next own_fail inner entry is small saves h' lt lf p levels m slots go stop l g k ys a s =
-    let one : deep ≡ suc n = omega (arith, is) in
-    let h = subst (λ j. Performs tables c 0 j own_next own_fail inner) one h' in
+saving tables c on_t on_f cost n next fail own_next own_fail inner entry small saves h lt lf p levels m slots go stop l g k ys a s =
     let d = λ (u : State). wrapped_of on_t on_f (c p levels) m u in
     let room : n < length ys = omega (arith, a.as_many, l) in
     let inside = λ (u : State).
@@ -166,7 +164,7 @@ saving tables c on_t on_f cost n deep next fail own_next own_fail inner entry is
     let many : length zs ≡ 4 = length-set ys n v ∙ a.as_many ∙ l in
     let got : slice_index_or zs n no_cursor ≡ v = get_or-set_same ys n v no_cursor room in
     h p levels m zs (λ t. after (on_t m (slice_index_or zs n no_cursor) t) go stop) (λ t. after (on_f m (slice_index_or zs n no_cursor) t) go stop) many
-    (lt p levels m slots zs go stop g k kept) (lf p levels m slots zs go stop g k kept) zs (agree_self (suc n) zs) u
+    (lt p levels m slots zs go stop g k kept) (lf p levels m slots zs go stop g k kept) zs (agree_self (suc n) zs) u (λ t. ap (λ w. put_back m w t) (sym got))
     ∙ ap (λ w. after (c p levels m u) (λ t. after (on_t m w t) go stop) (λ t. after (on_f m w t) go stop)) got
     ∙ sym (after_after (c p levels m u) (on_t m v) (on_f m v) go stop)
     in

@@ -19,8 +19,9 @@ use Rattle.sbl_threaded_code.specs.declared.instruction.Group.{Group, out-Group}
 use Rattle.sbl_threaded_code.specs.declared.assembler.Exits.{Exits}
 use Rattle.sbl_threaded_code.specs.Slots.{no_cursor}
 use Rattle.sbl_threaded_code.specs.Flow.{flow}
-use Rattle.sbl_threaded_code.specs.Performs.{Agree, GoesOn, Meaning, Performs, Saves, PerformsWithExits, Restores, IsRest, ArePerformed}
-use Rattle.sbl_threaded_code.proofs.Endings.{after_after, after_same, back_passes}
+use Rattle.sbl_threaded_code.specs.Performs.{Agree, GoesOn, Meaning, Performs, PerformsAt, Saves, PerformsWithExits, Restores, IsRest, ArePerformed}
+use Rattle.sbl_threaded_code.proofs.Endings.{after_after, after_same, then_same, back_passes}
+use Rattle.sbl_threaded_code.proofs.PerformingAt.{back_at}
 use Rattle.sbl_threaded_code.proofs.Performing.{agree_self, agree_then, agree_set, after_steps, goes_deeper}
 
 module _ (p : programs.Program) (levels : ℕ) (m : Mode) where
@@ -63,7 +64,7 @@ module _ (tables : ℕ → Listing) (n : ℕ) (exits rest : Exits) (o : JoinedVi
 
   -- a signal after which the next command runs
   goes_back : (entry back : Instruction) → length ys ≡ 4 → Restores n entry back →
-      Performs tables (λ p levels. runs p levels o.1) 0 (suc n) rest.next.value rest.fail.value entry →
+      PerformsAt tables (λ p levels. runs p levels o.1) 0 n rest.next.value rest.fail.value entry →
       GoesOn (flow p levels tables rest.next.value) m (suc n) ys (left true) → GoesOn (flow p levels tables rest.fail.value) m (suc n) ys (left false) →
       (b : Bool) → is_settled o.0 b ≡ false →
       GoesOn (flow p levels tables back) m (suc n) ys (λ s. after (others_run p levels m from (o ∷ os) (Signals b s)) go stop)
@@ -71,7 +72,7 @@ module _ (tables : ℕ → Listing) (n : ℕ) (exits rest : Exits) (o : JoinedVi
       let D = λ (t : State). after (runs p levels o.1 m t) (left true) (left false) in
       r p levels tables m zs s
       ∙ ap (λ v. then_on (put_back m v s) (flow p levels tables entry m zs)) (a.same n (omega arith))
-      ∙ after_same (put_back m from s) (flow p levels tables entry m zs) (Signals false) D (Signals false) (λ t. h p levels m ys (left true) (left false) l g k zs a t) (λ t. refl)
+      ∙ then_same (put_back m from s) (flow p levels tables entry m zs) D (λ t at. h p levels m ys (left true) (left false) l g k zs a t (back_at m from s t at))
       ∙ back_passes m from s D (Signals false) (left false)
       ∙ sym (after_after (put_back m from s) (runs p levels o.1 m) (Signals false) (left true) (left false))
       ∙ sym (others_split p levels m from os (then_on (put_back m from s) (runs p levels o.1 m)) go stop)
@@ -79,12 +80,10 @@ module _ (tables : ℕ → Listing) (n : ℕ) (exits rest : Exits) (o : JoinedVi
 
 -- before a command after `or`
 pub rest_or :
-    (tables : ℕ → Listing) (n k : ℕ) (exits rest made : Exits) (o : JoinedView) (os : List JoinedView) (entry back : Instruction) → k ≡ n + 1 → o.0 ≡ Or →
-    Performs tables (λ p levels. runs p levels o.1) 0 k rest.next.value rest.fail.value entry → Restores n entry back →
+    (tables : ℕ → Listing) (n : ℕ) (exits rest made : Exits) (o : JoinedView) (os : List JoinedView) (entry back : Instruction) → o.0 ≡ Or →
+    PerformsAt tables (λ p levels. runs p levels o.1) 0 n rest.next.value rest.fail.value entry → Restores n entry back →
     made.next.value ≡ rest.next.value → made.fail.value ≡ back → IsRest tables n os exits rest → IsRest tables n (o ∷ os) exits made
-rest_or tables n deep exits rest made o os entry back one e h' r x y is p levels m slots ys go stop l g k a =
-    let next : deep ≡ suc n = omega (arith, one) in
-    let h = subst (λ j. Performs tables (λ p levels. runs p levels o.1) 0 j rest.next.value rest.fail.value entry) next h' in
+rest_or tables n exits rest made o os entry back e h r x y is p levels m slots ys go stop l g k a =
     let q = is p levels m slots ys go stop l g k a in (
       λ zs b s. ap (λ i. flow p levels tables i m zs s) x ∙ q.0 zs b s ∙ sym (decided tables n exits rest o os p levels m slots ys go stop true s (ap (λ j. is_settled j true) e)),
       λ zs b s. ap (λ i. flow p levels tables i m zs s) y ∙ goes_back tables n exits rest o os p levels m slots ys go stop entry back (a.as_many ∙ l) r h q.0 q.1 false (ap (λ j. is_settled j false) e) zs b s,
@@ -92,12 +91,10 @@ rest_or tables n deep exits rest made o os entry back one e h' r x y is p levels
 
 -- before a command after `and`
 pub rest_and :
-    (tables : ℕ → Listing) (n k : ℕ) (exits rest made : Exits) (o : JoinedView) (os : List JoinedView) (entry back : Instruction) → k ≡ n + 1 → o.0 ≡ And →
-    Performs tables (λ p levels. runs p levels o.1) 0 k rest.next.value rest.fail.value entry → Restores n entry back →
+    (tables : ℕ → Listing) (n : ℕ) (exits rest made : Exits) (o : JoinedView) (os : List JoinedView) (entry back : Instruction) → o.0 ≡ And →
+    PerformsAt tables (λ p levels. runs p levels o.1) 0 n rest.next.value rest.fail.value entry → Restores n entry back →
     made.next.value ≡ back → made.fail.value ≡ rest.fail.value → IsRest tables n os exits rest → IsRest tables n (o ∷ os) exits made
-rest_and tables n deep exits rest made o os entry back one e h' r x y is p levels m slots ys go stop l g k a =
-    let next : deep ≡ suc n = omega (arith, one) in
-    let h = subst (λ j. Performs tables (λ p levels. runs p levels o.1) 0 j rest.next.value rest.fail.value entry) next h' in
+rest_and tables n exits rest made o os entry back e h r x y is p levels m slots ys go stop l g k a =
     let q = is p levels m slots ys go stop l g k a in (
       λ zs b s. ap (λ i. flow p levels tables i m zs s) x ∙ goes_back tables n exits rest o os p levels m slots ys go stop entry back (a.as_many ∙ l) r h q.0 q.1 true (ap (λ j. is_settled j true) e) zs b s,
       λ zs b s. ap (λ i. flow p levels tables i m zs s) y ∙ q.1 zs b s ∙ sym (decided tables n exits rest o os p levels m slots ys go stop false s (ap (λ j. is_settled j false) e)),
@@ -105,13 +102,11 @@ rest_and tables n deep exits rest made o os entry back one e h' r x y is p level
 
 -- a row whose cursor is saved, and what is left of it
 pub saving_row :
-    (tables : ℕ → Listing) (c : Meaning) (os : List JoinedView) (cost n k : ℕ) (exits rest : Exits) (inner entry : Instruction) →
-    k ≡ n + 1 → n < 4 → Saves cost n inner entry →
-    Performs tables c 0 k rest.next.value rest.fail.value inner → IsRest tables n os exits rest →
+    (tables : ℕ → Listing) (c : Meaning) (os : List JoinedView) (cost n : ℕ) (exits rest : Exits) (inner entry : Instruction) →
+    n < 4 → Saves cost n inner entry →
+    PerformsAt tables c 0 n rest.next.value rest.fail.value inner → IsRest tables n os exits rest →
     Performs tables (λ p levels m s. others_run p levels m (saved_cursor s) os (c p levels m s)) cost n exits.next.value exits.fail.value entry
-saving_row tables c os cost n deep exits rest inner entry is small saves h' row p levels m slots go stop l g k ys a s =
-    let one : deep ≡ suc n = omega (arith, is) in
-    let h = subst (λ j. Performs tables c 0 j rest.next.value rest.fail.value inner) one h' in
+saving_row tables c os cost n exits rest inner entry small saves h row p levels m slots go stop l g k ys a s =
     let d = λ (u : State). others_run p levels m (saved_cursor u) os (c p levels m u) in
     let room : n < length ys = omega (arith, a.as_many, l) in
     let inside = λ (u : State).
@@ -122,7 +117,7 @@ saving_row tables c os cost n deep exits rest inner entry is small saves h' row 
     let got : slice_index_or zs n no_cursor ≡ v = get_or-set_same ys n v no_cursor room in
     let at = λ (w : SavedCursor) (b : Bool) (t : State). after (others_run p levels m w os (Signals b t)) go stop in
     let q = row p levels m slots zs go stop l g k kept in
-    h p levels m zs (at (slice_index_or zs n no_cursor) true) (at (slice_index_or zs n no_cursor) false) many q.0 q.1 zs (agree_self (suc n) zs) u
+    h p levels m zs (at (slice_index_or zs n no_cursor) true) (at (slice_index_or zs n no_cursor) false) many q.0 q.1 zs (agree_self (suc n) zs) u (λ t. ap (λ w. put_back m w t) (sym got))
     ∙ ap (λ w. after (c p levels m u) (at w true) (at w false)) got
     ∙ sym (others_split p levels m v os (c p levels m u) go stop)
     in

@@ -97,15 +97,20 @@ abbrev pub chosen : Option ℕ → List Flow → Flow → Flow → Flow
 chosen None bodies next fail = fail
 chosen (Some g) bodies next fail = option_map_or (λ f. f) (slice_get bodies g) next
 
+-- whether the cursor is put back to where it was at `from`
+abbrev pub back_if : Bool → Mode → State → (State → Ending) → State → Ending
+back_if true m from go s = then_on (put_back m (saved_cursor from) s) go
+back_if false m from go s = go s
+
 abbrev pub flow_step : programs.Program → ℕ → (ℕ → Listing) → Instruction-F Flow Flow → Flow
 flow_step p levels tables (code.End b) m slots s = Signals b s
 flow_step p levels tables (code.Pay cost next) m slots s = then_on (pays cost s) (next.value m slots)
-flow_step p levels tables (code.Character cost c next fail) m slots s =
-    then_on (pays cost s) (λ u. after (match (c ∷ []) m u) (next.value m slots) (fail.value m slots))
-flow_step p levels tables (code.Literal cost string next fail) m slots s =
-    then_on (pays cost s) (λ u. after (match string.value.items m u) (next.value m slots) (fail.value m slots))
-flow_step p levels tables (code.Grouping cost wanted g next fail) m slots s =
-    then_on (pays cost s) (λ u. after (test_grouping wanted (class_at p.groupings g) g m u) (next.value m slots) (fail.value m slots))
+flow_step p levels tables (code.Character cost c back next fail) m slots s =
+    then_on (pays cost s) (λ u. after (match (c ∷ []) m u) (next.value m slots) (back_if back m u (fail.value m slots)))
+flow_step p levels tables (code.Literal cost string back next fail) m slots s =
+    then_on (pays cost s) (λ u. after (match string.value.items m u) (next.value m slots) (back_if back m u (fail.value m slots)))
+flow_step p levels tables (code.Grouping cost wanted g back next fail) m slots s =
+    then_on (pays cost s) (λ u. after (test_grouping wanted (class_at p.groupings g) g m u) (next.value m slots) (back_if back m u (fail.value m slots)))
 flow_step p levels tables (code.LeftBracket cost next) m slots s = then_on (pays cost s) (λ u. next.value m slots (left_bracket m u))
 flow_step p levels tables (code.RightBracket cost next) m slots s = then_on (pays cost s) (λ u. next.value m slots (right_bracket m u))
 flow_step p levels tables (code.Boolean cost x next fail) m slots s =

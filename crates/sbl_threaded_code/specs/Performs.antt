@@ -40,9 +40,33 @@ Performs tables meaning cost n next fail entry =
     GoesOn (flow p levels tables fail) m n slots stop →
     GoesOn (flow p levels tables entry) m n slots (λ s. after (then_on (pays cost s) (meaning p levels m)) go stop)
 
+-- The cursor is where it was saved: to put it back to there is to put it back to where it is.
+abbrev pub IsAt : Mode → SavedCursor → State → Type 0
+IsAt m from s = (t : State) → put_back m (saved_cursor s) t ≡ put_back m from t
+
+-- the same, for runs whose cursor is where slot n has it
+abbrev pub PerformsAt : (ℕ → Listing) → Meaning → ℕ → ℕ → Instruction → Instruction → Instruction → Type 0
+PerformsAt tables meaning cost n next fail entry =
+    (p : programs.Program) (levels : ℕ) (m : Mode) (slots : List SavedCursor) (go stop : State → Ending) →
+    length slots ≡ 4 →
+    GoesOn (flow p levels tables next) m (suc n) slots go →
+    GoesOn (flow p levels tables fail) m (suc n) slots stop →
+    (ys : List SavedCursor) → Agree (suc n) slots ys → (s : State) → IsAt m (slice_index_or slots n no_cursor) s →
+    flow p levels tables entry m ys s ≡ after (then_on (pays cost s) (meaning p levels m)) go stop
+
 -- the same with the exits of a command
 abbrev pub PerformsWithExits : (ℕ → Listing) → Meaning → ℕ → ℕ → Exits → Instruction → Type 0
 PerformsWithExits tables meaning cost n exits entry = Performs tables meaning cost n exits.next.value exits.fail.value entry
+
+-- a test after which the cursor is put back if it signals f
+abbrev pub Tests : (ℕ → Listing) → Meaning → ℕ → Instruction → Instruction → Instruction → Type 0
+Tests tables meaning cost next stay x =
+    (p : programs.Program) (levels : ℕ) (m : Mode) (slots : List SavedCursor) (s : State) →
+    flow p levels tables x m slots s
+    ≡ then_on (pays cost s) (λ u. after (meaning p levels m u) (flow p levels tables next m slots) (λ f. then_on (put_back m (saved_cursor u) f) (flow p levels tables stay m slots)))
+
+abbrev pub PerformsAtWithExits : (ℕ → Listing) → Meaning → ℕ → ℕ → Exits → Instruction → Type 0
+PerformsAtWithExits tables meaning cost n exits entry = PerformsAt tables meaning cost n exits.next.value exits.fail.value entry
 
 -- ---- instructions and exits that the assembler makes on the way
 

@@ -1,6 +1,6 @@
 //! Makes the code of a program.
 
-ghost use Rattle.std.specs.Prelude.{◌≡◌, ◌+◌, ℕ, false, IfOk};
+ghost use Rattle.std.specs.Prelude.{◌≡◌, ◌+◌, ◌≤◌, ℕ, false, length, drop, IfOk};
 ghost use Rattle.sbl_program.specs.AmongStrings.{Listing};
 ghost use Rattle.sbl_program.specs.ProgramOf.{view_node, view_nodes, view_routine};
 ghost use Rattle.sbl_semantics.specs.Choices.{choice};
@@ -27,6 +27,7 @@ mod acting;
 mod emitting;
 mod looping;
 mod saving;
+mod testing;
 
 use crate::code::RoutineCode;
 use crate::instruction::{Group, Instruction};
@@ -160,7 +161,7 @@ impl Assembler {
                 let own = steps_of(others.len())?;
                 let place = self.place(cost, own, slot, exits)?;
                 let rest = self.rest(others, place.slot, &place.exits)?;
-                let entry = self.command(first, 0, place.slot + 1, &rest)?;
+                let entry = self.inner(first, place.slot, &rest)?;
                 self.saved(&place, entry, cost, exits)
             }
             Node::Not(inner) => self.wrapped(inner, Way::Fail, Way::Back, cost, slot, exits),
@@ -218,13 +219,30 @@ impl Assembler {
         if commands.is_empty() {
             return self.pay(cost, exits);
         }
+        let now = self.tail(commands, 1, slot, exits)?;
+        self.command(&commands[0], cost, slot, &now)
+    }
+
+    // The exits of a command, if it goes on after t with all but the first `count` commands.
+    #[cycle(command)]
+    fn tail(
+        &mut self,
+        commands: &[Node],
+        count: usize,
+        slot: usize,
+        exits: &Exits,
+    ) -> Result<Exits, AllocError>
+        requires { count ≤ length commands.now }
+        ensures fail { IfOk result (λ tail. tail.fail.value ≡ exits.now.fail.value) }
+        ensures next { IfOk result (λ tail. (tables : ℕ → Listing) → PerformsWithExits tables (λ p levels. all_run p levels (view_nodes tables (drop count commands.now))) 0 slot exits.now tail.next.value) }
+    {
         let mut now = exits.again()?;
         let mut i = commands.len();
-        while 1 < i {
+        while count < i {
             i -= 1;
             now.next = self.command(&commands[i], 0, slot, &now)?;
         }
-        self.command(&commands[0], cost, slot, &now)
+        Ok(now)
     }
 
     // `fail C`

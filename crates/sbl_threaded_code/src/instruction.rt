@@ -15,25 +15,29 @@ pub enum Instruction {
         cost: u32,
         next: Rc<Instruction>,
     },
-    /// A literal of one character.
+    /// A literal of one character. `back` says that the cursor is put back after f. It is where it was, so a run does nothing
+    /// for that.
     Character {
         cost: u32,
         character: char,
+        back: bool,
         next: Rc<Instruction>,
         fail: Rc<Instruction>,
     },
-    /// Any other literal.
+    /// Any other literal; `back` is as in `Character`.
     Literal {
         cost: u32,
         string: Box<Vec<char>>,
+        back: bool,
         next: Rc<Instruction>,
         fail: Rc<Instruction>,
     },
-    /// A grouping, or `non` and a grouping.
+    /// A grouping, or `non` and a grouping; `back` is as in `Character`.
     Grouping {
         cost: u32,
         wanted: bool,
         grouping: usize,
+        back: bool,
         next: Rc<Instruction>,
         fail: Rc<Instruction>,
     },

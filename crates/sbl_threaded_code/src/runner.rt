@@ -236,6 +236,7 @@ impl<'a, T: Tables> Runner<'a, T> {
                 Instruction::Character {
                     cost,
                     character,
+                    back: _,
                     next,
                     fail,
                 } => {
@@ -243,12 +244,14 @@ impl<'a, T: Tables> Runner<'a, T> {
                     at = if state.take_character(self.mode, *character) {
                         next
                     } else {
+                        state.place();
                         fail
                     };
                 }
                 Instruction::Literal {
                     cost,
                     string,
+                    back: _,
                     next,
                     fail,
                 } => {
@@ -256,6 +259,7 @@ impl<'a, T: Tables> Runner<'a, T> {
                     at = if state.take_literal(self.mode, string) {
                         next
                     } else {
+                        state.place();
                         fail
                     };
                 }
@@ -263,6 +267,7 @@ impl<'a, T: Tables> Runner<'a, T> {
                     cost,
                     wanted,
                     grouping,
+                    back: _,
                     next,
                     fail,
                 } => {
@@ -271,6 +276,7 @@ impl<'a, T: Tables> Runner<'a, T> {
                     at = if state.take_grouping(self.mode, groupings, *grouping, *wanted)? {
                         next
                     } else {
+                        state.place();
                         fail
                     };
                 }

@@ -65,7 +65,8 @@ impl Assembler {
     ) -> Result<Rc<Instruction>, AllocError>
         ensures { IfOk result (λ made. (tables : ℕ → Listing) (n : ℕ) → PerformsWithExits tables (λ p levels m s. match (character ∷ []) m s) cost n exits.now made.value) }
     {
-        emit!(self, exits, Character { cost, character })
+        let back = false;
+        emit!(self, exits, Character { cost, character, back })
     }
 
     // A literal.
@@ -82,7 +83,8 @@ impl Assembler {
         }
         let copy = Vec::from_slice(self.alloc, string)?;
         let string = Box::new(self.alloc, copy)?;
-        emit!(self, exits, Literal { cost, string })
+        let back = false;
+        emit!(self, exits, Literal { cost, string, back })
     }
 
     // A grouping, or `non` and a grouping.
@@ -95,13 +97,15 @@ impl Assembler {
     ) -> Result<Rc<Instruction>, AllocError>
         ensures { IfOk result (λ made. (tables : ℕ → Listing) (n : ℕ) → PerformsWithExits tables (λ p levels m s. test_grouping wanted (class_at p.groupings grouping) grouping m s) cost n exits.now made.value) }
     {
+        let back = false;
         emit!(
             self,
             exits,
             Grouping {
                 cost,
                 wanted,
-                grouping
+                grouping,
+                back
             }
         )
     }

@@ -97,7 +97,7 @@ impl Assembler {
             next: self.way(after_t, &place)?,
             fail: self.way(after_f, &place)?,
         };
-        let entry = self.command(inner, 0, place.slot + 1, &own)?;
+        let entry = self.inner(inner, place.slot, &own)?;
         self.saved(&place, entry, cost, exits)
     }
 
@@ -109,7 +109,8 @@ impl Assembler {
         slot: usize,
         exits: &Exits,
     ) -> Result<Exits, AllocError>
-        ensures { IfOk result (λ rest. (tables : ℕ → Listing) → slot < 4 → IsRest tables slot (map (view_next_command tables) others.now) exits.now rest) }
+        requires { slot < 4 }
+        ensures { IfOk result (λ rest. (tables : ℕ → Listing) → IsRest tables slot (map (view_next_command tables) others.now) exits.now rest) }
     {
         let mut rest = exits.again()?;
         let mut i = others.len();
@@ -128,9 +129,10 @@ impl Assembler {
         slot: usize,
         rest: &Exits,
     ) -> Result<Exits, AllocError>
-        ensures { IfOk result (λ made. (tables : ℕ → Listing) (exits : TheExits) (others : List JoinedView) → slot < 4 → IsRest tables slot others exits rest.now → IsRest tables slot (view_next_command tables other.now ∷ others) exits made) }
+        requires { slot < 4 }
+        ensures { IfOk result (λ made. (tables : ℕ → Listing) (exits : TheExits) (others : List JoinedView) → IsRest tables slot others exits rest.now → IsRest tables slot (view_next_command tables other.now ∷ others) exits made) }
     {
-        let entry = self.command(&other.command, 0, slot.saturating_add(1), rest)?;
+        let entry = self.inner(&other.command, slot, rest)?;
         let back = self.restore(slot, &entry)?;
         match other.joiner {
             Joiner::Or => Ok(Exits {

@@ -17,11 +17,13 @@ use Rattle.sbl_interpreter.proofs.Arms.{sequence_does, not_does, test_does, try_
 use Rattle.sbl_interpreter.proofs.ChainRuns.{part_is, row_does}
 use Rattle.sbl_semantics.specs.Choices.{choice}
 use Rattle.sbl_semantics.specs.Control.{pay_first}
+use Rattle.sbl_semantics.specs.Slices.{left_bracket}
 use Rattle.sbl_semantics.specs.State.{State, Doing, Signals, after, then_on, pay, saved_cursor, put_back}
 use Rattle.sbl_threaded_code.specs.Flow.{flow, alone, way_does, wrapped_of, not_of, test_of, try_of, do_of, fail_of, turns_of, loop_of, at_least_of, counted_of, seek_of, backwards_of, limited_of}
-use Rattle.sbl_threaded_code.specs.Performs.{Performs, IsRest, ArePerformed}
+use Rattle.sbl_threaded_code.specs.Performs.{Performs, PerformsAt, IsRest, ArePerformed}
 use Rattle.sbl_threaded_code.proofs.Endings.{after_after, after_same}
-use Rattle.sbl_threaded_code.proofs.Instructions.{flow_repeat, flow_loop, flow_at_least, flow_seek, flow_backwards, flow_set_limit}
+use Rattle.sbl_threaded_code.proofs.Instructions.{flow_left_bracket, flow_repeat, flow_loop, flow_at_least, flow_seek, flow_backwards, flow_set_limit}
+use Rattle.sbl_threaded_code.proofs.PerformingAt.{anywhere, first_step_at, arm_at, in_turn_at, bracket_at, bracket_turn, same_meaning_at}
 use Rattle.sbl_threaded_code.proofs.Performing.{emitted_at, made_of, runs_as, same_meaning, first_step, one_step, in_turn, saving, by_itself, arm, failing, repeating}
 use Rattle.sbl_threaded_code.proofs.Rests.{rest_or, rest_and, saving_row, performed_more}
 use Rattle.sbl_threaded_code.proofs.ProgramViews.{act_does, call_does, view_joiner, view_command}
@@ -65,7 +67,7 @@ counted-returns-in_ok-next t c =
     (λ p levels m s. ap (λ b. pay_first (counted_of b (view_number c.args.count.now) (runs p levels (view_node tables c.args.inner.now))) m s) (sym c.if-repeats.true))
     (made_of tables of (λ p levels. runs p levels (view_node tables c.args.inner.now)) body.value c.args.cost n e.next.value e.fail.value made.value (c.in_ok-body.ensures tables)
     (emitted_at tables (λ p levels. pay_first (of p levels (alone (flow p levels tables body.value)))) c.args.cost o.next.value o.fail.value e.next.value e.fail.value made.value c.in_ok-next.ensures.0 c.in_ok-next.ensures.1
-    (λ p levels m ys s. ap (λ i. flow p levels tables i m ys s) is ∙ flow_at_least p levels tables m ys s c.args.cost c.in_ok-count.count body o.next o.fail ∙ ap (λ a. then_on (pays c.args.cost s) (λ u. after (pay_first (at_least_of a (alone (flow p levels tables body.value))) m u) (flow p levels tables o.next.value m ys) (flow p levels tables o.fail.value m ys))) (ap view_number c.in_ok-count.ensures ∙ c.in_ok-copy.ensures)) n)))
+    (λ p levels m ys s. ap (λ i. flow p levels tables i m ys s) is ∙ flow_at_least p levels tables m ys s c.args.cost c.in_ok-count.count body o.next o.fail ∙ ap (λ a. then_on (pays c.args.cost s) (λ u. after (pay_first (at_least_of a (alone (flow p levels tables body.value))) m u) (flow p levels tables o.next.value m ys) (flow p levels tables o.fail.value m ys))) (ap view_number c.in_ok-count.ensures.ok ∙ c.in_ok-copy.ensures)) n)))
     c.emit.ensures
 
 pub counted-returns-in_ok-next-2 : goal.counted-returns-in_ok-next-2
@@ -80,7 +82,7 @@ counted-returns-in_ok-next-2 t c =
     (λ p levels m s. ap (λ b. pay_first (counted_of b (view_number c.args.count.now) (runs p levels (view_node tables c.args.inner.now))) m s) (sym c.if-repeats.false))
     (made_of tables of (λ p levels. runs p levels (view_node tables c.args.inner.now)) body.value c.args.cost n e.next.value e.fail.value made.value (c.in_ok-body.ensures tables)
     (emitted_at tables (λ p levels. pay_first (of p levels (alone (flow p levels tables body.value)))) c.args.cost o.next.value o.fail.value e.next.value e.fail.value made.value c.in_ok-next-2.ensures.0 c.in_ok-next-2.ensures.1
-    (λ p levels m ys s. ap (λ i. flow p levels tables i m ys s) is ∙ flow_loop p levels tables m ys s c.args.cost c.in_ok-count.count body o.next o.fail ∙ ap (λ a. then_on (pays c.args.cost s) (λ u. after (pay_first (loop_of a (alone (flow p levels tables body.value))) m u) (flow p levels tables o.next.value m ys) (flow p levels tables o.fail.value m ys))) (ap view_number c.in_ok-count.ensures ∙ c.in_ok-copy.ensures)) n)))
+    (λ p levels m ys s. ap (λ i. flow p levels tables i m ys s) is ∙ flow_loop p levels tables m ys s c.args.cost c.in_ok-count.count body o.next o.fail ∙ ap (λ a. then_on (pays c.args.cost s) (λ u. after (pay_first (loop_of a (alone (flow p levels tables body.value))) m u) (flow p levels tables o.next.value m ys) (flow p levels tables o.fail.value m ys))) (ap view_number c.in_ok-count.ensures.ok ∙ c.in_ok-copy.ensures)) n)))
     c.emit-else-repeats.ensures
 
 pub set_limit-returns : goal.set_limit-returns
@@ -161,24 +163,24 @@ wrapped-returns t c =
     one_step tables (λ p levels. wrapped_of (way_does t') (way_does f') (run p levels)) c.args.cost c.args.slot e.next.value e.fail.value made.value
     (h tables (λ p levels. wrapped_of (way_does t') (way_does f') (run p levels)) 1 c.args.slot c.in_ok-place.ensures
     (λ entry saves.
-    saving tables run (way_does t') (way_does f') place.cost place.slot (place.slot + 1) x.next.value x.fail.value c.in_ok-way.field-0.value c.in_ok-way-2.field-0.value c.in_ok-entry.entry.value entry refl c.in_ok-place.ensures.0 saves (c.in_ok-entry.ensures tables)
+    saving tables run (way_does t') (way_does f') place.cost place.slot x.next.value x.fail.value c.in_ok-way.field-0.value c.in_ok-way-2.field-0.value c.in_ok-entry.entry.value entry c.in_ok-place.ensures.0 saves (c.in_ok-entry.ensures tables)
     (c.in_ok-way.ensures tables) (c.in_ok-way-2.ensures tables))))
     c.saved.ensures
 
 pub joined-returns-in-Or : goal.joined-returns-in-Or
 joined-returns-in-Or t c =
-    λ tables exits others small row.
+    λ tables exits others row.
     let o = view_next_command tables c.args.other.now in
-    rest_or tables c.args.slot c.saturating_add.result exits c.args.rest.now (record { next = c.in_ok-clone-in-Or.field-0; fail = c.in_ok-back.back }) o others c.in_ok-entry.entry.value c.in_ok-back.back.value (omega (arith, c.saturating_add.ensures, small)) (view_joiner tables c.args.other.now ∙ c.in-Or.is)
-    (subst (λ n. Performs tables (λ p levels. runs p levels n) 0 c.saturating_add.result c.args.rest.now.next.value c.args.rest.now.fail.value c.in_ok-entry.entry.value) (sym (view_command tables c.args.other.now)) (c.in_ok-entry.ensures tables))
+    rest_or tables c.args.slot exits c.args.rest.now (record { next = c.in_ok-clone-in-Or.field-0; fail = c.in_ok-back.back }) o others c.in_ok-entry.entry.value c.in_ok-back.back.value (view_joiner tables c.args.other.now ∙ c.in-Or.is)
+    (subst (λ n. PerformsAt tables (λ p levels. runs p levels n) 0 c.args.slot c.args.rest.now.next.value c.args.rest.now.fail.value c.in_ok-entry.entry.value) (sym (view_command tables c.args.other.now)) (c.in_ok-entry.ensures tables))
     c.in_ok-back.ensures c.in_ok-clone-in-Or.ensures.cases refl row
 
 pub joined-returns : goal.joined-returns
 joined-returns t c =
-    λ tables exits others small row.
+    λ tables exits others row.
     let o = view_next_command tables c.args.other.now in
-    rest_and tables c.args.slot c.saturating_add.result exits c.args.rest.now (record { next = c.in_ok-back.back; fail = c.in_ok-clone-in-And.field-0 }) o others c.in_ok-entry.entry.value c.in_ok-back.back.value (omega (arith, c.saturating_add.ensures, small)) (view_joiner tables c.args.other.now ∙ c.in-And.is)
-    (subst (λ n. Performs tables (λ p levels. runs p levels n) 0 c.saturating_add.result c.args.rest.now.next.value c.args.rest.now.fail.value c.in_ok-entry.entry.value) (sym (view_command tables c.args.other.now)) (c.in_ok-entry.ensures tables))
+    rest_and tables c.args.slot exits c.args.rest.now (record { next = c.in_ok-back.back; fail = c.in_ok-clone-in-And.field-0 }) o others c.in_ok-entry.entry.value c.in_ok-back.back.value (view_joiner tables c.args.other.now ∙ c.in-And.is)
+    (subst (λ n. PerformsAt tables (λ p levels. runs p levels n) 0 c.args.slot c.args.rest.now.next.value c.args.rest.now.fail.value c.in_ok-entry.entry.value) (sym (view_command tables c.args.other.now)) (c.in_ok-entry.ensures tables))
     c.in_ok-back.ensures refl c.in_ok-clone-in-And.ensures.cases row
 
 pub rest-loop-i-preserved : goal.rest-loop-i-preserved
@@ -191,17 +193,17 @@ rest-loop-i-preserved t c =
     let back : i + 1 ≡ c.loop-i.i = omega (arith, c.loop-i-test.true) in
     let at : x ≡ get_or os i x = search rules in (
       omega (arith, inv.0),
-      λ tables small.
+      λ tables.
           subst (λ xs. IsRest tables c.args.slot xs c.args.exits.now c.in_ok-rest-2.rest)
           (ap (λ k. view_next_command tables x ∷ map (view_next_command tables) (drop k os)) (sym back) ∙ sym (part_is (view_next_command tables) os i x l at))
-          (c.in_ok-rest-2.ensures tables c.args.exits.now (map (view_next_command tables) (drop c.loop-i.i os)) small (inv.1 tables small)),
+          (c.in_ok-rest-2.ensures tables c.args.exits.now (map (view_next_command tables) (drop c.loop-i.i os)) (inv.1 tables)),
     )
 
 pub rest-returns : goal.rest-returns
 rest-returns t c =
     let inv = c.loop-i.invariant in
     let none : c.loop-i.i ≡ 0 = omega (arith, c.loop-i-test.false) in
-    λ tables small. subst (λ k. IsRest tables c.args.slot (map (view_next_command tables) (drop k c.args.others.now)) c.args.exits.now c.loop-i.rest) none (inv.1 tables small)
+    λ tables. subst (λ k. IsRest tables c.args.slot (map (view_next_command tables) (drop k c.args.others.now)) c.args.exits.now c.loop-i.rest) none (inv.1 tables)
 
 pub groups-loop-body-preserved : goal.groups-loop-body-preserved
 groups-loop-body-preserved t c =
@@ -226,8 +228,8 @@ sequence-returns-then-is_empty t c =
     (λ p levels m s. ap (λ xs. all_run p levels (view_nodes tables xs) m s) (sym none)) (h tables c.args.slot))
     c.pay.ensures
 
-pub sequence-loop-i-preserved : goal.sequence-loop-i-preserved
-sequence-loop-i-preserved t c =
+pub tail-loop-i-preserved : goal.tail-loop-i-preserved
+tail-loop-i-preserved t c =
     let inv = c.loop-i.invariant in
     let e = c.args.exits.now in
     let cs = c.args.commands.now in
@@ -248,24 +250,137 @@ sequence-loop-i-preserved t c =
           (in_turn tables run (rest c.loop-i.i) 0 c.args.slot e.next.value e.fail.value c.loop-i.now.next.value c.in_ok-now-2.field-0.value q (inv.3 tables)),
     )
 
-pub sequence-returns : goal.sequence-returns
-sequence-returns t c =
+-- all but the first commands
+pub tail-returns-clause-next : goal.tail-returns-clause-next
+tail-returns-clause-next t c =
     let inv = c.loop-i.invariant in
     let e = c.args.exits.now in
     let cs = c.args.commands.now in
+    let same : c.loop-i.i ≡ c.args.count = omega (arith, inv.0, c.loop-i-test.false) in
+    λ tables. subst (λ k. Performs tables (λ p levels. all_run p levels (view_nodes tables (drop k cs))) 0 c.args.slot e.next.value e.fail.value c.loop-i.now.next.value) same (inv.3 tables)
+
+pub sequence-returns : goal.sequence-returns
+sequence-returns t c =
+    let e = c.args.exits.now in
+    let cs = c.args.commands.now in
     let x = c.index-commands-0.result in
-    let one : c.loop-i.i ≡ 1 = omega (arith, inv.0, c.loop-i-test.false) in
-    let l : 0 < length cs = omega (arith, inv.0, inv.1) in
+    let now = c.in_ok-now.now in
+    let l : 0 < length cs = grind (arith, nat_tests, c.if-is_empty.ensures) in
     let at : x ≡ get_or cs 0 x = search rules in
-    IfOk-weaker c.command-2.result _ _
+    IfOk-weaker c.command.result _ _
+    (λ made h. λ tables.
+    let run = λ (p : programs.Program) (levels : ℕ). runs p levels (view_node tables x) in
+    let rest = λ (p : programs.Program) (levels : ℕ). all_run p levels (view_nodes tables (drop 1 cs)) in
+    let q = subst (λ y. Performs tables run c.args.cost c.args.slot now.next.value y made.value) c.in_ok-now.ensures.fail (h tables) in
+    same_meaning tables (λ p levels m s. after (run p levels m s) (rest p levels m) (Signals false)) (λ p levels. all_run p levels (view_nodes tables cs)) c.args.cost c.args.slot e.next.value e.fail.value made.value
+    (λ p levels m s. sym (turn_is tables p levels cs 0 x m s l at))
+    (in_turn tables run rest c.args.cost c.args.slot e.next.value e.fail.value now.next.value made.value q (c.in_ok-now.ensures.next tables)))
+    c.command.ensures
+
+-- ---- commands that begin where the cursor was saved
+
+pub inner-returns-in-Act : goal.inner-returns-in-Act
+inner-returns-in-Act t c =
+    let e = c.args.exits.now in
+    let a = c.in-Act.action in
+    IfOk-weaker c.test.result _ _
+    (λ made h. λ tables.
+    arm_at tables (λ p levels. acts p.groupings (view_action a)) c.args.node.now (Act a) 0 c.args.slot e.next.value e.fail.value made.value c.in-Act.is (λ p levels m s. act_does tables p levels a m s)
+    (first_step_at tables (λ p levels. acts p.groupings (view_action a)) 0 1 c.args.slot e.next.value e.fail.value made.value refl (h tables)))
+    c.test.ensures
+
+pub inner-returns-in-Sequence : goal.inner-returns-in-Sequence
+inner-returns-in-Sequence t c =
+    let e = c.args.exits.now in
+    let cs = c.deref.result.now in
+    IfOk-weaker c.inner_sequence.result _ _
+    (λ made h. λ tables.
+    arm_at tables (λ p levels. all_run p levels (view_nodes tables cs)) c.args.node.now (Sequence c.in-Sequence.commands) 0 c.args.slot e.next.value e.fail.value made.value c.in-Sequence.is
+    (λ p levels m s. sequence_does tables p levels c.in-Sequence.commands m s ∙ ap (λ xs. all_run p levels (view_nodes tables xs) m s) (sym c.deref.ensures.value))
+    (first_step_at tables (λ p levels. all_run p levels (view_nodes tables cs)) 0 1 c.args.slot e.next.value e.fail.value made.value refl (h tables)))
+    c.inner_sequence.ensures
+
+pub inner-returns-in_default : goal.inner-returns-in_default
+inner-returns-in_default t c =
+    let e = c.args.exits.now in
+    IfOk-weaker c.command.result _ _
+    (λ made h. λ tables. anywhere tables (λ p levels. runs p levels (view_node tables c.args.node.now)) 0 c.args.slot (c.args.slot + 1) e.next.value e.fail.value made.value refl (h tables))
+    c.command.ensures
+
+pub inner_rest-returns-in_ok-tail-in-Act : goal.inner_rest-returns-in_ok-tail-in-Act
+inner_rest-returns-in_ok-tail-in-Act t c =
+    let e = c.args.exits.now in
+    let cs = c.args.commands.now in
+    let x = c.index-commands-1.result in
+    let a = c.in-Act.second in
+    let tail = c.in_ok-tail-in-Act.tail in
+    let l : 1 < length cs = omega (arith, c.requires.many) in
+    let at : x ≡ get_or cs 1 x = search rules in
+    IfOk-weaker c.test.result _ _
     (λ made h. λ tables.
     let run = λ (p : programs.Program) (levels : ℕ). runs p levels (view_node tables x) in
     let rest = λ (k : ℕ) (p : programs.Program) (levels : ℕ). all_run p levels (view_nodes tables (drop k cs)) in
-    let q = subst (λ y. Performs tables run c.args.cost c.args.slot c.loop-i.now.next.value y made.value) inv.2 (h tables) in
-    same_meaning tables (λ p levels m s. after (run p levels m s) (rest c.loop-i.i p levels m) (Signals false)) (λ p levels. all_run p levels (view_nodes tables cs)) c.args.cost c.args.slot e.next.value e.fail.value made.value
-    (λ p levels m s. ap (λ k. after (run p levels m s) (rest k p levels m) (Signals false)) one ∙ sym (turn_is tables p levels cs 0 x m s l at))
-    (in_turn tables run (rest c.loop-i.i) c.args.cost c.args.slot e.next.value e.fail.value c.loop-i.now.next.value made.value q (inv.3 tables)))
-    c.command-2.ensures
+    let q = arm_at tables (λ p levels. acts p.groupings (view_action a)) x (Act a) 0 c.args.slot tail.next.value tail.fail.value made.value c.in-Act.is (λ p levels m s. act_does tables p levels a m s) (first_step_at tables (λ p levels. acts p.groupings (view_action a)) 0 1 c.args.slot tail.next.value tail.fail.value made.value refl (h tables)) in
+    same_meaning_at tables (λ p levels m s. after (run p levels m s) (rest 2 p levels m) (Signals false)) (rest 1) 0 c.args.slot e.next.value e.fail.value made.value
+    (λ p levels m s. sym (turn_is tables p levels cs 1 x m s l at))
+    (in_turn_at tables run (rest 2) 0 c.args.slot (c.args.slot + 1) e.next.value e.fail.value tail.next.value made.value refl (subst (λ y. PerformsAt tables run 0 c.args.slot tail.next.value y made.value) c.in_ok-tail-in-Act.ensures.fail q) (c.in_ok-tail-in-Act.ensures.next tables)))
+    c.test.ensures
+
+pub inner_rest-returns-in_ok-tail-in_default : goal.inner_rest-returns-in_ok-tail-in_default
+inner_rest-returns-in_ok-tail-in_default t c =
+    let e = c.args.exits.now in
+    let tail = c.in_ok-tail-in_default.tail in
+    λ tables. anywhere tables (λ p levels. all_run p levels (view_nodes tables (drop 1 c.args.commands.now))) 0 c.args.slot (c.args.slot + 1) e.next.value e.fail.value tail.next.value refl (c.in_ok-tail-in_default.ensures.next tables)
+
+pub inner_sequence-returns-then-commands-lt2 : goal.inner_sequence-returns-then-commands-lt2
+inner_sequence-returns-then-commands-lt2 t c =
+    let e = c.args.exits.now in
+    IfOk-weaker c.sequence.result _ _
+    (λ made h. λ tables. anywhere tables (λ p levels. all_run p levels (view_nodes tables c.args.commands.now)) 1 c.args.slot (c.args.slot + 1) e.next.value e.fail.value made.value refl (h tables))
+    c.sequence.ensures
+
+pub inner_sequence-returns-in_default : goal.inner_sequence-returns-in_default
+inner_sequence-returns-in_default t c =
+    let e = c.args.exits.now in
+    IfOk-weaker c.sequence-in_default.result _ _
+    (λ made h. λ tables. anywhere tables (λ p levels. all_run p levels (view_nodes tables c.args.commands.now)) 1 c.args.slot (c.args.slot + 1) e.next.value e.fail.value made.value refl (h tables))
+    c.sequence-in_default.ensures
+
+pub inner_sequence-returns-in_ok-next-in-LeftBracket : goal.inner_sequence-returns-in_ok-next-in-LeftBracket
+inner_sequence-returns-in_ok-next-in-LeftBracket t c =
+    let e = c.args.exits.now in
+    let cs = c.args.commands.now in
+    let x = c.index-commands-0.result in
+    let o = c.in_ok-next-in-LeftBracket.next in
+    let l : 0 < length cs = omega (arith, c.if-commands-lt2.false) in
+    let at : x ≡ get_or cs 0 x = search rules in
+    IfOk-weaker c.emit.result _ _
+    (λ made is. λ tables.
+    let rest = λ (p : programs.Program) (levels : ℕ). all_run p levels (view_nodes tables (drop 1 cs)) in
+    same_meaning_at tables (λ p levels. pay_first (λ m s. rest p levels m (left_bracket m s))) (λ p levels. all_run p levels (view_nodes tables cs)) 1 c.args.slot e.next.value e.fail.value made.value
+    (λ p levels m s. bracket_turn tables p levels cs x c.in-Act.first m s l at c.in-Act.is c.in-LeftBracket.is)
+    (first_step_at tables (λ p levels m s. rest p levels m (left_bracket m s)) 1 2 c.args.slot e.next.value e.fail.value made.value refl
+    (bracket_at tables rest 2 c.args.slot e.next.value e.fail.value o.value made.value (λ p levels m ys s. ap (λ i. flow p levels tables i m ys s) is ∙ flow_left_bracket p levels tables m ys s 2 o) (c.in_ok-next-in-LeftBracket.ensures tables))))
+    c.emit.ensures
+
+pub inner_sequence-returns-in_ok-now-in_default-first : goal.inner_sequence-returns-in_ok-now-in_default-first
+inner_sequence-returns-in_ok-now-in_default-first t c =
+    let e = c.args.exits.now in
+    let cs = c.args.commands.now in
+    let x = c.index-commands-0.result in
+    let a = c.in-Act.first in
+    let now = c.in_ok-now-in_default-first.now in
+    let l : 0 < length cs = omega (arith, c.if-commands-lt2.false) in
+    let at : x ≡ get_or cs 0 x = search rules in
+    IfOk-weaker c.test.result _ _
+    (λ made h. λ tables.
+    let run = λ (p : programs.Program) (levels : ℕ). runs p levels (view_node tables x) in
+    let rest = λ (p : programs.Program) (levels : ℕ). all_run p levels (view_nodes tables (drop 1 cs)) in
+    let q = arm_at tables (λ p levels. acts p.groupings (view_action a)) x (Act a) 1 c.args.slot now.next.value now.fail.value made.value c.in-Act.is (λ p levels m s. act_does tables p levels a m s) (first_step_at tables (λ p levels. acts p.groupings (view_action a)) 1 2 c.args.slot now.next.value now.fail.value made.value refl (h tables)) in
+    same_meaning_at tables (λ p levels m s. after (run p levels m s) (rest p levels m) (Signals false)) (λ p levels. all_run p levels (view_nodes tables cs)) 1 c.args.slot e.next.value e.fail.value made.value
+    (λ p levels m s. sym (turn_is tables p levels cs 0 x m s l at))
+    (in_turn_at tables run rest 1 c.args.slot (c.args.slot + 1) e.next.value e.fail.value now.next.value made.value refl (subst (λ y. PerformsAt tables run 1 c.args.slot now.next.value y made.value) c.in_ok-now-in_default-first.ensures.fail q) (c.in_ok-now-in_default-first.ensures.next tables)))
+    c.test.ensures
 
 pub seek-returns-in_ok-more-in-Grouping : goal.seek-returns-in_ok-more-in-Grouping
 seek-returns-in_ok-more-in-Grouping t c =
@@ -466,5 +581,5 @@ command-returns-in_ok-entry-in-Row t c =
     (same_meaning tables (λ p levels m s. then_on (pays own s) (d p levels m)) (λ p levels. pay_first (row_runs p levels (view_node tables first) os)) c.args.cost c.args.slot e.next.value e.fail.value made.value
     (λ p levels m s. ap (λ k. then_on (pays k s) (d p levels m)) (sym many) ∙ after_after (pay s.steps s) (pays (length os - 1)) (Signals false) (d p levels m) (Signals false))
     (h tables d own c.args.slot c.in_ok-place-in-Row.ensures
-    (λ entry saves. saving_row tables run os place.cost place.slot (place.slot + 1) place.exits rest c.in_ok-entry-in-Row.entry.value entry refl c.in_ok-place-in-Row.ensures.0 saves (c.in_ok-entry-in-Row.ensures tables) (c.in_ok-rest-in-Row.ensures tables c.in_ok-place-in-Row.ensures.0)))))
+    (λ entry saves. saving_row tables run os place.cost place.slot place.exits rest c.in_ok-entry-in-Row.entry.value entry c.in_ok-place-in-Row.ensures.0 saves (c.in_ok-entry-in-Row.ensures tables) (c.in_ok-rest-in-Row.ensures tables)))))
     c.saved.ensures

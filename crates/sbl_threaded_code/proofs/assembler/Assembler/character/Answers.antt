@@ -1,4 +1,4 @@
-use Rattle.std.proofs.Common.{[], ◌∷◌, ap, ◌∙◌}
+use Rattle.std.proofs.Common.{false, [], ◌∷◌, ap, ◌∙◌}
 use Rattle.std.proofs.lemmas.Result.{IfOk-weaker}
 use Rattle.sbl_semantics.specs.Moves.{match, test_boolean}
 use Rattle.sbl_semantics.specs.Moves as moves
@@ -14,5 +14,5 @@ returns c =
     IfOk-weaker c.emit.result _ _
     (λ made is. λ tables n.
     emitted_at tables (λ p levels m s. match (c.args.character ∷ []) m s) c.args.cost o.next.value o.fail.value e.next.value e.fail.value made.value c.in_ok-next.ensures.0 c.in_ok-next.ensures.1
-    (λ p levels m ys s. ap (λ i. flow p levels tables i m ys s) is ∙ flow_character p levels tables m ys s c.args.cost c.args.character o.next o.fail) n)
+    (λ p levels m ys s. ap (λ i. flow p levels tables i m ys s) is ∙ flow_character p levels tables m ys s c.args.cost c.args.character false o.next o.fail) n)
     c.emit.ensures

@@ -13,5 +13,5 @@ returns c =
     IfOk-weaker c.emit.result _ _
     (λ made is. λ tables nodes n are.
     choosing tables c.args.cost c.args.among n c.args.exits.now nodes c.in_ok-bodies.bodies.value.items o.next.value o.fail.value made.value c.in_ok-next.ensures.0 c.in_ok-next.ensures.1
-    (λ p levels m ys s. ap (λ i. flow p levels tables i m ys s) is ∙ flow_choose p levels tables m ys s c.args.cost c.args.among c.in_ok-bodies.bodies o.next o.fail) (subst (λ (gs : Vec Group Global). ArePerformed tables nodes n c.args.exits.now gs.items) (sym c.in_ok-bodies.ensures) are))
+    (λ p levels m ys s. ap (λ i. flow p levels tables i m ys s) is ∙ flow_choose p levels tables m ys s c.args.cost c.args.among c.in_ok-bodies.bodies o.next o.fail) (subst (λ (gs : Vec Group Global). ArePerformed tables nodes n c.args.exits.now gs.items) (sym c.in_ok-bodies.ensures.ok) are))
     c.emit.ensures

@@ -1,4 +1,4 @@
-use Rattle.std.proofs.Common.{◌≡◌, ℕ, List, [], ◌∷◌, length, get_or, sym, ap, ◌∙◌, arith, rules, Vec, Global}
+use Rattle.std.proofs.Common.{◌≡◌, ℕ, false, List, [], ◌∷◌, length, get_or, sym, ap, ◌∙◌, arith, rules, Vec, Global}
 use Rattle.std.proofs.lemmas.Result.{IfOk-weaker}
 use Rattle.sbl_interpreter.specs.Rows.{pays}
 use Rattle.sbl_semantics.specs.Moves.{match}
@@ -30,6 +30,6 @@ returns c =
     (λ made is. λ tables n.
     emitted_at tables (λ p levels m s. match c.args.string.now m s) c.args.cost o.next.value o.fail.value e.next.value e.fail.value made.value c.in_ok-next.ensures.0 c.in_ok-next.ensures.1
     (λ p levels m ys s.
-    ap (λ i. flow p levels tables i m ys s) is ∙ flow_literal p levels tables m ys s c.args.cost string o.next o.fail
-    ∙ ap (λ (cs : List ℕ). then_on (pays c.args.cost s) (λ u. after (match cs m u) (flow p levels tables o.next.value m ys) (flow p levels tables o.fail.value m ys))) (ap (λ (v : Vec ℕ Global). v.items) c.in_ok-string.ensures ∙ c.in_ok-copy.ensures.items)) n)
+    ap (λ i. flow p levels tables i m ys s) is ∙ flow_literal p levels tables m ys s c.args.cost string false o.next o.fail
+    ∙ ap (λ (cs : List ℕ). then_on (pays c.args.cost s) (λ u. after (match cs m u) (flow p levels tables o.next.value m ys) (flow p levels tables o.fail.value m ys))) (ap (λ (v : Vec ℕ Global). v.items) c.in_ok-string.ensures.ok ∙ c.in_ok-copy.ensures.items)) n)
     c.emit.ensures

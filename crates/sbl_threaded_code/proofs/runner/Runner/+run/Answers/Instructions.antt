@@ -1,5 +1,5 @@
 -- What each kind of instruction does, and what follows it.
-use Rattle.std.proofs.Common.{◌≡◌, ℕ, Bool, List, map, Some, ◌≤◌, ◌<◌, true, false, sym, ap, ◌∙◌, arith, rules, length, get_or, Err}
+use Rattle.std.proofs.Common.{◌≡◌, ℕ, Bool, List, map, Some, ◌≤◌, ◌<◌, true, false, sym, ap, ◌∙◌, arith, rules, length, get_or, Err, Vec, Global}
 use Rattle.sbl_char_class.specs.CharacterClasses.{members}
 use Rattle.sbl_char_class.specs.Terms.{class_at}
 use Rattle.sbl_program.specs.ProgramOf.{program_of, view_number}
@@ -9,10 +9,11 @@ use Rattle.sbl_interpreter.specs.Run.{calls}
 use Rattle.sbl_interpreter.specs.Search.{search_all}
 use Rattle.sbl_semantics.specs.Choices.{choice}
 use Rattle.sbl_semantics.specs.State.{State, Ending, Signals, after, then_on}
-use Rattle.sbl_threaded_code.specs.Flow.{flow, alone, turns_of, loop_of, at_least_of, seek_of, limited_of}
-use Rattle.sbl_threaded_code.specs.declared.instruction.Group.{out-Group}
+use Rattle.sbl_threaded_code.specs.Flow.{flow, alone, back_if, turns_of, loop_of, at_least_of, seek_of, limited_of}
+use Rattle.sbl_threaded_code.specs.declared.instruction.Group.{Group, out-Group}
 use Rattle.sbl_threaded_code.specs.declared.instruction.Instruction.{Instruction}
 use Rattle.sbl_threaded_code.proofs.Instructions.{flow_grouping}
+use Rattle.sbl_threaded_code.proofs.PerformingAt.{grouping_stays, match_stays, back_stays}
 use Rattle.sbl_threaded_code.proofs.Flows.{ends_early, nested_paid, repeat_paid, loop_paid, at_least_paid, seek_paid, set_limit_paid, search_paid, chosen_at, chosen_past, group_does}
 use Rattle.sbl_threaded_code.proofs.runner.Runner.+run.Goals as goal
 
@@ -534,10 +535,10 @@ run_from-loop-at-preserved-then-branch-11 g t c =
     let u = c.pay_for-in-Grouping.new.self in
     let new = c.take_grouping.new.self in
     let test = λ (cs : List (ℕ → Bool)) (u : State). test_grouping a.wanted (class_at cs a.grouping) a.grouping m u in
-    let whole = sym inv.0 ∙ ap (λ x. flow P levels T x m slots s) a.is ∙ flow_grouping P levels T m slots s a.cost a.wanted a.grouping a.next a.fail ∙ ap (λ r. then_on r (λ u. after (test P.groupings u) f e)) c.in_ok-pay_for-in-Grouping.ensures.leads in
+    let whole = sym inv.0 ∙ ap (λ x. flow P levels T x m slots s) a.is ∙ flow_grouping P levels T m slots s a.cost a.wanted a.grouping a.back a.next a.fail ∙ ap (λ r. then_on r (λ u. after (test P.groupings u) f (back_if a.back m u e))) c.in_ok-pay_for-in-Grouping.ensures.leads in
     let classes : map members c.deref-in-Grouping.result.now ≡ P.groupings = ap (map members) c.deref-in-Grouping.ensures.value ∙ ap (λ (x : Program). map members x.groupings.items) c.program-in-Grouping.ensures in
     let b : c.in_ok-take_grouping-in-Grouping.field-0 ≡ true = search rules in
-    let h = whole ∙ ap (λ r. after r f e) (ap (λ cs. test cs u) (sym classes) ∙ c.in_ok-take_grouping-in-Grouping.ensures.follows ∙ ap (λ v. Signals v new) b) in
+    let h = whole ∙ ap (λ r. after r f (back_if a.back m u e)) (ap (λ cs. test cs u) (sym classes) ∙ c.in_ok-take_grouping-in-Grouping.ensures.follows ∙ ap (λ v. Signals v new) b) in
     let same : new.steps ≡ u.steps = c.in_ok-take_grouping-in-Grouping.ensures.same_steps in
     let no_more : u.steps ≤ s.steps = c.in_ok-pay_for-in-Grouping.ensures.no_more in
     let steps : new.steps ≤ c.args.state.now.steps = omega (arith, same, no_more, inv.1) in
@@ -558,11 +559,13 @@ run_from-loop-at-preserved-else-branch-11 g t c =
     let u = c.pay_for-in-Grouping.new.self in
     let new = c.take_grouping.new.self in
     let test = λ (cs : List (ℕ → Bool)) (u : State). test_grouping a.wanted (class_at cs a.grouping) a.grouping m u in
-    let whole = sym inv.0 ∙ ap (λ x. flow P levels T x m slots s) a.is ∙ flow_grouping P levels T m slots s a.cost a.wanted a.grouping a.next a.fail ∙ ap (λ r. then_on r (λ u. after (test P.groupings u) f e)) c.in_ok-pay_for-in-Grouping.ensures.leads in
+    let whole = sym inv.0 ∙ ap (λ x. flow P levels T x m slots s) a.is ∙ flow_grouping P levels T m slots s a.cost a.wanted a.grouping a.back a.next a.fail ∙ ap (λ r. then_on r (λ u. after (test P.groupings u) f (back_if a.back m u e))) c.in_ok-pay_for-in-Grouping.ensures.leads in
     let classes : map members c.deref-in-Grouping.result.now ≡ P.groupings = ap (map members) c.deref-in-Grouping.ensures.value ∙ ap (λ (x : Program). map members x.groupings.items) c.program-in-Grouping.ensures in
     let b : c.in_ok-take_grouping-in-Grouping.field-0 ≡ false = search rules in
-    let h = whole ∙ ap (λ r. after r f e) (ap (λ cs. test cs u) (sym classes) ∙ c.in_ok-take_grouping-in-Grouping.ensures.follows ∙ ap (λ v. Signals v new) b) in
+    let h = whole ∙ ap (λ r. after r f (back_if a.back m u e)) (ap (λ cs. test cs u) (sym classes) ∙ c.in_ok-take_grouping-in-Grouping.ensures.follows ∙ ap (λ v. Signals v new) b) in
     let same : new.steps ≡ u.steps = c.in_ok-take_grouping-in-Grouping.ensures.same_steps in
     let no_more : u.steps ≤ s.steps = c.in_ok-pay_for-in-Grouping.ensures.no_more in
     let steps : new.steps ≤ c.args.state.now.steps = omega (arith, same, no_more, inv.1) in
-    (ap (λ x. flow P levels T x m slots new) c.deref-at-else-branch-11.ensures ∙ sym h, steps)
+    let inside : new.cursor ≤ length new.text = omega (arith, c.place-else-branch-11.ensures.value, c.place-else-branch-11.ensures.within) in
+    let stayed = grouping_stays a.wanted (class_at P.groupings a.grouping) a.grouping m u new (ap (λ cs. test cs u) (sym classes) ∙ c.in_ok-take_grouping-in-Grouping.ensures.follows ∙ ap (λ v. Signals v new) b) in
+    (ap (λ x. flow P levels T x m slots new) c.deref-at-else-branch-11.ensures ∙ sym (h ∙ back_stays a.back m u new e stayed inside), steps)
