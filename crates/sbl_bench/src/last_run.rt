@@ -223,22 +223,20 @@ fn slot_of(touches: &[Touch]) -> usize {
     let mut sum = touches.len() as u64;
     let mut place = 0u64;
     for touch in touches {
-        sum = sum.wrapping_add(mix(*touch, place));
         place = place.wrapping_add(STRIDE);
+        sum = sum.wrapping_add(square(*touch, place));
     }
     sum.wrapping_mul(FACTOR) as usize / (usize::MAX / SLOTS + 1)
 }
 
-// A number for a touch at a place. Its halves are joined, since a sum of products alone would depend on the sum of the numbers.
+// The square of a number for a touch at a place. A sum of the numbers themselves would be the same for lists with the same sum.
 #[inline(always)]
-fn mix(touch: Touch, place: u64) -> u64 {
+fn square(touch: Touch, place: u64) -> u64 {
     let word = match touch {
         Touch::Entered(routine) => u64::from(routine),
-        Touch::Searched(routine, among) => {
-            (u64::from(among) + 1).rotate_left(32) ^ u64::from(routine)
-        }
-        Touch::Tested(grouping) => u64::from(grouping) ^ 0x8000_0000_0000_0000,
+        Touch::Searched(routine, among) => u64::from(routine) ^ ((u64::from(among) + 1) << 32),
+        Touch::Tested(grouping) => !u64::from(grouping),
     };
-    let product = word.wrapping_add(place).wrapping_mul(FACTOR);
-    product ^ (product >> 32)
+    let number = word.wrapping_add(place);
+    number.wrapping_mul(number)
 }
