@@ -211,22 +211,32 @@ fn list_of(
     }
 }
 
-// The slot of a list, by a digest of its touches in their order. Nothing rests on it but how many lists are shared.
+// An odd number whose bits have no pattern.
+const FACTOR: u64 = 0x9E37_79B9_7F4A_7C15;
+
+// What tells the places of a list apart.
+const STRIDE: u64 = 0xD6E8_FEB8_6659_FD93;
+
+// The slot of a list, by a digest of its touches and their order. Nothing rests on it but how many lists are shared. The digest is
+// a sum, so that no touch waits for the one before it.
 fn slot_of(touches: &[Touch]) -> usize {
-    let mut digest = touches.len() as u64;
+    let mut sum = touches.len() as u64;
+    let mut place = 0u64;
     for touch in touches {
-        digest = mix(digest, *touch);
+        place = place.wrapping_add(STRIDE);
+        sum = sum.wrapping_add(square(*touch, place));
     }
-    digest as usize / (usize::MAX / SLOTS + 1)
+    sum.wrapping_mul(FACTOR) as usize / (usize::MAX / SLOTS + 1)
 }
 
-// The digest with one touch more.
-fn mix(digest: u64, touch: Touch) -> u64 {
-    let (kind, number) = match touch {
-        Touch::Entered(routine) => (1, u64::from(routine)),
-        Touch::Searched(routine, among) => (u64::from(among).wrapping_mul(4), u64::from(routine)),
-        Touch::Tested(grouping) => (2, u64::from(grouping)),
+// The square of a number for a touch at a place. A sum of the numbers themselves would be the same for lists with the same sum.
+#[inline(always)]
+fn square(touch: Touch, place: u64) -> u64 {
+    let word = match touch {
+        Touch::Entered(routine) => u64::from(routine),
+        Touch::Searched(routine, among) => u64::from(routine) ^ ((u64::from(among) + 1) << 32),
+        Touch::Tested(grouping) => !u64::from(grouping),
     };
-    let word = number.rotate_left(32) ^ kind;
-    (digest.rotate_left(5) ^ word).wrapping_mul(0x9E37_79B9_7F4A_7C15)
+    let number = word.wrapping_add(place);
+    number.wrapping_mul(number)
 }

@@ -1,11 +1,11 @@
 -- What one more word does to the words that are kept while a vocabulary is read.
-use Rattle.std.proofs.Common.{◌≡◌, ◌∙◌, ◌++◌, ℕ, Bool, true, false, List, [], ◌∷◌, length, Option, Some, None, Result, Ok, Err, is_some, refl, sym, ap, subst, nat_eq, map, true≢false, arith, tests, not, ◌≤◌, ◌<◌, nat_lt, nat_le}
+use Rattle.std.proofs.Common.{◌≡◌, ◌∙◌, ◌++◌, ℕ, Bool, true, false, List, [], ◌∷◌, length, Option, Some, None, Result, Ok, Err, is_some, refl, sym, ap, subst, suc, nat_eq, map, true≢false, arith, tests, not, ◌+◌, ◌≤◌, ◌<◌, nat_lt, nat_le}
 use Rattle.std.specs.Option.{option_map, option_or}
 use Rattle.std.specs.Str.{bytes_eq}
 use Rattle.std.specs.List.{list_any}
 use Rattle.std.specs.declared.vec.Vec.{Vec}
 use Rattle.std.specs.declared.alloc.Global.{Global}
-use Rattle.std.proofs.lemmas.List.{length-map, map-append}
+use Rattle.std.proofs.lemmas.List.{length-append, length-map, map-append}
 use Rattle.indexmap.specs.IndexSet.{insert_key}
 use Rattle.sbl_ast.specs.Source.{Source}
 use Rattle.sbl_semantics.specs.Limit.{default_limit}
@@ -13,7 +13,9 @@ use Rattle.sbl_bench.specs.Contents.{Contents, IsFaultOrMemory, Opens, opening_f
 use Rattle.sbl_bench.specs.Setting.{under}
 use Rattle.sbl_bench.specs.Vocabulary.{is_skipped, is_word, vocabulary, with_all, with_word}
 use Rattle.sbl_bench.specs.declared.fault.EditFault.{EditFault}
-use Rattle.sbl_formats.specs.WordLists.{AreKept, OpensAs, texts_of}
+use Rattle.sbl_formats.specs.WordLists.{AreDistinct, AreKept, HasRoom, OpensAs, texts_of}
+use Rattle.sbl_formats.specs.declared.word_list.KeptWords.{KeptWords}
+use Rattle.sbl_formats.specs.declared.word_list.KeptWords.TheVariants.{Distinct, Plain}
 
 or_or : (a b c : Option EditFault) → option_or a (option_or b c) ≡ option_or (option_or a b) c
 or_or None b c = refl
@@ -44,32 +46,76 @@ vocabulary_after : (words xs : List (List ℕ)) (w : List ℕ) → vocabulary xs
 vocabulary_after words xs w same = all-push [] xs w ∙ ap (λ (ws : List (List ℕ)). with_word ws w) same
 
 -- a word that is skipped
-pub kept-skip : (words all : List (List ℕ)) (w : List ℕ) → AreKept words None all → word_fault words w ≡ None → is_skipped w words ≡ true
-    → AreKept words None (all ++ w ∷ [])
+pub kept-skip : (words all : List (List ℕ)) (w : List ℕ) → AreKept words None all → word_fault (vocabulary words) w ≡ None
+    → is_skipped w (vocabulary words) ≡ true → AreKept words None (all ++ w ∷ [])
 kept-skip words all w kept none skipped = (
-  fault_after words all w kept.0 kept.1 ∙ none,
-  vocabulary_after words all w kept.1 ∙ rw skipped refl,
-  kept.2,
-  kept.3,
+  fault_after (vocabulary words) all w kept.0 (sym kept.2) ∙ none,
+  kept.1,
+  sym (vocabulary_after (vocabulary words) all w (sym kept.2) ∙ rw skipped refl),
 )
 
--- a new word
-pub kept-push : (words all : List (List ℕ)) (w : List ℕ) → AreKept words None all → word_fault words w ≡ None → is_skipped w words ≡ false
+-- a word that is not refused
+pub kept-push : (words all : List (List ℕ)) (w : List ℕ) → AreKept words None all → word_fault (vocabulary words) w ≡ None
     → AreKept (words ++ w ∷ []) None (all ++ w ∷ [])
-kept-push words all w kept none new =
-    let put : with_word words w ≡ words ++ w ∷ [] = rw new refl in (
-      fault_after words all w kept.0 kept.1 ∙ none,
-      vocabulary_after words all w kept.1 ∙ put,
-      fault_after words words w kept.2 kept.3 ∙ none,
-      vocabulary_after words words w kept.3 ∙ put,
-    )
+kept-push words all w kept none = (
+  fault_after (vocabulary words) all w kept.0 (sym kept.2) ∙ none,
+  fault_after (vocabulary words) words w kept.1 refl ∙ none,
+  all-push [] words w ∙ sym (vocabulary_after (vocabulary words) all w (sym kept.2)),
+)
 
 -- a word that is refused
-pub kept-refuse : (words all : List (List ℕ)) (w : List ℕ) → AreKept words None all → is_some (word_fault words w) ≡ true
+pub kept-refuse : (words all : List (List ℕ)) (w : List ℕ) → AreKept words None all → is_some (word_fault (vocabulary words) w) ≡ true
     → AreKept words (Some w) (all ++ w ∷ [])
 kept-refuse words all w kept refused =
-    let after = fault_after words all w kept.0 kept.1 in
-    (ap is_some after ∙ refused, fault_after words words w kept.2 kept.3 ∙ sym after)
+    let after = fault_after (vocabulary words) all w kept.0 (sym kept.2) in
+    (ap is_some after ∙ refused, fault_after (vocabulary words) words w kept.1 refl ∙ sym after)
+
+-- a word that is not refused, after words without repeats
+pub kept-with : (words all : List (List ℕ)) (w : List ℕ) → vocabulary words ≡ words → AreKept words None all → word_fault (vocabulary words) w ≡ None
+    → AreKept (with_word words w) None (all ++ w ∷ [])
+kept-with words all w distinct kept none = by (is_skipped w words) refl
+  where
+    by : (b : Bool) → is_skipped w words ≡ b → AreKept (with_word words w) None (all ++ w ∷ [])
+    by true h = rw h (kept-skip words all w kept none (ap (is_skipped w) distinct ∙ h))
+    by false h = rw h (kept-push words all w kept none)
+
+-- words without repeats, and one more word
+pub distinct-with : (words : List (List ℕ)) (w : List ℕ) → vocabulary words ≡ words → vocabulary (with_word words w) ≡ with_word words w
+distinct-with words w distinct = by (is_skipped w words) refl
+  where
+    by : (b : Bool) → is_skipped w words ≡ b → vocabulary (with_word words w) ≡ with_word words w
+    by true h = rw h distinct
+    by false h = rw h (vocabulary_after words words w distinct ∙ rw h refl)
+
+or_left : (a b : Option EditFault) → option_or a b ≡ None → a ≡ None
+or_left None b none = refl
+or_left (Some x) b none = none
+
+or_right : (a b : Option EditFault) → option_or a b ≡ None → b ≡ None
+or_right None b none = none
+or_right (Some x) b none = cc
+
+-- the vocabulary of words is its own vocabulary
+distinct-all : (words ws : List (List ℕ)) → vocabulary words ≡ words → vocabulary (with_all words ws) ≡ with_all words ws
+distinct-all words [] distinct = distinct
+distinct-all words (w ∷ ws) distinct = distinct-all (with_word words w) ws (distinct-with words w distinct)
+
+pub distinct-vocabulary : (words : List (List ℕ)) → vocabulary (vocabulary words) ≡ vocabulary words
+distinct-vocabulary words = distinct-all [] words refl
+
+-- words without a fault have none once their repeats are dropped
+fine-all : (words ws : List (List ℕ)) → vocabulary words ≡ words → opening_fault [] words ≡ None → opening_fault words ws ≡ None
+    → opening_fault [] (with_all words ws) ≡ None
+fine-all words [] distinct fine none = fine
+fine-all words (w ∷ ws) distinct fine none =
+    fine-all (with_word words w) ws (distinct-with words w distinct) (by (is_skipped w words) refl) (or_right (word_fault words w) _ none)
+  where
+    by : (b : Bool) → is_skipped w words ≡ b → opening_fault [] (with_word words w) ≡ None
+    by true h = rw h fine
+    by false h = rw h (fault_after words words w fine distinct ∙ or_left (word_fault words w) _ none)
+
+pub kept-distinct : (words all : List (List ℕ)) → AreKept words None all → AreKept (vocabulary words) None all
+kept-distinct words all kept = (kept.0, fine-all [] words refl refl kept.1, distinct-vocabulary words ∙ kept.2)
 
 or_some : (a b : Option EditFault) → is_some a ≡ true → option_or a b ≡ a
 or_some None b some = cc
@@ -117,24 +163,58 @@ full_fault keys word short some full = by (list_any (λ k. bytes_eq word k.items
     by true h = rw (h, long, skips word (texts_of keys) one ∙ sym (found keys word) ∙ h) refl
     by false h = rw (h, long, skips word (texts_of keys) one ∙ sym (found keys word) ∙ h, all) refl
 
-none_of : (o : Option EditFault) → is_some o ≡ false → o ≡ None
+pub none_of : (o : Option EditFault) → is_some o ≡ false → o ≡ None
 none_of None h = refl
 none_of (Some x) h = cc
 
--- a word that is put into a set
-pub kept-insert : (keys : List (Vec ℕ Global)) (word : Vec ℕ Global) (all : List (List ℕ)) → AreKept (texts_of keys) None all
-    → nat_eq (length word.items) 0 ≡ false → is_some (word_fault (texts_of keys) word.items) ≡ false
-    → AreKept (texts_of (insert_key (λ (x y : Vec ℕ Global). bytes_eq x.items y.items) keys word)) None (all ++ word.items ∷ [])
-kept-insert keys word all kept some fine = by (list_any (λ k. bytes_eq word.items k.items) keys) refl
+-- a set that has an empty word put into it, or another one
+pub insert-empty : (words : List (List ℕ)) (w : List ℕ) → nat_eq (length w) 0 ≡ true → words ≡ with_word words w
+insert-empty words [] empty = refl
+insert-empty words (c ∷ w) empty = absurd (grind (arith, tests, empty))
+
+pub insert-some : (keys : List (Vec ℕ Global)) (word : Vec ℕ Global) → nat_eq (length word.items) 0 ≡ false
+    → texts_of (insert_key (λ (x y : Vec ℕ Global). bytes_eq x.items y.items) keys word) ≡ with_word (texts_of keys) word.items
+insert-some keys word some = by (list_any (λ k. bytes_eq word.items k.items) keys) refl
   where
-    none : word_fault (texts_of keys) word.items ≡ None
-    none = none_of (word_fault (texts_of keys) word.items) fine
+    skipped : (b : Bool) → list_any (λ k. bytes_eq word.items k.items) keys ≡ b → is_skipped word.items (texts_of keys) ≡ b
+    skipped b h = skips word.items (texts_of keys) some ∙ sym (found keys word.items) ∙ h
 
     by : (b : Bool) → list_any (λ k. bytes_eq word.items k.items) keys ≡ b
-        → AreKept (texts_of (insert_key (λ (x y : Vec ℕ Global). bytes_eq x.items y.items) keys word)) None (all ++ word.items ∷ [])
-    by true h = rw h (kept-skip (texts_of keys) all word.items kept none (skips word.items (texts_of keys) some ∙ sym (found keys word.items) ∙ h))
-    by false h = rw h (subst (λ (ws : List (List ℕ)). AreKept ws None (all ++ word.items ∷ [])) (sym (map-append {A = Vec ℕ Global} (λ w. w.items) keys (word ∷ [])))
-        (kept-push (texts_of keys) all word.items kept none (skips word.items (texts_of keys) some ∙ sym (found keys word.items) ∙ h)))
+        → texts_of (insert_key (λ (x y : Vec ℕ Global). bytes_eq x.items y.items) keys word) ≡ with_word (texts_of keys) word.items
+    by true h = rw (h, skipped true h) refl
+    by false h = rw (h, skipped false h) (map-append {A = Vec ℕ Global} (λ w. w.items) keys (word ∷ []))
+
+-- fewer words than a vocabulary can have refuse only a word that is too long
+with-length : (words : List (List ℕ)) (w : List ℕ) → length (with_word words w) ≤ suc (length words)
+with-length words w = by (is_skipped w words) refl
+  where
+    by : (b : Bool) → is_skipped w words ≡ b → length (with_word words w) ≤ suc (length words)
+    by true h = rw h (omega arith)
+    by false h = rw (h, length-append words (w ∷ [])) (omega arith)
+
+all-length : (words ws : List (List ℕ)) → length (with_all words ws) ≤ length words + length ws
+all-length words [] = omega arith
+all-length words (w ∷ ws) = let one = with-length words w in let rest = all-length (with_word words w) ws in omega (arith, one, rest)
+
+pub room_fault : (list : List (Vec ℕ Global)) (w : List ℕ) → length list < 100000
+    → nat_lt 255 (length w) ≡ is_some (word_fault (vocabulary (texts_of list)) w)
+room_fault list w few = by (nat_lt 255 (length w)) (is_skipped w (vocabulary (texts_of list))) refl refl
+  where
+    all : nat_le 100000 (length (vocabulary (texts_of list))) ≡ false
+    all =
+        let most = all-length [] (texts_of list) in
+        let same = length-map list (λ (word : Vec ℕ Global). word.items) in
+        grind (arith, tests, most, same, few)
+
+    by : (long skipped : Bool) → nat_lt 255 (length w) ≡ long → is_skipped w (vocabulary (texts_of list)) ≡ skipped
+        → nat_lt 255 (length w) ≡ is_some (word_fault (vocabulary (texts_of list)) w)
+    by true skipped h s = rw h refl
+    by false true h s = rw (h, s) refl
+    by false false h s = rw (h, s, all) refl
+
+pub room-distinct : (words : KeptWords) → HasRoom words → AreDistinct words
+room-distinct (Plain words) room = tt
+room-distinct (Distinct words) room = room
 
 -- ---- a list of words and one more word, by what it holds
 
@@ -151,25 +231,23 @@ pub held-empty : (words all : List (List ℕ)) (refused : Option (Vec ℕ Global
 held-empty words all None w none empty kept = kept-empty words all w kept empty
 held-empty words all (Some r) w none empty kept = absurd (true≢false none)
 
-pub held-refuse : (words all : List (List ℕ)) (refused : Option (Vec ℕ Global)) (w : List ℕ) → is_some refused ≡ false
-    → is_some (word_fault words w) ≡ true → AreKept words (kept_of refused) all → AreKept words (Some w) (all ++ w ∷ [])
-held-refuse words all None w none wrong kept = kept-refuse words all w kept wrong
-held-refuse words all (Some r) w none wrong kept = absurd (true≢false none)
+-- no word was refused
+pub held-none : (words all : List (List ℕ)) (refused : Option (Vec ℕ Global)) → is_some refused ≡ false → AreKept words (kept_of refused) all
+    → AreKept words None all
+held-none words all None none kept = kept
+held-none words all (Some r) none kept = absurd (true≢false none)
 
-pub held-insert : (keys new_keys : List (Vec ℕ Global)) (all : List (List ℕ)) (refused : Option (Vec ℕ Global)) (word : Vec ℕ Global)
-    → new_keys ≡ insert_key (λ (x y : Vec ℕ Global). bytes_eq x.items y.items) keys word → is_some refused ≡ false
-    → nat_eq (length word.items) 0 ≡ false → is_some (word_fault (texts_of keys) word.items) ≡ false
-    → AreKept (texts_of keys) (kept_of refused) all → AreKept (texts_of new_keys) (kept_of refused) (all ++ word.items ∷ [])
-held-insert keys new_keys all None word put none some fine kept =
-    subst (λ (ks : List (Vec ℕ Global)). AreKept (texts_of ks) None (all ++ word.items ∷ [])) (sym put) (kept-insert keys word all kept some fine)
-held-insert keys new_keys all (Some r) word put none some fine kept = absurd (true≢false none)
+pub none-held : (words all : List (List ℕ)) (refused : Option (Vec ℕ Global)) → is_some refused ≡ false → AreKept words None all
+    → AreKept words (kept_of refused) all
+none-held words all None none kept = kept
+none-held words all (Some r) none kept = absurd (true≢false none)
 
 -- ---- opening with the words that are kept
 
 pub opens_none : (words all : List (List ℕ)) → AreKept words None all → OpensAs words all
 opens_none words all kept = record {
-  faults = kept.2 ∙ sym kept.0;
-  vocabularies = λ none. kept.3 ∙ sym kept.1;
+  faults = kept.1 ∙ sym kept.0;
+  vocabularies = λ none. kept.2;
 }
 
 pub opens_refused : (words all : List (List ℕ)) (refused : List ℕ) → AreKept words (Some refused) all → OpensAs (words ++ refused ∷ []) all

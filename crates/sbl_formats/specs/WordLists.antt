@@ -1,5 +1,5 @@
 -- The words of a vocabulary while they are read.
-use Rattle.std.specs.Prelude.{◌≡◌, ℕ, true, List, [], ◌∷◌, ◌++◌, Option, Some, None, Result, Ok, Err, is_some, map}
+use Rattle.std.specs.Prelude.{◌≡◌, ◌<◌, ℕ, true, List, [], ◌∷◌, ◌++◌, length, Option, Some, None, Result, Ok, Err, is_some, map}
 use Rattle.std.specs.Option.{option_map}
 use Rattle.std.specs.Str.{chars}
 use Rattle.std.specs.declared.vec.Vec.{Vec}
@@ -11,6 +11,8 @@ use Rattle.sbl_formats.specs.Block.{Breaks}
 use Rattle.sbl_formats.specs.Loading.{TookNoText, TookSome, TookWords, WordLines}
 use Rattle.sbl_formats.specs.declared.faults.LoadFault.{LoadFault}
 use Rattle.sbl_formats.specs.declared.faults.LoadFault.TheVariants.{Input, Script, Open}
+use Rattle.sbl_formats.specs.declared.word_list.KeptWords.{KeptWords}
+use Rattle.sbl_formats.specs.declared.word_list.KeptWords.TheVariants.{Distinct, Plain}
 use Rattle.sbl_formats.specs.declared.word_list.WordList.{WordList}
 
 abbrev pub texts_of : List (Vec ℕ Global) → List (List ℕ)
@@ -21,14 +23,29 @@ pub record OpensAs (words all : List (List ℕ)) : Type 0 where
   pub faults : opening_fault [] words ≡ opening_fault [] all
   pub vocabularies : opening_fault [] all ≡ None → vocabulary words ≡ vocabulary all
 
--- These words are kept of all the words so far: they are the vocabulary of all and of themselves; or a word that is refused
+-- the words that are kept, in their order
+abbrev pub texts_in : KeptWords → List (List ℕ)
+texts_in (Plain words) = texts_of words.items
+texts_in (Distinct words) = texts_of words.keys
+
+-- Words in a set are a vocabulary. Others may have repeats among them.
+abbrev pub AreDistinct : KeptWords → Type 0
+AreDistinct (Plain words) = Unit {0}
+AreDistinct (Distinct words) = vocabulary (texts_of words.keys) ≡ texts_of words.keys
+
+-- The same, and there are fewer words than a vocabulary can have if they have repeats: so only a word that is too long is refused.
+abbrev pub HasRoom : KeptWords → Type 0
+HasRoom (Plain words) = length words.items < 100000
+HasRoom (Distinct words) = vocabulary (texts_of words.keys) ≡ texts_of words.keys
+
+-- These words are kept of all the words so far: they have no fault, and the same vocabulary as all; or a word that is refused
 -- after them has the fault of all.
 abbrev pub AreKept : List (List ℕ) → Option (List ℕ) → List (List ℕ) → Type 0
-AreKept words None all = (opening_fault [] all ≡ None) × (vocabulary all ≡ words) × (opening_fault [] words ≡ None) × (vocabulary words ≡ words)
+AreKept words None all = (opening_fault [] all ≡ None) × (opening_fault [] words ≡ None) × (vocabulary words ≡ vocabulary all)
 AreKept words (Some refused) all = (is_some (opening_fault [] all) ≡ true) × (opening_fault [] (words ++ refused ∷ []) ≡ opening_fault [] all)
 
 abbrev pub HoldsWords : WordList → List (List ℕ) → Type 0
-HoldsWords list all = AreKept (texts_of list.words.keys) (option_map (λ w. w.items) list.refused) all
+HoldsWords list all = AreKept (texts_in list.words) (option_map (λ w. w.items) list.refused) all × AreDistinct list.words
 
 -- Words were read to their end, and these are kept of them; or why they were not.
 abbrev pub ReadsWords : Option (List ℕ) → Option (List ℕ) → Result WordList LoadFault → Type 0

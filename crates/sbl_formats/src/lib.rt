@@ -13,4 +13,4 @@ pub use block_text::{BlockFault, BlockText, read_block};
 pub use faults::LoadFault;
 pub use laws::loading_is_one;
 pub use loading::{load, read_script};
-pub use records::{Record, RecordWriter, outcome_fields, records_text};
+pub use records::{Record, RecordWriter, outcome_fields, records_text, rows_text};

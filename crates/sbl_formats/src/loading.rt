@@ -113,7 +113,7 @@ fn open_words(
 ) -> Result<Bench, EditFault>
     ensures { (all : List (List ℕ)) → HoldsWords words all → Opens (source_of script) all (λ b. contents_of b) result }
 {
-    match words.into_words(alloc) {
+    match words.into_words() {
         Ok(words) => Bench::open(alloc, keys, script, words),
         Err(_) => {
             script.discard();

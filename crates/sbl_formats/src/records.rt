@@ -3,16 +3,17 @@ ghost use Rattle.std.specs.Prelude.{◌≡◌, ◌++◌, ◌∷◌, [], ℕ, Lis
 ghost use Rattle.std.specs.Str.{encode_utf8_all};
 ghost use Rattle.csv.specs.Records.{fields_of, partial_of};
 ghost use Rattle.sbl_bench.specs.Classes.{view_class, words_of};
+ghost use Rattle.sbl_bench.specs.KeptRuns.{contents_of};
 ghost use Rattle.sbl_bench.specs.Rows.{view_row};
 ghost use Rattle.sbl_semantics.specs.Outcome.{outcome_of};
 ghost use Rattle.sbl_semantics.specs.TouchedItems.{item_of};
 ghost use Rattle.sbl_io.specs.Records as texts;
 ghost use Rattle.sbl_formats.specs.RowRecords as spec;
-ghost use Rattle.sbl_formats.specs.RowWriter.{Writes};
+ghost use Rattle.sbl_formats.specs.RowWriter.{HasWritten, Writes};
 ghost use Rattle.sbl_formats.specs.Traces.{item_fields};
 
 use csv::{ByteRecord, Writer, WriterBuilder};
-use sbl_bench::{Class, Row};
+use sbl_bench::{Bench, Class, Row};
 use sbl_io::TextBuffer;
 use sbl_machine::{Item, Outcome};
 use std::alloc::{AllocError, Global};
@@ -25,6 +26,33 @@ pub struct RecordWriter {
     word: TextBuffer,
     stem: TextBuffer,
     csv_record: ByteRecord,
+}
+
+impl RecordWriter {
+    /// Returns a writer that has written nothing. Does not allocate.
+    fn new(alloc: Global) -> RecordWriter
+        ensures { HasWritten result.writer [] }
+    {
+        RecordWriter {
+            alloc,
+            writer: WriterBuilder::new()
+                .flexible(true)
+                .from_writer(Vec::new(alloc)),
+            word: TextBuffer::new(alloc),
+            stem: TextBuffer::new(alloc),
+            csv_record: ByteRecord::new(alloc),
+        }
+    }
+
+    /// Returns the text of the records that were written. Returns `AllocError` if an allocation fails.
+    fn into_text(self) -> Result<Vec<u8>, AllocError>
+        ensures { (written : List ℕ) → HasWritten self.writer written → IfOk result (λ text. text.items ≡ written) }
+    {
+        match self.writer.into_inner() {
+            Ok(text) => Ok(text),
+            Err(_) => Err(AllocError),
+        }
+    }
 }
 
 /// A value that is written as one record.
@@ -164,20 +192,23 @@ fn write_record(writer: &mut Writer<Vec<u8>>, csv_record: &ByteRecord) -> Result
 pub fn records_text<T: Record>(alloc: Global, records: &[T]) -> Result<Vec<u8>, AllocError>
     ensures { IfOk result (λ text. text.items ≡ texts.records_text (map T.fields records.now)) }
 {
-    let mut writer = RecordWriter {
-        alloc,
-        writer: WriterBuilder::new()
-            .flexible(true)
-            .from_writer(Vec::new(alloc)),
-        word: TextBuffer::new(alloc),
-        stem: TextBuffer::new(alloc),
-        csv_record: ByteRecord::new(alloc),
-    };
+    let mut writer = RecordWriter::new(alloc);
     for item in records {
         item.write(&mut writer)?;
     }
-    match writer.writer.into_inner() {
-        Ok(text) => Ok(text),
-        Err(_) => Err(AllocError),
+    writer.into_text()
+}
+
+/// Returns the text of the rows of a bench, in vocabulary order, as `records_text` has it. Takes the rows one at a time, so it
+/// needs no memory for a list of them. Returns `AllocError` if an allocation fails.
+pub fn rows_text(alloc: Global, bench: &Bench) -> Result<Vec<u8>, AllocError>
+    ensures { IfOk result (λ text. text.items ≡ spec.stems_text (contents_of bench.now)) }
+{
+    let mut writer = RecordWriter::new(alloc);
+    for i in 0..bench.len() {
+        if let Some(row) = bench.row(i) {
+            row.write(&mut writer)?;
+        }
     }
+    writer.into_text()
 }

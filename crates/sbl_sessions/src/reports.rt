@@ -14,7 +14,7 @@ use crate::replies::{Reply, edit_text, report};
 use crate::session_edits::{MAX_LOOKED_AT, first_characters};
 use sbl_bench::laws::words_fit;
 use sbl_bench::{Bench, EditFault, Row};
-use sbl_formats::records_text;
+use sbl_formats::{records_text, rows_text};
 use sbl_machine::Item;
 use std::alloc::{AllocError, Global};
 use std::collections::BTreeSet;
@@ -23,8 +23,7 @@ use std::collections::BTreeSet;
 pub fn stems_text(alloc: Global, bench: &Bench) -> Result<Vec<u8>, AllocError>
     ensures { IfOk result (λ text. text.items ≡ spec.stems_text (contents_of bench.now)) }
 {
-    let rows = bench.rows()?;
-    records_text(alloc, &rows)
+    rows_text(alloc, bench)
 }
 
 /// Lets the bench keep its classes in order, for this report and later ones. If memory for that is refused, the report is made

@@ -1,4 +1,4 @@
-use Rattle.std.proofs.Common.{List, ℕ, map, subst, take}
+use Rattle.std.proofs.Common.{map, subst, take}
 use Rattle.sbl_formats.specs.RowWriter.{HasWritten}
 use Rattle.sbl_io.specs.Records.{records_text}
 use Rattle.sbl_formats.proofs.RecordFacts.{records_more}
