@@ -10,9 +10,11 @@ use mathlib.Core.Path.{subst}
 use Rattle.std.proofs.lemmas.Option.{slice_get-get_or, slice_get_within}
 use Rattle.std.proofs.lemmas.Cmp.{ranked}
 use Rattle.std.proofs.lemmas.Bool.{ltb-true, ltb-false, eqb-false}
-use Rattle.sbl_among_search.specs.Keys.{AreKeys, IsKey, digit}
+use Rattle.sbl_among_search.specs.Keys.{AreKeys, IsKey, IsKeyCount, KeysRise, digit}
+use Rattle.sbl_among_search.specs.Linked.{Rise}
 use Rattle.sbl_among_search.proofs.Chain.{before_or_here}
 use Rattle.sbl_among_search.proofs.Fits.{some_text}
+use Rattle.sbl_among_search.proofs.Order.{true_or_false}
 
 -- ---- digits
 
@@ -99,3 +101,22 @@ keys_more texts keys i key own n at is are k text l there e =
     before_or_here keys key l k (IsKey text l) e (λ o. are k text l there o) (λ here same.
     let same_text : own ≡ text = some_text own text (sym at ∙ ap (slice_get texts) (sym (here ∙ n)) ∙ there) in
     subst (λ v. IsKey v l) same_text (subst (λ m. IsKey own m) (sym same) is))
+
+pub keys_rise : (texts : List (List ℕ)) (keys : List ℕ) → Rise texts → AreKeys texts keys → KeysRise keys
+keys_rise texts keys rise are j k l inside = by (nat_lt (get_or keys k 0) (get_or keys j 0)) refl
+  where
+    by : (c : Bool) → nat_lt (get_or keys k 0) (get_or keys j 0) ≡ c → get_or keys j 0 ≤ get_or keys k 0
+    by true c =
+        let u = get_or texts j [] in
+        let v = get_or texts k [] in
+        let at_j : slice_get texts j ≡ Some u = slice_get-get_or texts j [] (omega (arith, l, inside, are.long)) in
+        let at_k : slice_get texts k ≡ Some v = slice_get-get_or texts k [] (omega (arith, inside, are.long)) in
+        let turned = key_less v u (get_or keys k 0) (get_or keys j 0) (key_at texts keys k 0 v are at_k) (key_at texts keys j 0 u are at_j) (ltb-true (get_or keys k 0) (get_or keys j 0) c) in
+        absurd (true_or_false (is_gt (slice_cmp nat_cmp u v)) (ap is_gt turned) (rise j k u v l at_j at_k))
+    by false c = ltb-false (get_or keys k 0) (get_or keys j 0) c
+
+-- the rows with greater keys sort after the text read
+pub after_by_key : (texts : List (List ℕ)) (keys : List ℕ) (x : List ℕ) (key n : ℕ) → IsKey x key → AreKeys texts keys → IsKeyCount keys key n → (j : ℕ) (v : List ℕ) → n ≤ j → slice_get texts j ≡ Some v → is_gt (slice_cmp nat_cmp v x) ≡ true
+after_by_key texts keys x key n own are count j v l at =
+    let inside : j < length keys = omega (arith, are.long, slice_get_within texts j v at) in
+    ap is_gt (key_less x v key (get_or keys j 0) own (key_at texts keys j 0 v are at) (count.following j l inside))

@@ -1,9 +1,9 @@
 //! The keys of strings: the first three characters of a string as one number. If the key of one string is less than the
 //! key of another, the string sorts before the other.
 
-ghost use Rattle.std.specs.Prelude.{◌≡◌, ◌<◌, ◌^◌, length, IfOk};
+ghost use Rattle.std.specs.Prelude.{◌≡◌, ◌<◌, ◌+◌, ◌^◌, length, IfOk};
 ghost use Rattle.sbl_semantics.specs.Fitting.{read_as};
-ghost use Rattle.sbl_among_search.specs.Keys.{AreKeys, IsKey, digit};
+ghost use Rattle.sbl_among_search.specs.Keys.{AreKeys, IsInDoubt, IsKey, IsKeyCount, KeysRise, digit};
 ghost use Rattle.sbl_among_search.specs.Linked.{texts_of};
 
 use crate::linked::reading::read_at;
@@ -13,6 +13,9 @@ use std::cmp::Reverse;
 
 // Each digit of a key is less than this. A character is at most 0x10FFFF.
 const BASE: u64 = 1 << 21;
+
+// This many keys are counted without a branch for each (our own choice).
+const FEW: usize = 16;
 
 /// Returns the key of the text read.
 #[inline(always)]
@@ -34,6 +37,40 @@ pub fn keys_of(alloc: Global, rows: &[(Vec<char>, Reverse<usize>)]) -> Result<Ve
         keys.push(key_of(Mode::Forward, &row.0))?;
     }
     Ok(keys)
+}
+
+/// Returns the number of keys that are at most `key`.
+#[inline(always)]
+pub fn keys_upto(keys: &[u64], key: u64) -> usize
+    requires { KeysRise keys.now }
+    ensures { IsKeyCount keys.now key result }
+{
+    let mut count = first_in_doubt(keys, key);
+    for i in count..keys.len().min(count + FEW) {
+        if keys[i] <= key {
+            count += 1;
+        }
+    }
+    count
+}
+
+// Returns an index such that the keys before it are at most `key`, and the keys `FEW` or more after it are greater.
+#[inline(always)]
+fn first_in_doubt(keys: &[u64], key: u64) -> usize
+    requires { KeysRise keys.now }
+    ensures { IsInDoubt keys.now key result (result + 16) }
+{
+    let mut low = 0;
+    let mut high = keys.len();
+    while high - low > FEW {
+        let middle = low + (high - low) / 2;
+        if keys[middle] <= key {
+            low = middle + 1;
+        } else {
+            high = middle;
+        }
+    }
+    low
 }
 
 // Returns one more than the character at index `i` of the text read, or 0 if there is none.

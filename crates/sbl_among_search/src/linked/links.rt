@@ -1,6 +1,6 @@
 //! The search of a linked table.
 
-ghost use Rattle.std.specs.Prelude.{◌≡◌, ℕ, ◌<◌, ◌≤◌, ◌-◌, true, List, nat_eq, length, slice_index_or, IfOk, IfSome, MatchBool};
+ghost use Rattle.std.specs.Prelude.{◌≡◌, ℕ, ◌<◌, ◌≤◌, ◌-◌, true, List, nat_eq, length, slice_get, Some, IfOk, IfSome, MatchBool};
 ghost use Rattle.std.specs.List.{starts_with};
 ghost use Rattle.std.specs.Ordering.{is_gt, nat_cmp};
 ghost use Rattle.std.specs.Cmp.Lexicographic.{slice_cmp};
@@ -9,7 +9,7 @@ ghost use Rattle.sbl_among_search.specs.Keys.{AreKeys, IsKey};
 ghost use Rattle.sbl_semantics.specs.Fitting.{read_as};
 ghost use Rattle.sbl_among_search.specs.Linked.{AreLinks, GoDown, IsCommon, IsCount, IsLast, IsLinked, Rise, StandsAt, before, texts_of};
 
-use crate::linked::keys::key_of;
+use crate::linked::keys::{key_of, keys_upto};
 use crate::linked::reading::read_at;
 use sbl_ast::Mode;
 use std::alloc::{AllocError, Global};
@@ -103,8 +103,34 @@ fn count_upto(
     ensures { IsCount (texts_of rows.now) (read_as direction part.now) result }
 {
     let key = key_of(direction, part);
+    let count = keys_upto(keys, key);
+    if count == 0 {
+        return 0;
+    }
+    if is_row_after(direction, part, key, &rows[count - 1], keys[count - 1]) {
+        return count_before(rows, keys, direction, part, key, count - 1);
+    }
+    count
+}
+
+// Returns the number of rows that do not sort after the text read, if those from `end` on do.
+fn count_before(
+    rows: &[(Vec<char>, Reverse<usize>)],
+    keys: &[u64],
+    direction: Mode,
+    part: &[char],
+    key: u64,
+    end: usize,
+) -> usize
+    requires rise { Rise (texts_of rows.now) }
+    requires keyed { AreKeys (texts_of rows.now) keys.now }
+    requires own { IsKey (read_as direction part.now) key }
+    requires end_in { end ≤ length rows.now }
+    requires following { (j : ℕ) (v : List ℕ) → end ≤ j → slice_get (texts_of rows.now) j ≡ Some v → is_gt (slice_cmp nat_cmp v (read_as direction part.now)) ≡ true }
+    ensures { IsCount (texts_of rows.now) (read_as direction part.now) result }
+{
     let mut low = 0;
-    let mut high = rows.len();
+    let mut high = end;
     while low < high {
         let middle = low + (high - low) / 2;
         if is_row_after(direction, part, key, &rows[middle], keys[middle]) {
