@@ -145,7 +145,7 @@ down_below links row count None down e h = tt
 down_below links row count (Some q) down e h = omega (arith, down row q e, h)
 
 -- one more link
-before_or_here : {X : Type 0} (xs : List X) (y v : X) (k : ℕ) (G : Type 0) → slice_get (xs ++ (y ∷ [])) k ≡ Some v → (slice_get xs k ≡ Some v → G) → (k ≡ length xs → v ≡ y → G) → G
+pub before_or_here : {X : Type 0} (xs : List X) (y v : X) (k : ℕ) (G : Type 0) → slice_get (xs ++ (y ∷ [])) k ≡ Some v → (slice_get xs k ≡ Some v → G) → (k ≡ length xs → v ≡ y → G) → G
 before_or_here xs y v k G e old new = by (nat_lt k (length xs)) refl
   where
     by : (t : Bool) → nat_lt k (length xs) ≡ t → G

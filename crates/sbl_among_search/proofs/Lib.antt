@@ -5,6 +5,7 @@ pub mod Mirror
 pub mod Next
 pub mod Taken
 pub mod Order
+pub mod Keys
 pub mod Sorted
 pub mod Chain
 pub mod Beginnings

@@ -4,13 +4,17 @@ ghost use Rattle.std.specs.Prelude.{map};
 ghost use Rattle.sbl_char_class.specs.CharacterClasses.{members};
 ghost use Rattle.sbl_semantics.specs.Fitting.{read_all};
 ghost use Rattle.sbl_among_search.specs.Beginnings.{AreBeginnings};
+ghost use Rattle.sbl_among_search.specs.Keys.{AreKeys};
 ghost use Rattle.sbl_among_search.specs.Linked.{IsLinked, texts_of};
 
 mod beginnings;
+mod keys;
 mod links;
+mod reading;
 mod rows;
 
 use crate::linked::beginnings::{Beginnings, beginnings_of};
+use crate::linked::keys::keys_of;
 use crate::linked::links::{best_of, links_of};
 use crate::linked::rows::rows_of;
 use crate::plain::{ahead, copy_strings};
@@ -27,10 +31,13 @@ pub struct LinkedTable {
     // The strings as read in the mode, sorted, each with its number. Of equal strings the one with the smallest number
     // is last.
     rows: Vec<(Vec<char>, Reverse<usize>)>,
+    // For each row, the key of its string.
+    keys: Vec<u64>,
     // For each row, the last row of the longest shorter string that is a prefix of it.
     links: Vec<Option<usize>>,
     beginnings: Beginnings,
     ghost linked: { ∥ IsLinked (read_all direction (map (λ v. v.items) strings.items)) rows.items links.items ∥₁ },
+    ghost keyed: { ∥ AreKeys (texts_of rows.items) keys.items ∥₁ },
     ghost begun: { ∥ AreBeginnings (members beginnings.characters) beginnings.everywhere (texts_of rows.items) ∥₁ },
 }
 
@@ -44,8 +51,22 @@ impl LinkedTable {
         ensures { ∥ IsBest (strings_of self.now) (read_as self.now.direction part.now) below result ∥₁ }
     {
         match self.direction {
-            Mode::Forward => best_of(&self.rows, &self.links, Mode::Forward, part, below),
-            Mode::Backward => best_of(&self.rows, &self.links, Mode::Backward, part, below),
+            Mode::Forward => best_of(
+                &self.rows,
+                &self.keys,
+                &self.links,
+                Mode::Forward,
+                part,
+                below,
+            ),
+            Mode::Backward => best_of(
+                &self.rows,
+                &self.keys,
+                &self.links,
+                Mode::Backward,
+                part,
+                below,
+            ),
         }
     }
 }
@@ -59,6 +80,7 @@ impl AmongSearch for LinkedTable {
 
     fn build(alloc: Global, strings: &[Vec<char>], direction: Mode) -> Result<Self, AllocError> {
         let rows = rows_of(alloc, strings, direction)?;
+        let keys = keys_of(alloc, &rows)?;
         let links = links_of(alloc, &rows)?;
         let beginnings = beginnings_of(alloc, &rows)?;
         let copies = copy_strings(alloc, strings)?;
@@ -66,6 +88,7 @@ impl AmongSearch for LinkedTable {
             strings: copies,
             direction,
             rows,
+            keys,
             links,
             beginnings,
         })

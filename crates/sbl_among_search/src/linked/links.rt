@@ -1,13 +1,16 @@
 //! The search of a linked table.
 
-ghost use Rattle.std.specs.Prelude.{◌≡◌, ℕ, ◌<◌, ◌≤◌, ◌-◌, true, List, nat_eq, length, slice_index_or, IfOk, IfSome, MatchBool};
+ghost use Rattle.std.specs.Prelude.{◌≡◌, ℕ, ◌<◌, ◌≤◌, ◌-◌, true, List, nat_eq, length, slice_get, Some, IfOk, IfSome, MatchBool};
 ghost use Rattle.std.specs.List.{starts_with};
 ghost use Rattle.std.specs.Ordering.{is_gt, nat_cmp};
 ghost use Rattle.std.specs.Cmp.Lexicographic.{slice_cmp};
 ghost use Rattle.sbl_among_search.specs.Best.{IsBest};
+ghost use Rattle.sbl_among_search.specs.Keys.{AreKeys, IsKey};
 ghost use Rattle.sbl_semantics.specs.Fitting.{read_as};
 ghost use Rattle.sbl_among_search.specs.Linked.{AreLinks, GoDown, IsCommon, IsCount, IsLast, IsLinked, Rise, StandsAt, before, texts_of};
 
+use crate::linked::keys::{key_of, keys_upto};
+use crate::linked::reading::read_at;
 use sbl_ast::Mode;
 use std::alloc::{AllocError, Global};
 use std::cmp::Reverse;
@@ -17,17 +20,19 @@ use std::cmp::Reverse;
 #[inline(always)]
 pub fn best_of(
     rows: &[(Vec<char>, Reverse<usize>)],
+    keys: &[u64],
     links: &[Option<usize>],
     direction: Mode,
     part: &[char],
     below: usize,
 ) -> Option<usize>
+    requires keyed { AreKeys (texts_of rows.now) keys.now }
     requires down { GoDown links.now }
     requires long { length links.now ≡ length rows.now }
     requires rise { Rise (texts_of rows.now) }
     ensures { (strings : List (List ℕ)) → IsLinked strings rows.now links.now → IsBest strings (read_as direction part.now) below result }
 {
-    let count = count_upto(rows, direction, part);
+    let count = count_upto(rows, keys, direction, part);
     match follow(rows, links, direction, part, below, count) {
         None => None,
         Some(row) => Some(rows[row].1.0),
@@ -87,21 +92,73 @@ fn row_before(count: usize) -> Option<usize>
 
 // Returns the number of rows that do not sort after the text read.
 #[inline(always)]
-fn count_upto(rows: &[(Vec<char>, Reverse<usize>)], direction: Mode, part: &[char]) -> usize
-    requires { Rise (texts_of rows.now) }
+fn count_upto(
+    rows: &[(Vec<char>, Reverse<usize>)],
+    keys: &[u64],
+    direction: Mode,
+    part: &[char],
+) -> usize
+    requires rise { Rise (texts_of rows.now) }
+    requires keyed { AreKeys (texts_of rows.now) keys.now }
+    ensures { IsCount (texts_of rows.now) (read_as direction part.now) result }
+{
+    let key = key_of(direction, part);
+    let count = keys_upto(keys, key);
+    if count == 0 {
+        return 0;
+    }
+    if is_row_after(direction, part, key, &rows[count - 1], keys[count - 1]) {
+        return count_before(rows, keys, direction, part, key, count - 1);
+    }
+    count
+}
+
+// Returns the number of rows that do not sort after the text read, if those from `end` on do.
+fn count_before(
+    rows: &[(Vec<char>, Reverse<usize>)],
+    keys: &[u64],
+    direction: Mode,
+    part: &[char],
+    key: u64,
+    end: usize,
+) -> usize
+    requires rise { Rise (texts_of rows.now) }
+    requires keyed { AreKeys (texts_of rows.now) keys.now }
+    requires own { IsKey (read_as direction part.now) key }
+    requires end_in { end ≤ length rows.now }
+    requires following { (j : ℕ) (v : List ℕ) → end ≤ j → slice_get (texts_of rows.now) j ≡ Some v → is_gt (slice_cmp nat_cmp v (read_as direction part.now)) ≡ true }
     ensures { IsCount (texts_of rows.now) (read_as direction part.now) result }
 {
     let mut low = 0;
-    let mut high = rows.len();
+    let mut high = end;
     while low < high {
         let middle = low + (high - low) / 2;
-        if is_after(direction, part, &rows[middle].0) {
+        if is_row_after(direction, part, key, &rows[middle], keys[middle]) {
             high = middle;
         } else {
             low = middle + 1;
         }
     }
     low
+}
+
+// Returns whether the row with key `row_key` sorts after the text read, whose key is `key`. Mostly the keys decide.
+#[inline(always)]
+fn is_row_after(
+    direction: Mode,
+    part: &[char],
+    key: u64,
+    row: &(Vec<char>, Reverse<usize>),
+    row_key: u64,
+) -> bool
+    requires own { IsKey (read_as direction part.now) key }
+    requires keyed { IsKey row.now.0.items row_key }
+    ensures { result ≡ is_gt (slice_cmp nat_cmp row.now.0.items (read_as direction part.now)) }
+{
+    if row_key != key {
+        return row_key > key;
+    }
+    is_after(direction, part, &row.0)
 }
 
 // Returns whether the string has fewer than `below` characters and is a prefix of the text read.
@@ -141,16 +198,4 @@ fn common(direction: Mode, part: &[char], text: &[char]) -> usize
         }
     }
     text.len()
-}
-
-// Returns the character at index `i` of the text read.
-#[inline(always)]
-fn read_at(direction: Mode, part: &[char], i: usize) -> char
-    requires { i < length part.now }
-    ensures { result ≡ slice_index_or (read_as direction part.now) i 0 }
-{
-    match direction {
-        Mode::Forward => part[i],
-        Mode::Backward => part[part.len() - 1 - i],
-    }
 }

@@ -4,7 +4,7 @@ use Rattle.std.specs.Ordering.{is_gt, nat_cmp}
 use Rattle.std.specs.Cmp.Lexicographic.{slice_cmp}
 use Rattle.sbl_semantics.specs.Fitting.{read_as}
 use Rattle.sbl_among_search.specs.Linked.{texts_of}
-use Rattle.sbl_among_search.proofs.linked.links.count_upto.Given as goal
+use Rattle.sbl_among_search.proofs.linked.links.count_before.Given as goal
 
 abbrev pub invariant-loop-low : goal.invariant-loop-low
 invariant-loop-low l =
