@@ -137,12 +137,6 @@ pub one_turn : (n : ℕ) (c : Doing) (m : Mode) (s new : State) (w : Ending) →
 one_turn zero c m s new w f l e h = absurd (omega arith)
 one_turn (suc k) c m s new w f l e h = (k, omega arith, sym (ap (λ r. after r (turns (suc k) c m) (put_back m (saved_cursor s))) e) ∙ h)
 
-pub one_try : (n : ℕ) (past : Bool) (c : Doing) (m : Mode) (s f b new : State) (w : Ending) → new.steps < s.steps → s.steps ≤ n → c m s ≡ Signals false f → put_back m (saved_cursor s) f ≡ Signals true b → next m b ≡ Signals true new → seeks (suc n) past c m s ≡ w → (k : ℕ) × (new.steps ≤ k) × (seeks (suc k) past c m new ≡ w)
-one_try zero past c m s f b new w less l e p x h = absurd (omega arith)
-one_try (suc k) past c m s f b new w less l e p x h =
-    let go = λ (b : State). after (next m b) (seeks (suc k) past c m) (Signals false) in
-    (k, omega arith, sym (ap (λ r. after r (end_search past m s) (λ f. then_on (put_back m (saved_cursor s) f) go)) e ∙ ap (λ r. then_on r go) p ∙ ap (λ r. after r (seeks (suc k) past c m) (Signals false)) x) ∙ h)
-
 pub one_more : (call : ℕ → Doing) (a : ℕ) (es : List Candidate) (m : Mode) (from : State) (rest : List ℕ) (i : ℕ) (s : State) (place : Option ℕ) → place ≡ first rest → place ≡ Some i → (js : List ℕ) × (rest ≡ i ∷ js) × (tries call a es m from rest s ≡ try_one call a (slice_get es i) m from s (tries call a es m from js))
 one_more call a es m from [] i s place p q = let e : Some i ≡ None = sym q ∙ p in absurd (let no : ⊥ = cc in no)
 one_more call a es m from (j ∷ js) i s place p q =

@@ -11,3 +11,4 @@ pub mod Rows
 -- what the functions inside the crate promise each other; no public contract depends on these
 pub mod Slots
 pub mod Marks
+pub mod Seeking

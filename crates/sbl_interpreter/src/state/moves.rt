@@ -20,7 +20,7 @@ use std::alloc::AllocError;
 impl State {
     // Returns the number of characters ahead.
     #[inline(always)]
-    fn room(&self, mode: Mode) -> usize
+    pub(super) fn room(&self, mode: Mode) -> usize
         ensures { result ≡ room mode self.now }
     {
         match mode {
@@ -31,7 +31,7 @@ impl State {
 
     // Moves the cursor by n characters, which are ahead.
     #[inline(always)]
-    fn advance(&mut self, mode: Mode, n: usize)
+    pub(super) fn advance(&mut self, mode: Mode, n: usize)
         requires { n ≤ room mode self.old }
         ensures { self.new ≡ move_cursor mode n self.old }
     {

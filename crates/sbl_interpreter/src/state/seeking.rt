@@ -1,13 +1,18 @@
 //! Tests of groupings: one, and `goto` and `gopast` of one.
 
-ghost use Rattle.std.specs.Prelude.{◌≡◌, ◌<◌, ◌≤◌, map, suc, IfOk};
+ghost use Rattle.std.specs.Prelude.{◌≡◌, ◌<◌, ◌≤◌, map, suc, IfOk, Some};
+ghost use Rattle.std.specs.List.{position};
 ghost use Rattle.sbl_char_class.specs.CharacterClasses.{members};
 ghost use Rattle.sbl_char_class.specs.Terms.{class_at};
 ghost use Rattle.sbl_semantics.specs.Control.{pay_first, seeks};
 ghost use Rattle.sbl_interpreter.specs.Endings.{Follows};
 ghost use Rattle.sbl_interpreter.specs.Actions.{test_grouping};
+ghost use Rattle.sbl_interpreter.specs.Seeking.{count_before, sought};
+ghost use Rattle.sbl_semantics.specs.Fitting.{read_as};
 ghost use Rattle.sbl_semantics.specs.Touches.{with_touch};
 ghost use Rattle.sbl_semantics.specs.declared.touch.Touch.TheVariants.{Tested};
+ghost use Rattle.sbl_semantics.specs.Moves.{next_is};
+ghost use Rattle.sbl_semantics.specs.State.{Signals, ahead, move_cursor, room};
 
 use crate::halt::Halt;
 use crate::state::State;
@@ -33,24 +38,57 @@ impl State {
         Ok(self.take_one(mode, classes, number, wanted))
     }
 
-    // Uses a step and tests the grouping, which is touched already.
+    // Returns how many characters ahead are read before the first one that is in the class with this number, or that is
+    // not, as `wanted` says; if there is none, all of them.
     #[inline(always)]
-    fn test_touched(
-        &mut self,
+    fn count_before(
+        &self,
         mode: Mode,
         classes: &[CharacterClass],
         number: usize,
         wanted: bool,
-    ) -> Result<bool, Halt>
-        requires { with_touch (Tested number) self.old.touched ≡ self.old.touched }
-        ensures follows { Follows result self.new (pay_first (test_grouping wanted (class_at (map members classes.now) number) number) mode self.old) }
-        ensures fewer { IfOk result (λ _. self.new.steps < self.old.steps) }
+    ) -> usize
+        ensures { result ≡ count_before wanted (class_at (map members classes.now) number) (ahead mode self.now) }
     {
-        self.pay()?;
-        Ok(self.take_one(mode, classes, number, wanted))
+        let part = self.part_ahead(mode);
+        match classes.get(number) {
+            Some(class) => first_met(mode, part, class, wanted).unwrap_or(part.len()),
+            None => { if wanted { part.len() } else { 0 } }
+        }
     }
 
-    // Does what `seek_one` does, if the grouping is touched already. So the loop reads the cursor and the steps only once.
+    // Moves the cursor by n characters, which are ahead, and leaves this many steps.
+    #[inline(always)]
+    fn pass_over(&mut self, mode: Mode, n: usize, steps: u32)
+        requires { n ≤ room mode self.old }
+        ensures { self.new ≡ record (move_cursor mode n self.old) { steps = steps } }
+    {
+        self.advance(mode, n);
+        self.steps = steps;
+    }
+
+    // Ends a search whose first test that signals t is after this many characters, and returns true; if no more characters
+    // are ahead, none is, and it returns false. Each test uses a step.
+    #[inline(always)]
+    fn seek_over(&mut self, past: bool, mode: Mode, before: usize) -> bool
+        requires enough { before < self.old.steps }
+        requires there { before ≤ room mode self.old }
+        ensures { sought past mode self.old.steps before (room mode self.old) self.old ≡ Signals result self.new }
+    {
+        let steps = self.steps() - before as u32 - 1;
+        if before == self.room(mode) {
+            self.pass_over(mode, before, steps);
+            return false;
+        }
+        if past {
+            self.pass_over(mode, before + 1, steps);
+        } else {
+            self.pass_over(mode, before, steps);
+        }
+        true
+    }
+
+    // Does what `seek_one` does, if the grouping is touched already.
     #[inline(always)]
     fn seek_touched(
         &mut self,
@@ -64,18 +102,13 @@ impl State {
         ensures follows { Follows result self.new (seeks (suc self.old.steps) past (pay_first (test_grouping wanted (class_at (map members classes.now) number) number)) mode self.old) }
         ensures no_more { IfOk result (λ _. self.new.steps ≤ self.old.steps) }
     {
-        loop {
-            let from = self.saved_cursor();
-            if self.test_touched(mode, classes, number, wanted)? {
-                if !past {
-                    self.put_back(mode, from)?;
-                }
-                return Ok(true);
-            }
-            if !self.take_next(mode) {
-                return Ok(false);
-            }
+        let before = self.count_before(mode, classes, number, wanted);
+        let steps = self.steps as usize;
+        if steps <= before {
+            self.pass_over(mode, steps, 0);
+            return Err(Halt::Steps);
         }
+        Ok(self.seek_over(past, mode, before))
     }
 
     /// Tests the grouping with this number at the cursor and further on, up to the first t. The cursor stays after the
@@ -97,5 +130,28 @@ impl State {
         }
         self.touch_grouping(number)?;
         self.seek_touched(past, mode, classes, number, wanted)
+    }
+}
+
+// Returns the place of the first character read that is in the class, or that is not, as `wanted` says.
+#[inline(always)]
+fn first_met(mode: Mode, part: &[char], class: &CharacterClass, wanted: bool) -> Option<usize>
+    ensures { result ≡ position (λ c. next_is wanted (members class.now) (Some c)) (read_as mode part.now) }
+{
+    match mode {
+        Mode::Forward => part.iter().position(|c| is_met(class, *c, wanted)),
+        Mode::Backward => part.iter().rev().position(|c| is_met(class, *c, wanted)),
+    }
+}
+
+// Returns whether a character is in the class, or is not, as `wanted` says.
+#[inline(always)]
+fn is_met(class: &CharacterClass, c: char, wanted: bool) -> bool
+    ensures { result ≡ next_is wanted (members class.now) (Some c) }
+{
+    if wanted {
+        class.contains(c)
+    } else {
+        !class.contains(c)
     }
 }

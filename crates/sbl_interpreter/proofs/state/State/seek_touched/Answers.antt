@@ -1,55 +1,57 @@
-use Rattle.std.proofs.Common.{◌≡◌, ◌<◌, ◌≤◌, suc, true, false, length, map, subst, sym, ap, ◌∙◌, arith, rules}
+use Rattle.std.proofs.Common.{◌≡◌, ◌≤◌, length, map, sym, ap, ◌∙◌, arith}
 use Rattle.sbl_char_class.specs.CharacterClasses.{members}
 use Rattle.sbl_char_class.specs.Terms.{class_at}
-use Rattle.sbl_interpreter.specs.Actions.{test_grouping}
-use Rattle.sbl_semantics.specs.Moves.{next}
-use Rattle.sbl_semantics.specs.Control.{pay_first, seeks}
-use Rattle.sbl_semantics.specs.State.{Signals, saved_cursor, put_back}
-use Rattle.sbl_semantics.specs.Touches.{with_touch}
-use Rattle.sbl_semantics.specs.declared.touch.Touch.TheVariants.{Tested}
-use Rattle.sbl_semantics.specs.declared.cursor.SavedCursor.{SavedCursor}
-use Rattle.sbl_interpreter.proofs.Arms.{one_try}
-use Rattle.sbl_interpreter.proofs.Seeking.{last_try, next_touched, put_back_after, test_touched}
+use Rattle.sbl_semantics.specs.declared.fault.RunFault.TheVariants.{Steps}
+use Rattle.sbl_semantics.specs.State.{State, Stops, move_cursor, room}
+use Rattle.sbl_interpreter.specs.Seeking.{sought}
+use Rattle.sbl_interpreter.proofs.Seeking.{count_in_room, seeks_is, sought_short}
 use Rattle.sbl_interpreter.proofs.state.State.seek_touched.Goals as goal
 
-pub loop-self-preserved : goal.loop-self-preserved
-loop-self-preserved c =
-    let inv = c.loop-self.invariant in
-    let D = pay_first (test_grouping c.args.wanted (class_at (map members c.args.classes.now) c.args.number) c.args.number) in
-    let m = c.args.mode in
-    let s = c.loop-self.self in
-    let f = c.test_touched.new.self in
-    let new = c.take_next.new.self in
-    let no : c.in_ok-test_touched.field-0 ≡ false = search rules in
-    let e : D m s ≡ Signals false f = c.in_ok-test_touched.ensures.follows ∙ ap (λ v. Signals v f) no in
-    let within : s.cursor ≤ length s.text = subst (λ (r : SavedCursor). r.cursor ≤ r.length) c.saved_cursor-from.ensures.value c.saved_cursor-from.ensures.within in
-    let p : put_back m (saved_cursor s) f ≡ Signals true f = put_back_after c.args.wanted (class_at (map members c.args.classes.now) c.args.number) c.args.number m s f within e in
-    let yes : c.take_next.result ≡ true = search rules in
-    let x : next m f ≡ Signals true new = c.take_next.ensures.leads ∙ ap (λ v. Signals v new) yes in
-    let same : new.steps ≡ f.steps = c.take_next.ensures.same_steps in
-    let fewer : f.steps < s.steps = c.in_ok-test_touched.ensures.fewer in
-    let less : new.steps < s.steps = omega arith in
-    let w = seeks (suc c.args.self.now.steps) c.args.past D m c.args.self.now in
-    let o = one_try inv.0 c.args.past D m s f f new w less inv.1 e p x inv.2 in
-    let steps : new.steps ≤ c.args.self.now.steps = omega (arith, less, inv.3) in
-    let g = c.args.number in
-    let class = class_at (map members c.args.classes.now) g in
-    let kept : new.touched ≡ s.touched = next_touched m f new true x ∙ test_touched c.args.wanted class g m s f false e ∙ inv.4 in
-    let still : with_touch (Tested g) new.touched ≡ new.touched = ap (with_touch (Tested g)) kept ∙ inv.4 ∙ sym kept in
-    (o.0, o.1, o.2, steps, still)
+pub pass_over-requires : goal.pass_over-requires
+pass_over-requires c =
+    let s = c.args.self.now in
+    let cursor = ap (λ (t : State). t.cursor) c.self.view_is in
+    let len = ap (λ (t : State). length t.text) c.self.view_is in
+    let l : s.cursor ≤ length s.text = omega (arith, cursor, len, c.self.invariant.cursor_in) in
+    let k = count_in_room c.args.wanted (class_at (map members c.args.classes.now) c.args.number) c.args.mode s l in
+    omega (arith, k, c.count_before-before.ensures, c.if-steps-before.true)
 
-pub returns-then-not-take_next-clause-follows : goal.returns-then-not-take_next-clause-follows
-returns-then-not-take_next-clause-follows c =
-    let inv = c.loop-self.invariant in
-    let D = pay_first (test_grouping c.args.wanted (class_at (map members c.args.classes.now) c.args.number) c.args.number) in
+pub returns-then-steps-before-clause-follows : goal.returns-then-steps-before-clause-follows
+returns-then-steps-before-clause-follows c =
+    let s = c.args.self.now in
     let m = c.args.mode in
-    let s = c.loop-self.self in
-    let f = c.test_touched.new.self in
-    let new = c.take_next.new.self in
-    let no : c.in_ok-test_touched.field-0 ≡ false = search rules in
-    let e : D m s ≡ Signals false f = c.in_ok-test_touched.ensures.follows ∙ ap (λ v. Signals v f) no in
-    let within : s.cursor ≤ length s.text = subst (λ (r : SavedCursor). r.cursor ≤ r.length) c.saved_cursor-from.ensures.value c.saved_cursor-from.ensures.within in
-    let p : put_back m (saved_cursor s) f ≡ Signals true f = put_back_after c.args.wanted (class_at (map members c.args.classes.now) c.args.number) c.args.number m s f within e in
-    let none : c.take_next.result ≡ false = search rules in
-    let x : next m f ≡ Signals false new = c.take_next.ensures.leads ∙ ap (λ v. Signals v new) none in
-    last_try inv.0 c.args.past D m s f f new _ e p x inv.2
+    let past = c.args.past in
+    let n = c.count_before-before.result in
+    let class = class_at (map members c.args.classes.now) c.args.number in
+    let e : c.self.inside.steps ≡ s.steps = ap (λ (t : State). t.steps) c.self.view_is in
+    let cursor = ap (λ (t : State). t.cursor) c.self.view_is in
+    let len = ap (λ (t : State). length t.text) c.self.view_is in
+    let l : s.cursor ≤ length s.text = omega (arith, cursor, len, c.self.invariant.cursor_in) in
+    let short : s.steps ≤ n = omega (arith, e, c.if-steps-before.true) in
+    seeks_is past c.args.wanted class c.args.number m s l c.requires
+    ∙ ap (λ n. sought past m s.steps n (room m s) s) (sym c.count_before-before.ensures)
+    ∙ sought_short past m s.steps n (room m s) s short
+    ∙ ap (λ n. Stops Steps (record (move_cursor m n s) { steps = 0 })) (sym e)
+    ∙ ap (Stops Steps) (sym c.pass_over.ensures)
+
+pub seek_over-requires-clause-there : goal.seek_over-requires-clause-there
+seek_over-requires-clause-there c =
+    let s = c.args.self.now in
+    let cursor = ap (λ (t : State). t.cursor) c.self.view_is in
+    let len = ap (λ (t : State). length t.text) c.self.view_is in
+    let l : s.cursor ≤ length s.text = omega (arith, cursor, len, c.self.invariant.cursor_in) in
+    let k = count_in_room c.args.wanted (class_at (map members c.args.classes.now) c.args.number) c.args.mode s l in
+    omega (arith, k, c.count_before-before.ensures)
+
+pub returns-clause-follows : goal.returns-clause-follows
+returns-clause-follows c =
+    let s = c.args.self.now in
+    let m = c.args.mode in
+    let past = c.args.past in
+    let class = class_at (map members c.args.classes.now) c.args.number in
+    let cursor = ap (λ (t : State). t.cursor) c.self.view_is in
+    let len = ap (λ (t : State). length t.text) c.self.view_is in
+    let l : s.cursor ≤ length s.text = omega (arith, cursor, len, c.self.invariant.cursor_in) in
+    seeks_is past c.args.wanted class c.args.number m s l c.requires
+    ∙ ap (λ n. sought past m s.steps n (room m s) s) (sym c.count_before-before.ensures)
+    ∙ c.seek_over.ensures
