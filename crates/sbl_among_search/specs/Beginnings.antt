@@ -1,5 +1,9 @@
 -- The first characters of the strings of a table.
-use Rattle.std.specs.Prelude.{◌≡◌, ℕ, Bool, true, List, [], ◌∷◌, ◌||◌, Some, slice_get}
+use Rattle.std.specs.Prelude.{◌≡◌, ℕ, Bool, true, false, List, [], ◌∷◌, ◌||◌, ◌%◌, Some, slice_get, slice_index_or}
+
+-- the code point of a character leaves one of these remainders
+abbrev pub has_remainder : List Bool → ℕ → Bool
+has_remainder remainders c = slice_index_or remainders (c % 64) false
 
 -- a text may begin with a string of the table: the first character of the text is in the class, or a string may match
 -- everywhere

@@ -1,9 +1,8 @@
 //! A search of sorted strings. Each string has a link to the longest shorter string that is a prefix of it.
 
 ghost use Rattle.std.specs.Prelude.{map};
-ghost use Rattle.sbl_char_class.specs.CharacterClasses.{members};
 ghost use Rattle.sbl_semantics.specs.Fitting.{read_all};
-ghost use Rattle.sbl_among_search.specs.Beginnings.{AreBeginnings};
+ghost use Rattle.sbl_among_search.specs.Beginnings.{AreBeginnings, has_remainder};
 ghost use Rattle.sbl_among_search.specs.Keys.{AreKeys};
 ghost use Rattle.sbl_among_search.specs.Linked.{IsLinked, texts_of};
 
@@ -26,8 +25,9 @@ use std::cmp::Reverse;
 /// Sorted strings with links.
 #[derive(Drop)]
 pub struct LinkedTable {
-    strings: Vec<Vec<char>>,
     direction: Mode,
+    beginnings: Beginnings,
+    strings: Vec<Vec<char>>,
     // The strings as read in the mode, sorted, each with its number. Of equal strings the one with the smallest number
     // is last.
     rows: Vec<(Vec<char>, Reverse<usize>)>,
@@ -35,10 +35,9 @@ pub struct LinkedTable {
     keys: Vec<u64>,
     // For each row, the last row of the longest shorter string that is a prefix of it.
     links: Vec<Option<usize>>,
-    beginnings: Beginnings,
     ghost linked: { ∥ IsLinked (read_all direction (map (λ v. v.items) strings.items)) rows.items links.items ∥₁ },
     ghost keyed: { ∥ AreKeys (texts_of rows.items) keys.items ∥₁ },
-    ghost begun: { ∥ AreBeginnings (members beginnings.characters) beginnings.everywhere (texts_of rows.items) ∥₁ },
+    ghost begun: { ∥ AreBeginnings (has_remainder beginnings.remainders) beginnings.everywhere (texts_of rows.items) ∥₁ },
 }
 
 impl LinkedTable {
@@ -82,15 +81,15 @@ impl AmongSearch for LinkedTable {
         let rows = rows_of(alloc, strings, direction)?;
         let keys = keys_of(alloc, &rows)?;
         let links = links_of(alloc, &rows)?;
-        let beginnings = beginnings_of(alloc, &rows)?;
+        let beginnings = beginnings_of(&rows);
         let copies = copy_strings(alloc, strings)?;
         Ok(LinkedTable {
-            strings: copies,
             direction,
+            beginnings,
+            strings: copies,
             rows,
             keys,
             links,
-            beginnings,
         })
     }
 

@@ -1,9 +1,8 @@
 use Rattle.std.proofs.Common.{◌≡◌, ◌+◌, false, None, length, ap, refl, rules, ◌∙◌}
 use Rattle.std.proofs.Props.{props}
 use mathlib.Core.Logic.{∥∥₁_elim}
-use Rattle.sbl_char_class.specs.CharacterClasses.{members}
 use Rattle.sbl_semantics.specs.Fitting.{read_as, first, fitting}
-use Rattle.sbl_among_search.specs.Beginnings.{may_begin}
+use Rattle.sbl_among_search.specs.Beginnings.{has_remainder, may_begin}
 use Rattle.sbl_among_search.specs.Linked.{numbers_of, texts_of}
 use Rattle.sbl_among_search.specs.LinkedStrings.{strings_of}
 use Rattle.sbl_among_search.proofs.Beginnings.{none_fits}
@@ -21,7 +20,7 @@ returns-then-not-may_begin c =
     let t = c.args.self.now in
     let part = c.ahead-part.result.now in
     let x = read_as t.direction part in
-    let class = members t.beginnings.characters in
+    let class = has_remainder t.beginnings.remainders in
     let everywhere = t.beginnings.everywhere in
     let no : may_begin class everywhere x ≡ false = search rules in
     ∥∥₁_elim t.linked (Prim.hlevel props)

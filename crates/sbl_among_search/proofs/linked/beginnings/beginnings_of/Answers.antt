@@ -4,9 +4,8 @@ use Rattle.std.specs.Option.{unwrap_or}
 use Rattle.std.proofs.lemmas.Bool.{ltb-true, ltb-false}
 use Rattle.std.proofs.lemmas.Option.{slice_get_read, slice_get_within}
 use Rattle.std.proofs.lemmas.List.{length-map}
-use Rattle.sbl_char_class.specs.CharacterClasses.{members}
 use Rattle.sbl_among_search.specs.Linked.{Row, texts_of}
-use Rattle.sbl_among_search.specs.Beginnings.{may_begin}
+use Rattle.sbl_among_search.specs.Beginnings.{has_remainder, may_begin}
 use Rattle.sbl_among_search.proofs.Sorted.{part_at}
 use Rattle.sbl_among_search.proofs.linked.beginnings.beginnings_of.Goals as goal
 
@@ -16,9 +15,9 @@ loop-row-preserved c k v less at =
     let rows = c.args.rows.now in
     let text = c.row-item.result.0.items in
     let there : slice_get (texts_of rows) i ≡ Some text = part_at (λ (r : Row). r.0.items) rows i c.row-item.result (slice_get_read rows (length rows) i c.row-item.result refl c.loop-row-test.true c.row-item.is) in
-    let told = may_begin (members c.add.new.self.characters) c.add.new.self.everywhere in
-    let own : told text ≡ true = ap told (sym c.deref.ensures.value) ∙ c.in_ok-add.ensures.own in
-    by told i k v text (λ l. c.in_ok-add.ensures.others v (c.loop-row.invariant k v l at))
+    let told = may_begin (has_remainder c.add.new.self.remainders) c.add.new.self.everywhere in
+    let own : told text ≡ true = ap told (sym c.deref.ensures.value) ∙ c.add.ensures.own in
+    by told i k v text (λ l. c.add.ensures.others v (c.loop-row.invariant k v l at))
     (λ here. ap told (same_text (sym at ∙ ap (slice_get (texts_of rows)) here ∙ there)) ∙ own) less (nat_lt k i) refl
   where
     same_text : {u w : List ℕ} → Some u ≡ Some w → u ≡ w
