@@ -482,12 +482,7 @@ impl<'a, T: Tables> Runner<'a, T> {
     /// Searches an among, which touches it.
     #[cycle(run)]
     #[inline(never)]
-    fn run_search_all(
-        &self,
-        among: usize,
-        site: &Site,
-        state: &mut State,
-    ) -> Result<bool, Halt>
+    fn run_search_all(&self, among: usize, site: &Site, state: &mut State) -> Result<bool, Halt>
         ensures follows { Follows result state.new (search_all (calls (program_of (T.listed self.now.tables.now) self.now.code.now) self.now.levels) among site.now.entries.items (T.listed self.now.tables.now site.now.table) self.now.mode state.old) }
         ensures no_more { IfOk result (λ _. state.new.steps ≤ state.old.steps) }
     {

@@ -66,7 +66,15 @@ impl Assembler {
         ensures { IfOk result (λ made. (tables : ℕ → Listing) (n : ℕ) → PerformsWithExits tables (λ p levels m s. match (character ∷ []) m s) cost n exits.now made.value) }
     {
         let back = false;
-        emit!(self, exits, Character { cost, character, back })
+        emit!(
+            self,
+            exits,
+            Character {
+                cost,
+                character,
+                back
+            }
+        )
     }
 
     // A literal.

@@ -21,7 +21,9 @@ fn stay(exits: &Exits, slot: usize) -> Option<&Rc<Instruction>>
     ensures { IfSome result (λ stay. Restores slot stay.now.value exits.now.fail.value) }
 {
     match &*exits.fail {
-        Instruction::Restore { slot: saved, next } => { if *saved == slot { Some(next) } else { None } }
+        Instruction::Restore { slot: saved, next } => {
+            if *saved == slot { Some(next) } else { None }
+        }
         _ => None,
     }
 }
@@ -137,11 +139,23 @@ impl Assembler {
         let back = true;
         if string.len() == 1 {
             let character = string[0];
-            return self.emit(Instruction::Character { cost, character, back, next, fail });
+            return self.emit(Instruction::Character {
+                cost,
+                character,
+                back,
+                next,
+                fail,
+            });
         }
         let copy = Vec::from_slice(self.alloc, string)?;
         let string = Box::new(self.alloc, copy)?;
-        self.emit(Instruction::Literal { cost, string, back, next, fail })
+        self.emit(Instruction::Literal {
+            cost,
+            string,
+            back,
+            next,
+            fail,
+        })
     }
 
     // A grouping, or `non` and a grouping, after which the cursor is put back if it signals f.
@@ -158,6 +172,13 @@ impl Assembler {
         let next = next.clone()?;
         let fail = stay.clone()?;
         let back = true;
-        self.emit(Instruction::Grouping { cost, wanted, grouping, back, next, fail })
+        self.emit(Instruction::Grouping {
+            cost,
+            wanted,
+            grouping,
+            back,
+            next,
+            fail,
+        })
     }
 }
