@@ -38,25 +38,6 @@ impl State {
         Ok(self.take_one(mode, classes, number, wanted))
     }
 
-    // Returns how many characters ahead are read before the first one that is in the class with this number, or that is
-    // not, as `wanted` says; if there is none, all of them.
-    #[inline(always)]
-    fn count_before(
-        &self,
-        mode: Mode,
-        classes: &[CharacterClass],
-        number: usize,
-        wanted: bool,
-    ) -> usize
-        ensures { result ≡ count_before wanted (class_at (map members classes.now) number) (ahead mode self.now) }
-    {
-        let part = self.part_ahead(mode);
-        match classes.get(number) {
-            Some(class) => first_met(mode, part, class, wanted).unwrap_or(part.len()),
-            None => { if wanted { part.len() } else { 0 } }
-        }
-    }
-
     // Moves the cursor by n characters, which are ahead, and leaves this many steps.
     #[inline(always)]
     fn pass_over(&mut self, mode: Mode, n: usize, steps: u32)
@@ -67,16 +48,17 @@ impl State {
         self.steps = steps;
     }
 
-    // Ends a search whose first test that signals t is after this many characters, and returns true; if no more characters
-    // are ahead, none is, and it returns false. Each test uses a step.
+    // Ends a search whose first test that signals t is after this many of the characters ahead, and returns true; if it
+    // is after all of them, no test signals t, and it returns false. Each test uses a step.
     #[inline(always)]
-    fn seek_over(&mut self, past: bool, mode: Mode, before: usize) -> bool
+    fn seek_over(&mut self, past: bool, mode: Mode, before: usize, len: usize) -> bool
         requires enough { before < self.old.steps }
-        requires there { before ≤ room mode self.old }
+        requires all { len ≡ room mode self.old }
+        requires there { before ≤ len }
         ensures { sought past mode self.old.steps before (room mode self.old) self.old ≡ Signals result self.new }
     {
         let steps = self.steps() - before as u32 - 1;
-        if before == self.room(mode) {
+        if before == len {
             self.pass_over(mode, before, steps);
             return false;
         }
@@ -89,7 +71,7 @@ impl State {
     }
 
     // Does what `seek_one` does, if the grouping is touched already.
-    #[inline(always)]
+    #[inline(never)]
     fn seek_touched(
         &mut self,
         past: bool,
@@ -102,13 +84,15 @@ impl State {
         ensures follows { Follows result self.new (seeks (suc self.old.steps) past (pay_first (test_grouping wanted (class_at (map members classes.now) number) number)) mode self.old) }
         ensures no_more { IfOk result (λ _. self.new.steps ≤ self.old.steps) }
     {
-        let before = self.count_before(mode, classes, number, wanted);
+        let part = self.part_ahead(mode);
+        let len = part.len();
+        let before = count_before(mode, part, classes, number, wanted);
         let steps = self.steps as usize;
         if steps <= before {
             self.pass_over(mode, steps, 0);
             return Err(Halt::Steps);
         }
-        Ok(self.seek_over(past, mode, before))
+        Ok(self.seek_over(past, mode, before, len))
     }
 
     /// Tests the grouping with this number at the cursor and further on, up to the first t. The cursor stays after the
@@ -130,6 +114,24 @@ impl State {
         }
         self.touch_grouping(number)?;
         self.seek_touched(past, mode, classes, number, wanted)
+    }
+}
+
+// Returns how many characters are read before the first one that is in the class with this number, or that is not, as
+// `wanted` says; if there is none, all of them.
+#[inline(always)]
+fn count_before(
+    mode: Mode,
+    part: &[char],
+    classes: &[CharacterClass],
+    number: usize,
+    wanted: bool,
+) -> usize
+    ensures { result ≡ count_before wanted (class_at (map members classes.now) number) (read_as mode part.now) }
+{
+    match classes.get(number) {
+        Some(class) => first_met(mode, part, class, wanted).unwrap_or(part.len()),
+        None => { if wanted { part.len() } else { 0 } }
     }
 }
 

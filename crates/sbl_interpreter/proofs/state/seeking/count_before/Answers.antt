@@ -4,15 +4,15 @@ use Rattle.std.specs.Option.{unwrap_or}
 use Rattle.std.proofs.lemmas.Option.{slice_get_read, slice_get_past}
 use Rattle.sbl_char_class.specs.CharacterClasses.{members}
 use Rattle.sbl_char_class.specs.Terms.{class_at, no_character}
-use Rattle.sbl_semantics.specs.State.{ahead}
+use Rattle.sbl_semantics.specs.Fitting.{read_as}
 use Rattle.sbl_interpreter.specs.Seeking.{count_before}
 use Rattle.sbl_interpreter.proofs.Seeking.{class_of, no_class, none_met, first_met, place_or_length, read_length}
-use Rattle.sbl_interpreter.proofs.state.State.count_before.Goals as goal
+use Rattle.sbl_interpreter.proofs.state.seeking.count_before.Goals as goal
 
 pub returns-in-Some : goal.returns-in-Some
 returns-in-Some c =
     let m = c.args.mode in
-    let part = c.part_ahead-part.result.now in
+    let part = c.args.part.now in
     let class = c.in-Some.class.now in
     let classes = c.args.classes.now in
     let l : c.args.number < length classes = search rules in
@@ -21,24 +21,23 @@ returns-in-Some c =
     c.unwrap_or.ensures
     ∙ ap (λ o. unwrap_or o (length part)) c.first_met.ensures
     ∙ place_or_length m c.args.wanted (members class) part
-    ∙ ap (count_before c.args.wanted (members class)) c.part_ahead-part.ensures.value
-    ∙ ap (λ class. count_before c.args.wanted class (ahead m c.args.self.now)) (class_of members c.args.classes.now c.args.number class is)
+    ∙ ap (λ class. count_before c.args.wanted class (read_as m part)) (class_of members c.args.classes.now c.args.number class is)
 
 pub returns-then-wanted : goal.returns-then-wanted
 returns-then-wanted c =
     let past : length c.args.classes.now ≤ c.args.number = first_of (search rules, omega (arith, c.in-None.ensures.lookup)) in
     let m = c.args.mode in
-    let part = c.part_ahead-part.result.now in
-    let len : length part ≡ length (ahead m c.args.self.now) = sym (read_length m part) ∙ ap length c.part_ahead-part.ensures.value in
-    len
-    ∙ sym (none_met (ahead m c.args.self.now))
-    ∙ ap (λ class. count_before true class (ahead m c.args.self.now)) (sym (no_class members c.args.classes.now c.args.number (slice_get_past c.args.classes.now c.args.number past)))
-    ∙ ap (λ b. count_before b (class_at (map members c.args.classes.now) c.args.number) (ahead m c.args.self.now)) (sym c.if-wanted.true)
+    let part = c.args.part.now in
+    sym (read_length m part)
+    ∙ sym (none_met (read_as m part))
+    ∙ ap (λ class. count_before true class (read_as m part)) (sym (no_class members c.args.classes.now c.args.number (slice_get_past c.args.classes.now c.args.number past)))
+    ∙ ap (λ b. count_before b (class_at (map members c.args.classes.now) c.args.number) (read_as m part)) (sym c.if-wanted.true)
 
 pub returns-else-wanted : goal.returns-else-wanted
 returns-else-wanted c =
     let past : length c.args.classes.now ≤ c.args.number = first_of (search rules, omega (arith, c.in-None.ensures.lookup)) in
     let m = c.args.mode in
-    sym (first_met (ahead m c.args.self.now))
-    ∙ ap (λ class. count_before false class (ahead m c.args.self.now)) (sym (no_class members c.args.classes.now c.args.number (slice_get_past c.args.classes.now c.args.number past)))
-    ∙ ap (λ b. count_before b (class_at (map members c.args.classes.now) c.args.number) (ahead m c.args.self.now)) (sym c.if-wanted.false)
+    let part = c.args.part.now in
+    sym (first_met (read_as m part))
+    ∙ ap (λ class. count_before false class (read_as m part)) (sym (no_class members c.args.classes.now c.args.number (slice_get_past c.args.classes.now c.args.number past)))
+    ∙ ap (λ b. count_before b (class_at (map members c.args.classes.now) c.args.number) (read_as m part)) (sym c.if-wanted.false)
