@@ -213,6 +213,15 @@ impl State {
         Ok(())
     }
 
+    // Uses all steps that are left. It is a call, so that enough steps cost a comparison and a subtraction.
+    #[cold]
+    #[inline(never)]
+    fn use_all_steps(&mut self)
+        ensures { self.new ≡ record self.old { steps = 0 } }
+    {
+        self.steps = 0;
+    }
+
     // Uses this many steps. Returns `Steps` if fewer are left; then these are used.
     #[inline(always)]
     pub fn pay_for(&mut self, count: u32) -> Result<(), Halt>
@@ -220,7 +229,7 @@ impl State {
         ensures no_more { IfOk result (λ _. self.new.steps ≤ self.old.steps) }
     {
         if count > self.steps {
-            self.steps = 0;
+            self.use_all_steps();
             return Err(Halt::Steps);
         }
         self.steps -= count;
@@ -234,7 +243,7 @@ impl State {
         ensures fewer { IfOk result (λ _. self.new.steps < self.old.steps) }
     {
         if count >= self.steps {
-            self.steps = 0;
+            self.use_all_steps();
             return Err(Halt::Steps);
         }
         self.steps -= count + 1;

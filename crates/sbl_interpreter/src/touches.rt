@@ -1,6 +1,6 @@
 //! What a run has touched: a list, and marks beside it, so that a touch costs the same however many there are.
 
-ghost use Rattle.std.specs.Prelude.{◌≡◌, ◌<◌, ℕ, false, [], ◌++◌, ◌∷◌, length, map, nat_eq, slice_set, slice_index_or, IfOk, MatchResult};
+ghost use Rattle.std.specs.Prelude.{◌≡◌, ◌<◌, ℕ, false, [], ◌++◌, ◌∷◌, length, map, nat_eq, nat_le, slice_set, slice_index_or, IfOk, MatchResult};
 ghost use Rattle.sbl_interpreter.specs.Marks.{mark_at, mark_in};
 ghost use Rattle.std.specs.List.{list_any};
 ghost use Rattle.sbl_semantics.specs.Touches.{same_touch, with_touch};
@@ -93,9 +93,11 @@ impl TouchLog {
         if is_marked(&self.entered, routine, self.round) {
             return Ok(());
         }
-        let number = touch_number(routine)?;
+        if !is_touch_number(routine) {
+            return Err(AllocError);
+        }
         grow(&mut self.entered, routine)?;
-        self.touches.push(Touch::Entered(number))?;
+        self.touches.push(Touch::Entered(routine as u32))?;
         set(&mut self.entered, routine, self.round);
         Ok(())
     }
@@ -109,9 +111,12 @@ impl TouchLog {
         if is_marked_in(&self.searched, routine, among, self.round) {
             return Ok(());
         }
-        let touch = Touch::Searched(touch_number(routine)?, touch_number(among)?);
+        if !is_touch_number(routine) || !is_touch_number(among) {
+            return Err(AllocError);
+        }
         grow_in(&mut self.searched, routine, among)?;
-        self.touches.push(touch)?;
+        self.touches
+            .push(Touch::Searched(routine as u32, among as u32))?;
         set_in(&mut self.searched, routine, among, self.round);
         Ok(())
     }
@@ -122,10 +127,18 @@ impl TouchLog {
     pub fn test(&mut self, grouping: usize) -> Result<(), AllocError>
         ensures { MatchResult result (λ _. self.new ≡ with_touch (Tested grouping) self.old) (λ _. self.new ≡ self.old) }
     {
-        if is_marked(&self.tested, grouping, self.round) {
+        if self.has_tested(grouping) {
             return Ok(());
         }
         self.add_tested(grouping)
+    }
+
+    /// Returns whether a test of the grouping is recorded.
+    #[inline(always)]
+    pub fn has_tested(&self, grouping: usize) -> bool
+        ensures { result ≡ list_any (same_touch (Tested grouping)) self.now }
+    {
+        is_marked(&self.tested, grouping, self.round)
     }
 
     // Adds a grouping that is not touched yet. Returns `AllocError` as `test` does.
@@ -134,23 +147,23 @@ impl TouchLog {
         requires { list_any (same_touch (Tested grouping)) self.old ≡ false }
         ensures { MatchResult result (λ _. self.new ≡ self.old ++ (Tested grouping ∷ [])) (λ _. self.new ≡ self.old) }
     {
-        let number = touch_number(grouping)?;
+        if !is_touch_number(grouping) {
+            return Err(AllocError);
+        }
         grow(&mut self.tested, grouping)?;
-        self.touches.push(Touch::Tested(number))?;
+        self.touches.push(Touch::Tested(grouping as u32))?;
         set(&mut self.tested, grouping, self.round);
         Ok(())
     }
 }
 
-// Returns the number of a routine, an among or a grouping as touches store it. Returns `AllocError` if it is above
-// `u32::MAX`: no script has so many.
-fn touch_number(number: usize) -> Result<u32, AllocError>
-    ensures { MatchResult result (λ kept. kept ≡ number) (λ _. u32.MAX < number) }
+// Returns whether touches can store the number of a routine, an among or a grouping: no script has so many that they
+// cannot.
+#[inline(always)]
+fn is_touch_number(number: usize) -> bool
+    ensures { result ≡ nat_le number u32.MAX }
 {
-    if number > u32::MAX as usize {
-        return Err(AllocError);
-    }
-    Ok(number as u32)
+    number <= u32::MAX as usize
 }
 
 // Returns whether a mark is of this round.

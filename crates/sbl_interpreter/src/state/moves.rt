@@ -93,7 +93,22 @@ impl State {
     fn next_character(&self, mode: Mode) -> Option<char>
         ensures value { result ≡ slice_get (ahead mode self.now) 0 }
     {
-        first_read(mode, self.part_ahead(mode))
+        match mode {
+            Mode::Forward => {
+                if self.cursor + self.beyond < self.text.len() {
+                    Some(self.text[self.cursor])
+                } else {
+                    None
+                }
+            }
+            Mode::Backward => {
+                if self.left < self.cursor {
+                    Some(self.text[self.cursor - 1])
+                } else {
+                    None
+                }
+            }
+        }
     }
 
     /// Moves over one character that is in the class with this number, or over one that is not, as `wanted` says, and

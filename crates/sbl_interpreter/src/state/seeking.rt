@@ -1,13 +1,14 @@
 //! Tests of groupings: one, and `goto` and `gopast` of one.
 
-ghost use Rattle.std.specs.Prelude.{◌≡◌, ◌<◌, ◌≤◌, map, suc, IfOk, Some};
+ghost use Rattle.std.specs.Prelude.{◌≡◌, ℕ, ◌<◌, ◌≤◌, map, suc, IfOk, Some};
 ghost use Rattle.std.specs.List.{position};
+ghost use Rattle.std.specs.Option.{option_copied};
 ghost use Rattle.sbl_char_class.specs.CharacterClasses.{members};
 ghost use Rattle.sbl_char_class.specs.Terms.{class_at};
 ghost use Rattle.sbl_semantics.specs.Control.{pay_first, seeks};
 ghost use Rattle.sbl_interpreter.specs.Endings.{Follows};
 ghost use Rattle.sbl_interpreter.specs.Actions.{test_grouping};
-ghost use Rattle.sbl_interpreter.specs.Seeking.{count_before, sought};
+ghost use Rattle.sbl_interpreter.specs.Seeking.{class_members, count_before, sought};
 ghost use Rattle.sbl_semantics.specs.Fitting.{read_as};
 ghost use Rattle.sbl_semantics.specs.Touches.{with_touch};
 ghost use Rattle.sbl_semantics.specs.declared.touch.Touch.TheVariants.{Tested};
@@ -38,25 +39,6 @@ impl State {
         Ok(self.take_one(mode, classes, number, wanted))
     }
 
-    // Returns how many characters ahead are read before the first one that is in the class with this number, or that is
-    // not, as `wanted` says; if there is none, all of them.
-    #[inline(always)]
-    fn count_before(
-        &self,
-        mode: Mode,
-        classes: &[CharacterClass],
-        number: usize,
-        wanted: bool,
-    ) -> usize
-        ensures { result ≡ count_before wanted (class_at (map members classes.now) number) (ahead mode self.now) }
-    {
-        let part = self.part_ahead(mode);
-        match classes.get(number) {
-            Some(class) => first_met(mode, part, class, wanted).unwrap_or(part.len()),
-            None => { if wanted { part.len() } else { 0 } }
-        }
-    }
-
     // Moves the cursor by n characters, which are ahead, and leaves this many steps.
     #[inline(always)]
     fn pass_over(&mut self, mode: Mode, n: usize, steps: u32)
@@ -67,16 +49,17 @@ impl State {
         self.steps = steps;
     }
 
-    // Ends a search whose first test that signals t is after this many characters, and returns true; if no more characters
-    // are ahead, none is, and it returns false. Each test uses a step.
+    // Ends a search whose first test that signals t is after this many of the characters ahead, and returns true; if it
+    // is after all of them, no test signals t, and it returns false. Each test uses a step.
     #[inline(always)]
-    fn seek_over(&mut self, past: bool, mode: Mode, before: usize) -> bool
+    fn seek_over(&mut self, past: bool, mode: Mode, before: usize, len: usize) -> bool
         requires enough { before < self.old.steps }
-        requires there { before ≤ room mode self.old }
+        requires all { len ≡ room mode self.old }
+        requires there { before ≤ len }
         ensures { sought past mode self.old.steps before (room mode self.old) self.old ≡ Signals result self.new }
     {
         let steps = self.steps() - before as u32 - 1;
-        if before == self.room(mode) {
+        if before == len {
             self.pass_over(mode, before, steps);
             return false;
         }
@@ -88,27 +71,45 @@ impl State {
         true
     }
 
-    // Does what `seek_one` does, if the grouping is touched already.
-    #[inline(always)]
+    // Does what `seek_one` does, for a grouping that is touched already and has this class; without one it has no characters.
+    #[inline(never)]
     fn seek_touched(
         &mut self,
         past: bool,
         mode: Mode,
-        classes: &[CharacterClass],
-        number: usize,
+        class: Option<&CharacterClass>,
         wanted: bool,
     ) -> Result<bool, Halt>
-        requires { with_touch (Tested number) self.old.touched ≡ self.old.touched }
-        ensures follows { Follows result self.new (seeks (suc self.old.steps) past (pay_first (test_grouping wanted (class_at (map members classes.now) number) number)) mode self.old) }
+        ensures follows { (g : ℕ) → with_touch (Tested g) self.old.touched ≡ self.old.touched → Follows result self.new (seeks (suc self.old.steps) past (pay_first (test_grouping wanted (class_members (option_copied class.entry)) g)) mode self.old) }
         ensures no_more { IfOk result (λ _. self.new.steps ≤ self.old.steps) }
     {
-        let before = self.count_before(mode, classes, number, wanted);
+        let part = self.part_ahead(mode);
+        let len = part.len();
+        let before = count_before(mode, part, class, wanted);
         let steps = self.steps as usize;
         if steps <= before {
             self.pass_over(mode, steps, 0);
             return Err(Halt::Steps);
         }
-        Ok(self.seek_over(past, mode, before))
+        Ok(self.seek_over(past, mode, before, len))
+    }
+
+    // Touches a grouping, and does what `seek_touched` does.
+    #[inline(never)]
+    fn touch_and_seek(
+        &mut self,
+        past: bool,
+        mode: Mode,
+        class: Option<&CharacterClass>,
+        number: usize,
+        wanted: bool,
+    ) -> Result<bool, Halt>
+        requires { 0 < self.old.steps }
+        ensures follows { Follows result self.new (seeks (suc self.old.steps) past (pay_first (test_grouping wanted (class_members (option_copied class.entry)) number)) mode self.old) }
+        ensures no_more { IfOk result (λ _. self.new.steps ≤ self.old.steps) }
+    {
+        self.touch_grouping(number)?;
+        self.seek_touched(past, mode, class, wanted)
     }
 
     /// Tests the grouping with this number at the cursor and further on, up to the first t. The cursor stays after the
@@ -128,8 +129,32 @@ impl State {
         if self.steps() == 0 {
             return Err(Halt::Steps);
         }
-        self.touch_grouping(number)?;
-        self.seek_touched(past, mode, classes, number, wanted)
+        let class = class_of(classes, number);
+        if self.touched.has_tested(number) {
+            self.seek_touched(past, mode, class, wanted)
+        } else {
+            self.touch_and_seek(past, mode, class, number, wanted)
+        }
+    }
+}
+
+// Returns the class with this number, if there is one.
+#[inline(always)]
+fn class_of(classes: &[CharacterClass], number: usize) -> Option<&CharacterClass>
+    ensures { class_members (option_copied result) ≡ class_at (map members classes.now) number }
+{
+    classes.get(number)
+}
+
+// Returns how many characters are read before the first one that is in the class, or that is not, as `wanted` says; if
+// there is none, all of them. Without a class none is in it.
+#[inline(always)]
+fn count_before(mode: Mode, part: &[char], class: Option<&CharacterClass>, wanted: bool) -> usize
+    ensures { result ≡ count_before wanted (class_members (option_copied class.entry)) (read_as mode part.now) }
+{
+    match class {
+        Some(class) => first_met(mode, part, class, wanted).unwrap_or(part.len()),
+        None => { if wanted { part.len() } else { 0 } }
     }
 }
 

@@ -9,7 +9,7 @@ returns-then-count-self-clause-leads c =
     let s = c.args.self.now in
     let e : c.self.inside.steps ≡ s.steps = ap (λ (t : State). t.steps) c.self.view_is in
     let l : s.steps < c.args.count = omega (arith, e) in
-    pays_short c.args.count s.steps s l ∙ ap (λ (t : State). Stops Steps (record t { steps = 0 })) (sym c.self.view_is)
+    pays_short c.args.count s.steps s l ∙ ap (Stops Steps) (sym c.use_all_steps.ensures)
 
 pub returns-clause-leads : goal.returns-clause-leads
 returns-clause-leads c =
