@@ -1,8 +1,7 @@
 use Rattle.std.proofs.Common.{◌≡◌, ℕ, List, Option, length, map, sym, ap, ◌∙◌}
 use mathlib.Core.Path.{subst}
-use Rattle.sbl_char_class.specs.CharacterClasses.{members}
 use Rattle.sbl_semantics.specs.Fitting.{read_all}
-use Rattle.sbl_among_search.specs.Beginnings.{AreBeginnings}
+use Rattle.sbl_among_search.specs.Beginnings.{AreBeginnings, has_remainder}
 use Rattle.sbl_among_search.specs.Best.{AreCuts, AreShorter}
 use Rattle.sbl_among_search.specs.Linked.{AreLinks, AreRows, GoDown, IsLinked, Row, numbers_of, texts_of}
 use Rattle.sbl_among_search.proofs.linked.LinkedTableAmongSearch.build.Goals as goal
@@ -41,5 +40,5 @@ invariant_of-result-clause-shortened c =
 
 pub invariant_of-result-clause-begun : goal.invariant_of-result-clause-begun
 invariant_of-result-clause-begun c =
-    let b = c.in_ok-beginnings.beginnings in
-    ∣ subst (λ (rs : List Row). AreBeginnings (members b.characters) b.everywhere (texts_of rs)) c.deref-9.ensures.value c.in_ok-beginnings.ensures ∣₁
+    let b = c.beginnings_of-beginnings.result in
+    ∣ subst (λ (rs : List Row). AreBeginnings (has_remainder b.remainders) b.everywhere (texts_of rs)) c.deref-9.ensures.value c.beginnings_of-beginnings.ensures ∣₁
