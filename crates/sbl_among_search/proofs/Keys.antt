@@ -79,9 +79,6 @@ key_less x t k l a b less = by_first (nat_lt (digit x 0) (digit t 0)) refl
     by_first true c = sorts_after 0 x t (λ i l. absurd (omega (arith, l))) (ltb-true (digit x 0) (digit t 0) c)
     by_first false c = by_second (same_first (ltb-false (digit x 0) (digit t 0) c)) (nat_lt (digit x 1) (digit t 1)) refl
 
-pub upto_by_key : (x t : List ℕ) (k l : ℕ) → IsKey x k → IsKey t l → l < k → is_gt (slice_cmp nat_cmp t x) ≡ false
-upto_by_key x t k l a b less = ap is_gt (nat_list_cmp_total.antisymm t x ∙ ap ordering_reverse (key_less t x l k b a less))
-
 pub by_keys : (x t : List ℕ) (k l : ℕ) → IsKey x k → IsKey t l → nat_eq l k ≡ false → nat_lt k l ≡ is_gt (slice_cmp nat_cmp t x)
 by_keys x t k l a b other = by (nat_lt k l) refl
   where
@@ -89,7 +86,7 @@ by_keys x t k l a b other = by (nat_lt k l) refl
     by true c = sym (ap is_gt (key_less x t k l a b (ltb-true k l c)))
     by false c =
         let more : l < k = omega (arith, ltb-false k l c, eqb-false l k other) in
-        sym (upto_by_key x t k l a b more)
+        sym (ap is_gt (nat_list_cmp_total.antisymm t x ∙ ap ordering_reverse (key_less t x l k b a more)))
 
 -- ---- the keys of rows
 

@@ -6,8 +6,6 @@ pub mod Next
 pub mod Taken
 pub mod Order
 pub mod Keys
-pub mod Cuts
 pub mod Sorted
 pub mod Chain
-pub mod Shorter
 pub mod Beginnings

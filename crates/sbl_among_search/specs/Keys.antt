@@ -31,8 +31,3 @@ pub record IsInDoubt (keys : List ℕ) (key low high : ℕ) : Type 0 where
 -- n is the number of keys that are at most `key`
 abbrev pub IsKeyCount : List ℕ → ℕ → ℕ → Type 0
 IsKeyCount keys key n = IsInDoubt keys key n n
-
--- the first n digits of two strings are the same, and the next ones differ
-pub record AreCommonDigits (x text : List ℕ) (n : ℕ) : Type 0 where
-  pub same : (i : ℕ) → i < n → digit x i ≡ digit text i
-  pub apart : digit x n ≡ digit text n → ⊥

@@ -1,9 +1,9 @@
 //! The keys of strings: the first three characters of a string as one number. If the key of one string is less than the
 //! key of another, the string sorts before the other.
 
-ghost use Rattle.std.specs.Prelude.{◌≡◌, ◌<◌, ◌+◌, ◌^◌, ℕ, List, length, IfOk};
+ghost use Rattle.std.specs.Prelude.{◌≡◌, ◌<◌, ◌+◌, ◌^◌, length, IfOk};
 ghost use Rattle.sbl_semantics.specs.Fitting.{read_as};
-ghost use Rattle.sbl_among_search.specs.Keys.{AreCommonDigits, AreKeys, IsInDoubt, IsKey, IsKeyCount, KeysRise, digit};
+ghost use Rattle.sbl_among_search.specs.Keys.{AreKeys, IsInDoubt, IsKey, IsKeyCount, KeysRise, digit};
 ghost use Rattle.sbl_among_search.specs.Linked.{texts_of};
 
 use crate::linked::reading::read_at;
@@ -71,22 +71,6 @@ fn first_in_doubt(keys: &[u64], key: u64) -> usize
         }
     }
     low
-}
-
-/// Returns how many of the leading digits of two keys are the same. The keys differ.
-#[inline(always)]
-pub fn common_digits(key: u64, other: u64) -> usize
-    requires { key ≡ other → ⊥ }
-    ensures inside { result < 3 }
-    ensures same { (x text : List ℕ) → IsKey x key → IsKey text other → AreCommonDigits x text result }
-{
-    if key / BASE == other / BASE {
-        2
-    } else if key / BASE / BASE == other / BASE / BASE {
-        1
-    } else {
-        0
-    }
 }
 
 // Returns one more than the character at index `i` of the text read, or 0 if there is none.

@@ -1,59 +1,23 @@
 //! The search of a linked table.
 
-ghost use Rattle.std.specs.Prelude.{◌≡◌, ℕ, ◌<◌, ◌≤◌, ◌+◌, ◌-◌, true, List, nat_eq, length, slice_get, Some, IfOk, IfSome, MatchBool};
+ghost use Rattle.std.specs.Prelude.{◌≡◌, ℕ, ◌<◌, ◌≤◌, ◌-◌, true, List, nat_eq, length, slice_get, Some, IfOk, IfSome, MatchBool};
 ghost use Rattle.std.specs.List.{starts_with};
 ghost use Rattle.std.specs.Ordering.{is_gt, nat_cmp};
 ghost use Rattle.std.specs.Cmp.Lexicographic.{slice_cmp};
-ghost use Rattle.sbl_among_search.specs.Best.{AreCuts, IsBest};
-ghost use Rattle.sbl_among_search.specs.Keys.{AreKeys, IsKey, IsKeyCount};
+ghost use Rattle.sbl_among_search.specs.Best.{IsBest};
+ghost use Rattle.sbl_among_search.specs.Keys.{AreKeys, IsKey};
 ghost use Rattle.sbl_semantics.specs.Fitting.{read_as};
 ghost use Rattle.sbl_among_search.specs.Linked.{AreLinks, GoDown, IsCommon, IsCount, IsLast, IsLinked, Rise, StandsAt, before, texts_of};
 
-use crate::linked::keys::{common_digits, key_of, keys_upto};
+use crate::linked::keys::{key_of, keys_upto};
 use crate::linked::reading::read_at;
 use sbl_ast::Mode;
 use std::alloc::{AllocError, Global};
 use std::cmp::Reverse;
 
-/// Returns the number of the longest string that is a prefix of the text read. The caller passes a constant mode, so that
-/// the search is compiled once for each mode.
+/// Returns the number of the longest string with fewer than `below` characters that is a prefix of the text read. The
+/// caller passes a constant mode, so that the search is compiled once for each mode.
 #[inline(always)]
-pub fn longest_of(
-    rows: &[(Vec<char>, Reverse<usize>)],
-    keys: &[u64],
-    links: &[Option<usize>],
-    cuts: &[[Option<usize>; 3]],
-    direction: Mode,
-    part: &[char],
-) -> Option<usize>
-    requires keyed { AreKeys (texts_of rows.now) keys.now }
-    requires down { GoDown links.now }
-    requires long { length links.now ≡ length rows.now }
-    requires rise { Rise (texts_of rows.now) }
-    requires cut { length cuts.now ≡ length rows.now }
-    ensures { (strings : List (List ℕ)) → IsLinked strings rows.now links.now → AreCuts strings (texts_of rows.now) cuts.now → IsBest strings (read_as direction part.now) (length part.now + 1) result }
-{
-    let key = key_of(direction, part);
-    let count = keys_upto(keys, key);
-    if count == 0 {
-        return None;
-    }
-    if keys[count - 1] != key {
-        return cuts[count - 1][common_digits(key, keys[count - 1])];
-    }
-    best_from(
-        rows,
-        keys,
-        links,
-        direction,
-        part,
-        part.len() + 1,
-        key,
-        count,
-    )
-}
-
-/// Returns the number of the longest string with fewer than `below` characters that is a prefix of the text read.
 pub fn best_of(
     rows: &[(Vec<char>, Reverse<usize>)],
     keys: &[u64],
@@ -68,32 +32,7 @@ pub fn best_of(
     requires rise { Rise (texts_of rows.now) }
     ensures { (strings : List (List ℕ)) → IsLinked strings rows.now links.now → IsBest strings (read_as direction part.now) below result }
 {
-    let key = key_of(direction, part);
-    let count = keys_upto(keys, key);
-    best_from(rows, keys, links, direction, part, below, key, count)
-}
-
-// Returns the same for a text read whose key is `key`. The first `key_count` rows are those whose keys are at most `key`.
-#[inline(always)]
-fn best_from(
-    rows: &[(Vec<char>, Reverse<usize>)],
-    keys: &[u64],
-    links: &[Option<usize>],
-    direction: Mode,
-    part: &[char],
-    below: usize,
-    key: u64,
-    key_count: usize,
-) -> Option<usize>
-    requires keyed { AreKeys (texts_of rows.now) keys.now }
-    requires down { GoDown links.now }
-    requires long { length links.now ≡ length rows.now }
-    requires rise { Rise (texts_of rows.now) }
-    requires own { IsKey (read_as direction part.now) key }
-    requires counted { IsKeyCount keys.now key key_count }
-    ensures { (strings : List (List ℕ)) → IsLinked strings rows.now links.now → IsBest strings (read_as direction part.now) below result }
-{
-    let count = count_upto(rows, keys, direction, part, key, key_count);
+    let count = count_upto(rows, keys, direction, part);
     match follow(rows, links, direction, part, below, count) {
         None => None,
         Some(row) => Some(rows[row].1.0),
@@ -151,31 +90,27 @@ fn row_before(count: usize) -> Option<usize>
     if count == 0 { None } else { Some(count - 1) }
 }
 
-// Returns the number of rows that do not sort after the text read, whose key is `key`. The first `key_count` rows are
-// those whose keys are at most `key`.
+// Returns the number of rows that do not sort after the text read.
 #[inline(always)]
 fn count_upto(
     rows: &[(Vec<char>, Reverse<usize>)],
     keys: &[u64],
     direction: Mode,
     part: &[char],
-    key: u64,
-    key_count: usize,
 ) -> usize
     requires rise { Rise (texts_of rows.now) }
     requires keyed { AreKeys (texts_of rows.now) keys.now }
-    requires own { IsKey (read_as direction part.now) key }
-    requires counted { IsKeyCount keys.now key key_count }
     ensures { IsCount (texts_of rows.now) (read_as direction part.now) result }
 {
-    if key_count == 0 {
+    let key = key_of(direction, part);
+    let count = keys_upto(keys, key);
+    if count == 0 {
         return 0;
     }
-    let last = key_count - 1;
-    if is_row_after(direction, part, key, &rows[last], keys[last]) {
-        return count_before(rows, keys, direction, part, key, last);
+    if is_row_after(direction, part, key, &rows[count - 1], keys[count - 1]) {
+        return count_before(rows, keys, direction, part, key, count - 1);
     }
-    key_count
+    count
 }
 
 // Returns the number of rows that do not sort after the text read, if those from `end` on do.

@@ -1,10 +1,9 @@
-use Rattle.std.proofs.Common.{◌≡◌, ◌+◌, ℕ, List, Option, length, sym, ap, ◌∙◌, subst}
+use Rattle.std.proofs.Common.{◌≡◌, ℕ, List, Option, length, sym, subst}
 use Rattle.std.proofs.Props.{props}
-use mathlib.Core.Logic.{∥∥₁_elim, ∥∥₁_map, ∥∥₁_prop}
-use Rattle.std.proofs.lemmas.List.{length-map}
+use mathlib.Core.Logic.{∥∥₁_elim, ∥∥₁_map}
 use Rattle.sbl_ast.specs.declared.mode.Mode.{Mode}
 use Rattle.sbl_semantics.specs.Fitting.{read_as}
-use Rattle.sbl_among_search.specs.Best.{AreCuts, IsBest}
+use Rattle.sbl_among_search.specs.Best.{IsBest}
 use Rattle.sbl_among_search.specs.Keys.{AreKeys}
 use Rattle.sbl_among_search.specs.Linked.{GoDown, IsLinked, Rise, Row, texts_of}
 use Rattle.sbl_among_search.specs.LinkedStrings.{strings_of}
@@ -24,51 +23,40 @@ long strings rows rs links ls linked same_rows same_links = ∥∥₁_elim linke
 rise : (strings : List (List ℕ)) (rows rs : List Row) (links : List (Option ℕ)) → ∥ IsLinked strings rows links ∥₁ → rs ≡ rows → Rise (texts_of rs)
 rise strings rows rs links linked same = ∥∥₁_elim linked (Prim.hlevel props) (λ l. rw same l.rows_are.rise)
 
-cut : (strings : List (List ℕ)) (rows rs : List Row) (cuts cs : List (List (Option ℕ))) → ∥ AreCuts strings (texts_of rows) cuts ∥₁ → rs ≡ rows → cs ≡ cuts → length cs ≡ length rs
-cut strings rows rs cuts cs are same_rows same_cuts = ∥∥₁_elim are (Prim.hlevel props) (λ a. ap length same_cuts ∙ a.long ∙ length-map rows (λ (r : Row). r.0.items) ∙ ap length (sym same_rows))
+pub best_of-requires-clause-keyed : goal.best_of-requires-clause-keyed
+best_of-requires-clause-keyed c = keyed c.args.self.now.rows.items c.deref.result.now c.args.self.now.keys.items c.deref-in-Forward.result.now c.args.self.now.keyed c.deref.ensures.value c.deref-in-Forward.ensures.value
 
-pub longest_of-requires-clause-keyed : goal.longest_of-requires-clause-keyed
-longest_of-requires-clause-keyed c = keyed c.args.self.now.rows.items c.deref.result.now c.args.self.now.keys.items c.deref-in-Forward.result.now c.args.self.now.keyed c.deref.ensures.value c.deref-in-Forward.ensures.value
+pub best_of-requires-clause-down : goal.best_of-requires-clause-down
+best_of-requires-clause-down c = down (strings_of c.args.self.now) c.args.self.now.rows.items c.args.self.now.links.items c.deref-in-Forward-2.result.now c.args.self.now.linked c.deref-in-Forward-2.ensures.value
 
-pub longest_of-requires-clause-down : goal.longest_of-requires-clause-down
-longest_of-requires-clause-down c = down (strings_of c.args.self.now) c.args.self.now.rows.items c.args.self.now.links.items c.deref-in-Forward-2.result.now c.args.self.now.linked c.deref-in-Forward-2.ensures.value
+pub best_of-requires-clause-long : goal.best_of-requires-clause-long
+best_of-requires-clause-long c = long (strings_of c.args.self.now) c.args.self.now.rows.items c.deref.result.now c.args.self.now.links.items c.deref-in-Forward-2.result.now c.args.self.now.linked c.deref.ensures.value c.deref-in-Forward-2.ensures.value
 
-pub longest_of-requires-clause-long : goal.longest_of-requires-clause-long
-longest_of-requires-clause-long c = long (strings_of c.args.self.now) c.args.self.now.rows.items c.deref.result.now c.args.self.now.links.items c.deref-in-Forward-2.result.now c.args.self.now.linked c.deref.ensures.value c.deref-in-Forward-2.ensures.value
+pub best_of-requires-clause-rise : goal.best_of-requires-clause-rise
+best_of-requires-clause-rise c = rise (strings_of c.args.self.now) c.args.self.now.rows.items c.deref.result.now c.args.self.now.links.items c.args.self.now.linked c.deref.ensures.value
 
-pub longest_of-requires-clause-rise : goal.longest_of-requires-clause-rise
-longest_of-requires-clause-rise c = rise (strings_of c.args.self.now) c.args.self.now.rows.items c.deref.result.now c.args.self.now.links.items c.args.self.now.linked c.deref.ensures.value
+pub best_of-requires-in-Backward-clause-keyed : goal.best_of-requires-in-Backward-clause-keyed
+best_of-requires-in-Backward-clause-keyed c = keyed c.args.self.now.rows.items c.deref-in-Backward.result.now c.args.self.now.keys.items c.deref-in-Backward-2.result.now c.args.self.now.keyed c.deref-in-Backward.ensures.value c.deref-in-Backward-2.ensures.value
 
-pub longest_of-requires-clause-cut : goal.longest_of-requires-clause-cut
-longest_of-requires-clause-cut c = cut (strings_of c.args.self.now) c.args.self.now.rows.items c.deref.result.now c.args.self.now.cuts.items c.deref-in-Forward-3.result.now c.args.self.now.cut c.deref.ensures.value c.deref-in-Forward-3.ensures.value
+pub best_of-requires-in-Backward-clause-down : goal.best_of-requires-in-Backward-clause-down
+best_of-requires-in-Backward-clause-down c = down (strings_of c.args.self.now) c.args.self.now.rows.items c.args.self.now.links.items c.deref-in-Backward-3.result.now c.args.self.now.linked c.deref-in-Backward-3.ensures.value
+
+pub best_of-requires-in-Backward-clause-long : goal.best_of-requires-in-Backward-clause-long
+best_of-requires-in-Backward-clause-long c = long (strings_of c.args.self.now) c.args.self.now.rows.items c.deref-in-Backward.result.now c.args.self.now.links.items c.deref-in-Backward-3.result.now c.args.self.now.linked c.deref-in-Backward.ensures.value c.deref-in-Backward-3.ensures.value
+
+pub best_of-requires-in-Backward-clause-rise : goal.best_of-requires-in-Backward-clause-rise
+best_of-requires-in-Backward-clause-rise c = rise (strings_of c.args.self.now) c.args.self.now.rows.items c.deref-in-Backward.result.now c.args.self.now.links.items c.args.self.now.linked c.deref-in-Backward.ensures.value
 
 pub returns-in-Forward : goal.returns-in-Forward
 returns-in-Forward c =
     let s = c.args.self.now in
-    ∥∥₁_elim s.linked ∥∥₁_prop (λ linked. ∥∥₁_map s.cut (λ cuts.
+    ∥∥₁_map s.linked (λ linked.
     let there : IsLinked (strings_of s) c.deref.result.now c.deref-in-Forward-2.result.now = rw c.deref.ensures.value (rw c.deref-in-Forward-2.ensures.value linked) in
-    let are : AreCuts (strings_of s) (texts_of c.deref.result.now) c.deref-in-Forward-3.result.now = rw c.deref.ensures.value (rw c.deref-in-Forward-3.ensures.value cuts) in
-    subst (λ (m : Mode). IsBest (strings_of s) (read_as m c.args.part.now) (length c.args.part.now + 1) c.longest_of.result) (sym c.in-Forward.is) (c.longest_of.ensures (strings_of s) there are)))
-
-pub longest_of-requires-in-Backward-clause-keyed : goal.longest_of-requires-in-Backward-clause-keyed
-longest_of-requires-in-Backward-clause-keyed c = keyed c.args.self.now.rows.items c.deref-in-Backward.result.now c.args.self.now.keys.items c.deref-in-Backward-2.result.now c.args.self.now.keyed c.deref-in-Backward.ensures.value c.deref-in-Backward-2.ensures.value
-
-pub longest_of-requires-in-Backward-clause-down : goal.longest_of-requires-in-Backward-clause-down
-longest_of-requires-in-Backward-clause-down c = down (strings_of c.args.self.now) c.args.self.now.rows.items c.args.self.now.links.items c.deref-in-Backward-3.result.now c.args.self.now.linked c.deref-in-Backward-3.ensures.value
-
-pub longest_of-requires-in-Backward-clause-long : goal.longest_of-requires-in-Backward-clause-long
-longest_of-requires-in-Backward-clause-long c = long (strings_of c.args.self.now) c.args.self.now.rows.items c.deref-in-Backward.result.now c.args.self.now.links.items c.deref-in-Backward-3.result.now c.args.self.now.linked c.deref-in-Backward.ensures.value c.deref-in-Backward-3.ensures.value
-
-pub longest_of-requires-in-Backward-clause-rise : goal.longest_of-requires-in-Backward-clause-rise
-longest_of-requires-in-Backward-clause-rise c = rise (strings_of c.args.self.now) c.args.self.now.rows.items c.deref-in-Backward.result.now c.args.self.now.links.items c.args.self.now.linked c.deref-in-Backward.ensures.value
-
-pub longest_of-requires-in-Backward-clause-cut : goal.longest_of-requires-in-Backward-clause-cut
-longest_of-requires-in-Backward-clause-cut c = cut (strings_of c.args.self.now) c.args.self.now.rows.items c.deref-in-Backward.result.now c.args.self.now.cuts.items c.deref-in-Backward-4.result.now c.args.self.now.cut c.deref-in-Backward.ensures.value c.deref-in-Backward-4.ensures.value
+    subst (λ (m : Mode). IsBest (strings_of s) (read_as m c.args.part.now) c.args.below c.best_of.result) (sym c.in-Forward.is) (c.best_of.ensures (strings_of s) there))
 
 pub returns-in-Backward : goal.returns-in-Backward
 returns-in-Backward c =
     let s = c.args.self.now in
-    ∥∥₁_elim s.linked ∥∥₁_prop (λ linked. ∥∥₁_map s.cut (λ cuts.
+    ∥∥₁_map s.linked (λ linked.
     let there : IsLinked (strings_of s) c.deref-in-Backward.result.now c.deref-in-Backward-3.result.now = rw c.deref-in-Backward.ensures.value (rw c.deref-in-Backward-3.ensures.value linked) in
-    let are : AreCuts (strings_of s) (texts_of c.deref-in-Backward.result.now) c.deref-in-Backward-4.result.now = rw c.deref-in-Backward.ensures.value (rw c.deref-in-Backward-4.ensures.value cuts) in
-    subst (λ (m : Mode). IsBest (strings_of s) (read_as m c.args.part.now) (length c.args.part.now + 1) c.longest_of-in-Backward.result) (sym c.in-Backward.is) (c.longest_of-in-Backward.ensures (strings_of s) there are)))
+    subst (λ (m : Mode). IsBest (strings_of s) (read_as m c.args.part.now) c.args.below c.best_of-in-Backward.result) (sym c.in-Backward.is) (c.best_of-in-Backward.ensures (strings_of s) there))
