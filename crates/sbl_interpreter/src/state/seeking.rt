@@ -72,7 +72,7 @@ impl State {
     }
 
     // Does what `seek_one` does, for a grouping that is touched already and has this class; without one it has no characters.
-    #[inline(never)]
+    #[inline(always)]
     fn seek_touched(
         &mut self,
         past: bool,
