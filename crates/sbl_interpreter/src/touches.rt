@@ -127,18 +127,10 @@ impl TouchLog {
     pub fn test(&mut self, grouping: usize) -> Result<(), AllocError>
         ensures { MatchResult result (λ _. self.new ≡ with_touch (Tested grouping) self.old) (λ _. self.new ≡ self.old) }
     {
-        if self.has_tested(grouping) {
+        if is_marked(&self.tested, grouping, self.round) {
             return Ok(());
         }
         self.add_tested(grouping)
-    }
-
-    /// Returns whether a test of the grouping is recorded.
-    #[inline(always)]
-    pub fn has_tested(&self, grouping: usize) -> bool
-        ensures { result ≡ list_any (same_touch (Tested grouping)) self.now }
-    {
-        is_marked(&self.tested, grouping, self.round)
     }
 
     // Adds a grouping that is not touched yet. Returns `AllocError` as `test` does.
