@@ -53,16 +53,6 @@ last_is_not x y ts e = any_more x y ts ∙ ap (λ b. list_any (same_touch x) ts 
 pub with_by : (x : Touch) (ts : List Touch) (b : Bool) → list_any (same_touch x) ts ≡ b → with_touch x ts ≡ (if b then ts else ts ++ (x ∷ []))
 with_by x ts b p = ap (λ c. if c then ts else ts ++ (x ∷ [])) p
 
-twice_by : (x : Touch) (ts : List Touch) (b : Bool) → same_touch x x ≡ true → list_any (same_touch x) ts ≡ b → with_touch x (with_touch x ts) ≡ with_touch x ts
-twice_by x ts true s p = ap (with_touch x) (with_by x ts true p)
-twice_by x ts false s p =
-    let w : with_touch x ts ≡ ts ++ (x ∷ []) = with_by x ts false p in
-    ap (with_touch x) w ∙ with_by x (ts ++ (x ∷ [])) true (last_is x x ts s) ∙ sym w
-
--- what is touched again
-pub tested_twice : (g : ℕ) (ts : List Touch) → with_touch (Tested g) (with_touch (Tested g) ts) ≡ with_touch (Tested g) ts
-tested_twice g ts = twice_by (Tested g) ts _ (eq-eqb g g refl) refl
-
 differ : (i j : ℕ) → nat_eq j i ≡ false → j ≡ i → ⊥
 differ i j e p = true≢false (sym (eq-eqb j i p) ∙ e)
 

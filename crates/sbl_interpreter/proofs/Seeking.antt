@@ -1,5 +1,5 @@
 -- `goto` and `gopast` with a grouping that is touched: the number of characters that are passed over decides their end.
-use Rattle.std.proofs.Common.{◌≡◌, ℕ, zero, suc, ◌+◌, ◌-◌, ◌<◌, ◌≤◌, Bool, true, false, not, List, [], ◌∷◌, ◌++◌, length, map, reverse, take, drop, get_or, Some, None, refl, sym, ap, subst, ◌∙◌, arith}
+use Rattle.std.proofs.Common.{◌≡◌, ℕ, zero, suc, ◌+◌, ◌-◌, ◌<◌, ◌≤◌, Bool, true, false, not, List, [], ◌∷◌, ◌++◌, length, map, reverse, take, drop, get_or, Some, None, refl, sym, ap, ◌∙◌, arith}
 use Rattle.std.specs.Prelude.{nat_le, nat_lt, if◌then◌else◌, slice_get}
 use Rattle.std.specs.List.{position, position_or_len}
 use Rattle.std.specs.Option.{unwrap_or}
@@ -18,7 +18,6 @@ use Rattle.sbl_semantics.specs.Fitting.{read_as}
 use Rattle.sbl_semantics.specs.Control.{end_search, pay_first, seeks}
 use Rattle.sbl_semantics.specs.State.{State, Ending, Doing, Signals, Stops, after, then_on, pay, ahead, move_cursor, at_place, room, saved_cursor, put_back}
 use Rattle.sbl_semantics.specs.Touches.{with_touch}
-use Rattle.sbl_interpreter.proofs.Marked.{tested_twice}
 
 -- ---- comparisons
 
@@ -319,23 +318,3 @@ none_met (x ∷ xs) = let j : 1 + count_before true no_character xs ≡ suc (cou
 pub first_met : (xs : List ℕ) → count_before false no_character xs ≡ 0
 first_met [] = refl
 first_met (x ∷ xs) = refl
-
--- ---- the touch of the first test
-
-same_test : (wanted : Bool) (class : ℕ → Bool) (g : ℕ) (m : Mode) (s : State) (k : ℕ) → s.steps ≡ suc k → with_touch (Tested g) (with_touch (Tested g) s.touched) ≡ with_touch (Tested g) s.touched → pay_first (test_grouping wanted class g) m s ≡ pay_first (test_grouping wanted class g) m (touch_grouping g s)
-same_test wanted class g m s k e t =
-    ap (λ n. then_on (pay n s) (test_grouping wanted class g m)) e
-    ∙ ap (λ ts. one_of wanted class m (record s { steps = k; touched = ts })) (sym t)
-    ∙ sym (ap (λ n. then_on (pay n (touch_grouping g s)) (test_grouping wanted class g m)) e)
-
-pub touched_after : (g : ℕ) (s t : State) → t ≡ touch_grouping g s → with_touch (Tested g) t.touched ≡ t.touched
-touched_after g s t e = subst (λ (u : State). with_touch (Tested g) u.touched ≡ u.touched) (sym e) (tested_twice g s.touched)
-
--- the grouping may be touched before its first test is paid, if a step is left
-pub touch_first : (past wanted : Bool) (class : ℕ → Bool) (g : ℕ) (m : Mode) (s t : State) → 0 < s.steps → t ≡ touch_grouping g s → seeks (suc s.steps) past (pay_first (test_grouping wanted class g)) m s ≡ seeks (suc t.steps) past (pay_first (test_grouping wanted class g)) m t
-touch_first past wanted class g m s t l e =
-    let c = pay_first (test_grouping wanted class g) in
-    let k : s.steps ≡ suc (s.steps - 1) = omega (arith, l) in
-    let go = λ (b : State). after (next m b) (seeks s.steps past c m) (Signals false) in
-    ap (λ r. after r (end_search past m s) (λ f. then_on (put_back m (saved_cursor s) f) go)) (same_test wanted class g m s (s.steps - 1) k (tested_twice g s.touched))
-    ∙ ap (λ (u : State). seeks (suc u.steps) past c m u) (sym e)

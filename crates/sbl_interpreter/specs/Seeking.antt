@@ -1,17 +1,10 @@
 -- How `goto` and `gopast` with a grouping end.
-use Rattle.std.specs.Prelude.{ℕ, suc, ◌-◌, Bool, true, false, nat_le, nat_lt, if◌then◌else◌, List, Option, Some, None}
+use Rattle.std.specs.Prelude.{ℕ, suc, ◌-◌, Bool, true, false, nat_le, nat_lt, if◌then◌else◌, List, Some}
 use Rattle.std.specs.List.{position_or_len}
-use Rattle.sbl_char_class.specs.CharacterClasses.{members}
-use Rattle.sbl_char_class.specs.Terms.{no_character}
 use Rattle.sbl_ast.specs.declared.mode.Mode.{Mode}
 use Rattle.sbl_semantics.specs.declared.fault.RunFault.TheVariants.{Steps}
 use Rattle.sbl_semantics.specs.State.{State, Ending, Signals, Stops, move_cursor}
 use Rattle.sbl_semantics.specs.Moves.{next_is}
-
--- the members of a class, if there is one
-abbrev pub class_members : Option (List ℕ × List (List ℕ)) → ℕ → Bool
-class_members None = no_character
-class_members (Some class) = members class
 
 -- the number of characters before the first that is met; all of them if none is
 abbrev pub count_before : Bool → (ℕ → Bool) → List ℕ → ℕ

@@ -118,7 +118,7 @@ impl<T: Blank + Drop> Slots<T> {
         ensures { MatchResult result (λ _. self.new ≡ slice_set self.old number (Some value)) (λ _. self.new ≡ self.old) }
     {
         if number < self.count {
-            grow(&mut self.slots, number)?;
+            ensure_slot(&mut self.slots, number)?;
             self.slots[number] = Slot {
                 round: self.round,
                 value,
@@ -153,7 +153,22 @@ fn next_round<T: Drop>(slots: &mut Vec<Slot<T>>, round: u32) -> u32
     round + 1
 }
 
+// Makes sure that a slot exists. A slot that is made is missing its value. Returns `AllocError` if an allocation fails.
+#[inline(always)]
+fn ensure_slot<T: Blank + Drop>(slots: &mut Vec<Slot<T>>, number: usize) -> Result<(), AllocError>
+    ensures same { (round count : ℕ) → 0 < round → slot_values round count slots.new.items ≡ slot_values round count slots.old.items }
+    ensures up_to { (round : ℕ) → AreUpTo round slots.old.items → AreUpTo round slots.new.items }
+    ensures there { IfOk result (λ _. number < length slots.new.items) }
+{
+    if number < slots.len() {
+        return Ok(());
+    }
+    grow(slots, number)
+}
+
 // Grows the slots until this one exists, by slots whose values are missing. Returns `AllocError` if an allocation fails.
+#[cold]
+#[inline(never)]
 fn grow<T: Blank + Drop>(slots: &mut Vec<Slot<T>>, number: usize) -> Result<(), AllocError>
     ensures same { (round count : ℕ) → 0 < round → slot_values round count slots.new.items ≡ slot_values round count slots.old.items }
     ensures up_to { (round : ℕ) → AreUpTo round slots.old.items → AreUpTo round slots.new.items }

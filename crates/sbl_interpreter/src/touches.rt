@@ -1,6 +1,6 @@
 //! What a run has touched: a list, and marks beside it, so that a touch costs the same however many there are.
 
-ghost use Rattle.std.specs.Prelude.{◌≡◌, ◌<◌, ℕ, false, [], ◌++◌, ◌∷◌, length, map, nat_eq, nat_le, slice_set, slice_index_or, IfOk, MatchResult};
+ghost use Rattle.std.specs.Prelude.{◌≡◌, ◌<◌, ℕ, false, [], ◌++◌, ◌∷◌, length, map, nat_eq, nat_le, slice_set, slice_index_or, IfOk, IsTrue, MatchResult};
 ghost use Rattle.sbl_interpreter.specs.Marks.{mark_at, mark_in};
 ghost use Rattle.std.specs.List.{list_any};
 ghost use Rattle.sbl_semantics.specs.Touches.{same_touch, with_touch};
@@ -96,7 +96,7 @@ impl TouchLog {
         if !is_touch_number(routine) {
             return Err(AllocError);
         }
-        grow(&mut self.entered, routine)?;
+        ensure_mark(&mut self.entered, routine)?;
         self.touches.push(Touch::Entered(routine as u32))?;
         set(&mut self.entered, routine, self.round);
         Ok(())
@@ -114,7 +114,7 @@ impl TouchLog {
         if !is_touch_number(routine) || !is_touch_number(among) {
             return Err(AllocError);
         }
-        grow_in(&mut self.searched, routine, among)?;
+        ensure_mark_in(&mut self.searched, routine, among)?;
         self.touches
             .push(Touch::Searched(routine as u32, among as u32))?;
         set_in(&mut self.searched, routine, among, self.round);
@@ -127,18 +127,10 @@ impl TouchLog {
     pub fn test(&mut self, grouping: usize) -> Result<(), AllocError>
         ensures { MatchResult result (λ _. self.new ≡ with_touch (Tested grouping) self.old) (λ _. self.new ≡ self.old) }
     {
-        if self.has_tested(grouping) {
+        if is_marked(&self.tested, grouping, self.round) {
             return Ok(());
         }
         self.add_tested(grouping)
-    }
-
-    /// Returns whether a test of the grouping is recorded.
-    #[inline(always)]
-    pub fn has_tested(&self, grouping: usize) -> bool
-        ensures { result ≡ list_any (same_touch (Tested grouping)) self.now }
-    {
-        is_marked(&self.tested, grouping, self.round)
     }
 
     // Adds a grouping that is not touched yet. Returns `AllocError` as `test` does.
@@ -150,7 +142,7 @@ impl TouchLog {
         if !is_touch_number(grouping) {
             return Err(AllocError);
         }
-        grow(&mut self.tested, grouping)?;
+        ensure_mark(&mut self.tested, grouping)?;
         self.touches.push(Touch::Tested(grouping as u32))?;
         set(&mut self.tested, grouping, self.round);
         Ok(())
@@ -214,7 +206,44 @@ fn set_in(rows: &mut Vec<Vec<u32>>, i: usize, k: usize, round: u32)
     }
 }
 
+// Makes sure that a mark exists. Returns `AllocError` if an allocation fails.
+#[inline(always)]
+fn ensure_mark(marks: &mut Vec<u32>, i: usize) -> Result<(), AllocError>
+    ensures same { (j : ℕ) → mark_at marks.new.items j ≡ mark_at marks.old.items j }
+    ensures there { IfOk result (λ _. i < length marks.new.items) }
+{
+    if i < marks.len() {
+        return Ok(());
+    }
+    grow(marks, i)
+}
+
+// Makes sure that a mark of a row exists. Returns `AllocError` if an allocation fails.
+#[inline(always)]
+fn ensure_mark_in(rows: &mut Vec<Vec<u32>>, i: usize, k: usize) -> Result<(), AllocError>
+    ensures same { (j l : ℕ) → mark_in (map (λ row. row.items) rows.new.items) j l ≡ mark_in (map (λ row. row.items) rows.old.items) j l }
+    ensures there { IfOk result (λ _. (i < length rows.new.items) × (k < length (slice_index_or (map (λ row. row.items) rows.new.items) i []))) }
+{
+    if has_mark_in(rows, i, k) {
+        return Ok(());
+    }
+    grow_in(rows, i, k)
+}
+
+// Returns whether a mark of a row exists.
+#[inline(always)]
+fn has_mark_in(rows: &[Vec<u32>], i: usize, k: usize) -> bool
+    ensures { IsTrue result → (i < length rows.now) × (k < length (slice_index_or (map (λ row. row.items) rows.now) i [])) }
+{
+    match rows.get(i) {
+        None => false,
+        Some(row) => k < row.len(),
+    }
+}
+
 // Grows the marks until this one exists. Returns `AllocError` if an allocation fails.
+#[cold]
+#[inline(never)]
 fn grow(marks: &mut Vec<u32>, i: usize) -> Result<(), AllocError>
     ensures same { (j : ℕ) → mark_at marks.new.items j ≡ mark_at marks.old.items j }
     ensures there { IfOk result (λ _. i < length marks.new.items) }
@@ -226,7 +255,8 @@ fn grow(marks: &mut Vec<u32>, i: usize) -> Result<(), AllocError>
 }
 
 // Grows the rows, and one of them, until this mark exists. Returns `AllocError` if an allocation fails.
-#[inline(always)]
+#[cold]
+#[inline(never)]
 fn grow_in(rows: &mut Vec<Vec<u32>>, i: usize, k: usize) -> Result<(), AllocError>
     ensures same { (j l : ℕ) → mark_in (map (λ row. row.items) rows.new.items) j l ≡ mark_in (map (λ row. row.items) rows.old.items) j l }
     ensures there { IfOk result (λ _. (i < length rows.new.items) × (k < length (slice_index_or (map (λ row. row.items) rows.new.items) i []))) }

@@ -1,14 +1,13 @@
 //! Tests of groupings: one, and `goto` and `gopast` of one.
 
-ghost use Rattle.std.specs.Prelude.{◌≡◌, ℕ, ◌<◌, ◌≤◌, map, suc, IfOk, Some};
+ghost use Rattle.std.specs.Prelude.{◌≡◌, ◌<◌, ◌≤◌, map, suc, IfOk, Some};
 ghost use Rattle.std.specs.List.{position};
-ghost use Rattle.std.specs.Option.{option_copied};
 ghost use Rattle.sbl_char_class.specs.CharacterClasses.{members};
 ghost use Rattle.sbl_char_class.specs.Terms.{class_at};
 ghost use Rattle.sbl_semantics.specs.Control.{pay_first, seeks};
 ghost use Rattle.sbl_interpreter.specs.Endings.{Follows};
 ghost use Rattle.sbl_interpreter.specs.Actions.{test_grouping};
-ghost use Rattle.sbl_interpreter.specs.Seeking.{class_members, count_before, sought};
+ghost use Rattle.sbl_interpreter.specs.Seeking.{count_before, sought};
 ghost use Rattle.sbl_semantics.specs.Fitting.{read_as};
 ghost use Rattle.sbl_semantics.specs.Touches.{with_touch};
 ghost use Rattle.sbl_semantics.specs.declared.touch.Touch.TheVariants.{Tested};
@@ -71,45 +70,29 @@ impl State {
         true
     }
 
-    // Does what `seek_one` does, for a grouping that is touched already and has this class; without one it has no characters.
-    #[inline(never)]
+    // Does what `seek_one` does, if the grouping is touched already.
+    #[inline(always)]
     fn seek_touched(
         &mut self,
         past: bool,
         mode: Mode,
-        class: Option<&CharacterClass>,
+        classes: &[CharacterClass],
+        number: usize,
         wanted: bool,
     ) -> Result<bool, Halt>
-        ensures follows { (g : ℕ) → with_touch (Tested g) self.old.touched ≡ self.old.touched → Follows result self.new (seeks (suc self.old.steps) past (pay_first (test_grouping wanted (class_members (option_copied class.entry)) g)) mode self.old) }
+        requires { with_touch (Tested number) self.old.touched ≡ self.old.touched }
+        ensures follows { Follows result self.new (seeks (suc self.old.steps) past (pay_first (test_grouping wanted (class_at (map members classes.now) number) number)) mode self.old) }
         ensures no_more { IfOk result (λ _. self.new.steps ≤ self.old.steps) }
     {
         let part = self.part_ahead(mode);
         let len = part.len();
-        let before = count_before(mode, part, class, wanted);
+        let before = count_before(mode, part, classes, number, wanted);
         let steps = self.steps as usize;
         if steps <= before {
             self.pass_over(mode, steps, 0);
             return Err(Halt::Steps);
         }
         Ok(self.seek_over(past, mode, before, len))
-    }
-
-    // Touches a grouping, and does what `seek_touched` does.
-    #[inline(never)]
-    fn touch_and_seek(
-        &mut self,
-        past: bool,
-        mode: Mode,
-        class: Option<&CharacterClass>,
-        number: usize,
-        wanted: bool,
-    ) -> Result<bool, Halt>
-        requires { 0 < self.old.steps }
-        ensures follows { Follows result self.new (seeks (suc self.old.steps) past (pay_first (test_grouping wanted (class_members (option_copied class.entry)) number)) mode self.old) }
-        ensures no_more { IfOk result (λ _. self.new.steps ≤ self.old.steps) }
-    {
-        self.touch_grouping(number)?;
-        self.seek_touched(past, mode, class, wanted)
     }
 
     /// Tests the grouping with this number at the cursor and further on, up to the first t. The cursor stays after the
@@ -129,30 +112,24 @@ impl State {
         if self.steps() == 0 {
             return Err(Halt::Steps);
         }
-        let class = class_of(classes, number);
-        if self.touched.has_tested(number) {
-            self.seek_touched(past, mode, class, wanted)
-        } else {
-            self.touch_and_seek(past, mode, class, number, wanted)
-        }
+        self.touch_grouping(number)?;
+        self.seek_touched(past, mode, classes, number, wanted)
     }
 }
 
-// Returns the class with this number, if there is one.
+// Returns how many characters are read before the first one that is in the class with this number, or that is not, as
+// `wanted` says; if there is none, all of them.
 #[inline(always)]
-fn class_of(classes: &[CharacterClass], number: usize) -> Option<&CharacterClass>
-    ensures { class_members (option_copied result) ≡ class_at (map members classes.now) number }
+fn count_before(
+    mode: Mode,
+    part: &[char],
+    classes: &[CharacterClass],
+    number: usize,
+    wanted: bool,
+) -> usize
+    ensures { result ≡ count_before wanted (class_at (map members classes.now) number) (read_as mode part.now) }
 {
-    classes.get(number)
-}
-
-// Returns how many characters are read before the first one that is in the class, or that is not, as `wanted` says; if
-// there is none, all of them. Without a class none is in it.
-#[inline(always)]
-fn count_before(mode: Mode, part: &[char], class: Option<&CharacterClass>, wanted: bool) -> usize
-    ensures { result ≡ count_before wanted (class_members (option_copied class.entry)) (read_as mode part.now) }
-{
-    match class {
+    match classes.get(number) {
         Some(class) => first_met(mode, part, class, wanted).unwrap_or(part.len()),
         None => { if wanted { part.len() } else { 0 } }
     }

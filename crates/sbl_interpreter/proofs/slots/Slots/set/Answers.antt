@@ -4,18 +4,18 @@ use Rattle.sbl_interpreter.proofs.SlotValues.{length_values, set_beyond, set_now
 use Rattle.sbl_interpreter.proofs.slots.Slots.set.Goals as goal
 
 pub invariant_of-self : goal.invariant_of-self
-invariant_of-self g c = (c.self.invariant.0, c.grow.ensures.up_to c.self.inside.round c.self.invariant.1)
+invariant_of-self g c = (c.self.invariant.0, c.ensure_slot.ensures.up_to c.self.inside.round c.self.invariant.1)
 
 pub invariant_of-self-then-number-self : goal.invariant_of-self-then-number-self
 invariant_of-self-then-number-self g c =
     let s = c.self.inside in
-    (c.self.invariant.0, set_up_to s.round c.args.number c.grow.new.slots.items _ (c.grow.ensures.up_to s.round c.self.invariant.1) (omega arith))
+    (c.self.invariant.0, set_up_to s.round c.args.number c.ensure_slot.new.slots.items _ (c.ensure_slot.ensures.up_to s.round c.self.invariant.1) (omega arith))
 
-pub returns-in_ok-grow : goal.returns-in_ok-grow
-returns-in_ok-grow g c =
+pub returns-in_ok-ensure_slot : goal.returns-in_ok-ensure_slot
+returns-in_ok-ensure_slot g c =
     let s = c.self.inside in
-    set_now s.round s.count c.args.number c.grow.new.slots.items _ (search rules) refl
-    ∙ ap (λ vs. slice_set vs c.args.number (Some c.args.value)) (c.grow.ensures.same s.round s.count c.self.invariant.0 ∙ c.self.view_is)
+    set_now s.round s.count c.args.number c.ensure_slot.new.slots.items _ (search rules) refl
+    ∙ ap (λ vs. slice_set vs c.args.number (Some c.args.value)) (c.ensure_slot.ensures.same s.round s.count c.self.invariant.0 ∙ c.self.view_is)
 
 pub returns-else-number-self : goal.returns-else-number-self
 returns-else-number-self g c =
