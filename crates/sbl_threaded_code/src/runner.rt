@@ -455,7 +455,7 @@ impl<'a, T: Tables> Runner<'a, T> {
     /// Returns `Depth` if no level is left, `OutOfMemory` if an allocation fails or a number to be touched is above
     /// `u32::MAX`, and else the fault of a command in the routine. After a fault the state is the one at the fault.
     #[cycle(run)]
-    #[inline(never)]
+    #[inline(always)]
     pub fn run_call(&self, number: usize, state: &mut State) -> Result<bool, Halt>
         ensures follows { Follows result state.new (calls (program_of (T.listed self.now.tables.now) self.now.code.now) self.now.levels number self.now.mode state.old) }
         ensures no_more { IfOk result (λ _. state.new.steps ≤ state.old.steps) }
