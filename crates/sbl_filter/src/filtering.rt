@@ -88,7 +88,7 @@ fn filter_words<R: Source + Drop, W: Sink>(
 /// Reads a script block and words, and writes the row of each word that is not empty before it reads the next line. The
 /// script block is the lines up to a line `.`, each followed by a line feed; it is read as a script with this external. The
 /// words are one per line, up to a line `.` or the end of input. The lines after that are left. The row of a word is the one
-/// that `stems_text` of a bench has for it: the outcome of a fresh run with at most 100,000 steps. A word that is there again
+/// that `rows_text` of a bench has for it: the outcome of a fresh run with at most 100,000 steps. A word that is there again
 /// has a row again.
 ///
 /// Nothing is kept of a word after its row is written, and the number of words has no bound.

@@ -4,3 +4,4 @@ pub mod WordListFacts
 pub mod RecordFacts
 pub mod InputFacts
 pub mod OneLoading
+pub mod VocabularyFacts

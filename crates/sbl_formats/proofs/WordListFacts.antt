@@ -131,11 +131,11 @@ pub kept-empty : (words all : List (List ℕ)) (w : List ℕ) → AreKept words 
 kept-empty words all [] kept empty = kept-skip words all [] kept refl refl
 kept-empty words all (c ∷ w) kept empty = absurd (grind (arith, tests, empty))
 
-skips : (w : List ℕ) (words : List (List ℕ)) → nat_eq (length w) 0 ≡ false → is_skipped w words ≡ is_word w words
+pub skips : (w : List ℕ) (words : List (List ℕ)) → nat_eq (length w) 0 ≡ false → is_skipped w words ≡ is_word w words
 skips [] words some = cc
 skips (c ∷ w) words some = refl
 
-found : (keys : List (Vec ℕ Global)) (word : List ℕ) → list_any (λ k. bytes_eq word k.items) keys ≡ is_word word (texts_of keys)
+pub found : (keys : List (Vec ℕ Global)) (word : List ℕ) → list_any (λ k. bytes_eq word k.items) keys ≡ is_word word (texts_of keys)
 found [] word = refl
 found (k ∷ keys) word = by (bytes_eq word k.items) refl (found keys word)
   where

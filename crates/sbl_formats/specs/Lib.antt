@@ -8,3 +8,4 @@ pub mod Traces
 pub mod RowWriter
 -- what the functions inside the crate promise each other: nothing in these need be believed
 pub mod WordLists
+pub mod VocabularyRows

@@ -7,10 +7,11 @@ mod faults;
 mod laws;
 mod loading;
 mod records;
+mod vocabulary_rows;
 mod word_list;
 
 pub use block_text::{BlockFault, BlockText, read_block};
 pub use faults::LoadFault;
 pub use laws::loading_is_one;
-pub use loading::{load, read_script};
+pub use loading::{load, load_rows, read_script};
 pub use records::{Record, RecordWriter, outcome_fields, records_text, rows_text};

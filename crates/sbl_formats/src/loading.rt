@@ -4,6 +4,7 @@ ghost use Rattle.std.specs.Str.{chars, is_utf8};
 ghost use Rattle.sbl_bench.specs.KeptRuns.{contents_of};
 ghost use Rattle.sbl_bench.specs.Contents.{Opens};
 ghost use Rattle.sbl_script.specs.ParsedScript.{source_of};
+ghost use Rattle.sbl_formats.specs.VocabularyRows.{AreRowsOf, ReadsInput, RowsOpen};
 ghost use Rattle.sbl_formats.specs.WordLists.{HoldsWords, ReadsWords};
 ghost use Rattle.std.specs.Io.KnownBytes.{Keeps};
 ghost use Rattle.sbl_io.specs.Faults.{serve_fault_of};
@@ -14,6 +15,7 @@ ghost use Rattle.sbl_formats.specs.Loading.{HasReason, IsLoaded, ReadsScript};
 
 use crate::block_text::{BlockFault, read_block};
 use crate::faults::LoadFault;
+use crate::vocabulary_rows::vocabulary_rows;
 use crate::word_list::WordList;
 use sbl_bench::{Bench, EditFault};
 use sbl_io::{Lines, ServeFault, Source};
@@ -103,6 +105,39 @@ fn read_words<R: Source + Drop>(
     Ok(words)
 }
 
+/// A script and the words after it.
+#[derive(Drop)]
+struct ParsedInput {
+    script: Script,
+    words: WordList,
+}
+
+/// Reads the script block and the words of an input. Returns the faults that `load` returns before it opens a bench.
+fn read_input<R: Source + Drop>(
+    lines: &mut Lines<R>,
+    keys: RandomState,
+    external: &str,
+) -> Result<ParsedInput, LoadFault>
+    ensures reads { fault_of lines.old ≡ None → ReadsInput (input_of R.left lines.old) (input_of R.left lines.new) external.now result }
+    ensures later { (R.tally lines.old.reader).failures ≤ (R.tally lines.new.reader).failures }
+    ensures steady { OnOk result ((R.tally lines.new.reader).failures ≡ (R.tally lines.old.reader).failures) }
+    ensures why { IfErr result (λ fault. HasReason R.tally lines.old lines.new fault) }
+    ensures in_time { KeepsTime R.tally lines.old lines.new }
+    ensures remembered { fault_of lines.new ≡ left_by_load result }
+    ensures again { (fault : LineFault) → fault_of lines.old ≡ Some fault → (result ≡ Err (LoadFault.Input (serve_fault_of fault))) × Keeps (input_of R.left lines.old) (input_of R.left lines.new) }
+    ensures bound { reads_bound R.tally lines.new ≡ reads_bound R.tally lines.old }
+{
+    let text = read_script(lines)?;
+    let script = Script::parse(lines.alloc(), &text, external)?;
+    match read_words(lines, keys) {
+        Ok(words) => Ok(ParsedInput { script, words }),
+        Err(fault) => {
+            script.discard();
+            Err(fault)
+        }
+    }
+}
+
 /// Returns the bench of a script and of words that were read. Returns `WordTooLong`, `Full` and `OutOfMemory` as `Bench::open`
 /// does with all of them.
 fn open_words(
@@ -151,17 +186,53 @@ pub fn load<R: Source + Drop>(
     ensures again { (fault : LineFault) → fault_of lines.old ≡ Some fault → (result ≡ Err (LoadFault.Input (serve_fault_of fault))) × Keeps (input_of R.left lines.old) (input_of R.left lines.new) }
     ensures bound { reads_bound R.tally lines.new ≡ reads_bound R.tally lines.old }
 {
-    let text = read_script(lines)?;
-    let script = Script::parse(lines.alloc(), &text, external)?;
-    let words = match read_words(lines, keys) {
-        Ok(words) => words,
-        Err(fault) => {
-            script.discard();
-            return Err(fault);
-        }
-    };
+    let ParsedInput { script, words } = read_input(lines, keys, external)?;
     match open_words(lines.alloc(), keys, script, words) {
         Ok(bench) => Ok(bench),
+        Err(fault) => Err(LoadFault::Open(fault)),
+    }
+}
+
+/// Returns the text of the rows of words that were read. Returns `WordTooLong`, `Full` and `OutOfMemory` as `Bench::open` does.
+fn rows_of_words(
+    alloc: Global,
+    keys: RandomState,
+    script: &Script,
+    words: WordList,
+) -> Result<Vec<u8>, EditFault>
+    ensures { (all : List (List ℕ)) → HoldsWords words all → RowsOpen (source_of script.now) all (λ text bytes. bytes.items ≡ text) result }
+{
+    match words.into_words() {
+        Ok(words) => vocabulary_rows(alloc, keys, script, words),
+        Err(_) => Err(EditFault::OutOfMemory),
+    }
+}
+
+/// Returns the text of the rows of an input, as `rows_text` has them for the bench that `load` makes of it. Makes no bench, so that
+/// less is kept of each word. The keys are those of the hash by which words are found.
+///
+/// # Errors
+///
+/// Returns the faults that `load` returns, and leaves the input as `load` does.
+pub fn load_rows<R: Source + Drop>(
+    lines: &mut Lines<R>,
+    keys: RandomState,
+    external: &str,
+) -> Result<Vec<u8>, LoadFault>
+    ensures rows { fault_of lines.old ≡ None → AreRowsOf (input_of R.left lines.old) (input_of R.left lines.new) external.now result }
+    ensures later { (R.tally lines.old.reader).failures ≤ (R.tally lines.new.reader).failures }
+    ensures steady { OnOk result ((R.tally lines.new.reader).failures ≡ (R.tally lines.old.reader).failures) }
+    ensures why { IfErr result (λ fault. HasReason R.tally lines.old lines.new fault) }
+    ensures in_time { KeepsTime R.tally lines.old lines.new }
+    ensures remembered { fault_of lines.new ≡ left_by_load result }
+    ensures again { (fault : LineFault) → fault_of lines.old ≡ Some fault → (result ≡ Err (LoadFault.Input (serve_fault_of fault))) × Keeps (input_of R.left lines.old) (input_of R.left lines.new) }
+    ensures bound { reads_bound R.tally lines.new ≡ reads_bound R.tally lines.old }
+{
+    let ParsedInput { script, words } = read_input(lines, keys, external)?;
+    let rows = rows_of_words(lines.alloc(), keys, &script, words);
+    script.discard();
+    match rows {
+        Ok(rows) => Ok(rows),
         Err(fault) => Err(LoadFault::Open(fault)),
     }
 }

@@ -30,7 +30,7 @@ pub struct RecordWriter {
 
 impl RecordWriter {
     /// Returns a writer that has written nothing. Does not allocate.
-    fn new(alloc: Global) -> RecordWriter
+    pub(crate) fn new(alloc: Global) -> RecordWriter
         ensures { HasWritten result.writer [] }
     {
         RecordWriter {
@@ -45,7 +45,7 @@ impl RecordWriter {
     }
 
     /// Returns the text of the records that were written. Returns `AllocError` if an allocation fails.
-    fn into_text(self) -> Result<Vec<u8>, AllocError>
+    pub(crate) fn into_text(self) -> Result<Vec<u8>, AllocError>
         ensures { (written : List ℕ) → HasWritten self.writer written → IfOk result (λ text. text.items ≡ written) }
     {
         match self.writer.into_inner() {

@@ -10,6 +10,5 @@ mod session_edits;
 
 pub use laws::answers_are_one;
 pub use replies::{BAD_COMMAND, Reply, edit_text, report, write_reply};
-pub use reports::stems_text;
 pub use serving::{answer_line, serve};
 pub use session_commands::{BlockWord, Target, block_word, number_in, target_of};

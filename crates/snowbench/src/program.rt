@@ -15,10 +15,10 @@ ghost use Rattle.snowbench.specs.WholeSession.{IsWholeSession};
 use sbl_check::check;
 use sbl_command_line::{CommandLine, Verb};
 use sbl_filter::filter;
-use sbl_formats::{LoadFault, load, read_script};
+use sbl_formats::{LoadFault, load, load_rows, read_script};
 use sbl_io::{Lines, ServeFault, Sink, Source, write_all};
 use sbl_script::Script;
-use sbl_sessions::{serve, stems_text};
+use sbl_sessions::serve;
 use std::alloc::AllocError;
 use std::fmt::InlineText;
 use std::hash::RandomState;
@@ -37,7 +37,7 @@ const MAX_FAULT_LINE: usize = 96;
 /// fault. What was written before the fault stays in `writer`. The keys are those of the hash by which words are found, as in
 /// `Bench::open`.
 ///
-/// `session` loads a bench and answers the commands after it. `stem` loads a bench and writes the row of each word. `filter`
+/// `session` loads a bench and answers the commands after it. `stem` writes the row of each word of a vocabulary. `filter`
 /// writes the row of each word before it reads the next.
 /// `check` reads a script block, a block of words and the expected stems up to the end of input, all before it runs
 /// anything, and then writes a row for each difference.
@@ -126,7 +126,7 @@ fn session<R: Source + Drop, W: Sink>(
     Ok(())
 }
 
-/// Loads a bench and writes its rows. The input after the vocabulary is not read.
+/// Writes the rows of an input. The input after the vocabulary is not read.
 fn stem<R: Source + Drop, W: Sink>(
     lines: &mut Lines<R>,
     external: &str,
@@ -136,10 +136,8 @@ fn stem<R: Source + Drop, W: Sink>(
     ensures stemmed { fault_of lines.old ≡ None → IsStemmed (input_of R.left lines.old) (input_of R.left lines.new) external.now (W.held writer.old) (W.held writer.new) result }
     ensures answering { Answering R.tally W.tally lines.old lines.new writer.old writer.new result }
 {
-    let bench = load(lines, keys, external)?;
-    let text = stems_text(lines.alloc(), &bench);
-    bench.leak();
-    write_all(writer, &text?)?;
+    let text = load_rows(lines, keys, external)?;
+    write_all(writer, &text)?;
     Ok(())
 }
 

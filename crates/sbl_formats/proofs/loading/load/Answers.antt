@@ -1,42 +1,15 @@
-use Rattle.std.proofs.Common.{rules, ap, map, ◌∙◌}
+use Rattle.std.proofs.Common.{ap, map}
 use Rattle.std.specs.Str.{chars}
-use Rattle.std.proofs.lemmas.Result.{err_from_is_err_and}
 use Rattle.sbl_bench.specs.KeptRuns.{contents_of}
 use Rattle.sbl_script.specs.ParsedScript.{source_of}
-use Rattle.sbl_formats.specs.Faults.{left_by_load}
 use Rattle.sbl_io.specs.HeldInput.{input_of}
-use Rattle.sbl_formats.proofs.LoadFacts.{bench_refused, script_parsed, script_refused, script_unread, words_refused}
+use Rattle.sbl_formats.proofs.LoadFacts.{bench_refused}
 use Rattle.sbl_formats.proofs.loading.load.Goals as goal
-
-pub returns-in_err-text-clause-again : goal.returns-in_err-text-clause-again
-returns-in_err-text-clause-again g c = λ fault is.
-    let again = c.read_script.ensures.again fault is in
-    (search (rules, again.0), again.1)
-
-pub returns-in_err-text-clause-loaded : goal.returns-in_err-text-clause-loaded
-returns-in_err-text-clause-loaded g c = λ none.
-    let left = g.R.Source.left in
-    let p = err_from_is_err_and c.from_residual.result c.from_residual.ensures.1 in
-    rw (p.1, p.2) (script_unread (input_of left c.args.lines.now) _ c.args.external.now (λ b. contents_of b) c.in_err-text.field-0.0 (c.in_err-text.ensures.reads none))
-
-pub returns-in_err-script-clause-loaded : goal.returns-in_err-script-clause-loaded
-returns-in_err-script-clause-loaded g c = λ none.
-    let p = err_from_is_err_and c.from_residual-in_err-script.result c.from_residual-in_err-script.ensures.1 in
-    rw (p.1, p.2) (script_refused _ _ c.in_ok-text.text c.deref.result.now c.args.external.now c.in_err-script.field-0.0 (c.in_ok-text.ensures.reads none) c.deref.ensures.value c.in_err-script.ensures.fault)
-
-pub returns-in-Err-clause-loaded : goal.returns-in-Err-clause-loaded
-returns-in-Err-clause-loaded g c = λ none.
-    let left = g.R.Source.left in
-    let source = script_parsed _ _ c.in_ok-text.text c.deref.result.now c.args.external.now c.in_ok-script.script (c.in_ok-text.ensures.reads none) c.deref.ensures.value c.in_ok-script.ensures.script in
-    let ready = c.read_script.ensures.remembered ∙ ap left_by_load c.in_ok-text.was in
-    words_refused (input_of left c.args.lines.now) _ (input_of left c.read_words.new.lines) c.args.external.now (source_of c.in_ok-script.script) (λ b. contents_of b) c.in-Err.fault
-    source (c.in-Err.ensures.reads ready)
 
 pub returns-clause-loaded : goal.returns-clause-loaded
 returns-clause-loaded g c = λ none.
     let left = g.R.Source.left in
-    let source = script_parsed _ _ c.in_ok-text.text c.deref.result.now c.args.external.now c.in_ok-script.script (c.in_ok-text.ensures.reads none) c.deref.ensures.value c.in_ok-script.ensures.script in
-    let ready = c.read_script.ensures.remembered ∙ ap left_by_load c.in_ok-text.was in
-    let reads = c.in-Ok.ensures.reads ready in
-    bench_refused (input_of left c.args.lines.now) _ (input_of left c.read_words.new.lines) c.args.external.now (source_of c.in_ok-script.script) reads.0 (λ b. contents_of b) c.in-Err-open_words.fault
-    source reads.1 (c.in-Err-open_words.ensures (map chars reads.0) reads.2)
+    let reads = c.in_ok-read_input.ensures.reads none in
+    let input = reads.1 in
+    bench_refused (input_of left c.args.lines.now) input.0 (input_of left c.read_input.new.lines) c.args.external.now (source_of c.in_ok-read_input.script) reads.0 (λ b. contents_of b) c.in-Err.fault
+    input.1 input.2 (c.in-Err.ensures (map chars reads.0) reads.2)
