@@ -91,8 +91,7 @@ impl VocabularyRows {
         Ok(())
     }
 
-    /// Returns the text of the rows. Returns `AllocError` if an allocation fails. Does not free the words: a program ends after
-    /// it has written their rows.
+    /// Returns the text of the rows, and does not free the words. Returns `AllocError` if an allocation fails.
     fn into_text(self) -> Result<Vec<u8>, AllocError>
         ensures { (text : List ℕ) → HasWritten self.records.writer text → IfOk result (λ bytes. bytes.items ≡ text) }
     {
@@ -132,7 +131,7 @@ fn write_row(
 }
 
 /// Returns the text of the rows of the vocabulary of these words. Returns `WordTooLong`, `Full` or `OutOfMemory` as
-/// `Bench::open` does.
+/// `Bench::open` does. Does not free the machine and the words: a program ends after it has written their rows.
 pub(crate) fn vocabulary_rows(
     alloc: Global,
     keys: RandomState,
@@ -144,7 +143,7 @@ pub(crate) fn vocabulary_rows(
     let machine = Machine::new(alloc, script)?;
     let mut rows = VocabularyRows::new(alloc, keys);
     let pushed = rows.push_all(&machine, words);
-    machine.discard();
+    forget(machine);
     pushed?;
     Ok(rows.into_text()?)
 }
