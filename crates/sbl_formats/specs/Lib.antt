@@ -2,6 +2,7 @@
 pub mod Faults
 pub mod Block
 pub mod Loading
+pub mod LoadedRows
 pub mod OneLoading
 pub mod RowRecords
 pub mod Traces

@@ -1,4 +1,4 @@
--- The rows of a vocabulary as a text, without a bench.
+-- While the rows of a vocabulary are made without a bench.
 use Rattle.std.specs.Prelude.{◌≡◌, ℕ, List, [], Option, None, Result, Ok, Err, map}
 use Rattle.std.specs.Str.{chars}
 use Rattle.std.specs.declared.vec.Vec.{Vec}
@@ -19,13 +19,6 @@ use Rattle.sbl_formats.specs.declared.loading.ParsedInput.{ParsedInput}
 use Rattle.sbl_script.specs.ParsedScript.{source_of}
 use Rattle.sbl_formats.specs.declared.faults.LoadFault.{LoadFault}
 use Rattle.sbl_formats.specs.declared.vocabulary_rows.VocabularyRows.{VocabularyRows}
-
--- The rows of an input: those of a bench of it; or why it has no bench.
-abbrev pub AreRowsOf : Option (List ℕ) → Option (List ℕ) → List ℕ → Result (Vec ℕ Global) LoadFault → Type 0
-AreRowsOf old new external (Ok text) =
-    (s : Source) × (words : List (List ℕ)) × IsInput old new external s words
-    × (opening_fault [] (map chars words) ≡ None) × (text.items ≡ stems_text (opening_contents s (map chars words)))
-AreRowsOf old new external (Err f) = IsLoaded old new external (λ b. contents_of b) (Err f)
 
 -- The script and the words of an input were read; or why there is no bench of it.
 abbrev pub ReadsInput : Option (List ℕ) → Option (List ℕ) → List ℕ → Result ParsedInput LoadFault → Type 0
