@@ -1,5 +1,5 @@
 -- Lines are taken from an input, up to a point; and what is made of them.
-use Rattle.std.proofs.Common.{◌≢◌, false, ◌≡◌, ◌⊎◌, inl, inr, ◌∙◌, ◌++◌, ◌≤◌, ℕ, true, List, [], ◌∷◌, Option, Some, Ok, Err, refl, sym, ap, subst, map, length}
+use Rattle.std.proofs.Common.{◌≢◌, false, ◌≡◌, ◌⊎◌, inl, inr, ◌∙◌, ◌++◌, ◌≤◌, ℕ, true, List, [], ◌∷◌, Option, Ok, Err, refl, sym, ap, subst, map, length}
 use Rattle.std.proofs.lemmas.List.{map-append}
 use Rattle.std.specs.Str.{chars, is_utf8}
 use Rattle.std.specs.declared.vec.Vec.{Vec}

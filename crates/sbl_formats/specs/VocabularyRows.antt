@@ -1,8 +1,6 @@
 -- While the rows of a vocabulary are made without a bench.
 use Rattle.std.specs.Prelude.{◌≡◌, ℕ, List, [], Option, None, Result, Ok, Err, map}
 use Rattle.std.specs.Str.{chars}
-use Rattle.std.specs.declared.vec.Vec.{Vec}
-use Rattle.std.specs.declared.alloc.Global.{Global}
 use Rattle.sbl_ast.specs.Source.{Source}
 use Rattle.sbl_bench.specs.Contents.{IsFaultOrMemory, opening_contents, opening_fault}
 use Rattle.sbl_bench.specs.KeptRuns.{contents_of}
@@ -29,12 +27,12 @@ ReadsInput old new external (Err f) = IsLoaded old new external (λ b. contents_
 -- ---- while the rows are made
 
 -- the text of the rows of words
-abbrev pub rows_text : Source → List (List ℕ) → List ℕ
-rows_text s words = records_text (map row_fields (rows_of (under s default_limit) words))
+abbrev pub text_of_rows : Source → List (List ℕ) → List ℕ
+text_of_rows s words = records_text (map row_fields (rows_of (under s default_limit) words))
 
 -- the rows of the words so far are written
 abbrev pub IsWriting : Source → VocabularyRows → Type 0
-IsWriting s rows = HasWritten rows.records.writer (rows_text s (texts_of rows.words.keys))
+IsWriting s rows = HasWritten rows.records.writer (text_of_rows s (texts_of rows.words.keys))
 
 -- the text of the rows that a bench of these words has; or a fault of the words, or an allocation failed
 abbrev pub RowsOpen : {B : Type 0} → Source → List (List ℕ) → (List ℕ → B → Type 0) → Result B EditFault → Type 0

@@ -11,7 +11,7 @@ ghost use Rattle.sbl_script.specs.ParsedScript.{source_of};
 ghost use Rattle.sbl_semantics.specs.Limit.{default_limit, max_word_length};
 ghost use Rattle.sbl_formats.specs.RowRecords.{row_fields};
 ghost use Rattle.sbl_formats.specs.RowWriter.{HasWritten, Writes};
-ghost use Rattle.sbl_formats.specs.VocabularyRows.{IsWriting, RowsOpen, rows_text};
+ghost use Rattle.sbl_formats.specs.VocabularyRows.{IsWriting, RowsOpen};
 ghost use Rattle.sbl_formats.specs.WordLists.{texts_of};
 
 use crate::records::{Record, RecordWriter};
@@ -116,7 +116,7 @@ fn write_row(
     word: &[char],
 ) -> Result<(), AllocError>
     requires { length word.now ≤ max_word_length }
-    ensures { OnOk result ((s : Source) → IsLinkedMachineOf machine.now s → Writes (row_fields (row_of (under s default_limit) word.now)) records.old.writer records.new.writer) }
+    ensures { (s : Source) → IsLinkedMachineOf machine.now s → OnOk result (Writes (row_fields (row_of (under s default_limit) word.now)) records.old.writer records.new.writer) }
 {
     // A vocabulary has fewer words than a meter counts, so the only error is a failed allocation.
     let Ok(traced) = machine.trace(alloc, meter, word, DEFAULT_LIMIT) else {
@@ -142,8 +142,8 @@ pub(crate) fn vocabulary_rows(
 {
     let machine = Machine::new(alloc, script)?;
     let mut rows = VocabularyRows::new(alloc, keys);
-    let pushed = rows.push_all(&machine, words);
+    let result = rows.push_all(&machine, words);
     forget(machine);
-    pushed?;
+    result?;
     Ok(rows.into_text()?)
 }

@@ -1,15 +1,19 @@
-use Rattle.std.proofs.Common.{ap, map}
-use Rattle.std.specs.Str.{chars}
-use Rattle.sbl_bench.specs.KeptRuns.{contents_of}
-use Rattle.sbl_script.specs.ParsedScript.{source_of}
-use Rattle.sbl_io.specs.HeldInput.{input_of}
-use Rattle.sbl_formats.proofs.LoadFacts.{bench_refused}
+use Rattle.std.proofs.Common.{◌∙◌, sym, rules}
 use Rattle.sbl_formats.proofs.loading.load.Goals as goal
 
-pub returns-clause-loaded : goal.returns-clause-loaded
-returns-clause-loaded g c = λ none.
-    let left = g.R.Source.left in
-    let reads = c.in_ok-read_input.ensures.reads none in
-    let input = reads.1 in
-    bench_refused (input_of left c.args.lines.now) input.0 (input_of left c.read_input.new.lines) c.args.external.now (source_of c.in_ok-read_input.script) reads.0 (λ b. contents_of b) c.in-Err.fault
-    input.1 input.2 (c.in-Err.ensures (map chars reads.0) reads.2)
+pub returns-in_err-script-clause-again : goal.returns-in_err-script-clause-again
+returns-in_err-script-clause-again g c = λ fault is.
+    let again = c.read_input.ensures.again fault is in
+    (search (rules, again.0), again.1)
+
+pub returns-in-Ok-clause-again : goal.returns-in-Ok-clause-again
+returns-in-Ok-clause-again g c = λ fault is.
+    let again = c.read_input.ensures.again fault is in
+    let clash = sym c.in_ok-script.was ∙ again.0 in
+    absurd (let no : ⊥ = cc clash in no)
+
+pub returns-in-Err-clause-again : goal.returns-in-Err-clause-again
+returns-in-Err-clause-again g c = λ fault is.
+    let again = c.read_input.ensures.again fault is in
+    let clash = sym c.in_ok-script.was ∙ again.0 in
+    absurd (let no : ⊥ = cc clash in no)
