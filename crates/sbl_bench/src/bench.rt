@@ -63,9 +63,9 @@ impl Bench {
     ghost use Rattle.std.specs.Str.{bytes_eq};
     ghost use Rattle.sbl_bench.specs.KeptRuns.{setting_of};
     ghost use Rattle.sbl_semantics.specs.TouchedItems.{items_in};
+    ghost use Rattle.sbl_bench.specs.Vocabulary.{is_word};
     ghost use Rattle.sbl_bench.specs.Rows.{rows_of, view_row};
     ghost use Rattle.sbl_bench.specs.Traces.{trace_of};
-    ghost use Rattle.sbl_bench.specs.Vocabulary.{is_word};
     ghost use Rattle.sbl_bench.specs.Whys.{IsWhy, refusal_of_why, routine_name};
 
     /// Returns the number of words of the vocabulary. Does not allocate.

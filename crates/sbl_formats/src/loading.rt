@@ -121,13 +121,13 @@ fn read_input<R: Source + Drop>(
     external: &str,
 ) -> Result<ParsedInput, LoadFault>
     ensures reads { fault_of lines.old ≡ None → ReadsInput (input_of R.left lines.old) (input_of R.left lines.new) external.now result }
+    ensures bound { reads_bound R.tally lines.new ≡ reads_bound R.tally lines.old }
     ensures later { (R.tally lines.old.reader).failures ≤ (R.tally lines.new.reader).failures }
+    ensures again { (fault : LineFault) → fault_of lines.old ≡ Some fault → (result ≡ Err (LoadFault.Input (serve_fault_of fault))) × Keeps (input_of R.left lines.old) (input_of R.left lines.new) }
     ensures steady { OnOk result ((R.tally lines.new.reader).failures ≡ (R.tally lines.old.reader).failures) }
+    ensures remembered { fault_of lines.new ≡ left_by_load result }
     ensures why { IfErr result (λ fault. HasReason R.tally lines.old lines.new fault) }
     ensures in_time { KeepsTime R.tally lines.old lines.new }
-    ensures remembered { fault_of lines.new ≡ left_by_load result }
-    ensures again { (fault : LineFault) → fault_of lines.old ≡ Some fault → (result ≡ Err (LoadFault.Input (serve_fault_of fault))) × Keeps (input_of R.left lines.old) (input_of R.left lines.new) }
-    ensures bound { reads_bound R.tally lines.new ≡ reads_bound R.tally lines.old }
 {
     let text = read_script(lines)?;
     let script = Script::parse(lines.alloc(), &text, external)?;
@@ -223,13 +223,13 @@ pub fn load_rows<R: Source + Drop>(
     external: &str,
 ) -> Result<Vec<u8>, LoadFault>
     ensures rows { fault_of lines.old ≡ None → AreRowsOf (input_of R.left lines.old) (input_of R.left lines.new) external.now result }
-    ensures later { (R.tally lines.old.reader).failures ≤ (R.tally lines.new.reader).failures }
-    ensures steady { OnOk result ((R.tally lines.new.reader).failures ≡ (R.tally lines.old.reader).failures) }
-    ensures why { IfErr result (λ fault. HasReason R.tally lines.old lines.new fault) }
     ensures in_time { KeepsTime R.tally lines.old lines.new }
-    ensures remembered { fault_of lines.new ≡ left_by_load result }
-    ensures again { (fault : LineFault) → fault_of lines.old ≡ Some fault → (result ≡ Err (LoadFault.Input (serve_fault_of fault))) × Keeps (input_of R.left lines.old) (input_of R.left lines.new) }
+    ensures why { IfErr result (λ fault. HasReason R.tally lines.old lines.new fault) }
     ensures bound { reads_bound R.tally lines.new ≡ reads_bound R.tally lines.old }
+    ensures remembered { fault_of lines.new ≡ left_by_load result }
+    ensures later { (R.tally lines.old.reader).failures ≤ (R.tally lines.new.reader).failures }
+    ensures again { (fault : LineFault) → fault_of lines.old ≡ Some fault → (result ≡ Err (LoadFault.Input (serve_fault_of fault))) × Keeps (input_of R.left lines.old) (input_of R.left lines.new) }
+    ensures steady { OnOk result ((R.tally lines.new.reader).failures ≡ (R.tally lines.old.reader).failures) }
 {
     let ParsedInput { script, words } = read_input(lines, keys, external)?;
     let rows = rows_of_words(lines.alloc(), keys, &script, words);

@@ -1,16 +1,16 @@
 //! The text of rows, classes and items as records, written with `csv`.
+ghost use Rattle.sbl_bench.specs.Rows.{view_row};
 ghost use Rattle.std.specs.Prelude.{◌≡◌, ◌++◌, ◌∷◌, [], ℕ, List, IfOk, OnOk, map};
 ghost use Rattle.std.specs.Str.{encode_utf8_all};
+ghost use Rattle.sbl_formats.specs.Traces.{item_fields};
+ghost use Rattle.sbl_formats.specs.RowRecords as spec;
 ghost use Rattle.csv.specs.Records.{fields_of, partial_of};
 ghost use Rattle.sbl_bench.specs.Classes.{view_class, words_of};
-ghost use Rattle.sbl_bench.specs.KeptRuns.{contents_of};
-ghost use Rattle.sbl_bench.specs.Rows.{view_row};
-ghost use Rattle.sbl_semantics.specs.Outcome.{outcome_of};
-ghost use Rattle.sbl_semantics.specs.TouchedItems.{item_of};
 ghost use Rattle.sbl_io.specs.Records as texts;
-ghost use Rattle.sbl_formats.specs.RowRecords as spec;
+ghost use Rattle.sbl_semantics.specs.TouchedItems.{item_of};
 ghost use Rattle.sbl_formats.specs.RowWriter.{HasWritten, Writes};
-ghost use Rattle.sbl_formats.specs.Traces.{item_fields};
+ghost use Rattle.sbl_semantics.specs.Outcome.{outcome_of};
+ghost use Rattle.sbl_bench.specs.KeptRuns.{contents_of};
 
 use csv::{ByteRecord, Writer, WriterBuilder};
 use sbl_bench::{Bench, Class, Row};

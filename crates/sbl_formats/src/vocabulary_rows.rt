@@ -1,18 +1,18 @@
 //! The rows of a vocabulary without a bench: each word is run once, and only the word and the text of its row are kept.
 
-ghost use Rattle.std.specs.Prelude.{◌≡◌, ◌≤◌, [], List, ℕ, None, length, map, IfOk, IfErr, OnOk};
 ghost use Rattle.sbl_ast.specs.Source.{Source};
-ghost use Rattle.sbl_bench.specs.Contents.{IsFaultOrMemory, word_fault};
-ghost use Rattle.sbl_bench.specs.Rows.{row_of};
-ghost use Rattle.sbl_bench.specs.Setting.{under};
-ghost use Rattle.sbl_bench.specs.Vocabulary.{with_word};
-ghost use Rattle.sbl_machine.specs.MachineOf.{IsLinkedMachineOf};
-ghost use Rattle.sbl_script.specs.ParsedScript.{source_of};
-ghost use Rattle.sbl_semantics.specs.Limit.{default_limit, max_word_length};
-ghost use Rattle.sbl_formats.specs.RowRecords.{row_fields};
-ghost use Rattle.sbl_formats.specs.RowWriter.{HasWritten, Writes};
 ghost use Rattle.sbl_formats.specs.VocabularyRows.{IsWriting, RowsOpen};
+ghost use Rattle.sbl_bench.specs.Rows.{row_of};
+ghost use Rattle.sbl_semantics.specs.Limit.{default_limit, max_word_length};
+ghost use Rattle.sbl_bench.specs.Contents.{IsFaultOrMemory, word_fault};
+ghost use Rattle.sbl_bench.specs.Setting.{under};
+ghost use Rattle.sbl_formats.specs.RowWriter.{HasWritten, Writes};
 ghost use Rattle.sbl_formats.specs.WordLists.{texts_of};
+ghost use Rattle.std.specs.Prelude.{◌≡◌, ◌≤◌, [], List, ℕ, None, length, map, IfOk, IfErr, OnOk};
+ghost use Rattle.sbl_bench.specs.Vocabulary.{with_word};
+ghost use Rattle.sbl_formats.specs.RowRecords.{row_fields};
+ghost use Rattle.sbl_script.specs.ParsedScript.{source_of};
+ghost use Rattle.sbl_machine.specs.MachineOf.{IsLinkedMachineOf};
 
 use crate::records::{Record, RecordWriter};
 use indexmap::IndexSet;

@@ -26,15 +26,18 @@ const SESSION: Case = (
 );
 
 /// Words of a filter, each with its row.
+const ROWS: &[(&[u8], &[u8])] = &[
+    (b"undo\n", b"undo,stem,do\n"),
+    (b"\n", b""),
+    (b"redo\n", b"redo,stem,do\n"),
+    (b"x\n", b"x,stem,x\n"),
+];
+
+/// A filter of these words.
 const FILTER: Case = (
     Verb::Filter,
     b"externals ( stem )\ndefine stem as ( [ among ( 'un' () 're' () ) ] delete )\n.\n",
-    &[
-        (b"undo\n", b"undo,stem,do\n"),
-        (b"\n", b""),
-        (b"redo\n", b"redo,stem,do\n"),
-        (b"x\n", b"x,stem,x\n"),
-    ],
+    ROWS,
 );
 
 /// Returns the whole input.
