@@ -34,7 +34,7 @@ fn paths_of(alloc: Global, file: &str) -> Result<Paths, Fail> {
 
 /// Works on a file with the script, over this input. The reader fails at read `read` and the writer at write `write`, both
 /// counted from 1 (0 for never); a write takes one byte.
-fn worked(
+fn work_over(
     rt: &(impl Files + AllocGlobal),
     file: &str,
     prompts: bool,
@@ -89,7 +89,7 @@ fn ends(rt: &(impl Abort + Files + AllocGlobal), row: &str) -> Result<(), Fail> 
     let alloc = rt.alloc();
     let prompts = !field(row, 0).is_empty();
     let input = bytes_of(alloc, field(row, 1))?;
-    let ended = worked(rt, "work_rows.sbl", prompts, &input, number(row, 2), 0)?;
+    let ended = work_over(rt, "work_rows.sbl", prompts, &input, number(row, 2), 0)?;
     assert!(rt; ended.text == bytes_of(alloc, field(row, 3))?, "{row}");
     assert!(rt; ended.told == bytes_of(alloc, field(row, 4))?, "{row}");
     assert!(rt; u64::from(ended.status) == number(row, 5), "{row}");
@@ -115,7 +115,7 @@ const AT_TERMINAL: &[u8] = b"> ok\n> undo,stem,do\n> pairs,0,0,0,0\n> 1\n> ";
 fn the_writer_may_fail_at_each_byte(rt: HostRuntime) -> Result<(), Fail> {
     for bytes in 0..AT_TERMINAL.len() {
         let write = bytes as u64 + 1;
-        let ended = worked(&rt, "work_writer.sbl", true, INPUT, 0, write)?;
+        let ended = work_over(&rt, "work_writer.sbl", true, INPUT, 0, write)?;
         assert!(rt; ended.text.as_slice() == &AT_TERMINAL[..bytes], "{bytes}");
         assert!(rt; ended.status == 1, "{bytes}");
     }

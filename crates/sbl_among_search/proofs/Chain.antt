@@ -11,7 +11,7 @@ use Rattle.std.proofs.lemmas.List.{get_or_append_left, get_or_push, length-appen
 use Rattle.sbl_among_search.specs.Best.{IsBest}
 use Rattle.sbl_among_search.specs.Linked.{AreLinks, AreRows, GoDown, IsCount, IsLast, Rise, StandsAt, before, upto_row}
 use Rattle.sbl_among_search.proofs.Fits.{some_text, prefix_length}
-use Rattle.sbl_among_search.proofs.Order.{prefix_not_after, between, itself, prefix_upto, nested, same_prefix, true_or_false}
+use Rattle.sbl_among_search.proofs.Order.{prefix_not_after, between, itself, prefix_upto, shorter_prefix, same_prefix, true_or_false}
 
 -- all prefixes of x that are looked for stand before the n-th row, which does not stand after x
 pub stands : (texts : List (List ℕ)) (x : List ℕ) (b n : ℕ) → n ≤ length texts → Rise texts → ((p : ℕ) (w : List ℕ) → p < n → slice_get texts p ≡ Some w → is_gt (slice_cmp nat_cmp w x) ≡ false) → ((j : ℕ) (v : List ℕ) → slice_get texts j ≡ Some v → starts_with nat_eq x v ≡ true → length v < b → j < n) → StandsAt texts x b (before n)
@@ -46,8 +46,8 @@ own_stands texts k w rise at =
     by j v s f n false t = absurd (true_or_false _ (prefix_not_after w v f n) (rise k j w v (ltb-false j k t) at s))
 
 -- a row that matches is what is looked for
-pub found : (texts : List (List ℕ)) (x : List ℕ) (b r : ℕ) (w : List ℕ) → StandsAt texts x b (Some r) → slice_get texts r ≡ Some w → starts_with nat_eq x w ≡ true → length w < b → IsLast texts x b (Some r)
-found texts x b r w stand at prefix short =
+pub match_stands_at : (texts : List (List ℕ)) (x : List ℕ) (b r : ℕ) (w : List ℕ) → StandsAt texts x b (Some r) → slice_get texts r ≡ Some w → starts_with nat_eq x w ≡ true → length w < b → IsLast texts x b (Some r)
+match_stands_at texts x b r w stand at prefix short =
     let same : stand.0 ≡ w = some_text stand.0 w (sym stand.1 ∙ at) in (
       w,
       at,
@@ -91,7 +91,7 @@ goes_on texts x b r w (Some q) stand at unmet last = (
       let same : stand.0 ≡ w = some_text stand.0 w (sym stand.1 ∙ at) in
       let g : starts_with nat_eq w v ≡ true = ap (λ y. starts_with nat_eq y v) (sym same) ∙ (stand.2 j v s f n).0 in
       let o = last.4 j v s g (shorter x w v b f g n unmet) in
-      (nested w v last.0 g last.2 o.0, o.1),
+      (shorter_prefix w v last.0 g last.2 o.0, o.1),
 )
 
 -- the number of the row that is found

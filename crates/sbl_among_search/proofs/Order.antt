@@ -68,8 +68,8 @@ between x f p h lower upper =
     taken_prefix p f n long e
 
 -- of two prefixes the shorter is a prefix of the longer
-pub nested : (x f g : List ℕ) → starts_with nat_eq x f ≡ true → starts_with nat_eq x g ≡ true → length f ≤ length g → starts_with nat_eq g f ≡ true
-nested x f g h k l =
+pub shorter_prefix : (x f g : List ℕ) → starts_with nat_eq x f ≡ true → starts_with nat_eq x g ≡ true → length f ≤ length g → starts_with nat_eq g f ≡ true
+shorter_prefix x f g h k l =
     let e : f ≡ take (length f) g = prefix_is x f h ∙ sym (take_take (length f) (length g) x l) ∙ ap (take (length f)) (sym (prefix_is x g k)) in
     taken_prefix g f (length f) l e
 

@@ -51,22 +51,22 @@ far rows j k r s up l at_j at_k =
     let f = sorted_far (λ x y. is_lt (row_cmp x y)) (ranks_by row_total (λ x. x)) rows up j k r l (slice_get_within rows k s at_k) in
     ap (λ y. is_lt (row_cmp y r)) (sym b) ∙ ap (λ y. is_lt (row_cmp (get_or rows k r) y)) (sym a) ∙ f
 
-turned : (o s : Ordering) → is_lt (ordering_then o s) ≡ false → is_gt (ordering_reverse o) ≡ false
-turned Less s h = absurd (true_or_false true refl h)
-turned Equal s h = refl
-turned Greater s h = refl
+reverse_not_greater : (o s : Ordering) → is_lt (ordering_then o s) ≡ false → is_gt (ordering_reverse o) ≡ false
+reverse_not_greater Less s h = absurd (true_or_false true refl h)
+reverse_not_greater Equal s h = refl
+reverse_not_greater Greater s h = refl
 
-fallen : (a b : ℕ) (o : Ordering) → o ≡ nat_cmp a b → is_lt o ≡ false → b ≤ a
-fallen a b Less e h = absurd (true_or_false true refl h)
-fallen a b Equal e h = let l : a ≡ b = ranked a b Equal e in omega arith
-fallen a b Greater e h = let l : b < a = ranked a b Greater e in omega arith
+at_most_if_not_less : (a b : ℕ) (o : Ordering) → o ≡ nat_cmp a b → is_lt o ≡ false → b ≤ a
+at_most_if_not_less a b Less e h = absurd (true_or_false true refl h)
+at_most_if_not_less a b Equal e h = let l : a ≡ b = ranked a b Equal e in omega arith
+at_most_if_not_less a b Greater e h = let l : b < a = ranked a b Greater e in omega arith
 
 rises : (rows : List Row) → IsSorted row_cmp rows → Rise (texts_of rows)
 rises rows up j k u v l at_j at_k =
     let r = row_at (λ r. r.0.items) rows j u at_j in
     let s = row_at (λ r. r.0.items) rows k v at_k in
     let f = far rows j k r.0 s.0 up l r.1 s.1 in
-    let t : is_gt (slice_cmp nat_cmp r.0.0.items s.0.0.items) ≡ false = ap is_gt (nat_list_cmp_total.antisymm r.0.0.items s.0.0.items) ∙ turned (slice_cmp nat_cmp s.0.0.items r.0.0.items) (nat_cmp r.0.1.0 s.0.1.0) f in
+    let t : is_gt (slice_cmp nat_cmp r.0.0.items s.0.0.items) ≡ false = ap is_gt (nat_list_cmp_total.antisymm r.0.0.items s.0.0.items) ∙ reverse_not_greater (slice_cmp nat_cmp s.0.0.items r.0.0.items) (nat_cmp r.0.1.0 s.0.1.0) f in
     ap (λ y. is_gt (slice_cmp nat_cmp y v)) (sym r.2) ∙ ap (λ y. is_gt (slice_cmp nat_cmp r.0.0.items y)) (sym s.2) ∙ t
 
 ties_fall : (rows : List Row) → IsSorted row_cmp rows → TiesFall (texts_of rows) (numbers_of rows)
@@ -84,15 +84,15 @@ ties_fall rows up j k a b u l text_j text_k at_j at_k =
     let nb : s.0.1.0 ≡ b = ap (λ (y : Row). y.1.0) (sym same_s) ∙ q.2 in
     let level : slice_cmp nat_cmp s.0.0.items r.0.0.items ≡ Equal = ap (λ y. slice_cmp nat_cmp y r.0.0.items) s.2 ∙ ap (λ y. slice_cmp nat_cmp u y) r.2 ∙ tied_itself nat_list_cmp_total u in
     let g : is_lt (nat_cmp r.0.1.0 s.0.1.0) ≡ false = ap (λ o. is_lt (ordering_then o (nat_cmp r.0.1.0 s.0.1.0))) (sym level) ∙ f in
-    let down : s.0.1.0 ≤ r.0.1.0 = fallen r.0.1.0 s.0.1.0 (nat_cmp r.0.1.0 s.0.1.0) refl g in
+    let down : s.0.1.0 ≤ r.0.1.0 = at_most_if_not_less r.0.1.0 s.0.1.0 (nat_cmp r.0.1.0 s.0.1.0) refl g in
     omega (arith, down, na, nb)
 
 -- a row in its place among the numbered ones
 abbrev IsItsString : List (List ℕ) → Row → Type 0
 IsItsString strings r = slice_get strings r.1.0 ≡ Some r.0.items
 
-placed : (strings : List (List ℕ)) (rows : List Row) → texts_of rows ≡ strings → AreOwn (numbers_of rows) → All (IsItsString strings) rows
-placed strings rows texts own k d l =
+rows_have_their_strings : (strings : List (List ℕ)) (rows : List Row) → texts_of rows ≡ strings → AreOwn (numbers_of rows) → All (IsItsString strings) rows
+rows_have_their_strings strings rows texts own k d l =
     let r = get_or rows k d in
     let at : slice_get rows k ≡ Some r = slice_get-get_or rows k d l in
     let n : length (numbers_of rows) ≡ length rows = length-map rows (λ r. r.1.0) in
@@ -110,7 +110,7 @@ rows_are strings rows sorted texts own moved up = record {
       let same : s.0 ≡ r.0 = cc in
       let number : r.0.1.0 ≡ i = ap (λ (y : Row). y.1.0) (sym same) ∙ s.2 in
       let here : get_or sorted k r.0 ≡ r.0 = get_or_from_slice_get sorted k r.0 r.0 r.1 in
-      let p : IsItsString strings (get_or sorted k r.0) = All-permutation (IsItsString strings) rows sorted moved (placed strings rows texts own) k r.0 (slice_get_within sorted k r.0 r.1) in
+      let p : IsItsString strings (get_or sorted k r.0) = All-permutation (IsItsString strings) rows sorted moved (rows_have_their_strings strings rows texts own) k r.0 (slice_get_within sorted k r.0 r.1) in
       let p2 : slice_get strings r.0.1.0 ≡ Some r.0.0.items = ap (λ (y : Row). slice_get strings y.1.0) (sym here) ∙ p ∙ ap (λ (y : Row). Some y.0.items) here in
       ap (slice_get strings) (sym number) ∙ p2 ∙ ap Some r.2;
   all = λ i u at.

@@ -62,8 +62,8 @@ pub at_end : {X Y : Type 0} (f : X → Y) (xs ds : List X) (i : ℕ) → ds ≡ 
 at_end f xs ds i d le = ap (λ r. map f (drop i r)) (sym d) ∙ ap (map f) (drop_of_length-le ds le)
 
 -- one more that is put
-pub pushed : {X Y : Type 0} (f : X → Y) (xs new : List X) (x : X) → new ≡ xs ++ x ∷ [] → map f new ≡ map f xs ++ f x ∷ []
-pushed f xs new x e = ap (map f) e ∙ map_push f xs x
+pub map_appended : {X Y : Type 0} (f : X → Y) (xs new : List X) (x : X) → new ≡ xs ++ x ∷ [] → map f new ≡ map f xs ++ f x ∷ []
+map_appended f xs new x e = ap (map f) e ∙ map_push f xs x
 
 -- one step along rows, joined commands and groups: of what is put, and of what is left to count
 pub rows_put : (copies new : List RowView) (y x : RowView) (whole left : List RowView) (all : trees.Rows) (rest after : ℕ) (a : trees.Starter × trees.Groups) → new ≡ copies ++ y ∷ [] → y ≡ put_in_body x rest a → after ≡ rest - count_amongs x.0 - count_in_others x.1 → whole ≡ x ∷ left
@@ -110,11 +110,11 @@ others_done copies whole all rest a e h = sym (others_end copies) ∙ ap (λ (r 
 pub groups_done : (copies whole : List GroupView) (es : List trees.Entry) (all : trees.Groups) (rest : ℕ) (a : trees.Starter × trees.Groups) → whole ≡ [] → then_groups copies (put_in_groups (groups_of whole es) rest a) ≡ all → groups_of copies es ≡ all
 groups_done copies whole es all rest a e h = sym (groups_end copies es) ∙ ap (λ (r : List GroupView). then_groups copies (put_in_groups (groups_of r es) rest a)) (sym e) ∙ h
 
-abbrev pub grouped : trees.Entry → List trees.Entry → trees.Rows → GroupView
-grouped x es rs = record { first = x; others = es; rows = rs }
+abbrev pub group_view : trees.Entry → List trees.Entry → trees.Rows → GroupView
+group_view x es rs = record { first = x; others = es; rows = rs }
 
-pub same_group : (x y : trees.Entry) (es fs : List trees.Entry) (rs qs : trees.Rows) → x ≡ y → es ≡ fs → rs ≡ qs → grouped x es rs ≡ grouped y fs qs
-same_group x y es fs rs qs a b c = ap (λ z. grouped z es rs) a ∙ ap (λ z. grouped y z rs) b ∙ ap (λ z. grouped y fs z) c
+pub same_group : (x y : trees.Entry) (es fs : List trees.Entry) (rs qs : trees.Rows) → x ≡ y → es ≡ fs → rs ≡ qs → group_view x es rs ≡ group_view y fs qs
+same_group x y es fs rs qs a b c = ap (λ z. group_view z es rs) a ∙ ap (λ z. group_view y z rs) b ∙ ap (λ z. group_view y fs z) c
 
 pub among_put : (at inside following : ℕ) (one : trees.Starter × trees.Groups) (s0 s1 : trees.Starter) (g0 g1 : trees.Groups) (a : trees.Starter × trees.Groups) → nat_eq at 1 ≡ false → one ≡ (s0, g0) → inside ≡ at - 1 → following ≡ inside - count_in_starter s0
     → s1 ≡ put_in_starter s0 inside a → g1 ≡ put_in_groups g0 following a → (s1, g1) ≡ put_in_among one at a

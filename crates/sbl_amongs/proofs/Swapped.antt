@@ -12,7 +12,7 @@ use Rattle.sbl_ast.proofs.After.{IsBefore, entry_before, entries_before, express
 use Rattle.sbl_amongs.specs.Amongs.{AmongContents, amongs, amongs_of_body, amongs_of_rows, amongs_of_others, amongs_of_starter, amongs_of_groups, nth_held, put_among, put_in_body, put_in_rows, put_in_others, put_in_starter, put_in_groups}
 use Rattle.sbl_amongs.specs.Replacement.{IsBetween, is_among, count_words}
 use Rattle.sbl_amongs.proofs.Held.{none_is_first}
-use Rattle.sbl_amongs.proofs.Words.{IsWithout, passed, assigns_other, compares_other, count_other, joiner_other, move_other, naming_other, prefix_other, simple_other, splice_other, argument_without, expression_without, entry_without, entries_without}
+use Rattle.sbl_amongs.proofs.Words.{IsWithout, count_after_other, assigns_other, compares_other, count_other, joiner_other, move_other, naming_other, prefix_other, simple_other, splice_other, argument_without, expression_without, entry_without, entries_without}
 use Rattle.sbl_amongs.proofs.Putting.{less_none, less_two, less_three}
 
 abbrev Ps : Type 0
@@ -96,10 +96,10 @@ itself s gs d k a r q first same =
     }
 
 -- an among is the one, or what is in it is looked at
-chosen : (s : Starter) (gs : Groups) (d k : ℕ) (rest : Hs) (a : Starter × Groups) (r q : Ps) → At (k - (1 + (count_in_starter s + count_in_groups gs))) rest a r q
+at_within_groups : (s : Starter) (gs : Groups) (d k : ℕ) (rest : Hs) (a : Starter × Groups) (r q : Ps) → At (k - (1 + (count_in_starter s + count_in_groups gs))) rest a r q
     → (let s1 : Starter = put_in_starter s (k - 1) a in let g1 : Groups = put_in_groups gs (k - 1 - count_in_starter s) a in Swaps k (nth_held (k - 1) (amongs_of_starter s d (amongs_of_groups gs d rest))) a (placed_command (among_ s gs) d r) (placed_command (among_ s1 g1) d q))
     → At k (amongs (among_ s gs) d rest) a (placed_command (among_ s gs) d r) (placed_command (put_among (among_ s gs) k a) d q)
-chosen s gs d k rest a r q hyp inside = go (nat_eq k 1) refl where
+at_within_groups s gs d k rest a r q hyp inside = go (nat_eq k 1) refl where
   go : (b : Bool) → nat_eq k 1 ≡ b → Swaps k (if b then Some (d, s, gs) else nth_held (k - 1) (amongs_of_starter s d (amongs_of_groups gs d rest))) a (placed_command (among_ s gs) d r) (placed_command (if b then among_ a.0 a.1 else among_ (put_in_starter s (k - 1) a) (put_in_groups gs (k - 1 - count_in_starter s) a)) d q)
   go true e = itself s gs d k a r q (is_first k e) (hyp.gone (ap (λ (x : ℕ). nth_held x rest) (omega (arith, is_first k e)) ∙ none_is_first rest))
   go false e = inside
@@ -110,7 +110,7 @@ mutual
       let o = nth_held k (amongs_of_rows rs (d + 1) rest) in
       let close = step (lex.sign signs.Close, d) refl (k - count_in_rows rs) (nth_held (k - count_in_rows rs) rest) a r q s in
       step (lex.sign signs.Open, d) refl k o a (placed_rows rs (d + 1) ((lex.sign signs.Close, d) ∷ r)) (placed_rows (put_in_rows rs k a) (d + 1) ((lex.sign signs.Close, d) ∷ q)) (rows_swaps a rs (d + 1) k rest ((lex.sign signs.Close, d) ∷ r) ((lex.sign signs.Close, d) ∷ q) close)
-  tree_swaps a (simple_ x) d k rest r q s = plain (placed_command (simple_ x) d) (tree_before (simple_ x) d) (λ z. passed (t.simple x) d z (simple_other x)) k rest a r q s
+  tree_swaps a (simple_ x) d k rest r q s = plain (placed_command (simple_ x) d) (tree_before (simple_ x) d) (λ z. count_after_other (t.simple x) d z (simple_other x)) k rest a r q s
   tree_swaps a (literal_ x) d k rest r q s = plain (placed_command (literal_ x) d) (tree_before (literal_ x) d) (λ z. refl) k rest a r q s
   tree_swaps a (name_ x) d k rest r q s = plain (placed_command (name_ x) d) (tree_before (name_ x) d) (λ z. refl) k rest a r q s
   tree_swaps a (non_ true y) d k rest r q s = plain (placed_command (non_ true y) d) (tree_before (non_ true y) d) (λ z. refl) k rest a r q s
@@ -122,9 +122,9 @@ mutual
       let old = placed_command c (d + 1) r in
       let new = placed_command (put_among c k a) (d + 1) q in
       step (t.count n, d) (count_other n) k o a (placed_expression e d old) (placed_expression e d new) (along (placed_expression e d) (expression_before e d) (expression_without e d) k o a old new (tree_swaps a c (d + 1) k rest r q s))
-  tree_swaps a (move_ x y) d k rest r q s = plain (placed_command (move_ x y) d) (tree_before (move_ x y) d) (λ z. passed (t.move x) d (placed_expression y d z) (move_other x) ∙ expression_without y d z) k rest a r q s
-  tree_swaps a (named x y) d k rest r q s = plain (placed_command (named x y) d) (tree_before (named x y) d) (λ z. passed (t.naming x) d ((lex.name y, d) ∷ z) (naming_other x)) k rest a r q s
-  tree_swaps a (splice_ x y) d k rest r q s = plain (placed_command (splice_ x y) d) (tree_before (splice_ x y) d) (λ z. passed (t.splice x) d ((t.argument y, d) ∷ z) (splice_other x) ∙ argument_without y d z) k rest a r q s
+  tree_swaps a (move_ x y) d k rest r q s = plain (placed_command (move_ x y) d) (tree_before (move_ x y) d) (λ z. count_after_other (t.move x) d (placed_expression y d z) (move_other x) ∙ expression_without y d z) k rest a r q s
+  tree_swaps a (named x y) d k rest r q s = plain (placed_command (named x y) d) (tree_before (named x y) d) (λ z. count_after_other (t.naming x) d ((lex.name y, d) ∷ z) (naming_other x)) k rest a r q s
+  tree_swaps a (splice_ x y) d k rest r q s = plain (placed_command (splice_ x y) d) (tree_before (splice_ x y) d) (λ z. count_after_other (t.splice x) d ((t.argument y, d) ∷ z) (splice_other x) ∙ argument_without y d z) k rest a r q s
   tree_swaps a (setlimit_ b c) d k rest r q s =
       let m = k - count_amongs b in
       let old = (lex.word words.For, d) ∷ placed_command c (d + 1) r in
@@ -133,9 +133,9 @@ mutual
       let second = tree_swaps a c (d + 1) m rest r q (number (k - (count_amongs b + count_amongs c)) (m - count_amongs c) rest a r q (less_two k (count_amongs b) (count_amongs c)) s) in
       let first = tree_swaps a b (d + 1) k following old new (step (lex.word words.For, d) refl m (nth_held m following) a (placed_command c (d + 1) r) (placed_command (put_among c m a) (d + 1) q) second) in
       step (lex.word words.SetLimit, d) refl k (nth_held k (amongs b (d + 1) following)) a (placed_command b (d + 1) old) (placed_command (put_among b k a) (d + 1) new) first
-  tree_swaps a (assign_ x y z) d k rest r q s = plain (placed_command (assign_ x y z) d) (tree_before (assign_ x y z) d) (λ v. passed (t.assigns y) d (placed_expression z d v) (assigns_other y) ∙ expression_without z d v) k rest a r q s
-  tree_swaps a (compare_ x y z) d k rest r q s = plain (placed_command (compare_ x y z) d) (tree_before (compare_ x y z) d) (λ v. passed (t.compares y) d (placed_expression z d v) (compares_other y) ∙ expression_without z d v) k rest a r q s
-  tree_swaps a (compare_values_ x y z) d k rest r q s = plain (placed_command (compare_values_ x y z) d) (tree_before (compare_values_ x y z) d) (λ v. expression_without x d ((t.compares y, d) ∷ placed_expression z d ((lex.sign signs.Close, d) ∷ v)) ∙ passed (t.compares y) d (placed_expression z d ((lex.sign signs.Close, d) ∷ v)) (compares_other y) ∙ expression_without z d ((lex.sign signs.Close, d) ∷ v)) k rest a r q s
+  tree_swaps a (assign_ x y z) d k rest r q s = plain (placed_command (assign_ x y z) d) (tree_before (assign_ x y z) d) (λ v. count_after_other (t.assigns y) d (placed_expression z d v) (assigns_other y) ∙ expression_without z d v) k rest a r q s
+  tree_swaps a (compare_ x y z) d k rest r q s = plain (placed_command (compare_ x y z) d) (tree_before (compare_ x y z) d) (λ v. count_after_other (t.compares y) d (placed_expression z d v) (compares_other y) ∙ expression_without z d v) k rest a r q s
+  tree_swaps a (compare_values_ x y z) d k rest r q s = plain (placed_command (compare_values_ x y z) d) (tree_before (compare_values_ x y z) d) (λ v. expression_without x d ((t.compares y, d) ∷ placed_expression z d ((lex.sign signs.Close, d) ∷ v)) ∙ count_after_other (t.compares y) d (placed_expression z d ((lex.sign signs.Close, d) ∷ v)) (compares_other y) ∙ expression_without z d ((lex.sign signs.Close, d) ∷ v)) k rest a r q s
   tree_swaps a (among_ s0 gs) d k rest r q s =
       let n = count_in_starter s0 in
       let m = k - 1 - n in
@@ -149,7 +149,7 @@ mutual
       let groups = groups_swaps a gs d m rest old new (step (lex.sign signs.Close, d) refl (m - count_in_groups gs) (nth_held (m - count_in_groups gs) rest) a r q last) in
       let starts = starter_swaps a s0 d (k - 1) following g0 g1 groups in
       let opened = step (lex.sign signs.Open, d) refl (k - 1) o a (placed_starter s0 d g0) (placed_starter (put_in_starter s0 (k - 1) a) d g1) starts in
-      chosen s0 gs d k rest a r q s (word d k o a ((lex.sign signs.Open, d) ∷ placed_starter s0 d g0) ((lex.sign signs.Open, d) ∷ placed_starter (put_in_starter s0 (k - 1) a) d g1) opened)
+      at_within_groups s0 gs d k rest a r q s (word d k o a ((lex.sign signs.Open, d) ∷ placed_starter s0 d g0) ((lex.sign signs.Open, d) ∷ placed_starter (put_in_starter s0 (k - 1) a) d g1) opened)
 
   rows_swaps : (a : Starter × Groups) (rs : Rows) (d k : ℕ) (rest : Hs) (r q : Ps) → At (k - count_in_rows rs) rest a r q → At k (amongs_of_rows rs d rest) a (placed_rows rs d r) (placed_rows (put_in_rows rs k a) d q)
   rows_swaps a no_rows d k rest r q s = number (k - 0) k rest a r q (sym (less_none k)) s

@@ -118,8 +118,8 @@ joiner_other joiners.And = refl
 joiner_other joiners.Or = refl
 
 -- a token that is not the word
-pub passed : (x : Lexeme) (d : ℕ) (r : Ps) → IsOther x → count_words ((x, d) ∷ r) ≡ count_words r
-passed x d r h = ap (λ (b : Bool). if b then count_words r + 1 else count_words r) h
+pub count_after_other : (x : Lexeme) (d : ℕ) (r : Ps) → IsOther x → count_words ((x, d) ∷ r) ≡ count_words r
+count_after_other x d r h = ap (λ (b : Bool). if b then count_words r + 1 else count_words r) h
 
 -- with the part there are as many words `among` as without it
 abbrev pub IsWithout : (Ps → Ps) → Type 0
@@ -135,21 +135,21 @@ mutual
 
   sums_without : (ss : Sums) (d : ℕ) → IsWithout (placed_sums ss d)
   sums_without no_sums d r = refl
-  sums_without (sum o p ss) d r = passed (t.additive o) d (placed_product p d (placed_sums ss d r)) (additive_other o) ∙ product_without p d (placed_sums ss d r) ∙ sums_without ss d r
+  sums_without (sum o p ss) d r = count_after_other (t.additive o) d (placed_product p d (placed_sums ss d r)) (additive_other o) ∙ product_without p d (placed_sums ss d r) ∙ sums_without ss d r
 
   product_without : (p : Product) (d : ℕ) → IsWithout (placed_product p d)
   product_without (product f ss) d r = factor_without f d (placed_scales ss d r) ∙ scales_without ss d r
 
   scales_without : (ss : Scales) (d : ℕ) → IsWithout (placed_scales ss d)
   scales_without no_scales d r = refl
-  scales_without (scale o f ss) d r = passed (t.multiplicative o) d (placed_factor f d (placed_scales ss d r)) (multiplicative_other o) ∙ factor_without f d (placed_scales ss d r) ∙ scales_without ss d r
+  scales_without (scale o f ss) d r = count_after_other (t.multiplicative o) d (placed_factor f d (placed_scales ss d r)) (multiplicative_other o) ∙ factor_without f d (placed_scales ss d r) ∙ scales_without ss d r
 
   factor_without : (f : Factor) (d : ℕ) → IsWithout (placed_factor f d)
   factor_without (negated f) d r = factor_without f (d + 1) r
   factor_without (bracketed x) d r = expression_without x (d + 1) ((lex.sign signs.Close, d + 1) ∷ r)
   factor_without (numeral n) d r = refl
   factor_without (variable n) d r = refl
-  factor_without (fixed c) d r = passed (t.constant c) d r (constant_other c)
+  factor_without (fixed c) d r = count_after_other (t.constant c) d r (constant_other c)
   factor_without (length_of x) d r = argument_without x d r
 
 pub entry_without : (x : Entry) (d : ℕ) → IsWithout (placed_entry x d)

@@ -16,7 +16,7 @@ use sbl_ast::{
 use std::alloc::{AllocError, Global};
 
 /// Puts a command into a box. It is dropped here if an allocation fails, so no caller has to prove that again.
-fn boxed(alloc: Global, command: Command) -> Result<Box<Command>, AllocError>
+fn box_command(alloc: Global, command: Command) -> Result<Box<Command>, AllocError>
     ensures { IfOk result (λ b. b.value ≡ command) }
 {
     Ok(Box::new(alloc, command)?)
@@ -44,20 +44,20 @@ impl Replacement<'_> {
             }
             Command::Prefixed(prefix, inner) => {
                 let (inner, rest) = self.put_in_command(inner, at)?;
-                let inner = boxed(self.alloc, inner)?;
+                let inner = box_command(self.alloc, inner)?;
                 Ok((Command::Prefixed(*prefix, inner), rest))
             }
             Command::Counted(count, times, inner) => {
                 let times = copy_expression(self.alloc, times)?;
                 let (inner, rest) = self.put_in_command(inner, at)?;
-                let inner = boxed(self.alloc, inner)?;
+                let inner = box_command(self.alloc, inner)?;
                 Ok((Command::Counted(*count, times, inner), rest))
             }
             Command::SetLimit(limit, inner) => {
                 let (limit, rest) = self.put_in_command(limit, at)?;
-                let limit = boxed(self.alloc, limit)?;
+                let limit = box_command(self.alloc, limit)?;
                 let (inner, rest) = self.put_in_command(inner, rest)?;
-                let inner = boxed(self.alloc, inner)?;
+                let inner = box_command(self.alloc, inner)?;
                 Ok((Command::SetLimit(limit, inner), rest))
             }
             Command::Among(one) => {

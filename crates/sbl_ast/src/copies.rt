@@ -130,7 +130,7 @@ pub fn copy_entries(alloc: Global, entries: &Vec<Entry>) -> Result<Vec<Entry>, A
 }
 
 /// Puts a command into a box. It is dropped here if an allocation fails, so no caller has to prove that again.
-fn boxed(alloc: Global, command: Command) -> Result<Box<Command>, AllocError>
+fn box_command(alloc: Global, command: Command) -> Result<Box<Command>, AllocError>
     ensures { IfOk result (λ b. b.value ≡ command) }
 {
     Ok(Box::new(alloc, command)?)
@@ -151,12 +151,12 @@ pub fn copy_command(alloc: Global, command: &Command) -> Result<Command, AllocEr
             name: copy_name(alloc, name)?,
         }),
         Command::Prefixed(prefix, inner) => {
-            let inner = boxed(alloc, copy_command(alloc, inner)?)?;
+            let inner = box_command(alloc, copy_command(alloc, inner)?)?;
             Ok(Command::Prefixed(*prefix, inner))
         }
         Command::Counted(count, times, inner) => {
             let times = copy_expression(alloc, times)?;
-            let inner = boxed(alloc, copy_command(alloc, inner)?)?;
+            let inner = box_command(alloc, copy_command(alloc, inner)?)?;
             Ok(Command::Counted(*count, times, inner))
         }
         Command::Move(word, place) => { Ok(Command::Move(*word, copy_expression(alloc, place)?)) }
@@ -165,8 +165,8 @@ pub fn copy_command(alloc: Global, command: &Command) -> Result<Command, AllocEr
             Ok(Command::Splice(*word, copy_argument(alloc, string)?))
         }
         Command::SetLimit(limit, inner) => {
-            let limit = boxed(alloc, copy_command(alloc, limit)?)?;
-            let inner = boxed(alloc, copy_command(alloc, inner)?)?;
+            let limit = box_command(alloc, copy_command(alloc, limit)?)?;
+            let inner = box_command(alloc, copy_command(alloc, inner)?)?;
             Ok(Command::SetLimit(limit, inner))
         }
         Command::Assign(name, sign, number) => {

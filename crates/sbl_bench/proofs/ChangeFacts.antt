@@ -117,11 +117,11 @@ module _ (es fs : List KeptWord) (cs ls : List Change) (i : ℕ) (so : IsCommitt
   all_before same = maps_agree word_run (word_found es) ls cs same (λ k x y l. ap word_run (get_or_default ls k x y l) ∙ so.before k y (omega (arith, l, same, end)))
 
 -- a vector whose slice was written
-pub written : {A : Type 0} (xs ys : List A) → length xs ≡ length ys → take (length ys) (xs ++ drop (length xs) ys) ≡ xs
-written [] [] same = refl
-written [] (y ∷ ys) same = absurd (omega (arith, same))
-written (x ∷ xs) [] same = absurd (omega (arith, same))
-written (x ∷ xs) (y ∷ ys) same = let rest = written xs ys (omega (arith, same)) in λ i. x ∷ rest i
+pub take_overwritten : {A : Type 0} (xs ys : List A) → length xs ≡ length ys → take (length ys) (xs ++ drop (length xs) ys) ≡ xs
+take_overwritten [] [] same = refl
+take_overwritten [] (y ∷ ys) same = absurd (omega (arith, same))
+take_overwritten (x ∷ xs) [] same = absurd (omega (arith, same))
+take_overwritten (x ∷ xs) (y ∷ ys) same = let rest = take_overwritten xs ys (omega (arith, same)) in λ i. x ∷ rest i
 
 -- ---- what is fresh then
 

@@ -27,7 +27,7 @@ use Rattle.sbl_bench.specs.Rows.{Row, rows_of}
 use Rattle.sbl_bench.proofs.PairFacts.{then_eq}
 use Rattle.sbl_bench.proofs.OrderFacts.{exact, sorted-sorted, total, words-rows}
 use Rattle.sbl_bench.proofs.Sorting.{mem, mem-inserted, mem-stays, from_mem, one_list}
-use Rattle.sbl_bench.proofs.MapEntries.{is_key, key_found, shown, rows_shown}
+use Rattle.sbl_bench.proofs.MapEntries.{is_key, key_found, row_shown, rows_shown}
 
 abbrev is_in : Pair → List Pair → Bool
 is_in p ps = mem pair_cmp p ps
@@ -48,11 +48,11 @@ mem-sorted (p ∷ ps) = All-cons (λ q. is_in q (pairs_in_order (p ∷ ps)) ≡ 
 -- ---- the pairs of the entries
 
 abbrev pairs_of : List KeptWord → List Pair
-pairs_of es = stem_pairs (map shown es)
+pairs_of es = stem_pairs (map row_shown es)
 
 -- a stem and a word, taken together
-tied : (p q : Pair) → is_eq (pair_cmp p q) ≡ (bytes_eq p.0 q.0 && bytes_eq p.1 q.1)
-tied p q = then_eq (slice_cmp nat_cmp p.0 q.0) (slice_cmp nat_cmp p.1 q.1) ∙ ap₂ (λ (a b : Bool). a && b) (is_eq-slice_cmp p.0 q.0) (is_eq-slice_cmp p.1 q.1)
+pair_cmp_eq : (p q : Pair) → is_eq (pair_cmp p q) ≡ (bytes_eq p.0 q.0 && bytes_eq p.1 q.1)
+pair_cmp_eq p q = then_eq (slice_cmp nat_cmp p.0 q.0) (slice_cmp nat_cmp p.1 q.1) ∙ ap₂ (λ (a b : Bool). a && b) (is_eq-slice_cmp p.0 q.0) (is_eq-slice_cmp p.1 q.1)
 
 -- a word that an entry gives a stem has its pair
 has_pair : (es : List KeptWord) (s w : List ℕ) → has_stem s (find w es) ≡ true → is_in (s, w) (pairs_of es) ≡ true
@@ -70,7 +70,7 @@ has_pair (e ∷ es) s w h = by (bytes_eq w e.0.items) refl (has_pair es s w)
 
     now : (o : Outcome') → bytes_eq w e.0.items ≡ true → is_stem s o ≡ true → is_in (s, w) (with_pair o e.0.items (pairs_of es)) ≡ true
     now (Stem t) same k =
-        let there : is_eq (pair_cmp (s, w) (t, e.0.items)) ≡ true = tied (s, w) (t, e.0.items) ∙ rw (same, (bytes_eq-Decides s t).1 (sym ((bytes_eq-Decides t s).0 k))) refl in
+        let there : is_eq (pair_cmp (s, w) (t, e.0.items)) ≡ true = pair_cmp_eq (s, w) (t, e.0.items) ∙ rw (same, (bytes_eq-Decides s t).1 (sym ((bytes_eq-Decides t s).0 k))) refl in
         rw there refl
     now (Refused f) same k = cc k
 

@@ -50,9 +50,9 @@ own_now false false old (inl h) = h
 own_now false false old (inr h) = h
 
 -- a word whose pair is exchanged
-pub exchanged : (word : List ℕ) (before now : Outcome') (old new : Key → Bool) (q : Key)
+pub exchange_follows : (word : List ℕ) (before now : Outcome') (old new : Key → Bool) (q : Key)
     → new q ≡ (is_pair_of word now q || (not (is_pair_of word before q) && old q)) → IsFollowed word before now old new q
-exchanged word before now old new q h = record {
+exchange_follows word before now old new q h = record {
   others = λ other. h ∙ ap (λ (b : Bool). b || (not (is_pair_of word before q) && old q)) (pair_of_other word now q other) ∙ ap (λ (b : Bool). not b && old q) (pair_of_other word before q other);
   own = λ same was.
       h ∙ ap (λ (b : Bool). b || (not (is_pair_of word before q) && old q)) (pair_of_own word now q same)

@@ -34,8 +34,8 @@ same_itself : (o : Outcome') → same_outcome o o ≡ true
 same_itself (Stem s) = (bytes_eq-Decides s s).1 refl
 same_itself (Refused f) = true_same fault.the_type f f refl
 
-unchanged : (word : List ℕ) (o p : Outcome') → p ≡ o → if_changed word o p ≡ None
-unchanged word o p same = rw (ap (same_outcome o) same ∙ same_itself o) refl
+if_changed_same : (word : List ℕ) (o p : Outcome') → p ≡ o → if_changed word o p ≡ None
+if_changed_same word o p same = rw (ap (same_outcome o) same ∙ same_itself o) refl
 
 -- ---- rows of one vocabulary in two settings
 
@@ -75,7 +75,7 @@ no_rows_change s words (w ∷ some) =
     λ i. cons_option (first i) (rest i)
   where
     either : (b : Bool) → option_and_then (λ (p : Outcome'). if_changed w p (run_of s.script w s.limit)) (cond b (Some (run_of s.script w s.limit)) None) ≡ None
-    either true = unchanged w (run_of s.script w s.limit) (run_of s.script w s.limit) refl
+    either true = if_changed_same w (run_of s.script w s.limit) (run_of s.script w s.limit) refl
     either false = refl
 
 -- ---- the words that an edit runs again
@@ -91,7 +91,7 @@ met_change s t a (e ∷ es) stays fresh = by (is_met a e) refl (met_change s t a
     by false h rest =
         let w = e.0.items in
         let same = stays w (sym (met_fresh s a e fresh.0) ∙ h) in
-        rest ∙ ap (λ (o : Option ChangedRow). cons_option o (filter_map (change_of s t) (words_in es))) (sym (unchanged w (run_of s.script w s.limit) (run_of t.script w t.limit) same.outcome))
+        rest ∙ ap (λ (o : Option ChangedRow). cons_option o (filter_map (change_of s t) (words_in es))) (sym (if_changed_same w (run_of s.script w s.limit) (run_of t.script w t.limit) same.outcome))
 
 -- what changes for these words is all that changes
 pub met_rows : (s t : Setting) (a : AffectedWords) (es : List KeptWord) → ((w : List ℕ) → is_affected s a w ≡ false → RunsSame s t w) → AreFresh s es

@@ -64,11 +64,11 @@ kept-push script es e h word room ran = record {
 }
 
 -- the row that an entry shows
-abbrev pub shown : KeptWord → Row
-shown e = record { word = e.0.items; outcome = outcome_of e.1.outcome }
+abbrev pub row_shown : KeptWord → Row
+row_shown e = record { word = e.0.items; outcome = outcome_of e.1.outcome }
 
 -- fresh entries show the rows of their words
-pub rows_shown : (script : Setting) (es : List KeptWord) → AreFresh script es → map shown es ≡ rows_of script (words_in es)
+pub rows_shown : (script : Setting) (es : List KeptWord) → AreFresh script es → map row_shown es ≡ rows_of script (words_in es)
 rows_shown script [] h = refl
 rows_shown script (e ∷ es) h = λ i. record { word = e.0.items; outcome = h.0.outcome i } ∷ rows_shown script es h.1 i
 

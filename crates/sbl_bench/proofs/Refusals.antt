@@ -18,17 +18,17 @@ use Rattle.sbl_bench.specs.Stops.{IsStop}
 use Rattle.sbl_bench.specs.Vocabulary.{is_word, without}
 
 -- after all the tests a word is not refused
-accepted : (s : Contents) (word : List ℕ) → 0 < length word → length word ≤ 255 → is_word word s.words ≡ false → length s.words < 100000
+no_refusal : (s : Contents) (word : List ℕ) → 0 < length word → length word ≤ 255 → is_word word s.words ≡ false → length s.words < 100000
     → refusal_of_add s word ≡ None
-accepted s [] h most new room = absurd (omega (arith, h))
-accepted s (c ∷ cs) h most new room = rw (le-ltb 255 (length (c ∷ cs)) most, new, lt-leb 100000 (length s.words) room) refl
+no_refusal s [] h most new room = absurd (omega (arith, h))
+no_refusal s (c ∷ cs) h most new room = rw (le-ltb 255 (length (c ∷ cs)) most, new, lt-leb 100000 (length s.words) room) refl
 
 -- the same of the words of some entries, by what the tests answered
 pub accepted_among : (script : Setting) (es : List KeptWord) (count : ℕ) (word : List ℕ) (known : Bool) (n : ℕ) → 0 < length word → length word ≤ 255
     → known ≡ is_word word (words_in es) → known ≡ false → n ≡ length es → n < 100000
     → refusal_of_add (record { setting = script; words = words_in es; count = count }) word ≡ None
 accepted_among script es count word known n some most there new size room =
-    accepted (record { setting = script; words = words_in es; count = count }) word some most (sym there ∙ new)
+    no_refusal (record { setting = script; words = words_in es; count = count }) word some most (sym there ∙ new)
     (subst (λ (m : ℕ). m < 100000) (size ∙ sym (length-map es _)) room)
 
 -- ---- runs

@@ -68,8 +68,8 @@ nothing_met law p q limit same w =
 none_filtered : (met : List ℕ → Bool) (words : List (List ℕ)) → ((w : List ℕ) → met w ≡ false) → length (filter met words) ≡ 0
 none_filtered met words off = ap (λ (test : List ℕ → Bool). length (filter test words)) (fun_ext off) ∙ ap length (filter_off words)
 
-unchanged : (s t : Contents) (q : Setting) (n : ℕ) → q ≡ s.setting → n ≡ 0 → t ≡ record { setting = q; words = s.words; count = s.count + n } → t ≡ s
-unchanged s t q n same none is = is ∙ (λ i. record { setting = same i; words = s.words; count = count i })
+same_contents : (s t : Contents) (q : Setting) (n : ℕ) → q ≡ s.setting → n ≡ 0 → t ≡ record { setting = q; words = s.words; count = s.count + n } → t ≡ s
+same_contents s t q n same none is = is ∙ (λ i. record { setting = same i; words = s.words; count = count i })
   where
     count : s.count + n ≡ s.count
     count = omega (arith, none)
@@ -77,10 +77,10 @@ unchanged s t q n same none is = is ∙ (λ i. record { setting = same i; words 
 pub equal_read : AlikeDifferNowhere → EqualScriptRunsNothing
 equal_read law s t bytes h same =
     let script : h.setting.script ≡ s.setting.script = sym (ap (λ (x : Contents). x.setting.script) h.is) ∙ same in
-    unchanged s t h.setting (runs_needed s (Whole bytes) h.setting) (both script h.after.1)
+    same_contents s t h.setting (runs_needed s (Whole bytes) h.setting) (both script h.after.1)
     (none_filtered _ s.words (nothing_met law s.setting.script h.setting.script s.setting.limit script)) h.is
 
 pub equal_installed : AlikeDifferNowhere → InstalledAgainRunsNothing
 equal_installed law s t h =
-    unchanged s t h.setting (runs_needed s (Install s.setting.script) h.setting) (both h.after.0 h.after.1)
+    same_contents s t h.setting (runs_needed s (Install s.setting.script) h.setting) (both h.after.0 h.after.1)
     (none_filtered _ s.words (nothing_met law s.setting.script h.setting.script s.setting.limit h.after.0)) h.is

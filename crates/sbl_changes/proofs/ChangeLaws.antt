@@ -32,10 +32,10 @@ each P Q f (x ∷ xs) a = (f x a.0, each P Q f xs a.1)
 abbrev pub HasOutcome : (List ℕ → Option Outcome) → Row → Type 0
 HasOutcome f r = f r.word ≡ Some r.outcome
 
-pub found : (rows : List Row) → HasOneRowEach rows → AllByRecursion (HasOutcome (outcome_in rows)) rows
+pub own_outcomes : (rows : List Row) → HasOneRowEach rows → AllByRecursion (HasOutcome (outcome_in rows)) rows
 unfolding IsDistinct
-found [] one = tt
-found (r ∷ rows) one = ((λ i. option_map (λ (q : Row). q.outcome) (cond (bytes_eq-self r.word i) (Some r) (find (λ q. bytes_eq r.word q.word) rows))), later rows one.0 (found rows one.1))
+own_outcomes [] one = tt
+own_outcomes (r ∷ rows) one = ((λ i. option_map (λ (q : Row). q.outcome) (cond (bytes_eq-self r.word i) (Some r) (find (λ q. bytes_eq r.word q.word) rows))), later rows one.0 (own_outcomes rows one.1))
   where
     other : (q : Row) → bytes_eq r.word q.word ≡ false → HasOutcome (outcome_in rows) q → HasOutcome (outcome_in (r ∷ rows)) q
     other q apart known = (λ i. option_map (λ (p : Row). p.outcome) (cond ((bytes_eq-back q.word r.word ∙ apart) i) (Some r) (find (λ p. bytes_eq q.word p.word) rows))) ∙ known
@@ -104,7 +104,7 @@ module _ (moves : List Pair) (a : AllByRecursion Stays moves) where
 
 pub no_changes : EqualListsHaveNoChanges
 no_changes rows one =
-    let known : AllByRecursion (HasOutcome (outcome_in rows)) rows = found rows one in
+    let known : AllByRecursion (HasOutcome (outcome_in rows)) rows = own_outcomes rows one in
     let still : AllByRecursion Stays (moves_of (outcome_in rows) rows) = stays (outcome_in rows) rows known in
     let no_added : filter_map (λ r. word_addition (outcome_in rows r.word) r) rows ≡ [] =
     none_made (λ r. word_addition (outcome_in rows r.word) r) rows (each (HasOutcome (outcome_in rows)) (λ r. word_addition (outcome_in rows r.word) r ≡ None) (λ r h. ap (λ o. word_addition o r) h) rows known) in

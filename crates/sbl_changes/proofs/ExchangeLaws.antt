@@ -10,7 +10,7 @@ use Rattle.sbl_changes.specs.ChangesAreSound.{ExchangedListsTurnChanges, HasOneR
 use Rattle.sbl_changes.specs.Classes.{Class, Pair, class_with, classes_of, in_order, members_of}
 use Rattle.sbl_changes.specs.Moves.{move_of, moves_of, moves_back}
 use Rattle.sbl_changes.specs.Rows.{Outcome, Refused, Row, Stem, outcome_in, same_outcome}
-use Rattle.sbl_changes.proofs.ChangeLaws.{HasOutcome, each, found}
+use Rattle.sbl_changes.proofs.ChangeLaws.{HasOutcome, each, own_outcomes}
 use Rattle.sbl_changes.proofs.ClassLaws.{any-class, any-given, any-map, any-same, some_stem}
 use Rattle.sbl_changes.proofs.OrderFacts.{any-in_order, any-members, any-stems, bytes_eq-back, one_order, text_cmp}
 
@@ -53,8 +53,8 @@ abbrev with_other : Of → Option Outcome → Row → Bool
 with_other g None r = false
 with_other g (Some o) r = g r.word o r.outcome
 
-abbrev swapped : Of → Of
-swapped g w n o = g w o n
+abbrev swap_sides : Of → Of
+swap_sides g w n o = g w o n
 
 some_row : (t : Row → Bool) (w : List ℕ) (o : Outcome) → ((q : Row) → q.word ≡ w → q.outcome ≡ o → t q ≡ true) → (rows : List Row) → outcome_in rows w ≡ Some o → list_any t rows ≡ true
 some_row t w o f [] e = cc e
@@ -70,23 +70,23 @@ some_row t w o f (q ∷ rows) e = by (bytes_eq w q.word) refl e (some_row t w o 
     by false g e rest = ap (λ (b : Bool). t q || b) (rest e) ∙ or_true (t q)
 
 half : (before after : List Row) (g : Of) (rs : List Row) → AllByRecursion (HasOutcome (outcome_in after)) rs
-    → list_any (λ r. with_other g (outcome_in before r.word) r) rs ≡ true → list_any (λ r. with_other (swapped g) (outcome_in after r.word) r) before ≡ true
+    → list_any (λ r. with_other g (outcome_in before r.word) r) rs ≡ true → list_any (λ r. with_other (swap_sides g) (outcome_in after r.word) r) before ≡ true
 half before after g [] a e = cc e
 half before after g (r ∷ rs) a e = by (outcome_in before r.word) refl e (half before after g rs a.1)
   where
-    there : (o : Outcome) (q : Row) → g r.word o r.outcome ≡ true → q.word ≡ r.word → q.outcome ≡ o → with_other (swapped g) (outcome_in after q.word) q ≡ true
+    there : (o : Outcome) (q : Row) → g r.word o r.outcome ≡ true → q.word ≡ r.word → q.outcome ≡ o → with_other (swap_sides g) (outcome_in after q.word) q ≡ true
     there o q h w e =
-        ap (λ (x : Option Outcome). with_other (swapped g) x q) (ap (outcome_in after) w ∙ a.0)
+        ap (λ (x : Option Outcome). with_other (swap_sides g) x q) (ap (outcome_in after) w ∙ a.0)
         ∙ (λ i. g (w i) (e i) r.outcome) ∙ h
 
     by : (x : Option Outcome) → outcome_in before r.word ≡ x → (with_other g x r || list_any (λ q. with_other g (outcome_in before q.word) q) rs) ≡ true
-        → (list_any (λ q. with_other g (outcome_in before q.word) q) rs ≡ true → list_any (λ q. with_other (swapped g) (outcome_in after q.word) q) before ≡ true)
-        → list_any (λ q. with_other (swapped g) (outcome_in after q.word) q) before ≡ true
+        → (list_any (λ q. with_other g (outcome_in before q.word) q) rs ≡ true → list_any (λ q. with_other (swap_sides g) (outcome_in after q.word) q) before ≡ true)
+        → list_any (λ q. with_other (swap_sides g) (outcome_in after q.word) q) before ≡ true
     by None f e rest = rest e
     by (Some o) f e rest = at (g r.word o r.outcome) refl e
       where
-        at : (b : Bool) → g r.word o r.outcome ≡ b → (b || list_any (λ q. with_other g (outcome_in before q.word) q) rs) ≡ true → list_any (λ q. with_other (swapped g) (outcome_in after q.word) q) before ≡ true
-        at true h e = some_row (λ q. with_other (swapped g) (outcome_in after q.word) q) r.word o (λ q w s. there o q h w s) before f
+        at : (b : Bool) → g r.word o r.outcome ≡ b → (b || list_any (λ q. with_other g (outcome_in before q.word) q) rs) ≡ true → list_any (λ q. with_other (swap_sides g) (outcome_in after q.word) q) before ≡ true
+        at true h e = some_row (λ q. with_other (swap_sides g) (outcome_in after q.word) q) r.word o (λ q w s. there o q h w s) before f
         at false h e = rest e
 
 both : (a b : Bool) → (a ≡ true → b ≡ true) → (b ≡ true → a ≡ true) → a ≡ b
@@ -94,11 +94,11 @@ both true b f g = sym (f refl)
 both false true f g = g refl
 both false false f g = refl
 
-exchanged : (before after : List Row) → HasOneRowEach before → HasOneRowEach after → (g : Of)
-    → list_any (λ r. with_other g (outcome_in before r.word) r) after ≡ list_any (λ r. with_other (swapped g) (outcome_in after r.word) r) before
-exchanged before after one other g =
-    both (list_any (λ r. with_other g (outcome_in before r.word) r) after) (list_any (λ r. with_other (swapped g) (outcome_in after r.word) r) before)
-    (half before after g after (found after other)) (half after before (swapped g) before (found before one))
+exchange_sides : (before after : List Row) → HasOneRowEach before → HasOneRowEach after → (g : Of)
+    → list_any (λ r. with_other g (outcome_in before r.word) r) after ≡ list_any (λ r. with_other (swap_sides g) (outcome_in after r.word) r) before
+exchange_sides before after one other g =
+    both (list_any (λ r. with_other g (outcome_in before r.word) r) after) (list_any (λ r. with_other (swap_sides g) (outcome_in after r.word) r) before)
+    (half before after g after (own_outcomes after other)) (half after before (swap_sides g) before (own_outcomes before one))
 
 -- ---- classes depend on which pairs there are alone
 
@@ -131,8 +131,8 @@ moves-same t f rows = any-made t (λ r. move_of (f r.word) r.outcome) rows ∙ a
 moves-turned : (before after : List Row) → HasOneRowEach before → HasOneRowEach after → (t : Pair → Bool) → list_any t (moves_of (outcome_in before) after) ≡ list_any (λ m. t (flip m)) (moves_of (outcome_in after) before)
 moves-turned before after one other t =
     moves-same t (outcome_in before) after
-    ∙ exchanged before after one other (of_moves t)
-    ∙ any-same (λ r. with_other (swapped (of_moves t)) (outcome_in after r.word) r) (λ r. with_other (of_moves (λ m. t (flip m))) (outcome_in after r.word) r) (λ r. by (outcome_in after r.word) r) before
+    ∙ exchange_sides before after one other (of_moves t)
+    ∙ any-same (λ r. with_other (swap_sides (of_moves t)) (outcome_in after r.word) r) (λ r. with_other (of_moves (λ m. t (flip m))) (outcome_in after r.word) r) (λ r. by (outcome_in after r.word) r) before
     ∙ sym (moves-same (λ m. t (flip m)) (outcome_in after) before)
   where
     at : (o n : Outcome) → passes t (move_of (Some o) n) ≡ passes (λ m. t (flip m)) (move_of (Some n) o)
@@ -141,7 +141,7 @@ moves-turned before after one other t =
     at (Refused o) (Stem n) = refl
     at (Refused o) (Refused n) = refl
 
-    by : (x : Option Outcome) (r : Row) → with_other (swapped (of_moves t)) x r ≡ with_other (of_moves (λ m. t (flip m))) x r
+    by : (x : Option Outcome) (r : Row) → with_other (swap_sides (of_moves t)) x r ≡ with_other (of_moves (λ m. t (flip m))) x r
     by None r = refl
     by (Some n) r = at r.outcome n
 
@@ -296,11 +296,11 @@ changed-turned : (test : Change → Bool) (before after : List Row) → HasOneRo
     → list_any test (filter_map (λ r. outcome_change (outcome_in before r.word) r) after) ≡ list_any (back test) (filter_map (λ r. outcome_change (outcome_in after r.word) r) before)
 changed-turned test before after one other =
     changed-same test (outcome_in before) after
-    ∙ exchanged before after one other (of_changes test)
-    ∙ any-same (λ r. with_other (swapped (of_changes test)) (outcome_in after r.word) r) (λ r. with_other (of_changes (back test)) (outcome_in after r.word) r) (λ r. by (outcome_in after r.word) r) before
+    ∙ exchange_sides before after one other (of_changes test)
+    ∙ any-same (λ r. with_other (swap_sides (of_changes test)) (outcome_in after r.word) r) (λ r. with_other (of_changes (back test)) (outcome_in after r.word) r) (λ r. by (outcome_in after r.word) r) before
     ∙ sym (changed-same (back test) (outcome_in after) before)
   where
-    by : (x : Option Outcome) (r : Row) → with_other (swapped (of_changes test)) x r ≡ with_other (of_changes (back test)) x r
+    by : (x : Option Outcome) (r : Row) → with_other (swap_sides (of_changes test)) x r ≡ with_other (of_changes (back test)) x r
     by None r = refl
     by (Some n) r = ap (λ (b : Bool). if b then false else test (Changed r.word r.outcome n)) (same-back r.outcome n)
 

@@ -25,15 +25,15 @@ map-some f None = refl
 map-some f (Some x) = refl
 
 -- an item more of a list, if there is one, as `see` shows it
-pub seen : {E C : Type 0} (see : E → C) (old new : List E) (o : Option E) → new ≡ old ++ option_to_list o → map see new ≡ map see old ++ option_to_list (option_map see o)
-seen see old new o more = ap (map see) more ∙ map-append see old (option_to_list o) ∙ ap (λ l. map see old ++ l) (map-some see o)
+pub map_push_option : {E C : Type 0} (see : E → C) (old new : List E) (o : Option E) → new ≡ old ++ option_to_list o → map see new ≡ map see old ++ option_to_list (option_map see o)
+map_push_option see old new o more = ap (map see) more ∙ map-append see old (option_to_list o) ∙ ap (λ l. map see old ++ l) (map-some see o)
 
 -- one item more, if there is one, of a list that `h` makes
 pub step : {D V E C : Type 0} (h : V → Option C) (view : D → V) (see : E → C) (xs : List D) (i : ℕ) (d x : D) (old new : List E) (o : Option E) (goal : List C)
     → i < length xs → x ≡ get_or xs i d → new ≡ old ++ option_to_list o → option_map see o ≡ h (view x)
     → map see old ++ filter_map h (map view (drop i xs)) ≡ goal → map see new ++ filter_map h (map view (drop (i + 1) xs)) ≡ goal
 step h view see xs i d x old new o goal lt is more made so_far =
-    ap (λ l. l ++ filter_map h (map view (drop (i + 1) xs))) (seen see old new o more ∙ ap (λ p. map see old ++ option_to_list p) made)
+    ap (λ l. l ++ filter_map h (map view (drop (i + 1) xs))) (map_push_option see old new o more ∙ ap (λ p. map see old ++ option_to_list p) made)
     ∙ append_assoc (map see old) (option_to_list (h (view x))) (filter_map h (map view (drop (i + 1) xs)))
     ∙ ap (λ l. map see old ++ l) (put_option (h (view x)) (filter_map h (map view (drop (i + 1) xs))))
     ∙ ap (λ l. map see old ++ filter_map h l) (sym (next view xs i d x lt is))

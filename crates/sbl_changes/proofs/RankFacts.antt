@@ -24,11 +24,11 @@ rank_cmp x y = ordering_then (nat_cmp y.0.0 x.0.0) (slice_cmp nat_cmp x.1.now y.
 abbrev pub Sized : List Entry → Type 0
 Sized entries = AllByRecursion (λ e. e.0.0.0 ≡ length e.1.items) entries
 
-seen : (e : Entry) → e.0.0.0 ≡ length e.1.items → length (view_entry e).members ≡ e.0.0.0
-seen e h = length-map e.1.items (λ (t : Text). t.now) ∙ sym h
+members_length : (e : Entry) → e.0.0.0 ≡ length e.1.items → length (view_entry e).members ≡ e.0.0.0
+members_length e h = length-map e.1.items (λ (t : Text). t.now) ∙ sym h
 
 same_order : (e f : Entry) → e.0.0.0 ≡ length e.1.items → f.0.0.0 ≡ length f.1.items → size_cmp (view_entry e) (view_entry f) ≡ rank_cmp e.0 f.0
-same_order e f h k = λ i. ordering_then (nat_cmp (seen f k i) (seen e h i)) (slice_cmp nat_cmp e.0.1.now f.0.1.now)
+same_order e f h k = λ i. ordering_then (nat_cmp (members_length f k i) (members_length e h i)) (slice_cmp nat_cmp e.0.1.now f.0.1.now)
 
 first_equal : (a b : Ordering) → ordering_then a b ≡ Equal → a ≡ Equal
 first_equal Less b h = cc h

@@ -16,9 +16,9 @@ none_more : (o : Option ℕ) → o ≡ option_or o None
 none_more (Some x) = refl
 none_more None = refl
 
-pub kept : {Y : Type 0} (old new : BTreeMap (String Y) ℕ) (key : String Y) (name : List ℕ) (number : ℕ) → is_some (get_by_text old name) ≡ false → string_bytes key ≡ name → Updates string_cmp old new key (Some number)
+pub insert_keeps_names : {Y : Type 0} (old new : BTreeMap (String Y) ℕ) (key : String Y) (name : List ℕ) (number : ℕ) → is_some (get_by_text old name) ≡ false → string_bytes key ≡ name → Updates string_cmp old new key (Some number)
     → (n : List ℕ) → get_by_text new n ≡ option_or (get_by_text old n) (if bytes_eq name n then Some number else None)
-kept old new key name number lacks same changed n =
+insert_keeps_names old new key name number lacks same changed n =
     btree_map_updates_text (string_bytes key) old new (Some number) changed n
     ∙ ap (λ (k : List ℕ). cond (bytes_eq k n) (Some number) (get_by_text old n)) same
     ∙ go (bytes_eq name n) refl where

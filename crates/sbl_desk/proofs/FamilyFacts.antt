@@ -7,13 +7,13 @@ use Rattle.sbl_desk.specs.Families.{families_in, family_in, has_some, is_feed, i
 use Rattle.sbl_desk.specs.FamilyReader.{read_on, with_word}
 
 -- the first part with a beginning
-abbrev begun : List ℕ → List (List ℕ) → List (List ℕ)
-begun w [] = w ∷ []
-begun w (part ∷ parts) = (w ++ part) ∷ parts
+abbrev with_prefix : List ℕ → List (List ℕ) → List (List ℕ)
+with_prefix w [] = w ∷ []
+with_prefix w (part ∷ parts) = (w ++ part) ∷ parts
 
 -- the words of a line that began with a part of a word
 abbrev words_from : List ℕ → List ℕ → List (List ℕ)
-words_from w line = filter has_some (begun w (slice_split is_separator line))
+words_from w line = filter has_some (with_prefix w (slice_split is_separator line))
 
 -- the families of lines, the first of which began with some words and a part of a word
 abbrev lists_from : List (List ℕ) → List ℕ → List (List ℕ) → List (List (List ℕ))
@@ -28,11 +28,11 @@ word_only : (ws : List (List ℕ)) (w : List ℕ) → ws ++ words_from w [] ≡ 
 word_only ws w = word_last ws w [] ∙ append-nil (with_word ws w)
 
 -- a word that has no part yet
-unbegun : (parts : List (List ℕ)) → filter has_some (begun [] parts) ≡ filter has_some parts
+unbegun : (parts : List (List ℕ)) → filter has_some (with_prefix [] parts) ≡ filter has_some parts
 unbegun [] = refl
 unbegun (part ∷ parts) = refl
 
-one_more : (w : List ℕ) (c : ℕ) (parts : List (List ℕ)) → begun w (onto_first c parts) ≡ begun (w ++ c ∷ []) parts
+one_more : (w : List ℕ) (c : ℕ) (parts : List (List ℕ)) → with_prefix w (onto_first c parts) ≡ with_prefix (w ++ c ∷ []) parts
 one_more w c [] = refl
 one_more w c (part ∷ parts) = ap (λ (p : List ℕ). p ∷ parts) (sym (append_assoc w (c ∷ []) part))
 
@@ -40,12 +40,12 @@ one_more w c (part ∷ parts) = ap (λ (p : List ℕ). p ∷ parts) (sym (append
 ends_word : (ws : List (List ℕ)) (w : List ℕ) (c : ℕ) (line : List ℕ) → is_separator c ≡ true → with_word ws w ++ words_from [] line ≡ ws ++ words_from w (c ∷ line)
 ends_word ws w c line e =
     ap (λ (x : List (List ℕ)). with_word ws w ++ x) (unbegun (slice_split is_separator line)) ∙ sym (word_last ws w (slice_split is_separator line))
-    ∙ ap (λ (parts : List (List ℕ)). ws ++ filter has_some (begun w parts)) (sym (slice_split-cons_yes is_separator c line e))
+    ∙ ap (λ (parts : List (List ℕ)). ws ++ filter has_some (with_prefix w parts)) (sym (slice_split-cons_yes is_separator c line e))
 
 goes_on : (ws : List (List ℕ)) (w : List ℕ) (c : ℕ) (line : List ℕ) → is_separator c ≡ false → ws ++ words_from (w ++ c ∷ []) line ≡ ws ++ words_from w (c ∷ line)
 goes_on ws w c line e =
     ap (λ (parts : List (List ℕ)). ws ++ filter has_some parts) (sym (one_more w c (slice_split is_separator line)))
-    ∙ ap (λ (parts : List (List ℕ)). ws ++ filter has_some (begun w parts)) (sym (slice_split-cons_no is_separator c line e))
+    ∙ ap (λ (parts : List (List ℕ)). ws ++ filter has_some (with_prefix w parts)) (sym (slice_split-cons_no is_separator c line e))
 
 list_ends_word : (ws : List (List ℕ)) (w : List ℕ) (c : ℕ) (lines : List (List ℕ)) → is_separator c ≡ true → lists_from (with_word ws w) [] lines ≡ lists_from ws w (onto_first c lines)
 list_ends_word ws w c [] e = ap (λ (x : List (List ℕ)). x ∷ []) (ends_word ws w c [] e)

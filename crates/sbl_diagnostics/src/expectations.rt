@@ -227,7 +227,7 @@ pub(crate) fn push_expectation(
     if push_operator(alloc, shown, site, outlook.role, &declared)? {
         return Ok(true);
     }
-    match outlook.required() {
+    match outlook.first_required() {
         Some(Symbol::Close) | None if is_item(site) || site.spot.token.is_empty() => Ok(false),
         Some(Symbol::Close) | None => {
             push_inside(alloc, shown, site, &outlook, tokens, &declared)

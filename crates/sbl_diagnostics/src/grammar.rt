@@ -358,7 +358,7 @@ impl Outlook {
     }
 
     /// Returns the first expected symbol that may not be empty, if there is one.
-    pub(crate) fn required(&self) -> Option<Symbol> {
+    pub(crate) fn first_required(&self) -> Option<Symbol> {
         for symbol in self.stack.iter().rev() {
             if !symbol.is_optional() {
                 return Some(*symbol);

@@ -30,8 +30,8 @@ abbrev Ending : Type 0
 Ending = Result (Unit {0}) LoadFault
 
 -- the fault of a line
-abbrev judged : List ℕ → Option LoadFault
-judged line =
+abbrev fault_of_line : List ℕ → Option LoadFault
+fault_of_line line =
     if nat_lt max_line (length line) then Some (Input fault.LineTooLong)
     else (if is_utf8 line then (if nat_lt 255 (length (chars line)) then Some (Open edit.WordTooLong) else None)
     else Some (Input fault.NotText))
@@ -46,11 +46,11 @@ shows (Some f) t = []
 
 abbrev ending : List (List ℕ) → Ending
 ending [] = Ok tt
-ending (line ∷ lines) = if bytes_eq line point then Ok tt else goes (judged line) (ending lines)
+ending (line ∷ lines) = if bytes_eq line point then Ok tt else goes (fault_of_line line) (ending lines)
 
 abbrev text : Source → List (List ℕ) → List ℕ
 text s [] = []
-text s (line ∷ lines) = if bytes_eq line point then [] else shows (judged line) (filter_output s (chars line ∷ []) ++ text s lines)
+text s (line ∷ lines) = if bytes_eq line point then [] else shows (fault_of_line line) (filter_output s (chars line ∷ []) ++ text s lines)
 
 no_point : (line : List ℕ) → line ≢ point → bytes_eq line point ≡ false
 no_point line other = by (bytes_eq line point) refl
@@ -62,19 +62,19 @@ no_point line other = by (bytes_eq line point) refl
 long_no_point : (line : List ℕ) → 65536 < length line → line ≢ point
 long_no_point line long e = let one : length line ≡ 1 = ap length e in grind (arith, one, long)
 
-judged-word : (line : List ℕ) → length line ≤ 65536 → is_utf8 line ≡ true → length (chars line) ≤ 255 → judged line ≡ None
+judged-word : (line : List ℕ) → length line ≤ 65536 → is_utf8 line ≡ true → length (chars line) ≤ 255 → fault_of_line line ≡ None
 judged-word line fits text short =
     let a : nat_lt 65536 (length line) ≡ false = grind (arith, nat_tests) in
     let b : nat_lt 255 (length (chars line)) ≡ false = grind (arith, nat_tests) in
     rw (a, text, b) refl
 
-judged-long : (line : List ℕ) → 65536 < length line → judged line ≡ Some (Input fault.LineTooLong)
+judged-long : (line : List ℕ) → 65536 < length line → fault_of_line line ≡ Some (Input fault.LineTooLong)
 judged-long line long = let a : nat_lt 65536 (length line) ≡ true = grind (arith, nat_tests) in rw a refl
 
-judged-no_text : (line : List ℕ) → length line ≤ 65536 → is_utf8 line ≡ false → judged line ≡ Some (Input fault.NotText)
+judged-no_text : (line : List ℕ) → length line ≤ 65536 → is_utf8 line ≡ false → fault_of_line line ≡ Some (Input fault.NotText)
 judged-no_text line fits bad = let a : nat_lt 65536 (length line) ≡ false = grind (arith, nat_tests) in rw (a, bad) refl
 
-judged-no_word : (line : List ℕ) → length line ≤ 65536 → is_utf8 line ≡ true → 255 < length (chars line) → judged line ≡ Some (Open edit.WordTooLong)
+judged-no_word : (line : List ℕ) → length line ≤ 65536 → is_utf8 line ≡ true → 255 < length (chars line) → fault_of_line line ≡ Some (Open edit.WordTooLong)
 judged-no_word line fits text long =
     let a : nat_lt 65536 (length line) ≡ false = grind (arith, nat_tests) in
     let b : nat_lt 255 (length (chars line)) ≡ true = grind (arith, nat_tests) in
@@ -85,7 +85,7 @@ judged-no_word line fits text long =
 abbrev Good : List (List ℕ) → Type 0
 Good lines = WordLines lines × AllShort lines
 
-good-first : (line : List ℕ) (lines : List (List ℕ)) → Good (line ∷ lines) → (bytes_eq line point ≡ false) × (judged line ≡ None)
+good-first : (line : List ℕ) (lines : List (List ℕ)) → Good (line ∷ lines) → (bytes_eq line point ≡ false) × (fault_of_line line ≡ None)
 good-first line lines good = (no_point line good.0.0.0.0, judged-word line good.0.0.1.0 good.0.1.0 good.1.0)
 
 good-rest : (line : List ℕ) (lines : List (List ℕ)) → Good (line ∷ lines) → Good lines
@@ -109,7 +109,7 @@ text-after s (line ∷ lines) rest good =
 
 -- these lines, and then a line with this fault
 module _ (s : Source) (x : List ℕ) (lines rest : List (List ℕ)) (line : List ℕ) (f : LoadFault) (good : Good lines) (are : lines_of x ≡ lines ++ line ∷ rest) (other : line ≢ point)
-    (bad : judged line ≡ Some f) where
+    (bad : fault_of_line line ≡ Some f) where
   stop-ending : ending (lines_of x) ≡ Err f
   stop-ending =
       let at : ending (line ∷ rest) ≡ Err f = rw (no_point line other, bad) refl in
@@ -157,7 +157,7 @@ stopped-given s x h k lines None next_held new f told so stops = absurd so.took
 stopped-given s x h k lines (Some y) None new f told so stops = absurd so.text
 stopped-given s x h k lines (Some y) (Some m) new f told so stops = by f told stops
   where
-    given : (rest : List (List ℕ)) (line : List ℕ) (f : LoadFault) → lines_of y ≡ line ∷ rest → line ≢ point → judged line ≡ Some f → k ≡ m ++ [] → Gives s x h k (Err f)
+    given : (rest : List (List ℕ)) (line : List ℕ) (f : LoadFault) → lines_of y ≡ line ∷ rest → line ≢ point → fault_of_line line ≡ Some f → k ≡ m ++ [] → Gives s x h k (Err f)
     given rest line f are other bad none =
         let all : lines_of x ≡ lines ++ line ∷ rest = stand_lines x y lines so.took ∙ ap (λ (z : List (List ℕ)). lines ++ z) are in (
           sym (stop-ending s x lines rest line f so.words all other bad),
@@ -165,7 +165,7 @@ stopped-given s x h k lines (Some y) (Some m) new f told so stops = by f told st
         )
 
     -- the next line has this fault
-    at_line : (f : LoadFault) (new : Option (List ℕ)) (line : List ℕ) → TookLine (Some y) new line → judged line ≡ Some f → k ≡ m ++ [] → Gives s x h k (Err f)
+    at_line : (f : LoadFault) (new : Option (List ℕ)) (line : List ℕ) → TookLine (Some y) new line → fault_of_line line ≡ Some f → k ≡ m ++ [] → Gives s x h k (Err f)
     at_line f None line took bad none = absurd took.2
     at_line f (Some z) line took bad none = given (lines_of z) line f (stand_lines y z (line ∷ []) took.2) took.0 bad none
 

@@ -19,11 +19,11 @@ all_fit-append [] more h g = g
 all_fit-append (l ∷ lines) more h g = (h.0, all_fit-append lines more h.1 g)
 
 -- where the lines have no further one for a fault of theirs
-pub broken : (Good : List (List ℕ) → Type 0) (a b c : Option (List ℕ)) (h : Option LineFault) (taken : List (List ℕ)) (part : List ℕ) (fault : LineFault)
+pub broken_block : (Good : List (List ℕ) → Type 0) (a b c : Option (List ℕ)) (h : Option LineFault) (taken : List (List ℕ)) (part : List ℕ) (fault : LineFault)
     → Good taken → Took a b taken → h ≡ None → (fault ≡ TooLong → BeginsLong b ⊎ (h ≡ Some fault)) → (fault ≡ Read → h ≡ None → BreaksOff b c part)
     → Breaks Good a c (serve_fault_of fault)
-broken Good a b c h taken part Read good took none long cut = (taken, b, part, good, took, cut refl none)
-broken Good a b c h taken part TooLong good took none long cut = by (long refl)
+broken_block Good a b c h taken part Read good took none long cut = (taken, b, part, good, took, cut refl none)
+broken_block Good a b c h taken part TooLong good took none long cut = by (long refl)
   where
     by : BeginsLong b ⊎ (h ≡ Some TooLong) → Breaks Good a c (serve_fault_of TooLong)
     by (inl is) = (taken, b, good, took, is)

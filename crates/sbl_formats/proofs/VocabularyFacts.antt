@@ -17,11 +17,11 @@ use Rattle.sbl_semantics.specs.Limit.{default_limit}
 use Rattle.sbl_formats.specs.RowRecords.{row_fields, stems_text}
 use Rattle.sbl_formats.specs.VocabularyRows.{RowsOpen, text_of_rows}
 use Rattle.sbl_formats.specs.WordLists.{OpensAs, texts_of}
-use Rattle.sbl_formats.proofs.WordListFacts.{found, skips}
+use Rattle.sbl_formats.proofs.WordListFacts.{any_is_word, skips}
 
 -- whether a set has a word, which is not empty
 skipped-is : (keys : List (Vec ℕ Global)) (word : List ℕ) → nat_eq (length word) 0 ≡ false → is_skipped word (texts_of keys) ≡ list_any (λ k. bytes_eq word k.items) keys
-skipped-is keys word some = skips word (texts_of keys) some ∙ sym (found keys word)
+skipped-is keys word some = skips word (texts_of keys) some ∙ sym (any_is_word keys word)
 
 short-word : (word : List ℕ) → length word ≤ 255 → nat_lt 255 (length word) ≡ false
 short-word word short = grind (arith, tests, short)

@@ -135,9 +135,9 @@ pub skips : (w : List ℕ) (words : List (List ℕ)) → nat_eq (length w) 0 ≡
 skips [] words some = cc
 skips (c ∷ w) words some = refl
 
-pub found : (keys : List (Vec ℕ Global)) (word : List ℕ) → list_any (λ k. bytes_eq word k.items) keys ≡ is_word word (texts_of keys)
-found [] word = refl
-found (k ∷ keys) word = by (bytes_eq word k.items) refl (found keys word)
+pub any_is_word : (keys : List (Vec ℕ Global)) (word : List ℕ) → list_any (λ k. bytes_eq word k.items) keys ≡ is_word word (texts_of keys)
+any_is_word [] word = refl
+any_is_word (k ∷ keys) word = by (bytes_eq word k.items) refl (any_is_word keys word)
   where
     by : (b : Bool) → bytes_eq word k.items ≡ b → list_any (λ k. bytes_eq word k.items) keys ≡ is_word word (texts_of keys)
         → list_any (λ k. bytes_eq word k.items) (k ∷ keys) ≡ is_word word (texts_of (k ∷ keys))
@@ -160,8 +160,8 @@ full_fault keys word short some full = by (list_any (λ k. bytes_eq word k.items
 
     by : (b : Bool) → list_any (λ k. bytes_eq word k.items) keys ≡ b
         → not (list_any (λ k. bytes_eq word k.items) keys) ≡ is_some (word_fault (texts_of keys) word)
-    by true h = rw (h, long, skips word (texts_of keys) one ∙ sym (found keys word) ∙ h) refl
-    by false h = rw (h, long, skips word (texts_of keys) one ∙ sym (found keys word) ∙ h, all) refl
+    by true h = rw (h, long, skips word (texts_of keys) one ∙ sym (any_is_word keys word) ∙ h) refl
+    by false h = rw (h, long, skips word (texts_of keys) one ∙ sym (any_is_word keys word) ∙ h, all) refl
 
 pub none_of : (o : Option EditFault) → is_some o ≡ false → o ≡ None
 none_of None h = refl
@@ -177,7 +177,7 @@ pub insert-some : (keys : List (Vec ℕ Global)) (word : Vec ℕ Global) → nat
 insert-some keys word some = by (list_any (λ k. bytes_eq word.items k.items) keys) refl
   where
     skipped : (b : Bool) → list_any (λ k. bytes_eq word.items k.items) keys ≡ b → is_skipped word.items (texts_of keys) ≡ b
-    skipped b h = skips word.items (texts_of keys) some ∙ sym (found keys word.items) ∙ h
+    skipped b h = skips word.items (texts_of keys) some ∙ sym (any_is_word keys word.items) ∙ h
 
     by : (b : Bool) → list_any (λ k. bytes_eq word.items k.items) keys ≡ b
         → texts_of (insert_key (λ (x y : Vec ℕ Global). bytes_eq x.items y.items) keys word) ≡ with_word (texts_of keys) word.items

@@ -33,9 +33,9 @@ use Rattle.sbl_ast.specs.declared.mode.Mode.{Mode}
 use Rattle.sbl_ast.specs.declared.mode.Mode.TheVariants.{Backward}
 
 -- an early end, through what leaves it as it is
-passed : (o : Option RunFault) (new : State) (e : Ending) (f : Ending → Ending) → ((fault : RunFault) → f (Stops fault new) ≡ Stops fault new) → Halts o new e → Halts o new (f e)
-passed None new e f same h = tt
-passed (Some fault) new e f same h = ap f h ∙ same fault
+halts_through : (o : Option RunFault) (new : State) (e : Ending) (f : Ending → Ending) → ((fault : RunFault) → f (Stops fault new) ≡ Stops fault new) → Halts o new e → Halts o new (f e)
+halts_through None new e f same h = tt
+halts_through (Some fault) new e f same h = ap f h ∙ same fault
 
 -- an early end, fault by fault
 by_fault_of : (o : Option RunFault) (new : State) (e : Ending) → ((fault : RunFault) → o ≡ Some fault → e ≡ Stops fault new) → Halts o new e
@@ -96,7 +96,7 @@ limited_signals m from e true t p = ap (restore_limit m from) p
 limited_signals m from e false t p = ap (restore_limit m from) p
 
 pub limited_halts : (m : Mode) (from : Limits) (halt : Halt) (new : State) (e : Ending) → Follows (Err halt) new e → Follows (Err halt) new (restore_limit m from e)
-limited_halts m from halt new e h = passed (fault_of halt) new e (restore_limit m from) (λ fault. refl) h
+limited_halts m from halt new e h = halts_through (fault_of halt) new e (restore_limit m from) (λ fault. refl) h
 
 pub one_time : (l : ℕ) (c : Doing) (m : Mode) (s new : State) (w : Ending) → 0 < l → c m s ≡ Signals true new → times l c m s ≡ w → times (l - 1) c m new ≡ w
 one_time zero c m s new w l e h = absurd (omega arith)
@@ -144,13 +144,13 @@ one_more call a es m from (j ∷ js) i s place p q =
     let same : i ≡ j = cc in
     (js, ap (λ k. k ∷ js) (sym same), ap (λ k. try_one call a (slice_get es k) m from s (tries call a es m from js)) (sym same))
 
-pub halted : (halt : Halt) (new : State) (e f w : Ending) → Tries (Err halt) new e f → e ≡ w → Follows (Err halt) new w
-halted halt new e f w h p = follows_at (Err halt) new w e (sym p) h
+pub tries_halt : (halt : Halt) (new : State) (e f w : Ending) → Tries (Err halt) new e f → e ≡ w → Follows (Err halt) new w
+tries_halt halt new e f w h p = follows_at (Err halt) new w e (sym p) h
 
 -- a call with a level left
-pub called : (p : programs.Program) (n i : ℕ) (m : Mode) (s : State) (r : programs.Routine) → 0 < n → slice_get p.routines i ≡ Some r → calls p n i m s ≡ leave s.routine s.choices (runs p (n - 1) r.body m (enter i r.amongs s))
-called p zero i m s r h e = absurd (omega arith)
-called p (suc n) i m s r h e =
+pub calls_routine : (p : programs.Program) (n i : ℕ) (m : Mode) (s : State) (r : programs.Routine) → 0 < n → slice_get p.routines i ≡ Some r → calls p n i m s ≡ leave s.routine s.choices (runs p (n - 1) r.body m (enter i r.amongs s))
+calls_routine p zero i m s r h e = absurd (omega arith)
+calls_routine p (suc n) i m s r h e =
     let k : n ≡ suc n - 1 = omega arith in
     ap (λ o. body_does (runs p n) i o m s) e ∙ ap (λ k. leave s.routine s.choices (runs p k r.body m (enter i r.amongs s))) k
 
@@ -159,10 +159,10 @@ leave_signals i cs e true t p = ap (leave i cs) p
 leave_signals i cs e false t p = ap (leave i cs) p
 
 pub leave_halts : (i : ℕ) (cs : List (Option ℕ)) (halt : Halt) (new : State) (e : Ending) → Follows (Err halt) new e → Follows (Err halt) new (leave i cs e)
-leave_halts i cs halt new e h = passed (fault_of halt) new e (leave i cs) (λ fault. refl) h
+leave_halts i cs halt new e h = halts_through (fault_of halt) new e (leave i cs) (λ fault. refl) h
 
 pub after_halts : (halt : Halt) (new : State) (e : Ending) (on_t on_f : State → Ending) → Follows (Err halt) new e → Follows (Err halt) new (after e on_t on_f)
-after_halts halt new e on_t on_f h = passed (fault_of halt) new e (λ r. after r on_t on_f) (λ fault. refl) h
+after_halts halt new e on_t on_f h = halts_through (fault_of halt) new e (λ r. after r on_t on_f) (λ fault. refl) h
 
 -- a command whose signal is not looked at
 pub either_way : (b : Bool) (u : State) (go : State → Ending) → after (Signals b u) go go ≡ go u

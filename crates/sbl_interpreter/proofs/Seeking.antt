@@ -12,7 +12,7 @@ use Rattle.sbl_ast.specs.declared.mode.Mode.TheVariants.{Forward, Backward}
 use Rattle.sbl_semantics.specs.declared.fault.RunFault.TheVariants.{Steps, Cursor}
 use Rattle.sbl_semantics.specs.declared.touch.Touch.TheVariants.{Tested}
 use Rattle.sbl_interpreter.specs.Actions.{test_grouping}
-use Rattle.sbl_interpreter.specs.Seeking.{count_before, sought}
+use Rattle.sbl_interpreter.specs.Seeking.{count_before, seek_ending}
 use Rattle.sbl_semantics.specs.Moves.{next, next_is, one_of, touch_grouping}
 use Rattle.sbl_semantics.specs.Fitting.{read_as}
 use Rattle.sbl_semantics.specs.Control.{end_search, pay_first, seeks}
@@ -151,24 +151,24 @@ steps_left Backward s k = refl
 
 -- ---- how it ends
 
-pub sought_short : (past : Bool) (m : Mode) (steps before room : ℕ) (s : State) → steps ≤ before → sought past m steps before room s ≡ Stops Steps (record (move_cursor m steps s) { steps = 0 })
-sought_short past m steps before room s l =
+pub seek_ending_short : (past : Bool) (m : Mode) (steps before room : ℕ) (s : State) → steps ≤ before → seek_ending past m steps before room s ≡ Stops Steps (record (move_cursor m steps s) { steps = 0 })
+seek_ending_short past m steps before room s l =
     ap (λ b. if b then Stops Steps (record (move_cursor m steps s) { steps = 0 })
     else if nat_lt before room then Signals true (record (move_cursor m (if past then suc before else before) s) { steps = steps - suc before })
     else Signals false (record (move_cursor m before s) { steps = steps - suc before })) (le-leb steps before l)
 
-sought_long : (past : Bool) (m : Mode) (steps before room : ℕ) (s : State) (b : Bool) → before < steps → nat_lt before room ≡ b → sought past m steps before room s ≡ (if b then Signals true (record (move_cursor m (if past then suc before else before) s) { steps = steps - suc before }) else Signals false (record (move_cursor m before s) { steps = steps - suc before }))
-sought_long past m steps before room s b l e =
+seek_ending_long : (past : Bool) (m : Mode) (steps before room : ℕ) (s : State) (b : Bool) → before < steps → nat_lt before room ≡ b → seek_ending past m steps before room s ≡ (if b then Signals true (record (move_cursor m (if past then suc before else before) s) { steps = steps - suc before }) else Signals false (record (move_cursor m before s) { steps = steps - suc before }))
+seek_ending_long past m steps before room s b l e =
     let t = Signals true (record (move_cursor m (if past then suc before else before) s) { steps = steps - suc before }) in
     let f = Signals false (record (move_cursor m before s) { steps = steps - suc before }) in
     ap (λ b. if b then Stops Steps (record (move_cursor m steps s) { steps = 0 }) else if nat_lt before room then t else f) (not_at_most steps before l)
     ∙ ap (λ b. if b then t else f) e
 
-pub sought_none : (past : Bool) (m : Mode) (steps before room : ℕ) (s : State) → before < steps → room ≤ before → sought past m steps before room s ≡ Signals false (record (move_cursor m before s) { steps = steps - suc before })
-sought_none past m steps before room s l h = sought_long past m steps before room s false l (not_less before room h)
+pub seek_ending_none : (past : Bool) (m : Mode) (steps before room : ℕ) (s : State) → before < steps → room ≤ before → seek_ending past m steps before room s ≡ Signals false (record (move_cursor m before s) { steps = steps - suc before })
+seek_ending_none past m steps before room s l h = seek_ending_long past m steps before room s false l (not_less before room h)
 
-pub sought_met : (past : Bool) (m : Mode) (steps before room : ℕ) (s : State) → before < steps → before < room → sought past m steps before room s ≡ Signals true (record (move_cursor m (if past then suc before else before) s) { steps = steps - suc before })
-sought_met past m steps before room s l h = sought_long past m steps before room s true l (le-leb (suc before) room h)
+pub seek_ending_met : (past : Bool) (m : Mode) (steps before room : ℕ) (s : State) → before < steps → before < room → seek_ending past m steps before room s ≡ Signals true (record (move_cursor m (if past then suc before else before) s) { steps = steps - suc before })
+seek_ending_met past m steps before room s l h = seek_ending_long past m steps before room s true l (le-leb (suc before) room h)
 
 -- ---- one test
 
@@ -184,14 +184,14 @@ end_there true m s k l = ap (Signals true) (moved_once m s k)
 end_there false m s k l = put_before m s k l ∙ ap (Signals true) (not_moved m s k)
 
 -- what follows a test that signals t
-met : (n : ℕ) (past : Bool) (c : Doing) (m : Mode) (s : State) (k others : ℕ) → s.cursor ≤ length s.text → c m s ≡ Signals true (move_cursor m 1 (record s { steps = k })) → seeks (suc n) past c m s ≡ sought past m (suc k) 0 (suc others) s
-met n past c m s k others l e =
+turn_met : (n : ℕ) (past : Bool) (c : Doing) (m : Mode) (s : State) (k others : ℕ) → s.cursor ≤ length s.text → c m s ≡ Signals true (move_cursor m 1 (record s { steps = k })) → seeks (suc n) past c m s ≡ seek_ending past m (suc k) 0 (suc others) s
+turn_met n past c m s k others l e =
     let go = λ (b : State). after (next m b) (seeks n past c m) (Signals false) in
     let j : k ≡ suc k - 1 = omega arith in
     ap (λ r. after r (end_search past m s) (λ f. then_on (put_back m (saved_cursor s) f) go)) e
     ∙ end_there past m s k l
     ∙ ap (λ j. Signals true (record (move_cursor m (if past then 1 else 0) s) { steps = j })) j
-    ∙ sym (sought_met past m (suc k) 0 (suc others) s (omega arith) (omega arith))
+    ∙ sym (seek_ending_met past m (suc k) 0 (suc others) s (omega arith) (omega arith))
 
 -- what follows a test that signals f
 not_met : (n : ℕ) (past : Bool) (c : Doing) (m : Mode) (s : State) (k : ℕ) → s.cursor ≤ length s.text → c m s ≡ Signals false (record s { steps = k }) → seeks (suc n) past c m s ≡ after (if nat_le 1 (room m s) then Signals true (move_cursor m 1 (record s { steps = k })) else Signals false (record s { steps = k })) (seeks n past c m) (Signals false)
@@ -212,8 +212,8 @@ go_same : {b d p q : Bool} {x x' y y' z z' : State} → b ≡ d → p ≡ q → 
 go_same e f x y z = cc
 
 -- a character that is passed over
-sought_on : (past : Bool) (m : Mode) (k before others : ℕ) (s : State) → sought past m k before others (move_cursor m 1 (record s { steps = k })) ≡ sought past m (suc k) (suc before) (suc others) s
-sought_on past m k before others s =
+seek_ending_on : (past : Bool) (m : Mode) (k before others : ℕ) (s : State) → seek_ending past m k before others (move_cursor m 1 (record s { steps = k })) ≡ seek_ending past m (suc k) (suc before) (suc others) s
+seek_ending_on past m k before others s =
     let t = move_cursor m 1 (record s { steps = k }) in
     let i = k - suc before in
     let j : i ≡ suc k - suc (suc before) = omega arith in
@@ -228,12 +228,12 @@ sought_on past m k before others s =
     go_same (sym (le_both k before)) (sym (le_both (suc before) others)) x y z
 
 abbrev Seeks : ℕ → List ℕ → Bool → Bool → (ℕ → Bool) → ℕ → Mode → Type 0
-Seeks n xs past wanted class g m = (s : State) → s.steps ≡ n → s.cursor ≤ length s.text → with_touch (Tested g) s.touched ≡ s.touched → ahead m s ≡ xs → seeks (suc n) past (pay_first (test_grouping wanted class g)) m s ≡ sought past m n (count_before wanted class xs) (length xs) s
+Seeks n xs past wanted class g m = (s : State) → s.steps ≡ n → s.cursor ≤ length s.text → with_touch (Tested g) s.touched ≡ s.touched → ahead m s ≡ xs → seeks (suc n) past (pay_first (test_grouping wanted class g)) m s ≡ seek_ending past m n (count_before wanted class xs) (length xs) s
 
 try_first : (k : ℕ) (x : ℕ) (xs : List ℕ) (past wanted : Bool) (class : ℕ → Bool) (g : ℕ) (m : Mode) (b : Bool) → next_is wanted class (Some x) ≡ b → Seeks k xs past wanted class g m → Seeks (suc k) (x ∷ xs) past wanted class g m
 try_first k x xs past wanted class g m true b h s e l t a =
-    met (suc k) past (pay_first (test_grouping wanted class g)) m s k (length xs) l (test_is wanted class g m s k (x ∷ xs) e t a ∙ ap (λ b. if b then Signals true (move_cursor m 1 (record s { steps = k })) else Signals false (record s { steps = k })) b)
-    ∙ ap (λ b. sought past m (suc k) (if not b then 1 + count_before wanted class xs else 0) (suc (length xs)) s) (sym b)
+    turn_met (suc k) past (pay_first (test_grouping wanted class g)) m s k (length xs) l (test_is wanted class g m s k (x ∷ xs) e t a ∙ ap (λ b. if b then Signals true (move_cursor m 1 (record s { steps = k })) else Signals false (record s { steps = k })) b)
+    ∙ ap (λ b. seek_ending past m (suc k) (if not b then 1 + count_before wanted class xs else 0) (suc (length xs)) s) (sym b)
 try_first k x xs past wanted class g m false b h s e l t a =
     let c = pay_first (test_grouping wanted class g) in
     let u = move_cursor m 1 (record s { steps = k }) in
@@ -243,9 +243,9 @@ try_first k x xs past wanted class g m false b h s e l t a =
     not_met (suc k) past c m s k l (test_is wanted class g m s k (x ∷ xs) e t a ∙ ap (λ b. if b then Signals true u else Signals false (record s { steps = k })) b)
     ∙ ap (λ b. after (if b then Signals true u else Signals false (record s { steps = k })) (seeks (suc k) past c m) (Signals false)) yes
     ∙ h u (steps_left m s k) (inside m s k x xs l a) (still_touched m s k g t) (ahead_after m (record s { steps = k }) x xs l (ahead_paid m s k ∙ a))
-    ∙ sought_on past m k (count_before wanted class xs) (length xs) s
-    ∙ ap (λ n. sought past m (suc k) n (suc (length xs)) s) n
-    ∙ ap (λ b. sought past m (suc k) (if not b then 1 + count_before wanted class xs else 0) (suc (length xs)) s) (sym b)
+    ∙ seek_ending_on past m k (count_before wanted class xs) (length xs) s
+    ∙ ap (λ n. seek_ending past m (suc k) n (suc (length xs)) s) n
+    ∙ ap (λ b. seek_ending past m (suc k) (if not b then 1 + count_before wanted class xs else 0) (suc (length xs)) s) (sym b)
 
 seeks_all : (n : ℕ) (xs : List ℕ) (past wanted : Bool) (class : ℕ → Bool) (g : ℕ) (m : Mode) → Seeks n xs past wanted class g m
 seeks_all zero xs past wanted class g m s e l t a =
@@ -255,7 +255,7 @@ seeks_all zero xs past wanted class g m s e l t a =
     let go = λ (b : State). after (next m b) (seeks 0 past c m) (Signals false) in
     ap (λ r. after r (end_search past m s) (λ f. then_on (put_back m (saved_cursor s) f) go)) p
     ∙ ap (Stops Steps) z
-    ∙ sym (sought_short past m 0 (count_before wanted class xs) (length xs) s (omega arith))
+    ∙ sym (seek_ending_short past m 0 (count_before wanted class xs) (length xs) s (omega arith))
 seeks_all (suc k) [] past wanted class g m s e l t a =
     let c = pay_first (test_grouping wanted class g) in
     let j : k ≡ suc k - 1 = omega arith in
@@ -266,16 +266,16 @@ seeks_all (suc k) [] past wanted class g m s e l t a =
     ∙ ap (λ b. after (if b then Signals true (move_cursor m 1 u) else Signals false u) (seeks (suc k) past c m) (Signals false)) none
     ∙ ap (Signals false) (not_moved m s k)
     ∙ ap (λ j. Signals false (record (move_cursor m 0 s) { steps = j })) j
-    ∙ sym (sought_none past m (suc k) 0 0 s (omega arith) (omega arith))
+    ∙ sym (seek_ending_none past m (suc k) 0 0 s (omega arith) (omega arith))
 seeks_all (suc k) (x ∷ xs) past wanted class g m s e l t a =
     try_first k x xs past wanted class g m (next_is wanted class (Some x)) refl (seeks_all k xs past wanted class g m) s e l t a
 
 -- ---- with the steps and the text of the state
 
-pub seeks_is : (past wanted : Bool) (class : ℕ → Bool) (g : ℕ) (m : Mode) (s : State) → s.cursor ≤ length s.text → with_touch (Tested g) s.touched ≡ s.touched → seeks (suc s.steps) past (pay_first (test_grouping wanted class g)) m s ≡ sought past m s.steps (count_before wanted class (ahead m s)) (room m s) s
+pub seeks_is : (past wanted : Bool) (class : ℕ → Bool) (g : ℕ) (m : Mode) (s : State) → s.cursor ≤ length s.text → with_touch (Tested g) s.touched ≡ s.touched → seeks (suc s.steps) past (pay_first (test_grouping wanted class g)) m s ≡ seek_ending past m s.steps (count_before wanted class (ahead m s)) (room m s) s
 seeks_is past wanted class g m s l t =
     seeks_all s.steps (ahead m s) past wanted class g m s refl l t refl
-    ∙ ap (λ n. sought past m s.steps (count_before wanted class (ahead m s)) n s) (sym (room_is m s l))
+    ∙ ap (λ n. seek_ending past m s.steps (count_before wanted class (ahead m s)) n s) (sym (room_is m s l))
 
 pub count_in_room : (wanted : Bool) (class : ℕ → Bool) (m : Mode) (s : State) → s.cursor ≤ length s.text → count_before wanted class (ahead m s) ≤ room m s
 count_in_room wanted class m s l =

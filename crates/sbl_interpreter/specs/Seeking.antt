@@ -12,8 +12,8 @@ count_before wanted class xs = position_or_len (λ c. next_is wanted class (Some
 
 -- The first test that signals t is after `before` characters, or none is if `room` characters are ahead and no more. Each
 -- test uses a step.
-abbrev pub sought : Bool → Mode → ℕ → ℕ → ℕ → State → Ending
-sought past m steps before room s =
+abbrev pub seek_ending : Bool → Mode → ℕ → ℕ → ℕ → State → Ending
+seek_ending past m steps before room s =
     if nat_le steps before then Stops Steps (record (move_cursor m steps s) { steps = 0 })
     else if nat_lt before room then Signals true (record (move_cursor m (if past then suc before else before) s) { steps = steps - suc before })
     else Signals false (record (move_cursor m before s) { steps = steps - suc before })

@@ -54,8 +54,8 @@ pub none_listed : {X : Type 0} (b : Bool) (ks : List X) → when b ≡ Some ks �
 none_listed true ks e = same_Some [] ks e
 none_listed false ks e = absurd (none-some ks e)
 
-covered : {X : Type 0} (test : X → Bool) (ks a b : List X) → ks ≡ a ++ b → list_all test ks ≡ true → (list_all test a ≡ true) × (list_all test b ≡ true)
-covered test ks a b e h = both _ _ (sym (list_all-append test a b) ∙ sym (ap (list_all test) e) ∙ h)
+all_parts : {X : Type 0} (test : X → Bool) (ks a b : List X) → ks ≡ a ++ b → list_all test ks ≡ true → (list_all test a ≡ true) × (list_all test b ≡ true)
+all_parts test ks a b e h = both _ _ (sym (list_all-append test a b) ∙ sym (ap (list_all test) e) ∙ h)
 
 -- ---- commands
 
@@ -100,7 +100,7 @@ module _ (holes : ℕ → Bool) where
   among_by s t gs hs k l p ks all None b first second is = itself s t gs hs k l p ks (nat_eq (count_in_among (s, gs)) (count_in_among (t, hs))) refl is all
   among_by s t gs hs k l p ks all (Some a) None first second is = itself s t gs hs k l p ks (nat_eq (count_in_among (s, gs)) (count_in_among (t, hs))) refl is all
   among_by s t gs hs k l p ks all (Some a) (Some b) first second is =
-      let parts = covered holes ks a b (sym (same_Some (a ++ b) ks is)) all in
+      let parts = all_parts holes ks a b (sym (same_Some (a ++ b) ks is)) all in
       let x = first a refl parts.0 in
       let y = second b refl x.1 parts.1 in
       inside s t gs hs k l p x.0 y.0 y.1
@@ -145,7 +145,7 @@ module _ (holes : ℕ → Bool) where
         ((λ i. splice_ (e i) (f i)), p)
     sound (setlimit_ b c) (setlimit_ d e) k l p ks is all =
         let h = halves _ _ ks is in
-        let a = covered holes ks h.first h.second h.is all in
+        let a = all_parts holes ks h.first h.second h.is all in
         let x = sound b d k l p h.first h.one a.0 in
         let y = sound c e (number_after b k) (number_after d l) x.1 h.second h.other a.1 in
         ((λ i. setlimit_ (x.0 i) (y.0 i)), y.1)
@@ -389,10 +389,10 @@ module _ (holes : ℕ → Bool) where
     sound_rows no_rows no_rows k l p ks is all = (refl, p)
     sound_rows (row c os rs) (row d ps ss) k l p ks is all =
         let h = halves _ _ ks is in
-        let a = covered holes ks h.first h.second h.is all in
+        let a = all_parts holes ks h.first h.second h.is all in
         let x = sound c d k l p h.first h.one a.0 in
         let j = halves _ _ h.second h.other in
-        let b = covered holes h.second j.first j.second j.is a.1 in
+        let b = all_parts holes h.second j.first j.second j.is a.1 in
         let y = sound_others os ps (number_after c k) (number_after d l) x.1 j.first j.one b.0 in
         let z = sound_rows rs ss (number_after_others os (number_after c k)) (number_after_others ps (number_after d l)) y.1 j.second j.other b.1 in
         ((λ i. row (x.0 i) (y.0 i) (z.0 i)), z.1)
@@ -405,7 +405,7 @@ module _ (holes : ℕ → Bool) where
         let g = if_so _ _ ks is in
         let e = joiner_is x y g.0 in
         let h = halves _ _ ks g.1 in
-        let a = covered holes ks h.first h.second h.is all in
+        let a = all_parts holes ks h.first h.second h.is all in
         let u = sound c d k l p h.first h.one a.0 in
         let v = sound_others os ps (number_after c k) (number_after d l) u.1 h.second h.other a.1 in
         ((λ i. joined (e i) (u.0 i) (v.0 i)), v.1)
@@ -426,7 +426,7 @@ module _ (holes : ℕ → Bool) where
         let m = entry_is e f w.0 in
         let n = entries_are es fs w.1 in
         let h = halves _ _ ks g.1 in
-        let a = covered holes ks h.first h.second h.is all in
+        let a = all_parts holes ks h.first h.second h.is all in
         let x = sound_rows rs ss k l p h.first h.one a.0 in
         let y = sound_groups gs hs (number_after_rows rs k) (number_after_rows ss l) x.1 h.second h.other a.1 in
         ((λ i. group (m i) (n i) (x.0 i) (y.0 i)), y.1)
@@ -450,7 +450,7 @@ module _ (picked : Item' → Bool) where
   bodies n c d os ps (Some ks) e all =
       let holes = λ (k : ℕ). picked (Among n k) in
       let h = halves _ _ ks e in
-      let a = covered holes ks h.first h.second h.is (numbers n ks all) in
+      let a = all_parts holes ks h.first h.second h.is (numbers n ks all) in
       let x = sound holes c d 0 0 refl h.first h.one a.0 in
       let y = sound_others holes os ps (number_after c 0) (number_after d 0) x.1 h.second h.other a.1 in
       (λ i. if picked (Routine n) then routine n (bracket no_rows) no_others else routine n (x.0 i) (y.0 i))
@@ -518,7 +518,7 @@ module _ (picked : Item' → Bool) where
   plains_agree [] [] zs is all = refl
   plains_agree (x ∷ xs) (y ∷ ys) zs is all =
       let h = halves _ _ zs is in
-      let a = covered picked zs h.first h.second h.is all in
+      let a = all_parts picked zs h.first h.second h.is all in
       let p = plain_agree x y h.first h.one a.0 in
       let q = plains_agree xs ys h.second h.other a.1 in
       (λ i. p i ∷ q i)
@@ -535,7 +535,7 @@ module _ (picked : Item' → Bool) where
   items_agree [] [] zs is all = refl
   items_agree (x ∷ xs) (y ∷ ys) zs is all =
       let h = halves _ _ zs is in
-      let a = covered picked zs h.first h.second h.is all in
+      let a = all_parts picked zs h.first h.second h.is all in
       let p = item_agree x y h.first h.one a.0 in
       let q = items_agree xs ys h.second h.other a.1 in
       (λ i. p i ∷ q i)

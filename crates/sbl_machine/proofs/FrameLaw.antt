@@ -23,8 +23,8 @@ use Rattle.sbl_semantics.specs.Control.{pay_first, enter, leave}
 use Rattle.sbl_semantics.specs.State.{State, Ending, Signals, Stops, Doing, pay}
 use Rattle.sbl_semantics.specs.TouchedItems.{Item', Routine, Among, Grouping, Names', item_of_touch, names_of, items_of, touched_items}
 use Rattle.sbl_machine.proofs.TouchedOrder.{any_ordered, any-mapped}
-use Rattle.sbl_machine.proofs.Touching.{with_chosen, with_grows, not_then, filled}
-use Rattle.sbl_machine.proofs.Stays.{ended, pay_same}
+use Rattle.sbl_machine.proofs.Touching.{with_chosen, with_grows, not_then, replicate_index}
+use Rattle.sbl_machine.proofs.Stays.{end_state, pay_same}
 use Rattle.sbl_machine.proofs.FramePairs.{dirty, dirty_at, Grown, Within, WithinAt, Pair, Alike, grown_after, same_grown, same_pair, signals_pair, spoiled_pair, paid_alike}
 use Rattle.sbl_machine.proofs.FrameRuns.{row_alike}
 use Rattle.sbl_machine.proofs.HoledTrees.{after_same, after_others_same}
@@ -35,8 +35,8 @@ use Rattle.sbl_ast.specs.Source.{Source}
 -- ---- calls
 
 -- what a call of the j-th routine with n amongs does, by what its row does
-abbrev called : ℕ → ℕ → Doing → Doing
-called j n d m s = leave s.routine s.choices (d m (enter j n s))
+abbrev call_of : ℕ → ℕ → Doing → Doing
+call_of j n d m s = leave s.routine s.choices (d m (enter j n s))
 
 module _ (marked : Touch → Bool) where
   enter_up : (j n : ℕ) (s : State) → dirty marked s ≡ true → dirty marked (enter j n s) ≡ true
@@ -60,9 +60,9 @@ module _ (marked : Touch → Bool) where
   leave_within i j n s (Stops fault t) w h = tt
 
   entered : (j n : ℕ) (s : State) → Within marked j (enter j n s)
-  entered j n s = record { here = refl; quiet = λ k c clear. filled n k None }
+  entered j n s = record { here = refl; quiet = λ k c clear. replicate_index n k None }
 
-  called_pair : (i j n : ℕ) (d d' : Doing) (m : Mode) → Alike marked j d d' → Pair marked i (called j n d m) (called j n d' m)
+  called_pair : (i j n : ℕ) (d d' : Doing) (m : Mode) → Alike marked j d d' → Pair marked i (call_of j n d m) (call_of j n d' m)
   called_pair i j n d d' m h =
       let a = h.in_mode m in
       record {
@@ -78,7 +78,7 @@ module _ (marked : Touch → Bool) where
       }
 
   -- a routine that is picked
-  entered_pair : (i j n n' : ℕ) (d d' : Doing) (m : Mode) → marked (Entered j) ≡ true → ((s : State) → Grown marked s (d m s)) → ((s : State) → Grown marked s (d' m s)) → Pair marked i (called j n d m) (called j n' d' m)
+  entered_pair : (i j n n' : ℕ) (d d' : Doing) (m : Mode) → marked (Entered j) ≡ true → ((s : State) → Grown marked s (d m s)) → ((s : State) → Grown marked s (d' m s)) → Pair marked i (call_of j n d m) (call_of j n' d' m)
   entered_pair i j n n' d d' m c h h' =
       spoiled_pair marked i _ _
       (λ s. leave_grown j n s _ (h (enter j n s)))
@@ -127,7 +127,7 @@ module _ (picked : Item' → Bool) (items : List ItemInMode) (closed : AllByRecu
       let d = pay_first (row_does ns class call body.mode body.first body.others) in
       let d' = pay_first (row_does ns class' call' body.mode (with_holes holes 0 body.first) (others_with_holes holes (number_after body.first 0) body.others)) in
       let amongs = number_after_others body.others (number_after body.first 0) in
-      subst (λ l. Pair marked i (called j amongs d m) (called j l d' m)) (sym (after_others_same holes body.others (number_after body.first 0) _ (after_same holes body.first 0 0 refl)))
+      subst (λ l. Pair marked i (call_of j amongs d m) (call_of j l d' m)) (sym (after_others_same holes body.others (number_after body.first 0) _ (after_same holes body.first 0 0 refl)))
       (called_pair marked i j amongs d d' m a)
 
   body_pair : (i : ℕ) (n : List ℕ) (call call' : List ℕ → Doing) (m : Mode) → ((j : ℕ) (x : List ℕ) → Alike marked j (call x) (call' x)) → (o : Option Body) → body_named items n ≡ o
@@ -206,7 +206,7 @@ frame_on picked s t closed agree word limit clear =
 
 -- ---- what is said of it
 
-pub touched_ended : (e : Ending) → touched_at e ≡ (ended e).touched
+pub touched_ended : (e : Ending) → touched_at e ≡ (end_state e).touched
 touched_ended (Signals b s) = refl
 touched_ended (Stops fault s) = refl
 

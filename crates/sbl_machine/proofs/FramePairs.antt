@@ -23,7 +23,7 @@ use Rattle.sbl_semantics.specs.Choices.{choice}
 use Rattle.sbl_semantics.specs.State.{State, Ending, Signals, Stops, Doing, after, then_on, pay, saved_cursor, put_back}
 use Rattle.sbl_semantics.specs.Touches.{with_touch}
 use Rattle.sbl_machine.proofs.Touching.{with_grows, with_chosen, not_then}
-use Rattle.sbl_machine.proofs.Stays.{Rest, ended, Same, pay_same, place_same, to_limit_same, back_same, next_same, found_same, here_same, limit_back_same, left_same, right_same, replace_same}
+use Rattle.sbl_machine.proofs.Stays.{Rest, end_state, Same, pay_same, place_same, to_limit_same, back_same, next_same, found_same, here_same, limit_back_same, left_same, right_same, replace_same}
 
 -- the routine that runs is back at an ending with a signal
 abbrev pub Here : ℕ → Ending → Type 0
@@ -36,7 +36,7 @@ module _ (picked : Touch → Bool) where
   dirty s = list_any picked s.touched
 
   abbrev pub dirty_at : Ending → Bool
-  dirty_at e = dirty (ended e)
+  dirty_at e = dirty (end_state e)
 
   -- from a state to an ending: what was touched stays so, and the routine that runs is the same
   pub record Grown (s : State) (e : Ending) : Type 0 where

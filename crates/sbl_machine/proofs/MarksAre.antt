@@ -136,15 +136,15 @@ searches_not : (t : Touch) → ((i k : ℕ) → same_touch t (Searched i k) ≡ 
 searches_not t off numbers i [] ts = refl
 searches_not t off numbers i (n ∷ ns) ts = searches_not t off numbers (suc i) ns (with_searches i (numbers n) ts) ∙ searched_not t off i (numbers n) ts
 
-shifted : (a b c d : Bool) → ((a && d) || ((d && b) || c)) ≡ (((b || a) && d) || c)
-shifted true true c true = refl
-shifted true false c true = refl
-shifted false true c true = refl
-shifted false false c true = refl
-shifted true true c false = refl
-shifted true false c false = refl
-shifted false true c false = refl
-shifted false false c false = refl
+or_shift : (a b c d : Bool) → ((a && d) || ((d && b) || c)) ≡ (((b || a) && d) || c)
+or_shift true true c true = refl
+or_shift true false c true = refl
+or_shift false true c true = refl
+or_shift false false c true = refl
+or_shift true true c false = refl
+or_shift true false c false = refl
+or_shift false true c false = refl
+or_shift false false c false = refl
 
 module _ (numbers : List ℕ → List ℕ) (j l : ℕ) where
   abbrev has_search : List Touch → Bool
@@ -158,7 +158,7 @@ module _ (numbers : List ℕ → List ℕ) (j l : ℕ) where
   any_searched i (k ∷ ks) ts =
       any_searched i ks (with_touch (Searched i k) ts)
       ∙ ap (λ (b : Bool). (list_any (nat_eq l) ks && nat_eq j i) || b) (any_with (Searched j l) (Searched i k) ts)
-      ∙ shifted (list_any (nat_eq l) ks) (nat_eq l k) (has_search ts) (nat_eq j i)
+      ∙ or_shift (list_any (nat_eq l) ks) (nat_eq l k) (has_search ts) (nat_eq j i)
 
   any_search : (i : ℕ) (ns : List (List ℕ)) (ts : List Touch) → has_search (searches numbers i ns ts) ≡ (hit Entered has_number (Entered j) i ns || has_search ts)
   any_search i [] ts = refl

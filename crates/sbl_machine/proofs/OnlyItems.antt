@@ -41,10 +41,10 @@ some_join None y = refl
 both_joins : {X : Type 0} (w x y z : Option (List X)) → is_some w ≡ is_some y → is_some x ≡ is_some z → is_some (join w x) ≡ is_some (join y z)
 both_joins w x y z p q = some_join w x ∙ (λ i. p i && q i) ∙ sym (some_join y z)
 
-abbrev holed : Plain → Plain
-holed x = holed_plain all x
+abbrev hole_of : Plain → Plain
+hole_of x = holed_plain all x
 
-plain_some : (x y : Plain) → is_some (differ_plain x y) ≡ is_some (differ_plain (holed x) (holed y))
+plain_some : (x y : Plain) → is_some (differ_plain x y) ≡ is_some (differ_plain (hole_of x) (hole_of y))
 plain_some (declaration k ms) (declaration l ns) = refl
 plain_some (escapes a b) (escapes c d) = refl
 plain_some (macro m b q) (macro n c r) = refl

@@ -31,5 +31,5 @@ same_order (code.Grouping m) (code.Routine n) = refl
 same_order (code.Grouping m) (code.Among n l) = refl
 same_order (code.Grouping m) (code.Grouping n) = refl
 
-pub inserted : (ks : List Item) (k : Item) → map item_of (insert_key cmp-value.it ks k) ≡ insert_key item_cmp (map item_of ks) (item_of k)
-inserted = inserted_by cmp-value.it same_order
+pub map_insert_key : (ks : List Item) (k : Item) → map item_of (insert_key cmp-value.it ks k) ≡ insert_key item_cmp (map item_of ks) (item_of k)
+map_insert_key = inserted_by cmp-value.it same_order

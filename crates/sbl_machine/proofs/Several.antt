@@ -24,18 +24,18 @@ pub or_false : (a : Bool) → (a || false) ≡ a
 or_false true = refl
 or_false false = refl
 
-crossed : (a b c d : Bool) → ((a || b) || (c || d)) ≡ ((a || c) || (b || d))
-crossed true b c d = refl
-crossed false true true d = refl
-crossed false true false d = refl
-crossed false false c d = refl
+or_cross : (a b c d : Bool) → ((a || b) || (c || d)) ≡ ((a || c) || (b || d))
+or_cross true b c d = refl
+or_cross false true true d = refl
+or_cross false true false d = refl
+or_cross false false c d = refl
 
-spread : (a b c : Bool) → ((a && c) || (b && c)) ≡ ((a || b) && c)
-spread true true true = refl
-spread true true false = refl
-spread true false true = refl
-spread true false false = refl
-spread false b c = refl
+and_over_or : (a b c : Bool) → ((a && c) || (b && c)) ≡ ((a || b) && c)
+and_over_or true true true = refl
+and_over_or true true false = refl
+and_over_or true false true = refl
+and_over_or true false false = refl
+and_over_or false b c = refl
 
 module _ {X : Type 0} where
   any_none : (xs : List X) → list_any (λ x. false) xs ≡ false
@@ -44,11 +44,11 @@ module _ {X : Type 0} where
 
   any_or : (p q : X → Bool) (xs : List X) → list_any (λ x. p x || q x) xs ≡ (list_any p xs || list_any q xs)
   any_or p q [] = refl
-  any_or p q (x ∷ xs) = ap (λ (b : Bool). (p x || q x) || b) (any_or p q xs) ∙ crossed (p x) (q x) (list_any p xs) (list_any q xs)
+  any_or p q (x ∷ xs) = ap (λ (b : Bool). (p x || q x) || b) (any_or p q xs) ∙ or_cross (p x) (q x) (list_any p xs) (list_any q xs)
 
   any_and : (p : X → Bool) (c : Bool) (xs : List X) → list_any (λ x. p x && c) xs ≡ (list_any p xs && c)
   any_and p c [] = refl
-  any_and p c (x ∷ xs) = ap (λ (b : Bool). (p x && c) || b) (any_and p c xs) ∙ spread (p x) (list_any p xs) c
+  any_and p c (x ∷ xs) = ap (λ (b : Bool). (p x && c) || b) (any_and p c xs) ∙ and_over_or (p x) (list_any p xs) c
 
   any_then : (p q : X → Bool) → ((x : X) → p x ≡ true → q x ≡ true) → (xs : List X) → list_any p xs ≡ true → list_any q xs ≡ true
   any_then p q f [] h = absurd (true≢false (sym h))

@@ -35,13 +35,13 @@ abbrev pub rest : State → Rest
 rest s = record { routine = s.routine; choices = s.choices; touched = s.touched }
 
 -- where a run stands when it ends
-abbrev pub ended : Ending → State
-ended (Signals b s) = s
-ended (Stops fault s) = s
+abbrev pub end_state : Ending → State
+end_state (Signals b s) = s
+end_state (Stops fault s) = s
 
 -- it is the same at an ending
 abbrev pub Same : State → Ending → Type 0
-Same s e = rest (ended e) ≡ rest s
+Same s e = rest (end_state e) ≡ rest s
 
 pub either_same : (b : Bool) (s : State) (x y : Ending) → Same s x → Same s y → Same s (if b then x else y)
 either_same true s x y p q = p

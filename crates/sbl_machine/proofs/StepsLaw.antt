@@ -16,16 +16,16 @@ use Rattle.sbl_ast.specs.declared.mode.Mode.TheVariants.{Forward}
 abbrev Alike : ℕ → ℕ → Ending → Ending → Type 0
 Alike l r e f = (outcome_at e ≡ outcome_at f) × (used_at l e ≡ used_at r f) × (touched_at e ≡ touched_at f)
 
-turned : (l r : ℕ) (e f : Ending) → Alike l r e f → Alike r l f e
-turned l r e f h = (sym h.0, sym h.1, sym h.2)
+alike_sym : (l r : ℕ) (e f : Ending) → Alike l r e f → Alike r l f e
+alike_sym l r e f h = (sym h.0, sym h.1, sym h.2)
 
-counted : (l k : ℕ) (s : State) → (l + k) - (s.steps + k) ≡ l - s.steps
-counted l k s = omega arith
+steps_used_plus : (l k : ℕ) (s : State) → (l + k) - (s.steps + k) ≡ l - s.steps
+steps_used_plus l k s = omega arith
 
 higher : (k l : ℕ) (e e' : Ending) → Goes k (suc l) e e' → used_at l e ≤ l → Alike (l + k) l e' e
-higher k l (Signals b s) e' h u = (ap outcome_at h.1, ap (used_at (l + k)) h.1 ∙ counted l k s, ap touched_at h.1)
+higher k l (Signals b s) e' h u = (ap outcome_at h.1, ap (used_at (l + k)) h.1 ∙ steps_used_plus l k s, ap touched_at h.1)
 higher k l (Stops faults.Steps s) e' h u = absurd (omega (arith, u))
-higher k l (Stops fault s) e' h u = (ap outcome_at h.1, ap (used_at (l + k)) h.1 ∙ counted l k s, ap touched_at h.1)
+higher k l (Stops fault s) e' h u = (ap outcome_at h.1, ap (used_at (l + k)) h.1 ∙ steps_used_plus l k s, ap touched_at h.1)
 
 too_many : (k l : ℕ) (e : Ending) → Within k e → used_at (l + k) e ≤ l → ⊥
 too_many k l (Signals b s) h u = omega (arith, h, u)
@@ -33,9 +33,9 @@ too_many k l (Stops faults.Steps s) h u = omega (arith, u)
 too_many k l (Stops fault s) h u = omega (arith, h, u)
 
 lower : (k l : ℕ) (e e' : Ending) → Goes k (suc l) e e' → used_at (l + k) e' ≤ l → Alike l (l + k) e e'
-lower k l (Signals b s) e' h u = turned (l + k) l e' (Signals b s) (ap outcome_at h.1, ap (used_at (l + k)) h.1 ∙ counted l k s, ap touched_at h.1)
+lower k l (Signals b s) e' h u = alike_sym (l + k) l e' (Signals b s) (ap outcome_at h.1, ap (used_at (l + k)) h.1 ∙ steps_used_plus l k s, ap touched_at h.1)
 lower k l (Stops faults.Steps s) e' h u = absurd (too_many k l e' h.1 u)
-lower k l (Stops fault s) e' h u = (sym (ap outcome_at h.1), sym (ap (used_at (l + k)) h.1 ∙ counted l k s), sym (ap touched_at h.1))
+lower k l (Stops fault s) e' h u = (sym (ap outcome_at h.1), sym (ap (used_at (l + k)) h.1 ∙ steps_used_plus l k s), sym (ap touched_at h.1))
 
 ending_goes : (script : Source) (word : List ℕ) (limit k : ℕ) → Goes k (suc limit) (meaning.ending script word limit) (meaning.ending script word (limit + k))
 unfolding meaning.ending
@@ -77,10 +77,10 @@ used_touch script word limit other below above = (both_limits script word limit 
 
 -- ---- refused for its steps
 
-met : (l : ℕ) (e : Ending) → outcome_at e ≡ Refused faults.Steps → l < used_at l e
-met l (Signals b s) h = let no : ⊥ = cc in absurd no
-met l (Stops faults.Steps s) h = omega arith
-met l (Stops fault s) h = let no : ⊥ = cc in absurd no
+refused_below_use : (l : ℕ) (e : Ending) → outcome_at e ≡ Refused faults.Steps → l < used_at l e
+refused_below_use l (Signals b s) h = let no : ⊥ = cc in absurd no
+refused_below_use l (Stops faults.Steps s) h = omega arith
+refused_below_use l (Stops fault s) h = let no : ⊥ = cc in absurd no
 
 unmet : (l : ℕ) (e : Ending) → l < used_at l e → outcome_at e ≡ Refused faults.Steps
 unmet l (Signals b s) h = absurd (omega (arith, h))
@@ -89,4 +89,4 @@ unmet l (Stops fault s) h = absurd (omega (arith, h))
 
 pub refused_for_steps : RefusedForSteps
 unfolding run_of used_of
-refused_for_steps script word limit = (met limit (meaning.ending script word limit), unmet limit (meaning.ending script word limit))
+refused_for_steps script word limit = (refused_below_use limit (meaning.ending script word limit), unmet limit (meaning.ending script word limit))

@@ -50,14 +50,14 @@ differ (s ∷ ss) d zero (suc j) w e f = absurd (not_there w ss j (subst (λ v. 
 differ (s ∷ ss) d (suc i) zero w e f = absurd (not_there w ss i (subst (λ v. AllByRecursion (λ y. bytes_eq v y ≡ false) ss) (same_Some s w f) d.0) e)
 differ (s ∷ ss) d (suc i) (suc j) w e f = ap suc (differ ss d.1 i j w e f)
 
-turned : (ss : List (List ℕ)) (i : ℕ) (w : List ℕ) → slice_get (read_all Backward ss) i ≡ Some w → slice_get ss i ≡ Some (reverse w)
-turned [] i w e = let no : ⊥ = cc in absurd no
-turned (s ∷ ss) zero w e = ap Some (sym (reverse-reverse s) ∙ ap reverse (same_Some (reverse s) w e))
-turned (s ∷ ss) (suc i) w e = turned ss i w e
+reversed_entry : (ss : List (List ℕ)) (i : ℕ) (w : List ℕ) → slice_get (read_all Backward ss) i ≡ Some w → slice_get ss i ≡ Some (reverse w)
+reversed_entry [] i w e = let no : ⊥ = cc in absurd no
+reversed_entry (s ∷ ss) zero w e = ap Some (sym (reverse-reverse s) ∙ ap reverse (same_Some (reverse s) w e))
+reversed_entry (s ∷ ss) (suc i) w e = reversed_entry ss i w e
 
 read_differ : (m : Mode) (ss : List (List ℕ)) → AllDiffer ss → AllDiffer (read_all m ss)
 read_differ Forward ss d = subst AllDiffer (sym (map-id ss)) d
-read_differ Backward ss d = λ i j w e f. d i j (reverse w) (turned ss i w e) (turned ss j w f)
+read_differ Backward ss d = λ i j w e f. d i j (reverse w) (reversed_entry ss i w e) (reversed_entry ss j w f)
 
 -- ---- each among of a script
 

@@ -74,8 +74,8 @@ below_inserted x k h (y ∷ xs) b = by (item_cmp k y) refl (below_inserted x k h
     by Equal e rest = rw e b
     by Greater e rest = rw e (b.0, rest)
 
-turned : (x k : Item') → item_cmp k x ≡ Greater → item_cmp x k ≡ Less
-turned x k h = item_total.antisymm x k ∙ ap ordering_reverse h
+greater_is_less : (x k : Item') → item_cmp k x ≡ Greater → item_cmp x k ≡ Less
+greater_is_less x k h = item_total.antisymm x k ∙ ap ordering_reverse h
 
 rises_inserted : (ks : List Item') (k : Item') → IsStrictlySortedBy item_cmp ks → IsStrictlySortedBy item_cmp (insert_key item_cmp ks k)
 unfolding IsStrictlySortedBy
@@ -85,7 +85,7 @@ rises_inserted (x ∷ xs) k s = by (item_cmp k x) refl (rises_inserted xs k s.1)
     by : (o : Ordering) → item_cmp k x ≡ o → IsStrictlySortedBy item_cmp (insert_key item_cmp xs k) → IsStrictlySortedBy item_cmp (match_ordering (item_cmp k x) (k ∷ x ∷ xs) (x ∷ xs) (x ∷ insert_key item_cmp xs k))
     by Less e rest = rw e ((e, below_later k x e xs s.0), s)
     by Equal e rest = rw e s
-    by Greater e rest = rw e (below_inserted x k (turned x k e) xs s.0, rest)
+    by Greater e rest = rw e (below_inserted x k (greater_is_less x k e) xs s.0, rest)
 
 pub ordered_rises : (xs : List Item') → IsStrictlySortedBy item_cmp (in_item_order xs)
 unfolding IsStrictlySortedBy

@@ -59,7 +59,7 @@ pub not_then : (b c : Bool) → (b ≡ true → c ≡ true) → c ≡ false → 
 not_then true c f e = absurd (true≢false (sym (f refl) ∙ e))
 not_then false c f e = refl
 
-pub filled : {A : Type 0} (n k : ℕ) (d : A) → slice_index_or (replicate n d) k d ≡ d
-filled zero k d = refl
-filled (suc n) zero d = refl
-filled (suc n) (suc k) d = filled n k d
+pub replicate_index : {A : Type 0} (n k : ℕ) (d : A) → slice_index_or (replicate n d) k d ≡ d
+replicate_index zero k d = refl
+replicate_index (suc n) zero d = refl
+replicate_index (suc n) (suc k) d = replicate_index n k d

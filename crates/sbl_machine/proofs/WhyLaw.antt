@@ -24,13 +24,13 @@ recording_goes script word limit =
     subst (λ l. Goes 0 (suc limit) (run begun) (run (meaning.start known word l))) none
     (calls_go known class (body_named items) 32 script.external Forward 0 (suc limit) begun (omega arith))
 
-counted : (l : ℕ) (s : State) → l - (s.steps + 0) ≡ l - s.steps
-counted l s = omega arith
+steps_used_same : (l : ℕ) (s : State) → l - (s.steps + 0) ≡ l - s.steps
+steps_used_same l s = omega arith
 
 alike : (l : ℕ) (e e' : Ending) → Goes 0 (suc l) e e' → (outcome_at e ≡ outcome_at e') × (used_at l e ≡ used_at l e') × (touched_at e ≡ touched_at e') × (integers_at e ≡ integers_at e')
-alike l (Signals b s) e' h = (sym (ap outcome_at h.1), sym (ap (used_at l) h.1 ∙ counted l s), sym (ap touched_at h.1), sym (ap integers_at h.1))
+alike l (Signals b s) e' h = (sym (ap outcome_at h.1), sym (ap (used_at l) h.1 ∙ steps_used_same l s), sym (ap touched_at h.1), sym (ap integers_at h.1))
 alike l (Stops faults.Steps s) e' h = let same = h.0 refl in (sym (ap outcome_at same), sym (ap (used_at l) same), sym (ap touched_at same), sym (ap integers_at same))
-alike l (Stops fault s) e' h = (sym (ap outcome_at h.1), sym (ap (used_at l) h.1 ∙ counted l s), sym (ap touched_at h.1), sym (ap integers_at h.1))
+alike l (Stops fault s) e' h = (sym (ap outcome_at h.1), sym (ap (used_at l) h.1 ∙ steps_used_same l s), sym (ap touched_at h.1), sym (ap integers_at h.1))
 
 pub events_change_nothing : EventsChangeNothing
 unfolding run_of used_of touches_of integers_of

@@ -52,8 +52,8 @@ sinks ts x rest k next d e i high =
 pub took : (ts next : Ts) (x : Terminal) (k n : Stack) (d : ℕ) → ts ≡ x ∷ drop 1 ts → next ≡ drop 1 ts → step k x ≡ goes d n → d ≤ max_depth → fault ts k ≡ fault next n
 took ts next x k n d e is i low = goes_on ts x (drop 1 ts) k n d e i low ∙ ap (λ (r : Ts). fault r n) (sym is)
 
-pub headed : (ts next : Ts) (x : Terminal) → ts ≡ x ∷ drop 1 ts → next ≡ drop 1 ts → ts ≡ x ∷ next
-headed ts next x e is = e ∙ ap (λ (r : Ts). x ∷ r) (sym is)
+pub head_of_drop : (ts next : Ts) (x : Terminal) → ts ≡ x ∷ drop 1 ts → next ≡ drop 1 ts → ts ≡ x ∷ next
+head_of_drop ts next x e is = e ∙ ap (λ (r : Ts). x ∷ r) (sym is)
 
 -- ---- the code's fault is the one found
 

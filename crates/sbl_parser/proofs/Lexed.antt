@@ -10,7 +10,7 @@ use Rattle.sbl_ast.specs.Terminal as t
 use Rattle.sbl_ast.specs.Texts.{Text, TreeOf, places_in, tokens_of}
 use Rattle.sbl_ast.specs.Places.{AtDepth, AreShallow, tokens}
 use Rattle.sbl_ast.specs.TerminalPlaces as roles
-use Rattle.sbl_ast.proofs.Lexed.{lexed, with_lexeme, places_lexed, text_lexed, tokens_lexed}
+use Rattle.sbl_ast.proofs.Lexed.{lexemes_at_depth, with_lexeme, places_lexed, text_lexed, tokens_lexed}
 use Rattle.sbl_parser.specs.Reading.{IsPrefix, IsTooDeep, HasNoneTooDeep, IsReadAs, CannotFollow, StopsAt, IsSyntaxAt, IsTooDeepAt, IsOutOfProfileAt}
 use Rattle.sbl_parser.specs.TerminalReading as reading
 use Rattle.sbl_parser.proofs.Runs.{IsDone, text_runs}
@@ -43,28 +43,28 @@ same_lexemes (x ∷ ts) = ap (λ (y : Lexeme). y ∷ L (terminals_of ts)) (there
 abbrev with_role : AtDepth → roles.AtDepth
 with_role p = (terminal_of p.0, p.1)
 
-abbrev roled : List AtDepth → List roles.AtDepth
-roled ps = map with_role ps
+abbrev roles_at_depth : List AtDepth → List roles.AtDepth
+roles_at_depth ps = map with_role ps
 
-placed_back : (rs : List roles.AtDepth) → roled (lexed rs) ≡ rs
+placed_back : (rs : List roles.AtDepth) → roles_at_depth (lexemes_at_depth rs) ≡ rs
 placed_back [] = refl
-placed_back ((x, d) ∷ rs) = ap (λ (y : Terminal). (y, d) ∷ roled (lexed rs)) (back x) ∙ ap (λ (r : List roles.AtDepth). (x, d) ∷ r) (placed_back rs)
+placed_back ((x, d) ∷ rs) = ap (λ (y : Terminal). (y, d) ∷ roles_at_depth (lexemes_at_depth rs)) (back x) ∙ ap (λ (r : List roles.AtDepth). (x, d) ∷ r) (placed_back rs)
 
-tokens_roled : (ps : List AtDepth) → roles.tokens (roled ps) ≡ T (tokens ps)
+tokens_roled : (ps : List AtDepth) → roles.tokens (roles_at_depth ps) ≡ T (tokens ps)
 tokens_roled [] = refl
 tokens_roled (p ∷ ps) = ap (λ (r : Ts). terminal_of p.0 ∷ r) (tokens_roled ps)
 
-places_back : (w : Text) (x : TreeOf w) → roles.places_in w x ≡ roled (places_in w x)
-places_back w x = sym (ap roled (places_lexed w x) ∙ placed_back (roles.places_in w x))
+places_back : (w : Text) (x : TreeOf w) → roles.places_in w x ≡ roles_at_depth (places_in w x)
+places_back w x = sym (ap roles_at_depth (places_lexed w x) ∙ placed_back (roles.places_in w x))
 
 pub text_back : (w : Text) (x : TreeOf w) → roles.tokens_of w x ≡ T (tokens_of w x)
 text_back w x = sym (ap T (text_lexed w x) ∙ terminals_back (roles.tokens_of w x))
 
-shallow_lexed : (rs : List roles.AtDepth) → roles.AreShallow rs → AreShallow (lexed rs)
+shallow_lexed : (rs : List roles.AtDepth) → roles.AreShallow rs → AreShallow (lexemes_at_depth rs)
 shallow_lexed [] h = tt
 shallow_lexed (r ∷ rs) h = (h.0, shallow_lexed rs h.1)
 
-shallow_roled : (ps : List AtDepth) → AreShallow ps → roles.AreShallow (roled ps)
+shallow_roled : (ps : List AtDepth) → AreShallow ps → roles.AreShallow (roles_at_depth ps)
 shallow_roled [] h = tt
 shallow_roled (p ∷ ps) h = (h.0, shallow_roled ps h.1)
 
@@ -74,7 +74,7 @@ prefix_back : (w : Text) (b : Ls) → IsPrefix w b → reading.IsPrefix w (T b)
 prefix_back w b h = (h.0, T h.1, text_back w h.0 ∙ ap T h.2 ∙ map-append terminal_of b h.1)
 
 deep_back : (w : Text) (b : Ls) (x : Lexeme) → IsTooDeep w b x → reading.IsTooDeep w (T b) (terminal_of x)
-deep_back w b x h = (h.0, roled h.1, h.2, roled h.3, places_back w h.0 ∙ ap roled h.4 ∙ map-append with_role h.1 ((x, h.2) ∷ h.3), tokens_roled h.1 ∙ ap T h.5, h.6)
+deep_back w b x h = (h.0, roles_at_depth h.1, h.2, roles_at_depth h.3, places_back w h.0 ∙ ap roles_at_depth h.4 ∙ map-append with_role h.1 ((x, h.2) ∷ h.3), tokens_roled h.1 ∙ ap T h.5, h.6)
 
 read_back : (w : Text) (all : Ls) (tree : TreeOf w) → IsReadAs w all tree → reading.IsReadAs w (T all) tree
 read_back w all tree h = (text_back w tree ∙ ap T h.0, subst roles.AreShallow (sym (places_back w tree)) (shallow_roled (places_in w tree) h.1))
@@ -91,7 +91,7 @@ prefix_to : (w : Text) (b : Ts) → reading.IsPrefix w b → IsPrefix w (L b)
 prefix_to w b h = (h.0, L h.1, text_lexed w h.0 ∙ ap L h.2 ∙ map-append lexeme_as b h.1)
 
 deep_to : (w : Text) (b : Ts) (x : Terminal) → reading.IsTooDeep w b x → IsTooDeep w (L b) (lexeme_as x)
-deep_to w b x h = (h.0, lexed h.1, h.2, lexed h.3, places_lexed w h.0 ∙ ap lexed h.4 ∙ map-append with_lexeme h.1 ((x, h.2) ∷ h.3), tokens_lexed h.1 ∙ ap L h.5, h.6)
+deep_to w b x h = (h.0, lexemes_at_depth h.1, h.2, lexemes_at_depth h.3, places_lexed w h.0 ∙ ap lexemes_at_depth h.4 ∙ map-append with_lexeme h.1 ((x, h.2) ∷ h.3), tokens_lexed h.1 ∙ ap L h.5, h.6)
 
 none_to : (w : Text) (b : Ts) → reading.HasNoneTooDeep w b → HasNoneTooDeep w (L b)
 none_to w b h p q x e deep = h (T p) (T q) (terminal_of x) (sym (terminals_back b) ∙ ap T e ∙ map-append terminal_of p (x ∷ q)) (deep_back w p x deep)

@@ -31,8 +31,8 @@ same_head x y a b e = cc
 same_tail : (x y : Lexeme) (a b : Ts) → x ∷ a ≡ y ∷ b → a ≡ b
 same_tail x y a b e = cc
 
-joined : (x y : Lexeme) (a b : Ts) → x ≡ y → a ≡ b → x ∷ a ≡ y ∷ b
-joined x y a b e f = cc
+cons_same : (x y : Lexeme) (a b : Ts) → x ≡ y → a ≡ b → x ∷ a ≡ y ∷ b
+cons_same x y a b e f = cc
 
 cuts : (p r q s : Ts) → p ++ r ≡ q ++ s → Cuts p r q s
 cuts [] r [] s e = inl (refl, e)
@@ -43,9 +43,9 @@ cuts (x ∷ p) r (y ∷ q) s e = go (cuts p r q s (same_tail x y (p ++ r) (q ++ 
   head = same_head x y (p ++ r) (q ++ s) e
 
   go : Cuts p r q s → Cuts (x ∷ p) r (y ∷ q) s
-  go (inl h) = inl (joined x y p q head h.0, h.1)
-  go (inr (inl h)) = inr (inl (h.0, h.1, joined y x q (p ++ h.0 ∷ h.1) (sym head) h.2, h.3))
-  go (inr (inr h)) = inr (inr (h.0, h.1, joined x y p (q ++ h.0 ∷ h.1) head h.2, h.3))
+  go (inl h) = inl (cons_same x y p q head h.0, h.1)
+  go (inr (inl h)) = inr (inl (h.0, h.1, cons_same y x q (p ++ h.0 ∷ h.1) (sym head) h.2, h.3))
+  go (inr (inr h)) = inr (inr (h.0, h.1, cons_same x y p (q ++ h.0 ∷ h.1) head h.2, h.3))
 
 -- ---- prefixes
 
@@ -144,7 +144,7 @@ two_profile k all r s h g =
       ends (x ∷ p) (y ∷ q) a b c d e = ends p q a b c d (same_tail x y (p ++ a ∷ b ∷ []) (q ++ c ∷ d ∷ []) e)
 
       same_ends : (p q : Ts) (a b : Lexeme) (m n : Ts) → p ++ l.sign signs.Dollar ∷ a ∷ [] ≡ q ++ l.sign signs.Dollar ∷ b ∷ [] → m ≡ n → l.sign signs.Dollar ∷ a ∷ m ≡ l.sign signs.Dollar ∷ b ∷ n
-      same_ends p q a b m n e f = cons (l.sign signs.Dollar) (joined a b m n (ends p q (l.sign signs.Dollar) a (l.sign signs.Dollar) b e) f)
+      same_ends p q a b m n e f = cons (l.sign signs.Dollar) (cons_same a b m n (ends p q (l.sign signs.Dollar) a (l.sign signs.Dollar) b e) f)
 
 pub fault_is_one : (k : Text) (all r s : Ts) (v w : Wrong) → IsWrongAt k v all r → IsWrongAt k w all s → (v ≡ w) × (r ≡ s)
 fault_is_one k all r s syntax syntax h g = (refl, two_syntax k all r s h g)

@@ -52,16 +52,16 @@ undo (roles.Constant o) = Some (t.constant o)
 undo _ = None
 
 -- a token that its role determines
-abbrev pub determined : Terminal → Bool
-determined (t.name n) = false
-determined (t.number n) = false
-determined (t.literal q) = false
-determined (t.inserts a b) = false
-determined (t.macro_name n) = false
-determined (t.other o) = false
-determined _ = true
+abbrev pub is_determined : Terminal → Bool
+is_determined (t.name n) = false
+is_determined (t.number n) = false
+is_determined (t.literal q) = false
+is_determined (t.inserts a b) = false
+is_determined (t.macro_name n) = false
+is_determined (t.other o) = false
+is_determined _ = true
 
-undone : (x : Terminal) → determined x ≡ true → undo (role_as x) ≡ Some x
+undone : (x : Terminal) → is_determined x ≡ true → undo (role_as x) ≡ Some x
 undone (t.name n) e = absurd cc
 undone (t.number n) e = absurd cc
 undone (t.literal q) e = absurd cc
@@ -70,42 +70,42 @@ undone (t.macro_name n) e = absurd cc
 undone (t.other o) e = absurd cc
 undone _ e = refl
 
-lost : (x : Terminal) → determined x ≡ false → undo (role_as x) ≡ None
-lost t.open_ e = absurd cc
-lost t.close_ e = absurd cc
-lost t.dollar e = absurd cc
-lost t.as_ e = absurd cc
-lost t.for_ e = absurd cc
-lost t.non e = absurd cc
-lost t.among e = absurd cc
-lost t.define e = absurd cc
-lost t.backward_mode e = absurd cc
-lost t.set_limit e = absurd cc
-lost t.string_def e = absurd cc
-lost t.string_escapes e = absurd cc
-lost t.len_of e = absurd cc
-lost (t.declares o) e = absurd cc
-lost (t.base o) e = absurd cc
-lost (t.joiner o) e = absurd cc
-lost (t.simple o) e = absurd cc
-lost (t.prefix o) e = absurd cc
-lost (t.count o) e = absurd cc
-lost (t.move o) e = absurd cc
-lost (t.naming o) e = absurd cc
-lost (t.edit o) e = absurd cc
-lost (t.additive o) e = absurd cc
-lost (t.multiplicative o) e = absurd cc
-lost (t.assigns o) e = absurd cc
-lost (t.compares o) e = absurd cc
-lost (t.constant o) e = absurd cc
-lost _ e = refl
+undo_none : (x : Terminal) → is_determined x ≡ false → undo (role_as x) ≡ None
+undo_none t.open_ e = absurd cc
+undo_none t.close_ e = absurd cc
+undo_none t.dollar e = absurd cc
+undo_none t.as_ e = absurd cc
+undo_none t.for_ e = absurd cc
+undo_none t.non e = absurd cc
+undo_none t.among e = absurd cc
+undo_none t.define e = absurd cc
+undo_none t.backward_mode e = absurd cc
+undo_none t.set_limit e = absurd cc
+undo_none t.string_def e = absurd cc
+undo_none t.string_escapes e = absurd cc
+undo_none t.len_of e = absurd cc
+undo_none (t.declares o) e = absurd cc
+undo_none (t.base o) e = absurd cc
+undo_none (t.joiner o) e = absurd cc
+undo_none (t.simple o) e = absurd cc
+undo_none (t.prefix o) e = absurd cc
+undo_none (t.count o) e = absurd cc
+undo_none (t.move o) e = absurd cc
+undo_none (t.naming o) e = absurd cc
+undo_none (t.edit o) e = absurd cc
+undo_none (t.additive o) e = absurd cc
+undo_none (t.multiplicative o) e = absurd cc
+undo_none (t.assigns o) e = absurd cc
+undo_none (t.compares o) e = absurd cc
+undo_none (t.constant o) e = absurd cc
+undo_none _ e = refl
 
-pub as_terminal : (ts : Ts) (x : Terminal) → determined x ≡ true → role_of ts ≡ role_as x → ts ≡ x ∷ drop 1 ts
+pub as_terminal : (ts : Ts) (x : Terminal) → is_determined x ≡ true → role_of ts ≡ role_as x → ts ≡ x ∷ drop 1 ts
 as_terminal [] x d e = let f : None ≡ Some x = ap undo e ∙ undone x d in absurd cc
-as_terminal (y ∷ ts) x d e = go (determined y) refl where
-  go : (b : Bool) → determined y ≡ b → y ∷ ts ≡ x ∷ ts
+as_terminal (y ∷ ts) x d e = go (is_determined y) refl where
+  go : (b : Bool) → is_determined y ≡ b → y ∷ ts ≡ x ∷ ts
   go true is = let f : Some y ≡ Some x = sym (undone y is) ∙ ap undo e ∙ undone x d in cc
-  go false is = let f : None ≡ Some x = sym (lost y is) ∙ ap undo e ∙ undone x d in absurd cc
+  go false is = let f : None ≡ Some x = sym (undo_none y is) ∙ ap undo e ∙ undone x d in absurd cc
 
 pub some_first : (ts : Ts) (r : Role) → role_of ts ≡ r → (r ≡ roles.End → ⊥) → 0 < length ts
 some_first [] r e n = absurd (n (sym e))

@@ -209,8 +209,8 @@ same_entries (x ∷ xs) (y ∷ ys) a b ha hb e =
 
 -- ---- commands
 
-closed : (ts : Ts) → EndsRow (t.close_ ∷ ts)
-closed ts = record { ends = calm t.close_ ts refl refl; joins_not = refl }
+close_ends_row : (ts : Ts) → EndsRow (t.close_ ∷ ts)
+close_ends_row ts = record { ends = calm t.close_ ts refl refl; joins_not = refl }
 
 tree_begins : (c : Command) (rest : Ts) → is_begin (sort (spelled_command c rest)) ≡ true
 tree_begins (bracket rs) rest = refl
@@ -273,7 +273,7 @@ bare_block xs ys a ts h e = let m = same_entries xs ys (t.close_ ∷ a) (t.open_
 mutual
   same_tree : (c u : Command) (a b : Ts) → Ends a → Ends b → spelled_command c a ≡ spelled_command u b → (c ≡ u) × (a ≡ b)
   same_tree (bracket rs) (bracket qs) a b ha hb e =
-      let m = same_rows rs qs (t.close_ ∷ a) (t.close_ ∷ b) (closed a) (closed b) refl refl (tail _ _ _ _ e) in (ap (λ (r : Rows). bracket r) m.0, tail _ _ _ _ m.1)
+      let m = same_rows rs qs (t.close_ ∷ a) (t.close_ ∷ b) (close_ends_row a) (close_ends_row b) refl refl (tail _ _ _ _ e) in (ap (λ (r : Rows). bracket r) m.0, tail _ _ _ _ m.1)
   same_tree (simple_ x) (simple_ y) a b ha hb e = (cc, cc)
   same_tree (literal_ p) (literal_ q) a b ha hb e = (cc, cc)
   same_tree (name_ n) (name_ m) a b ha hb e = (cc, cc)
@@ -377,7 +377,7 @@ mutual
   same_starter no_starter (starter qs) a b ha hb e = absurd (differ is_open a (t.open_ ∷ spelled_rows qs (t.close_ ∷ b)) ha refl e)
   same_starter (starter rs) no_starter a b ha hb e = absurd (differ is_open b (t.open_ ∷ spelled_rows rs (t.close_ ∷ a)) hb refl (sym e))
   same_starter (starter rs) (starter qs) a b ha hb e =
-      let m = same_rows rs qs (t.close_ ∷ a) (t.close_ ∷ b) (closed a) (closed b) refl refl (tail _ _ _ _ e) in (ap (λ (r : Rows). starter r) m.0, tail _ _ _ _ m.1)
+      let m = same_rows rs qs (t.close_ ∷ a) (t.close_ ∷ b) (close_ends_row a) (close_ends_row b) refl refl (tail _ _ _ _ e) in (ap (λ (r : Rows). starter r) m.0, tail _ _ _ _ m.1)
 
   same_groups : (gs hs : Groups) (a b : Ts) → spelled_groups gs (t.close_ ∷ a) ≡ spelled_groups hs (t.close_ ∷ b) → (gs ≡ hs) × (a ≡ b)
   same_groups (bare xs) (bare ys) a b e =
@@ -389,7 +389,7 @@ mutual
       let ra = t.open_ ∷ spelled_rows rs (t.close_ ∷ spelled_groups gs (t.close_ ∷ a)) in
       let rb = t.open_ ∷ spelled_rows qs (t.close_ ∷ spelled_groups hs (t.close_ ∷ b)) in
       let m = same_entries (x ∷ xs) (y ∷ ys) ra rb (after_block _) (after_block _) e in
-      let n = same_rows rs qs (t.close_ ∷ spelled_groups gs (t.close_ ∷ a)) (t.close_ ∷ spelled_groups hs (t.close_ ∷ b)) (closed _) (closed _) refl refl (tail _ _ _ _ m.1) in
+      let n = same_rows rs qs (t.close_ ∷ spelled_groups gs (t.close_ ∷ a)) (t.close_ ∷ spelled_groups hs (t.close_ ∷ b)) (close_ends_row _) (close_ends_row _) refl refl (tail _ _ _ _ m.1) in
       let l = same_groups gs hs a b (tail _ _ _ _ n.1) in
       let firsts : x ∷ xs ≡ y ∷ ys = m.0 in
       let rows_ : rs ≡ qs = n.0 in
@@ -485,7 +485,7 @@ same_plains (x ∷ xs) (y ∷ ys) a b ha hb e =
     (cc, n.1)
 
 after_plains : (ts : Ts) → EndsItem (t.close_ ∷ ts)
-after_plains ts = record { row = closed ts; item_not = refl }
+after_plains ts = record { row = close_ends_row ts; item_not = refl }
 
 plain_backward : (x : Plain) (a b : Ts) → spelled_plain x a ≡ t.backward_mode ∷ b → ⊥
 plain_backward (declaration k ns) a b e = cc

@@ -78,10 +78,10 @@ prepend : Entry → Groups → Groups
 prepend x (bare es) = bare (x ∷ es)
 prepend x (group e es rs gs) = group x (e ∷ es) rs gs
 
-prepended : (x : Entry) (gs : Groups) (rest : List Terminal) → spelled_groups (prepend x gs) rest ≡ spelled_entry x (spelled_groups gs rest)
+spelled_prepend : (x : Entry) (gs : Groups) (rest : List Terminal) → spelled_groups (prepend x gs) rest ≡ spelled_entry x (spelled_groups gs rest)
 unfolding prepend
-prepended x (bare es) rest = refl
-prepended x (group e es rs gs) rest = refl
+spelled_prepend x (bare es) rest = refl
+spelled_prepend x (group e es rs gs) rest = refl
 
 -- ---- one lemma for each symbol
 
@@ -212,7 +212,7 @@ groups_made d _ k = tt
 entries_made : (d : ℕ) (x : Terminal) (k : Stack) → Assembles (s.entries d ∷ k) x (after_entries d x k)
 entries_made d (t.literal q) k = λ ts m.
     let gs = m.3.0 (entry q m.0) in
-    (λ x. prepend x gs, m.3.1, λ x. ap (λ (r : Ts). spelled_entry x r) (m.2 q ∙ m.3.2 (entry q m.0)) ∙ sym (prepended x gs m.3.1), m.3.3)
+    (λ x. prepend x gs, m.3.1, λ x. ap (λ (r : Ts). spelled_entry x r) (m.2 q ∙ m.3.2 (entry q m.0)) ∙ sym (spelled_prepend x gs m.3.1), m.3.3)
 entries_made d t.open_ k = λ ts m. (
   λ x. group x [] m.0 m.3.2.0,
   m.3.2.1,

@@ -23,7 +23,7 @@ use sbl_ast::{Among, Command, Count, Entry, Group, NextCommand, Prefix, RowOfCom
 use std::alloc::Global;
 
 /// Puts a command into a box. It is dropped here if an allocation fails, so no caller has to prove that again.
-fn boxed(alloc: Global, command: Command) -> ReadResult<Box<Command>>
+fn box_command(alloc: Global, command: Command) -> ReadResult<Box<Command>>
     ensures same { IfOk result (λ b. b.value ≡ command) }
     ensures memory { IfErr result (λ e. e ≡ ReadError.Memory) }
 {
@@ -105,7 +105,7 @@ fn prefix_command(cursor: &mut Cursor<'_, '_>, depth: u8, prefix: Prefix) -> Rea
     requires { depth ≤ max_depth }
     ensures { Reads (wanted.command depth ∷ []) (λ x. spelled_command (view_command x)) (t.prefix prefix ∷ ahead cursor.old) result (ahead cursor.new) }
 {
-    let inner = boxed(cursor.alloc, command(cursor, depth + 1)?)?;
+    let inner = box_command(cursor.alloc, command(cursor, depth + 1)?)?;
     Ok(Command::Prefixed(prefix, inner))
 }
 
@@ -116,7 +116,7 @@ fn count_command(cursor: &mut Cursor<'_, '_>, depth: u8, count: Count) -> ReadRe
     ensures { Reads (wanted.command depth ∷ []) (λ x. spelled_command (view_command x)) (t.count count ∷ ahead cursor.old) result (ahead cursor.new) }
 {
     let times = expression(cursor, depth)?;
-    let inner = boxed(cursor.alloc, command(cursor, depth + 1)?)?;
+    let inner = box_command(cursor.alloc, command(cursor, depth + 1)?)?;
     Ok(Command::Counted(count, times, inner))
 }
 
@@ -128,9 +128,9 @@ fn set_limit(cursor: &mut Cursor<'_, '_>, depth: u8) -> ReadResult<Command>
     ensures { Reads (wanted.command depth ∷ []) (λ x. spelled_command (view_command x)) (ahead cursor.old) result (ahead cursor.new) }
 {
     cursor.skip();
-    let limit = boxed(cursor.alloc, command(cursor, depth + 1)?)?;
+    let limit = box_command(cursor.alloc, command(cursor, depth + 1)?)?;
     cursor.take(Delimiter::For, depth)?;
-    let inner = boxed(cursor.alloc, command(cursor, depth + 1)?)?;
+    let inner = box_command(cursor.alloc, command(cursor, depth + 1)?)?;
     Ok(Command::SetLimit(limit, inner))
 }
 

@@ -96,7 +96,7 @@ mild_inserted e name =
 
 wrong : (e : InForce) (text : List ℕ) (place : ℕ) (f : ScriptFault) → IsWrong e text place f → is_of_token f ≡ false
 wrong e text place f (inl (more, is, same)) = ap is_of_token same
-wrong e text place f (inr (x, name, more, is, insertion, g, refused, same)) = ap is_of_token same ∙ subst (λ (r : Result (List ℕ) Refusal). Mild r) refused (mild_inserted e name) place
+wrong e text place f (inr (x, name, more, is, insertion, g, refusal_of_text, same)) = ap is_of_token same ∙ subst (λ (r : Result (List ℕ) Refusal). Mild r) refusal_of_text (mild_inserted e name) place
 
 -- ---- the faults of a text
 
@@ -120,15 +120,15 @@ no_piece wanted.Inserts text place = pair text place
 no_piece wanted.Token text place = token text place
 no_piece wanted.MacroName text place = token text place
 
-refused : (s : Directives) (k : Shape) (x : List ℕ) (place : ℕ) (f : ScriptFault) → IsRefused s k x place f → is_of_token f ≡ false
-refused s shape.Number x place f (large, same) = ap is_of_token same
-refused s shape.Literal x place f (inner, is, inl (before, rest, ps, parts, are, h)) = wrong s.escapes rest (place + 1 + byte_length before) f h
-refused s shape.Literal x place f (inner, is, inr (v, means, none, same)) = ap is_of_token same
-refused s _ x place f h = absurd h
+refusal_of_text : (s : Directives) (k : Shape) (x : List ℕ) (place : ℕ) (f : ScriptFault) → IsRefused s k x place f → is_of_token f ≡ false
+refusal_of_text s shape.Number x place f (large, same) = ap is_of_token same
+refusal_of_text s shape.Literal x place f (inner, is, inl (before, rest, ps, parts, are, h)) = wrong s.escapes rest (place + 1 + byte_length before) f h
+refusal_of_text s shape.Literal x place f (inner, is, inr (v, means, none, same)) = ap is_of_token same
+refusal_of_text s _ x place f h = absurd h
 
 not_of_tokens : (s : Directives) (text : List ℕ) (f : ScriptFault) → IsFirstFaultFrom s text f → is_of_token f ≡ false
 not_of_tokens s text f (before, rest, ps, t, parts, cut, inl (ends, none, same)) = ap is_of_token same ∙ no_piece t.wanted rest (byte_length before)
-not_of_tokens s text f (before, rest, ps, t, parts, cut, inr (k, x, more, is, piece, h)) = refused t k x (byte_length before) f h
+not_of_tokens s text f (before, rest, ps, t, parts, cut, inr (k, x, more, is, piece, h)) = refusal_of_text t k x (byte_length before) f h
 
 pub not_of_text : (s : Directives) (bytes : List ℕ) (f : ScriptFault) → IsTextFault s bytes f → is_of_token f ≡ false
 not_of_text s bytes f (inl (long, same)) = ap is_of_token same

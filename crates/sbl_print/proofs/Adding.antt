@@ -23,6 +23,6 @@ one_more old new text x h is rest =
     ap (λ (b : List ℕ). b ++ more rest) h ∙ append_assoc old (space ++ text) (more rest) ∙ ap (λ (b : List ℕ). old ++ ((space ++ b) ++ more rest)) (sym is)
 
 -- the first token of a line, and those after it
-pub begun : (old between new : List ℕ) (x : Terminal) (ts : List Terminal) → between ≡ old ++ token_text x → new ++ more [] ≡ between ++ more ts → Begins old new (x ∷ ts)
+pub begins_before : (old between new : List ℕ) (x : Terminal) (ts : List Terminal) → between ≡ old ++ token_text x → new ++ more [] ≡ between ++ more ts → Begins old new (x ∷ ts)
 unfolding more
-begun old between new x ts h k = sym (append-nil new) ∙ k ∙ ap (λ (b : List ℕ). b ++ more ts) h ∙ append_assoc old (token_text x) (more ts)
+begins_before old between new x ts h k = sym (append-nil new) ∙ k ∙ ap (λ (b : List ℕ). b ++ more ts) h ∙ append_assoc old (token_text x) (more ts)

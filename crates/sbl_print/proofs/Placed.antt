@@ -10,7 +10,7 @@ use Rattle.sbl_ast.specs.Tree.{Expression, expression, Sums, no_sums, sum, Produ
 use Rattle.sbl_ast.specs.Spelled.{argument_terminal, spelled_expression, spelled_sums, spelled_product, spelled_scales, spelled_factor, spelled_entry, spelled_entries, spelled_command, spelled_rows, spelled_others, spelled_starter, spelled_groups, spelled_names, spelled_base, spelled_terms, spelled_plain}
 use Rattle.sbl_ast.specs.TerminalPlaces.{AtDepth, placed_expression, placed_sums, placed_product, placed_scales, placed_factor, placed_entry, placed_entries, placed_command, placed_rows, placed_others, placed_starter, placed_groups, placed_names, placed_base, placed_terms, placed_plain, tokens}
 use Rattle.sbl_ast.specs.Places as places
-use Rattle.sbl_ast.proofs.Lexed.{lexed, plain_lexed, tokens_lexed}
+use Rattle.sbl_ast.proofs.Lexed.{lexemes_at_depth, plain_lexed, tokens_lexed}
 use Rattle.sbl_print.specs.Adding.{token_text, Begins, BeginsLine}
 use Rattle.sbl_print.specs.Canonical.{space}
 
@@ -115,7 +115,7 @@ joined_lexed (x ∷ y ∷ ts) = ap (λ (b : List ℕ). token_text x ++ (space ++
 
 plain_lexemes : (p : Plain) → places.tokens (places.placed_plain p []) ≡ map lexeme_as (spelled_plain p [])
 plain_lexemes p =
-    let same : places.placed_plain p [] ≡ lexed (placed_plain p []) = plain_lexed p [] refl in
+    let same : places.placed_plain p [] ≡ lexemes_at_depth (placed_plain p []) = plain_lexed p [] refl in
     ap places.tokens same ∙ tokens_lexed (placed_plain p []) ∙ ap (map lexeme_as) (plain_tokens p [])
 
 -- a line that begins with the tokens of an item as written begins with its tokens

@@ -10,8 +10,8 @@ amongs-push [] m k = refl
 amongs-push (x ∷ s) m k = amongs-push s m (amongs_after x.notice k)
 
 -- one more occurrence
-pub counted : (s : List noted.Occurrence) (m : noted.Occurrence) → amongs_after (view_notice m.notice) (amongs_in (view_occurrences s) 0) ≡ amongs_in (view_occurrences (s ++ m ∷ [])) 0
-counted s m = sym (ap (λ l. amongs_in l 0) (map_push view_occurrence s m) ∙ amongs-push (view_occurrences s) (view_occurrence m) 0)
+pub amongs_after_push : (s : List noted.Occurrence) (m : noted.Occurrence) → amongs_after (view_notice m.notice) (amongs_in (view_occurrences s) 0) ≡ amongs_in (view_occurrences (s ++ m ∷ [])) 0
+amongs_after_push s m = sym (ap (λ l. amongs_in l 0) (map_push view_occurrence s m) ∙ amongs-push (view_occurrences s) (view_occurrence m) 0)
 
 one_more : (n : Notice) (k : ℕ) → amongs_after n k ≤ k + 1
 one_more (declares d n) k = omega arith

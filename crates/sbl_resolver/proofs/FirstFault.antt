@@ -107,12 +107,12 @@ well_declared_passes items external e =
     let all = occurrences_of items in
     (each all (none_first (fault_after all [] all) (fault_of_external items external all) e), external_is items external all (none_second (fault_after all [] all) (fault_of_external items external all) e))
 
-abbrev pub found : (all : List Occurrence) (f : ScriptFault) → FirstFrom all [] all f → IsFirst all f
-found all f r = record { before = r.before; occurrence = r.occurrence; after = r.after; parts = r.parts; fault = r.fault; none_before = r.none_before }
+abbrev pub first_from_start : (all : List Occurrence) (f : ScriptFault) → FirstFrom all [] all f → IsFirst all f
+first_from_start all f r = record { before = r.before; occurrence = r.occurrence; after = r.after; parts = r.parts; fault = r.fault; none_before = r.none_before }
 
 found_or_external : (items : List Item) (external : List ℕ) (all : List Occurrence) (f : ScriptFault) (o : Option ScriptFault) → fault_after all [] all ≡ o → option_or o (fault_of_external items external all) ≡ Some f →
     IsFirst all f ⊎ (EachPasses all × (has_external items external all ≡ false) × (f ≡ fault.NoExternal))
-found_or_external items external all f (Some g) is e = inl (found all f (first all [] all f (is ∙ e)))
+found_or_external items external all f (Some g) is e = inl (first_from_start all f (first all [] all f (is ∙ e)))
 found_or_external items external all f None is e = let x = external_lacks items external all f e in inr (each all is, x.0, x.1)
 
 pub fault_is_first : FaultIsFirst

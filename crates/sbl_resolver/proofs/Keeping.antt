@@ -67,20 +67,20 @@ both Greater b = refl
 numbers : (x y : ℕ) → is_eq (nat_cmp x y) ≡ nat_eq y x
 numbers x y = grind (arith, nat_tests)
 
-turned : (a b c : Bool) → ((a && b) && c) ≡ ((b && c) && a)
-turned true true true = refl
-turned true true false = refl
-turned true false c = refl
-turned false true true = refl
-turned false true false = refl
-turned false false c = refl
+and_turn : (a b c : Bool) → ((a && b) && c) ≡ ((b && c) && a)
+and_turn true true true = refl
+and_turn true true false = refl
+and_turn true false c = refl
+and_turn false true true = refl
+and_turn false true false = refl
+and_turn false false c = refl
 
-tied : (x i y k : ℕ) (v t : List ℕ) → is_eq (ordering_then (ordering_then (nat_cmp x i) (nat_cmp y k)) (slice_cmp nat_cmp v t)) ≡ ((nat_eq k y && bytes_eq t v) && nat_eq i x)
-tied x i y k v t =
+key_cmp_eq : (x i y k : ℕ) (v t : List ℕ) → is_eq (ordering_then (ordering_then (nat_cmp x i) (nat_cmp y k)) (slice_cmp nat_cmp v t)) ≡ ((nat_eq k y && bytes_eq t v) && nat_eq i x)
+key_cmp_eq x i y k v t =
     both (ordering_then (nat_cmp x i) (nat_cmp y k)) (slice_cmp nat_cmp v t)
     ∙ ap (λ (b : Bool). b && is_eq (slice_cmp nat_cmp v t)) (both (nat_cmp x i) (nat_cmp y k) ∙ ap (λ (b : Bool). b && is_eq (nat_cmp y k)) (numbers x i) ∙ ap (λ (b : Bool). nat_eq i x && b) (numbers y k))
     ∙ ap (λ (b : Bool). (nat_eq i x && nat_eq k y) && b) (is_eq-slice_cmp v t ∙ IsEquivalence.symm nat_list_eq_equiv v t)
-    ∙ turned (nat_eq i x) (nat_eq k y) (bytes_eq t v)
+    ∙ and_turn (nat_eq i x) (nat_eq k y) (bytes_eq t v)
 
 either : (a b : Bool) → cond a true b ≡ (b || a)
 either true true = refl
@@ -93,5 +93,5 @@ pub kept_string : (old new : sorted.BTreeSet (ℕ × ℕ × Bor (List ℕ))) (ke
     → (i k : ℕ) (t : List ℕ) → has_string new i k t ≡ (has_string old i k t || ((nat_eq k key.1 && bytes_eq t key.2.now) && nat_eq i key.0))
 kept_string old new key changed i k t =
     changed.0 (i, k, at t)
-    ∙ ap (λ (b : Bool). cond b true (has_string old i k t)) (tied key.0 i key.1 k key.2.now t)
+    ∙ ap (λ (b : Bool). cond b true (has_string old i k t)) (key_cmp_eq key.0 i key.1 k key.2.now t)
     ∙ either ((nat_eq k key.1 && bytes_eq t key.2.now) && nat_eq i key.0) (has_string old i k t)

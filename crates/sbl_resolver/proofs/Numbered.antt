@@ -11,8 +11,8 @@ use Rattle.sbl_resolver.specs.Laws.{EachPasses, IsFirst}
 use Rattle.sbl_resolver.specs.Subjects.{Subject, name, string, substring, among, backwards, subject_of, subjects_of, and_more, IsFirstAfter}
 use Rattle.sbl_resolver.specs.FirstFault.{first_from, one_more}
 use Rattle.sbl_resolver.specs.OccurrenceView.{view_occurrence, view_occurrences}
-use Rattle.sbl_resolver.proofs.Turns.{note_in, taken, left}
-use Rattle.sbl_resolver.proofs.FirstFault.{FirstFrom, here, there, each, found}
+use Rattle.sbl_resolver.proofs.Turns.{note_in, take_push, drop_cons}
+use Rattle.sbl_resolver.proofs.FirstFault.{FirstFrom, here, there, each, first_from_start}
 
 -- ---- numbers
 
@@ -28,9 +28,9 @@ length-push (x ∷ ms) m = go (subject_of x.notice) (subject_of m.notice) (lengt
   go (Some y) (Some z) e = omega arith
 
 -- the number after one more occurrence
-pub counted : (ms : List noted.Occurrence) (i : ℕ) → i < length ms
+pub subjects_length_push : (ms : List noted.Occurrence) (i : ℕ) → i < length ms
     → length (subjects_of (view_occurrences (take (i + 1) ms))) ≡ one_more (subject_of (view_occurrence (note_in ms i)).notice) (length (subjects_of (view_occurrences (take i ms))))
-counted ms i lt = ap (λ (l : List Occurrence). length (subjects_of l)) (taken ms i lt) ∙ length-push (view_occurrences (take i ms)) (view_occurrence (note_in ms i))
+subjects_length_push ms i lt = ap (λ (l : List Occurrence). length (subjects_of l)) (take_push ms i lt) ∙ length-push (view_occurrences (take i ms)) (view_occurrence (note_in ms i))
 
 few_in : (o : Option Subject) (xs : List Subject) → length (and_more o xs) ≤ length xs + 1
 few_in None xs = omega arith
@@ -56,8 +56,8 @@ turn : (all : List Occurrence) (ms : List noted.Occurrence) (i : ℕ) → i < le
     ≡ option_or (option_map (λ (f : ScriptFault). (length (subjects_of (view_occurrences (take i ms))), f)) (fault_at all (view_occurrences (take i ms)) (view_occurrence (note_in ms i)) (view_occurrences (drop (i + 1) ms))))
     (first_from all (view_occurrences (take (i + 1) ms)) (view_occurrences (drop (i + 1) ms)))
 turn all ms i lt =
-    ap (first_from all (view_occurrences (take i ms))) (left ms i lt)
-    ∙ ap (λ (bs : List Occurrence). option_or (option_map (λ (f : ScriptFault). (length (subjects_of (view_occurrences (take i ms))), f)) (fault_at all (view_occurrences (take i ms)) (view_occurrence (note_in ms i)) (view_occurrences (drop (i + 1) ms)))) (first_from all bs (view_occurrences (drop (i + 1) ms)))) (sym (taken ms i lt))
+    ap (first_from all (view_occurrences (take i ms))) (drop_cons ms i lt)
+    ∙ ap (λ (bs : List Occurrence). option_or (option_map (λ (f : ScriptFault). (length (subjects_of (view_occurrences (take i ms))), f)) (fault_at all (view_occurrences (take i ms)) (view_occurrence (note_in ms i)) (view_occurrences (drop (i + 1) ms)))) (first_from all bs (view_occurrences (drop (i + 1) ms)))) (sym (take_push ms i lt))
 
 -- the occurrence has this fault
 pub stops : (all : List Occurrence) (ms : List noted.Occurrence) (i n : ℕ) (r : Option ScriptFault) (f : ScriptFault) → i < length ms
@@ -124,7 +124,7 @@ after_ all done (m ∷ after) n f e = go (fault_at all done m after) refl e (aft
 first_after : (all : List Occurrence) (n : ℕ) (f : ScriptFault) → After all [] all n f → IsFirstAfter all n f
 first_after all n f r =
     let has = has_subject all r.first.before r.first.after r.first.occurrence.site r.first.occurrence.notice f r.first.fault in
-    record { first = found all f r.first; subject = has.0; is = has.1; count = r.count }
+    record { first = first_from_start all f r.first; subject = has.0; is = has.1; count = r.count }
 
 none_of : (all : List Occurrence) → first_from all [] all ≡ None → EachPasses all
 none_of all e = each all (same_fault all [] all ∙ ap (option_map (λ (x : ℕ × ScriptFault). x.1)) e)

@@ -51,8 +51,8 @@ of_mode : (routine : Bool) (mode : Mode) (d : Option Site) → (routine && is_in
 of_mode routine mode d e h p is =
     not_false (is_mode mode p.mode) (subst (λ (x : Option Site). is_in_other mode x ≡ false) is (subst (λ (b : Bool). (b && is_in_other mode d) ≡ false) h e))
 
-resolved : (all : List Occurrence) (p : Site) (u : Use) (n : List ℕ) (k : DeclarationKind) → kind_of n all ≡ Some k → fault_of_use p u (Some k) (definition_of n all) ≡ None → Resolves all u n p.mode
-resolved all p u n k is e =
+no_fault_resolves : (all : List Occurrence) (p : Site) (u : Use) (n : List ℕ) (k : DeclarationKind) → kind_of n all ≡ Some k → fault_of_use p u (Some k) (definition_of n all) ≡ None → Resolves all u n p.mode
+no_fault_resolves all p u n k is e =
     let d = definition_of n all in
     let other : Option ScriptFault = cond (is_routine k && is_in_other p.mode d) (Some (fault.WrongMode p.item)) None in
     let lacking : Option ScriptFault = cond (lacks_definition u p.item (Some k) d) (Some (fault.Undefined p.item)) other in
@@ -66,15 +66,15 @@ resolved all p u n k is e =
       same_mode = of_mode (is_routine k) p.mode d (test_fails (is_routine k && is_in_other p.mode d) (fault.WrongMode p.item) None after_lacks);
     }
 
-used : (all before after : List Occurrence) (p : Site) (u : Use) (n : List ℕ) (o : Option DeclarationKind) → kind_of n before ≡ o
+use_resolves : (all before after : List Occurrence) (p : Site) (u : Use) (n : List ℕ) (o : Option DeclarationKind) → kind_of n before ≡ o
     → all ≡ before ++ (record { site = p; notice = uses u n }) ∷ after → fault_of_use p u o (definition_of n all) ≡ None → Resolves all u n p.mode
-used all before after p u n (Some k) is parts e =
-    resolved all p u n k (ap (kind_of n) parts ∙ kind_of-append n before ((record { site = p; notice = uses u n }) ∷ after) ∙ ap (λ (o : Option DeclarationKind). option_or o (kind_of n after)) is) e
-used all before after p u n None is parts e = absurd cc
+use_resolves all before after p u n (Some k) is parts e =
+    no_fault_resolves all p u n k (ap (kind_of n) parts ∙ kind_of-append n before ((record { site = p; notice = uses u n }) ∷ after) ∙ ap (λ (o : Option DeclarationKind). option_or o (kind_of n after)) is) e
+use_resolves all before after p u n None is parts e = absurd cc
 
 pub names_resolve : NamesResolve
 names_resolve items external e before after p u n parts =
-    used (occurrences_of items) before after p u n (kind_of n before) refl parts ((first.well_declared_passes items external e).0 before after (record { site = p; notice = uses u n }) parts)
+    use_resolves (occurrences_of items) before after p u n (kind_of n before) refl parts ((first.well_declared_passes items external e).0 before after (record { site = p; notice = uses u n }) parts)
 
 pub substrings_are_paired : SubstringsArePaired
 substrings_are_paired items external e before after p parts =

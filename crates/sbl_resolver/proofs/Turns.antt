@@ -54,30 +54,30 @@ any_occurrence = record { site = record { item = 0; mode = Forward }; notice = n
 abbrev pub note_in : List noted.Occurrence → ℕ → noted.Occurrence
 note_in ms i = get_or ms i any_occurrence
 
-pub taken : (ms : List noted.Occurrence) (i : ℕ) → i < length ms → view_occurrences (take (i + 1) ms) ≡ view_occurrences (take i ms) ++ view_occurrence (note_in ms i) ∷ []
-taken ms i lt = ap view_occurrences (take_more ms i any_occurrence lt) ∙ map_push view_occurrence (take i ms) (note_in ms i)
+pub take_push : (ms : List noted.Occurrence) (i : ℕ) → i < length ms → view_occurrences (take (i + 1) ms) ≡ view_occurrences (take i ms) ++ view_occurrence (note_in ms i) ∷ []
+take_push ms i lt = ap view_occurrences (take_more ms i any_occurrence lt) ∙ map_push view_occurrence (take i ms) (note_in ms i)
 
-pub left : (ms : List noted.Occurrence) (i : ℕ) → i < length ms → view_occurrences (drop i ms) ≡ view_occurrence (note_in ms i) ∷ view_occurrences (drop (i + 1) ms)
-left ms i lt = rw add-one (ap view_occurrences (drop-cons ms i any_occurrence lt))
+pub drop_cons : (ms : List noted.Occurrence) (i : ℕ) → i < length ms → view_occurrences (drop i ms) ≡ view_occurrence (note_in ms i) ∷ view_occurrences (drop (i + 1) ms)
+drop_cons ms i lt = rw add-one (ap view_occurrences (drop-cons ms i any_occurrence lt))
 
 -- the faults from an occurrence on
 pub turn : (all : List Occurrence) (ms : List noted.Occurrence) (i : ℕ) → i < length ms →
     fault_after all (view_occurrences (take i ms)) (view_occurrences (drop i ms))
     ≡ option_or (fault_at all (view_occurrences (take i ms)) (view_occurrence (note_in ms i)) (view_occurrences (drop (i + 1) ms))) (fault_after all (view_occurrences (take (i + 1) ms)) (view_occurrences (drop (i + 1) ms)))
 turn all ms i lt =
-    ap (fault_after all (view_occurrences (take i ms))) (left ms i lt)
-    ∙ ap (λ (bs : List Occurrence). option_or (fault_at all (view_occurrences (take i ms)) (view_occurrence (note_in ms i)) (view_occurrences (drop (i + 1) ms))) (fault_after all bs (view_occurrences (drop (i + 1) ms)))) (sym (taken ms i lt))
+    ap (fault_after all (view_occurrences (take i ms))) (drop_cons ms i lt)
+    ∙ ap (λ (bs : List Occurrence). option_or (fault_at all (view_occurrences (take i ms)) (view_occurrence (note_in ms i)) (view_occurrences (drop (i + 1) ms))) (fault_after all bs (view_occurrences (drop (i + 1) ms)))) (sym (take_push ms i lt))
 
 -- the occurrence has this fault
-pub found : (all : List Occurrence) (ms : List noted.Occurrence) (i : ℕ) (r : Option ScriptFault) (f : ScriptFault) → i < length ms
+pub fault_found_here : (all : List Occurrence) (ms : List noted.Occurrence) (i : ℕ) (r : Option ScriptFault) (f : ScriptFault) → i < length ms
     → r ≡ fault_at all (view_occurrences (take i ms)) (view_occurrence (note_in ms i)) (view_occurrences (drop (i + 1) ms)) → r ≡ Some f
     → fault_after all (view_occurrences (take i ms)) (view_occurrences (drop i ms)) ≡ Some f
-found all ms i r f lt is some =
+fault_found_here all ms i r f lt is some =
     turn all ms i lt ∙ ap (λ (o : Option ScriptFault). option_or o (fault_after all (view_occurrences (take (i + 1) ms)) (view_occurrences (drop (i + 1) ms)))) (sym is ∙ some)
 
 -- it has none
-pub passed : (all : List Occurrence) (ms : List noted.Occurrence) (i : ℕ) (r : Option ScriptFault) → i < length ms
+pub no_fault_here : (all : List Occurrence) (ms : List noted.Occurrence) (i : ℕ) (r : Option ScriptFault) → i < length ms
     → r ≡ fault_at all (view_occurrences (take i ms)) (view_occurrence (note_in ms i)) (view_occurrences (drop (i + 1) ms)) → r ≡ None
     → fault_after all (view_occurrences (take (i + 1) ms)) (view_occurrences (drop (i + 1) ms)) ≡ fault_after all (view_occurrences (take i ms)) (view_occurrences (drop i ms))
-passed all ms i r lt is none =
+no_fault_here all ms i r lt is none =
     sym (turn all ms i lt ∙ ap (λ (o : Option ScriptFault). option_or o (fault_after all (view_occurrences (take (i + 1) ms)) (view_occurrences (drop (i + 1) ms)))) (sym is ∙ none))

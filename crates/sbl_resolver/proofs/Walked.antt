@@ -18,19 +18,19 @@ use Rattle.sbl_resolver.specs.Occurrences.{Occurrence, noted_tokens, noted_expre
 use Rattle.sbl_resolver.specs.OccurrenceView.{walked_expression, noted_sums, noted_product, noted_scales, noted_factor, noted_prefix, site_after, noted_among}
 
 -- what is noted of these tokens
-abbrev noted : List AtDepth → Site → List Occurrence → List Occurrence
-noted ps p s = noted_tokens (tokens ps) p s
+abbrev notes_of : List AtDepth → Site → List Occurrence → List Occurrence
+notes_of ps p s = noted_tokens (tokens ps) p s
 
 -- an operator or a constant is no name
-past_additive : (o : Additive) (d : ℕ) (rest : List AtDepth) (p : Site) (s : List Occurrence) → noted ((t.additive o, d) ∷ rest) p s ≡ noted rest p s
+past_additive : (o : Additive) (d : ℕ) (rest : List AtDepth) (p : Site) (s : List Occurrence) → notes_of ((t.additive o, d) ∷ rest) p s ≡ notes_of rest p s
 past_additive additives.Plus d rest p s = refl
 past_additive additives.Minus d rest p s = refl
 
-past_multiplicative : (o : Multiplicative) (d : ℕ) (rest : List AtDepth) (p : Site) (s : List Occurrence) → noted ((t.multiplicative o, d) ∷ rest) p s ≡ noted rest p s
+past_multiplicative : (o : Multiplicative) (d : ℕ) (rest : List AtDepth) (p : Site) (s : List Occurrence) → notes_of ((t.multiplicative o, d) ∷ rest) p s ≡ notes_of rest p s
 past_multiplicative multiplicatives.Times d rest p s = refl
 past_multiplicative multiplicatives.Over d rest p s = refl
 
-past_constant : (c : Constant) (d : ℕ) (rest : List AtDepth) (p : Site) (s : List Occurrence) → noted ((t.constant c, d) ∷ rest) p s ≡ noted rest p s
+past_constant : (c : Constant) (d : ℕ) (rest : List AtDepth) (p : Site) (s : List Occurrence) → notes_of ((t.constant c, d) ∷ rest) p s ≡ notes_of rest p s
 past_constant constants.Cursor d rest p s = refl
 past_constant constants.Len d rest p s = refl
 past_constant constants.Limit d rest p s = refl
@@ -38,21 +38,21 @@ past_constant constants.MaxInt d rest p s = refl
 past_constant constants.MinInt d rest p s = refl
 
 mutual
-  in_expression : (e : Expression) (d : ℕ) (rest : List AtDepth) (p : Site) (s : List Occurrence) → noted (placed_expression e d rest) p s ≡ noted rest p (walked_expression e p s)
+  in_expression : (e : Expression) (d : ℕ) (rest : List AtDepth) (p : Site) (s : List Occurrence) → notes_of (placed_expression e d rest) p s ≡ notes_of rest p (walked_expression e p s)
   in_expression (expression x ss) d rest p s = in_product x d (placed_sums ss d rest) p s ∙ in_sums ss d rest p (noted_product x p s)
 
-  in_sums : (ss : Sums) (d : ℕ) (rest : List AtDepth) (p : Site) (s : List Occurrence) → noted (placed_sums ss d rest) p s ≡ noted rest p (noted_sums ss p s)
+  in_sums : (ss : Sums) (d : ℕ) (rest : List AtDepth) (p : Site) (s : List Occurrence) → notes_of (placed_sums ss d rest) p s ≡ notes_of rest p (noted_sums ss p s)
   in_sums no_sums d rest p s = refl
   in_sums (sum o x ss) d rest p s = past_additive o d (placed_product x d (placed_sums ss d rest)) p s ∙ in_product x d (placed_sums ss d rest) p s ∙ in_sums ss d rest p (noted_product x p s)
 
-  in_product : (x : Product) (d : ℕ) (rest : List AtDepth) (p : Site) (s : List Occurrence) → noted (placed_product x d rest) p s ≡ noted rest p (noted_product x p s)
+  in_product : (x : Product) (d : ℕ) (rest : List AtDepth) (p : Site) (s : List Occurrence) → notes_of (placed_product x d rest) p s ≡ notes_of rest p (noted_product x p s)
   in_product (product f ss) d rest p s = in_factor f d (placed_scales ss d rest) p s ∙ in_scales ss d rest p (noted_factor f p s)
 
-  in_scales : (ss : Scales) (d : ℕ) (rest : List AtDepth) (p : Site) (s : List Occurrence) → noted (placed_scales ss d rest) p s ≡ noted rest p (noted_scales ss p s)
+  in_scales : (ss : Scales) (d : ℕ) (rest : List AtDepth) (p : Site) (s : List Occurrence) → notes_of (placed_scales ss d rest) p s ≡ notes_of rest p (noted_scales ss p s)
   in_scales no_scales d rest p s = refl
   in_scales (scale o f ss) d rest p s = past_multiplicative o d (placed_factor f d (placed_scales ss d rest)) p s ∙ in_factor f d (placed_scales ss d rest) p s ∙ in_scales ss d rest p (noted_factor f p s)
 
-  in_factor : (f : Factor) (d : ℕ) (rest : List AtDepth) (p : Site) (s : List Occurrence) → noted (placed_factor f d rest) p s ≡ noted rest p (noted_factor f p s)
+  in_factor : (f : Factor) (d : ℕ) (rest : List AtDepth) (p : Site) (s : List Occurrence) → notes_of (placed_factor f d rest) p s ≡ notes_of rest p (noted_factor f p s)
   in_factor (negated f) d rest p s = in_factor f (d + 1) rest p s
   in_factor (bracketed e) d rest p s = in_expression e (d + 1) ((lex.sign signs.Close, d + 1) ∷ rest) p s
   in_factor (numeral n) d rest p s = refl

@@ -160,20 +160,20 @@ one_word : (p : AtDepth) → is_among p.0 ≡ true → N (p ∷ []) ≡ 1
 one_word p e = ap (λ (b : Bool). length (map (λ (x : AtDepth). x.1) (cond b (p ∷ []) []))) e
 
 -- two cuts before a word `among` that have as many words before them
-cut : (f g a b : Ps) (x y : AtDepth) → is_among x.0 ≡ true → is_among y.0 ≡ true → f ++ x ∷ a ≡ g ++ y ∷ b → N f ≡ N g → (f ≡ g) × (a ≡ b)
-cut [] [] a b x y u v e n = (refl, cc)
-cut [] (q ∷ g) a b x y u v e n =
+same_cut : (f g a b : Ps) (x y : AtDepth) → is_among x.0 ≡ true → is_among y.0 ≡ true → f ++ x ∷ a ≡ g ++ y ∷ b → N f ≡ N g → (f ≡ g) × (a ≡ b)
+same_cut [] [] a b x y u v e n = (refl, cc)
+same_cut [] (q ∷ g) a b x y u v e n =
     let same : x ≡ q = cc in
     let word = one_word q (subst (λ (z : AtDepth). is_among z.0 ≡ true) same u) in
     absurd (omega (arith, n, both_n (q ∷ []) g, word))
-cut (p ∷ f) [] a b x y u v e n =
+same_cut (p ∷ f) [] a b x y u v e n =
     let same : p ≡ y = cc in
     let word = one_word p (subst (λ (z : AtDepth). is_among z.0 ≡ true) (sym same) v) in
     absurd (omega (arith, n, both_n (p ∷ []) f, word))
-cut (p ∷ f) (q ∷ g) a b x y u v e n =
+same_cut (p ∷ f) (q ∷ g) a b x y u v e n =
     let same : p ≡ q = cc in
     let rest : f ++ x ∷ a ≡ g ++ y ∷ b = cc in
-    let more = cut f g a b x y u v rest (omega (arith, n, both_n (p ∷ []) f, both_n (q ∷ []) g, ap (λ (z : AtDepth). N (z ∷ [])) same)) in
+    let more = same_cut f g a b x y u v rest (omega (arith, n, both_n (p ∷ []) f, both_n (q ∷ []) g, ap (λ (z : AtDepth). N (z ∷ [])) same)) in
     (ap (λ (z : AtDepth). z ∷ f) same ∙ ap (λ (l : Ps). q ∷ l) more.0, more.1)
 
 plain_one : (x y : Plain) → tokens (placed_plain x []) ≡ tokens (placed_plain y []) → x ≡ y
@@ -190,7 +190,7 @@ replaced_one k d a old x y g h =
     let one = parts g.replaced d g.prefix g.following (placed_plain old []) g.was in
     let two = parts h.replaced d h.prefix h.following (placed_plain old []) h.was in
     let count : N g.prefix ≡ N h.prefix = omega (arith, g.number, h.number) in
-    let c = cut g.prefix h.prefix (inside g.replaced d g.following) (inside h.replaced d h.following) (lex.word words.Among, d) (lex.word words.Among, d) refl refl (sym one ∙ two) count in
+    let c = same_cut g.prefix h.prefix (inside g.replaced d g.following) (inside h.replaced d h.following) (lex.word words.Among, d) (lex.word words.Among, d) refl refl (sym one ∙ two) count in
     let following = after_same d g.replaced h.replaced g.following h.following c.1 in
     let new = places_in (texts.among d) a in
     plain_one x y (ap tokens (g.is ∙ ap (λ (f : Ps). f ++ new ++ g.following) c.0 ∙ ap (λ (l : Ps). h.prefix ++ new ++ l) following ∙ sym h.is))

@@ -34,8 +34,8 @@ abbrev depths : Hs → List ℕ
 depths hs = map (λ h. h.0) hs
 
 -- a token that is not the word
-passed : (x : Lexeme) (d : ℕ) (r : Ps) → is_among x ≡ false → D ((x, d) ∷ r) ≡ D r
-passed x d r h = ap (λ (b : Bool). map (λ (p : AtDepth). p.1) (cond b ((x, d) ∷ filter (λ (p : AtDepth). is_among p.0) r) (filter (λ (p : AtDepth). is_among p.0) r))) h
+depths_after_other : (x : Lexeme) (d : ℕ) (r : Ps) → is_among x ≡ false → D ((x, d) ∷ r) ≡ D r
+depths_after_other x d r h = ap (λ (b : Bool). map (λ (p : AtDepth). p.1) (cond b ((x, d) ∷ filter (λ (p : AtDepth). is_among p.0) r) (filter (λ (p : AtDepth). is_among p.0) r))) h
 
 -- ---- parts without the word
 
@@ -49,21 +49,21 @@ mutual
 
   sums_q : (ss : Sums) (d : ℕ) (r : Ps) → D (placed_sums ss d r) ≡ D r
   sums_q no_sums d r = refl
-  sums_q (sum o p ss) d r = passed (t.additive o) d (placed_product p d (placed_sums ss d r)) (additive_other o) ∙ product_q p d (placed_sums ss d r) ∙ sums_q ss d r
+  sums_q (sum o p ss) d r = depths_after_other (t.additive o) d (placed_product p d (placed_sums ss d r)) (additive_other o) ∙ product_q p d (placed_sums ss d r) ∙ sums_q ss d r
 
   product_q : (p : Product) (d : ℕ) (r : Ps) → D (placed_product p d r) ≡ D r
   product_q (product f ss) d r = factor_q f d (placed_scales ss d r) ∙ scales_q ss d r
 
   scales_q : (ss : Scales) (d : ℕ) (r : Ps) → D (placed_scales ss d r) ≡ D r
   scales_q no_scales d r = refl
-  scales_q (scale o f ss) d r = passed (t.multiplicative o) d (placed_factor f d (placed_scales ss d r)) (multiplicative_other o) ∙ factor_q f d (placed_scales ss d r) ∙ scales_q ss d r
+  scales_q (scale o f ss) d r = depths_after_other (t.multiplicative o) d (placed_factor f d (placed_scales ss d r)) (multiplicative_other o) ∙ factor_q f d (placed_scales ss d r) ∙ scales_q ss d r
 
   factor_q : (f : Factor) (d : ℕ) (r : Ps) → D (placed_factor f d r) ≡ D r
   factor_q (negated f) d r = factor_q f (d + 1) r
   factor_q (bracketed x) d r = expression_q x (d + 1) ((lex.sign signs.Close, d + 1) ∷ r)
   factor_q (numeral n) d r = refl
   factor_q (variable n) d r = refl
-  factor_q (fixed c) d r = passed (t.constant c) d r (constant_other c)
+  factor_q (fixed c) d r = depths_after_other (t.constant c) d r (constant_other c)
   factor_q (length_of x) d r = argument_q x d r
 
 entry_q : (x : Entry) (d : ℕ) (r : Ps) → D (placed_entry x d r) ≡ D r
@@ -79,22 +79,22 @@ entries_q (x ∷ xs) d r = entry_q x d (placed_entries xs d r) ∙ entries_q xs 
 mutual
   tree_d : (c : Command) (d : ℕ) (hs : Hs) (r : Ps) → depths hs ≡ D r → depths (amongs c d hs) ≡ D (placed_command c d r)
   tree_d (bracket rs) d hs r e = rows_d rs (d + 1) hs ((lex.sign signs.Close, d) ∷ r) e
-  tree_d (simple_ x) d hs r e = e ∙ sym (passed (t.simple x) d r (simple_other x))
+  tree_d (simple_ x) d hs r e = e ∙ sym (depths_after_other (t.simple x) d r (simple_other x))
   tree_d (literal_ x) d hs r e = e
   tree_d (name_ x) d hs r e = e
   tree_d (non_ true y) d hs r e = e
   tree_d (non_ false y) d hs r e = e
-  tree_d (prefixed p c) d hs r e = tree_d c (d + 1) hs r e ∙ sym (passed (t.prefix p) d (placed_command c (d + 1) r) (prefix_other p))
+  tree_d (prefixed p c) d hs r e = tree_d c (d + 1) hs r e ∙ sym (depths_after_other (t.prefix p) d (placed_command c (d + 1) r) (prefix_other p))
   tree_d (counted n x c) d hs r e =
       let rest = placed_command c (d + 1) r in
-      tree_d c (d + 1) hs r e ∙ sym (passed (t.count n) d (placed_expression x d rest) (count_other n) ∙ expression_q x d rest)
-  tree_d (move_ x y) d hs r e = e ∙ sym (passed (t.move x) d (placed_expression y d r) (move_other x) ∙ expression_q y d r)
-  tree_d (named x y) d hs r e = e ∙ sym (passed (t.naming x) d ((lex.name y, d) ∷ r) (naming_other x))
-  tree_d (splice_ x y) d hs r e = e ∙ sym (passed (t.splice x) d ((t.argument y, d) ∷ r) (splice_other x) ∙ argument_q y d r)
+      tree_d c (d + 1) hs r e ∙ sym (depths_after_other (t.count n) d (placed_expression x d rest) (count_other n) ∙ expression_q x d rest)
+  tree_d (move_ x y) d hs r e = e ∙ sym (depths_after_other (t.move x) d (placed_expression y d r) (move_other x) ∙ expression_q y d r)
+  tree_d (named x y) d hs r e = e ∙ sym (depths_after_other (t.naming x) d ((lex.name y, d) ∷ r) (naming_other x))
+  tree_d (splice_ x y) d hs r e = e ∙ sym (depths_after_other (t.splice x) d ((t.argument y, d) ∷ r) (splice_other x) ∙ argument_q y d r)
   tree_d (setlimit_ b c) d hs r e = tree_d b (d + 1) (amongs c (d + 1) hs) ((lex.word words.For, d) ∷ placed_command c (d + 1) r) (tree_d c (d + 1) hs r e)
-  tree_d (assign_ x y z) d hs r e = e ∙ sym (passed (t.assigns y) d (placed_expression z d r) (assigns_other y) ∙ expression_q z d r)
-  tree_d (compare_ x y z) d hs r e = e ∙ sym (passed (t.compares y) d (placed_expression z d r) (compares_other y) ∙ expression_q z d r)
-  tree_d (compare_values_ x y z) d hs r e = e ∙ sym (expression_q x d ((t.compares y, d) ∷ placed_expression z d ((lex.sign signs.Close, d) ∷ r)) ∙ passed (t.compares y) d (placed_expression z d ((lex.sign signs.Close, d) ∷ r)) (compares_other y) ∙ expression_q z d ((lex.sign signs.Close, d) ∷ r))
+  tree_d (assign_ x y z) d hs r e = e ∙ sym (depths_after_other (t.assigns y) d (placed_expression z d r) (assigns_other y) ∙ expression_q z d r)
+  tree_d (compare_ x y z) d hs r e = e ∙ sym (depths_after_other (t.compares y) d (placed_expression z d r) (compares_other y) ∙ expression_q z d r)
+  tree_d (compare_values_ x y z) d hs r e = e ∙ sym (expression_q x d ((t.compares y, d) ∷ placed_expression z d ((lex.sign signs.Close, d) ∷ r)) ∙ depths_after_other (t.compares y) d (placed_expression z d ((lex.sign signs.Close, d) ∷ r)) (compares_other y) ∙ expression_q z d ((lex.sign signs.Close, d) ∷ r))
   tree_d (among_ s gs) d hs r e =
       let rest = (lex.sign signs.Close, d) ∷ r in
       ap (λ (l : List ℕ). d ∷ l) (starter_d s d (amongs_of_groups gs d hs) (placed_groups gs d rest) (groups_d gs d hs rest e))
@@ -108,7 +108,7 @@ mutual
   others_d no_others d hs r e = e
   others_d (joined j c os) d hs r e =
       let rest = placed_others os d r in
-      tree_d c d (amongs_of_others os d hs) rest (others_d os d hs r e) ∙ sym (passed (t.joiner j) d (placed_command c d rest) (joiner_other j))
+      tree_d c d (amongs_of_others os d hs) rest (others_d os d hs r e) ∙ sym (depths_after_other (t.joiner j) d (placed_command c d rest) (joiner_other j))
 
   starter_d : (s : Starter) (d : ℕ) (hs : Hs) (r : Ps) → depths hs ≡ D r → depths (amongs_of_starter s d hs) ≡ D (placed_starter s d r)
   starter_d no_starter d hs r e = e
@@ -144,9 +144,9 @@ text_of o = option_map (λ (h : AmongContents). texts.among h.0) o
 abbrev IsNumbered : Hs → ℕ → ℕ → Type 0
 IsNumbered hs m j = text_at (find (λ p. nat_eq p.0 (m + j)) (enumerate_from m (depths hs))) ≡ text_of (nth_held (j + 1) hs)
 
-numbered : (hs : Hs) (m j : ℕ) → IsNumbered hs m j
-numbered [] m j = refl
-numbered (h ∷ hs) m j = go (nat_eq m (m + j)) (nat_eq (j + 1) 1) (same_test m (m + j) (j + 1) 1 (λ e. omega (arith, e)) (λ e. omega (arith, e))) refl (numbered hs (m + 1) (j - 1)) where
+find_numbered : (hs : Hs) (m j : ℕ) → IsNumbered hs m j
+find_numbered [] m j = refl
+find_numbered (h ∷ hs) m j = go (nat_eq m (m + j)) (nat_eq (j + 1) 1) (same_test m (m + j) (j + 1) 1 (λ e. omega (arith, e)) (λ e. omega (arith, e))) refl (find_numbered hs (m + 1) (j - 1)) where
   later : 1 ≤ j → IsNumbered hs (m + 1) (j - 1) → text_at (find (λ p. nat_eq p.0 (m + j)) (enumerate_from (m + 1) (depths hs))) ≡ text_of (nth_held (j + 1 - 1) hs)
   later e rest =
       let one : m + j ≡ m + 1 + (j - 1) = omega (arith, e) in
@@ -180,7 +180,7 @@ text_same b k = ap (λ ds. text_at (find (λ p. nat_eq p.0 k) (enumerate_from 1 
       let some : 1 ≤ k = grind (arith, nat_tests, e) in
       let one : k ≡ 1 + (k - 1) = omega (arith, some) in
       let two : k - 1 + 1 ≡ k = omega (arith, some) in
-      ap (λ z. text_at (find (λ p. nat_eq p.0 z) (enumerate_from 1 (depths (amongs_of_body b))))) one ∙ numbered (amongs_of_body b) 1 (k - 1) ∙ ap (λ z. text_of (nth_held z (amongs_of_body b))) two
+      ap (λ z. text_at (find (λ p. nat_eq p.0 z) (enumerate_from 1 (depths (amongs_of_body b))))) one ∙ find_numbered (amongs_of_body b) 1 (k - 1) ∙ ap (λ z. text_of (nth_held z (amongs_of_body b))) two
 
 -- ---- how many
 
@@ -190,27 +190,27 @@ N ps = length (D ps)
 mutual
   tree_n : (c : Command) (d : ℕ) (r : Ps) → N (placed_command c d r) ≡ count_amongs c + N r
   tree_n (bracket rs) d r = rows_n rs (d + 1) ((lex.sign signs.Close, d) ∷ r)
-  tree_n (simple_ x) d r = let q = ap length (passed (t.simple x) d r (simple_other x)) in omega (arith, q)
+  tree_n (simple_ x) d r = let q = ap length (depths_after_other (t.simple x) d r (simple_other x)) in omega (arith, q)
   tree_n (literal_ x) d r = omega arith
   tree_n (name_ x) d r = omega arith
   tree_n (non_ true y) d r = omega arith
   tree_n (non_ false y) d r = omega arith
-  tree_n (prefixed p c) d r = ap length (passed (t.prefix p) d (placed_command c (d + 1) r) (prefix_other p)) ∙ tree_n c (d + 1) r
+  tree_n (prefixed p c) d r = ap length (depths_after_other (t.prefix p) d (placed_command c (d + 1) r) (prefix_other p)) ∙ tree_n c (d + 1) r
   tree_n (counted n x c) d r =
       let rest = placed_command c (d + 1) r in
-      ap length (passed (t.count n) d (placed_expression x d rest) (count_other n) ∙ expression_q x d rest) ∙ tree_n c (d + 1) r
-  tree_n (move_ x y) d r = let q = ap length (passed (t.move x) d (placed_expression y d r) (move_other x) ∙ expression_q y d r) in omega (arith, q)
-  tree_n (named x y) d r = let q = ap length (passed (t.naming x) d ((lex.name y, d) ∷ r) (naming_other x)) in omega (arith, q)
-  tree_n (splice_ x y) d r = let q = ap length (passed (t.splice x) d ((t.argument y, d) ∷ r) (splice_other x) ∙ argument_q y d r) in omega (arith, q)
+      ap length (depths_after_other (t.count n) d (placed_expression x d rest) (count_other n) ∙ expression_q x d rest) ∙ tree_n c (d + 1) r
+  tree_n (move_ x y) d r = let q = ap length (depths_after_other (t.move x) d (placed_expression y d r) (move_other x) ∙ expression_q y d r) in omega (arith, q)
+  tree_n (named x y) d r = let q = ap length (depths_after_other (t.naming x) d ((lex.name y, d) ∷ r) (naming_other x)) in omega (arith, q)
+  tree_n (splice_ x y) d r = let q = ap length (depths_after_other (t.splice x) d ((t.argument y, d) ∷ r) (splice_other x) ∙ argument_q y d r) in omega (arith, q)
   tree_n (setlimit_ b c) d r =
       let x = tree_n b (d + 1) ((lex.word words.For, d) ∷ placed_command c (d + 1) r) in
       let y = tree_n c (d + 1) r in
       omega (arith, x, y)
-  tree_n (assign_ x y z) d r = let q = ap length (passed (t.assigns y) d (placed_expression z d r) (assigns_other y) ∙ expression_q z d r) in omega (arith, q)
-  tree_n (compare_ x y z) d r = let q = ap length (passed (t.compares y) d (placed_expression z d r) (compares_other y) ∙ expression_q z d r) in omega (arith, q)
+  tree_n (assign_ x y z) d r = let q = ap length (depths_after_other (t.assigns y) d (placed_expression z d r) (assigns_other y) ∙ expression_q z d r) in omega (arith, q)
+  tree_n (compare_ x y z) d r = let q = ap length (depths_after_other (t.compares y) d (placed_expression z d r) (compares_other y) ∙ expression_q z d r) in omega (arith, q)
   tree_n (compare_values_ x y z) d r =
       let second = placed_expression z d ((lex.sign signs.Close, d) ∷ r) in
-      let q = ap length (expression_q x d ((t.compares y, d) ∷ second) ∙ passed (t.compares y) d second (compares_other y) ∙ expression_q z d ((lex.sign signs.Close, d) ∷ r)) in
+      let q = ap length (expression_q x d ((t.compares y, d) ∷ second) ∙ depths_after_other (t.compares y) d second (compares_other y) ∙ expression_q z d ((lex.sign signs.Close, d) ∷ r)) in
       omega (arith, q)
   tree_n (among_ s gs) d r =
       let rest = (lex.sign signs.Close, d) ∷ r in
@@ -230,7 +230,7 @@ mutual
   others_n no_others d r = omega arith
   others_n (joined j c os) d r =
       let rest = placed_others os d r in
-      let q = ap length (passed (t.joiner j) d (placed_command c d rest) (joiner_other j)) in
+      let q = ap length (depths_after_other (t.joiner j) d (placed_command c d rest) (joiner_other j)) in
       let x = tree_n c d rest in
       let y = others_n os d r in
       omega (arith, q, x, y)

@@ -79,9 +79,9 @@ check_told s h text ts x f tokens offered read (inr g) = inr (inr (inr (ts, toke
 
 -- ---- the script
 
-pub substituted : (s t : Source) (h : Home) (text : List ℕ) (ts : List PlacedToken) (x : TreeOf h.text) (n : Bool) → HasTokens h.state text ts → first_left_out ts ≡ None → IsReadAs h.text (lexemes ts) x
+pub substitution_of : (s t : Source) (h : Home) (text : List ℕ) (ts : List PlacedToken) (x : TreeOf h.text) (n : Bool) → HasTokens h.state text ts → first_left_out ts ≡ None → IsReadAs h.text (lexemes ts) x
     → t.items ≡ h.around x → t.external ≡ s.external → WellDeclared t.items t.external → h.keeps_count x ≡ n → IsSubstitutedAt s h text n t
-substituted s t h text ts x n tokens offered read items external well counted = record { placed = ts; tree = x; tokens = tokens; offered = offered; read = read; items_are = items; external_is = external; well_declared = well; counted = counted }
+substitution_of s t h text ts x n tokens offered read items external well counted = record { placed = ts; tree = x; tokens = tokens; offered = offered; read = read; items_are = items; external_is = external; well_declared = well; counted = counted }
 
 -- ---- results
 

@@ -54,17 +54,17 @@ past x ts h = rw h refl
 
 -- ---- words and signs
 
-declared : (x : DeclarationKind) → IsOffered (t.declares x)
-declared declarations.Booleans = refl
-declared declarations.Externals = refl
-declared declarations.Groupings = refl
-declared declarations.Integers = refl
-declared declarations.Routines = refl
-declared declarations.Strings = refl
+offered_declaration : (x : DeclarationKind) → IsOffered (t.declares x)
+offered_declaration declarations.Booleans = refl
+offered_declaration declarations.Externals = refl
+offered_declaration declarations.Groupings = refl
+offered_declaration declarations.Integers = refl
+offered_declaration declarations.Routines = refl
+offered_declaration declarations.Strings = refl
 
-based : (x : Base) → IsOffered (t.base x)
-based bases.Decimal = refl
-based bases.Hex = refl
+offered_base : (x : Base) → IsOffered (t.base x)
+offered_base bases.Decimal = refl
+offered_base bases.Hex = refl
 
 joining : (x : Joiner) → IsOffered (t.joiner x)
 joining joiners.And = refl
@@ -224,14 +224,14 @@ of_names (n ∷ ns) ts = of_names ns ts
 
 of_base : (b : Option Base) (ts : Ts) → any_left_out (spelled_base b ts) ≡ any_left_out ts
 of_base None ts = refl
-of_base (Some b) ts = past (t.base b) ts (based b)
+of_base (Some b) ts = past (t.base b) ts (offered_base b)
 
 of_terms : (xs : List Term) (ts : Ts) → any_left_out (spelled_terms xs ts) ≡ any_left_out ts
 of_terms [] ts = refl
 of_terms (term o a ∷ xs) ts = past (t.additive o) (argument_terminal a ∷ spelled_terms xs ts) (adding o) ∙ past (argument_terminal a) (spelled_terms xs ts) (arguing a) ∙ of_terms xs ts
 
 of_plain : (p : Plain) (ts : Ts) → any_left_out (spelled_plain p ts) ≡ any_left_out ts
-of_plain (declaration k ns) ts = past (t.declares k) (t.open_ ∷ spelled_names ns (t.close_ ∷ ts)) (declared k) ∙ of_names ns (t.close_ ∷ ts)
+of_plain (declaration k ns) ts = past (t.declares k) (t.open_ ∷ spelled_names ns (t.close_ ∷ ts)) (offered_declaration k) ∙ of_names ns (t.close_ ∷ ts)
 of_plain (escapes a b) ts = refl
 of_plain (macro n b q) ts = of_base b (t.literal q ∷ ts)
 of_plain (routine n c os) ts = of_command c (spelled_others os ts) ∙ of_others os ts

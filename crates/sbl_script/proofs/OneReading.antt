@@ -63,17 +63,17 @@ placed_one k s bytes ts us h g = k.places s (chars bytes) ts us h.cut g.cut
 
 -- ---- the grammar
 
-abbrev told : grammar.Wrong → ℕ → ScriptFault
-told grammar.syntax place = fault.Syntax place
-told grammar.too_deep place = fault.TooDeep place
-told grammar.out_of_profile place = fault.OutOfProfile place
+abbrev fault_at_place : grammar.Wrong → ℕ → ScriptFault
+fault_at_place grammar.syntax place = fault.Syntax place
+fault_at_place grammar.too_deep place = fault.TooDeep place
+fault_at_place grammar.out_of_profile place = fault.OutOfProfile place
 
 -- what is wrong, and where
 abbrev Found : Text → List PlacedToken → ℕ → List PlacedToken → ScriptFault → Type 0
-Found w ts end rest f = (x : grammar.Wrong) × grammar.IsWrongAt w x (lexemes ts) (lexemes rest) × (f ≡ told x (place_of end rest))
+Found w ts end rest f = (x : grammar.Wrong) × grammar.IsWrongAt w x (lexemes ts) (lexemes rest) × (f ≡ fault_at_place x (place_of end rest))
 
-found : (w : Text) (ts : List PlacedToken) (end : ℕ) (f : ScriptFault) (h : IsGrammarFault w ts end f) → Found w ts end h.rest f
-found w ts end f h = go h.is where
+found_wrong : (w : Text) (ts : List PlacedToken) (end : ℕ) (f : ScriptFault) (h : IsGrammarFault w ts end f) → Found w ts end h.rest f
+found_wrong w ts end f h = go h.is where
   go : (IsSyntaxAt w (lexemes ts) (lexemes h.rest) × (f ≡ fault.Syntax (place_of end h.rest))) ⊎ (IsTooDeepAt w (lexemes ts) (lexemes h.rest) × (f ≡ fault.TooDeep (place_of end h.rest))) ⊎ (IsOutOfProfileAt w (lexemes ts) (lexemes h.rest) × (f ≡ fault.OutOfProfile (place_of end h.rest))) → Found w ts end h.rest f
   go (inl a) = (grammar.syntax, a.0, a.1)
   go (inr (inl a)) = (grammar.too_deep, a.0, a.1)
@@ -87,16 +87,16 @@ same_rest (x ∷ p) (y ∷ q) r s e l = let below : p ++ r ≡ q ++ s = cc in sa
 
 grammar_is_one : Facts → (w : Text) (ts : List PlacedToken) (end : ℕ) (f g : ScriptFault) → IsGrammarFault w ts end f → IsGrammarFault w ts end g → f ≡ g
 grammar_is_one k w ts end f g h j =
-    let a = found w ts end f h in
-    let b = found w ts end g j in
+    let a = found_wrong w ts end f h in
+    let b = found_wrong w ts end g j in
     let same = k.fault w (lexemes ts) (lexemes h.rest) (lexemes j.rest) a.0 b.0 a.1 b.1 in
     let lengths : length h.rest ≡ length j.rest = sym (length-map h.rest _) ∙ ap length same.1 ∙ length-map j.rest _ in
     let rest : h.rest ≡ j.rest = same_rest h.before j.before h.rest j.rest (sym h.parts ∙ j.parts) lengths in
-    a.2 ∙ ap (λ (x : grammar.Wrong). told x (place_of end h.rest)) same.0 ∙ ap (λ (r : List PlacedToken). told b.0 (place_of end r)) rest ∙ sym b.2
+    a.2 ∙ ap (λ (x : grammar.Wrong). fault_at_place x (place_of end h.rest)) same.0 ∙ ap (λ (r : List PlacedToken). fault_at_place b.0 (place_of end r)) rest ∙ sym b.2
 
 -- a tree has none
 no_grammar_fault : Facts → (w : Text) (ts : List PlacedToken) (end : ℕ) (f : ScriptFault) (tree : TreeOf w) → IsReadAs w (lexemes ts) tree → IsGrammarFault w ts end f → ⊥
-no_grammar_fault k w ts end f tree h j = let a = found w ts end f j in k.none w (lexemes ts) (lexemes j.rest) tree a.0 h a.1
+no_grammar_fault k w ts end f tree h j = let a = found_wrong w ts end f j in k.none w (lexemes ts) (lexemes j.rest) tree a.0 h a.1
 
 pub some_one : {X : Type 0} (x y : X) → Some x ≡ Some y → x ≡ y
 some_one x y e = cc

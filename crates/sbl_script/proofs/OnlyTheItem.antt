@@ -186,17 +186,17 @@ alike kinds.Grouping n x y p e f =
 
 -- ---- where an occurrence stands
 
-split : (xs ys b c : List Occurrence) (m : Occurrence) → xs ++ ys ≡ b ++ m ∷ c
+split_around : (xs ys b c : List Occurrence) (m : Occurrence) → xs ++ ys ≡ b ++ m ∷ c
     → ((d : List Occurrence) × (xs ≡ b ++ m ∷ d) × (c ≡ d ++ ys)) ⊎ ((d : List Occurrence) × (b ≡ xs ++ d) × (ys ≡ d ++ m ∷ c))
-split [] ys b c m e = inr (b, refl, e)
-split (x ∷ xs) ys [] c m e =
+split_around [] ys b c m e = inr (b, refl, e)
+split_around (x ∷ xs) ys [] c m e =
     let same : x ≡ m = cc in
     let rest : xs ++ ys ≡ c = cc in
     inl (xs, ap (λ z. z ∷ xs) same, sym rest)
-split (x ∷ xs) ys (y ∷ b) c m e =
+split_around (x ∷ xs) ys (y ∷ b) c m e =
     let same : x ≡ y = cc in
     let rest : xs ++ ys ≡ b ++ m ∷ c = cc in
-    at same (split xs ys b c m rest) where
+    at same (split_around xs ys b c m rest) where
       at : x ≡ y → ((d : List Occurrence) × (xs ≡ b ++ m ∷ d) × (c ≡ d ++ ys)) ⊎ ((d : List Occurrence) × (b ≡ xs ++ d) × (ys ≡ d ++ m ∷ c))
           → ((d : List Occurrence) × (x ∷ xs ≡ y ∷ (b ++ m ∷ d)) × (c ≡ d ++ ys)) ⊎ ((d : List Occurrence) × (y ∷ b ≡ x ∷ (xs ++ d)) × (ys ≡ d ++ m ∷ c))
       at same (inl h) = inl (h.0, ap (λ z. z ∷ xs) same ∙ ap (λ l. y ∷ l) h.1, h.2)
@@ -298,13 +298,13 @@ module _ (prefix mine other rest : List Occurrence) (i : ℕ) (closed : Closed p
         ∙ passes (prefix ++ (mine ++ d)) c m (ap (λ l. prefix ++ (mine ++ l)) r ∙ ap (λ l. prefix ++ l) (sym (append_assoc mine d (m ∷ c))) ∙ sym (append_assoc prefix (mine ++ d) (m ∷ c)))
 
     inside : (b c d : List Occurrence) (m : Occurrence) → other ++ rest ≡ d ++ m ∷ c → b ≡ prefix ++ d → fault_at new b m c ≡ Some f → item_of f ≡ Some i
-    inside b c d m e r bad = at (split other rest d c m e) where
+    inside b c d m e r bad = at (split_around other rest d c m e) where
       at : ((x : List Occurrence) × (other ≡ d ++ m ∷ x) × (c ≡ x ++ rest)) ⊎ ((x : List Occurrence) × (d ≡ other ++ x) × (rest ≡ x ++ m ∷ c)) → item_of f ≡ Some i
       at (inl h) = item_told new b c m f bad ∙ ap Some (each_at (InItem i) d m h.0 (subst (Each (InItem i)) h.1 two.new_sites))
       at (inr h) = absurd (not_both (fault_at new b m c) f (after_passes b c h.0 m (r ∙ ap (λ l. prefix ++ l) h.1) h.2) bad)
 
     in_item : IsFirst new f → item_of f ≡ Some i
-    in_item r = at (split prefix (other ++ rest) r.before r.after r.occurrence r.parts) where
+    in_item r = at (split_around prefix (other ++ rest) r.before r.after r.occurrence r.parts) where
       at : ((d : List Occurrence) × (prefix ≡ r.before ++ r.occurrence ∷ d) × (r.after ≡ d ++ (other ++ rest))) ⊎ ((d : List Occurrence) × (r.before ≡ prefix ++ d) × (other ++ rest ≡ d ++ r.occurrence ∷ r.after)) → item_of f ≡ Some i
       at (inl h) = absurd (not_both (fault_at new r.before r.occurrence r.after) f (prefix_passes r.before r.after h.0 r.occurrence h.1 h.2) r.fault)
       at (inr h) = inside r.before r.after h.0 r.occurrence h.2 h.1 r.fault

@@ -238,8 +238,8 @@ pub record RoutineParts (n : List ℕ) (p : Site) (own : List Occurrence) : Type
   pub are : own ≡ (record { site = p; notice = defines_routine n }) ∷ (commands ++ (record { site = p; notice = region_end }) ∷ [])
   pub each : Each (IsOfCommand p.item) commands
 
-defined : (n : List ℕ) (p : Site) (s : List Occurrence) → HasRoutine (put (defines_routine n) p s)
-defined n p s = record { counted = λ j k. amongs_both s ((record { site = p; notice = defines_routine n }) ∷ []) j ∙ sym (amongs_both s ((record { site = p; notice = defines_routine n }) ∷ []) k) }
+has_routine_put : (n : List ℕ) (p : Site) (s : List Occurrence) → HasRoutine (put (defines_routine n) p s)
+has_routine_put n p s = record { counted = λ j k. amongs_both s ((record { site = p; notice = defines_routine n }) ∷ []) j ∙ sym (amongs_both s ((record { site = p; notice = defines_routine n }) ∷ []) k) }
 
 pub routine_parts : (n : List ℕ) (c : Command) (os : Others) (p : Site) → RoutineParts n p (noted_plain (routine n c os) p [])
 routine_parts n c os p =
@@ -319,7 +319,7 @@ plain_alone (declaration k ns) p a s = (names_own k ns p).alone a s tt
 plain_alone (escapes x y) p a s = refl
 plain_alone (macro n b q) p a s = refl
 plain_alone (routine n c os) p a s =
-    ap (λ t. of_body c os p t) (append_assoc a s ((record { site = p; notice = defines_routine n }) ∷ [])) ∙ (body_own c os p).alone a (put (defines_routine n) p s) (defined n p s)
+    ap (λ t. of_body c os p t) (append_assoc a s ((record { site = p; notice = defines_routine n }) ∷ [])) ∙ (body_own c os p).alone a (put (defines_routine n) p s) (has_routine_put n p s)
 plain_alone (grouping n x ts) p a s = (grouping_own n x ts p).alone a s tt
 
 pub names_are : (k : DeclarationKind) (ns : List (List ℕ)) (p : Site) → Each (IsOfList p.item) (noted_names k ns p [])

@@ -19,40 +19,40 @@ place_same : (ts : List Token) (end : ℕ) → grammar.place_of ts end ≡ place
 place_same [] end = refl
 place_same (t ∷ ts) end = refl
 
-cut : (ts : List Token) (n : ℕ) → map placed_of ts ≡ map placed_of (take n ts) ++ map placed_of (drop n ts)
-cut ts n = ap (map placed_of) (sym (take-append-drop n ts)) ∙ map-append placed_of (take n ts) (drop n ts)
+map_placed_cut : (ts : List Token) (n : ℕ) → map placed_of ts ≡ map placed_of (take n ts) ++ map placed_of (drop n ts)
+map_placed_cut ts n = ap (map placed_of) (sym (take-append-drop n ts)) ∙ map-append placed_of (take n ts) (drop n ts)
 
-moved : (P : List Lexeme → List Lexeme → Type 0) (ts : List Token) (n : ℕ) → P (map lexeme_of ts) (map lexeme_of (drop n ts)) → P (lexemes (map placed_of ts)) (lexemes (map placed_of (drop n ts)))
-moved P ts n h =
+lexemes_of_drop : (P : List Lexeme → List Lexeme → Type 0) (ts : List Token) (n : ℕ) → P (map lexeme_of ts) (map lexeme_of (drop n ts)) → P (lexemes (map placed_of ts)) (lexemes (map placed_of (drop n ts)))
+lexemes_of_drop P ts n h =
     subst (λ (x : List Lexeme). P x (lexemes (map placed_of (drop n ts)))) (lexemes_same ts) (subst (λ (x : List Lexeme). P (map lexeme_of ts) x) (lexemes_same (drop n ts)) h)
 
 -- the grammar's fault of some tokens
-pub told : (w : Text) (ts : List Token) (end : ℕ) (f : ScriptFault) → grammar.IsFaultOf w ts end f → IsGrammarFault w (map placed_of ts) end f
-told w ts end (fault.Syntax place) (n, is, h) = record {
+pub grammar_fault_of : (w : Text) (ts : List Token) (end : ℕ) (f : ScriptFault) → grammar.IsFaultOf w ts end f → IsGrammarFault w (map placed_of ts) end f
+grammar_fault_of w ts end (fault.Syntax place) (n, is, h) = record {
   before = map placed_of (take n ts);
   rest = map placed_of (drop n ts);
-  parts = cut ts n;
-  is = inl (moved (IsSyntaxAt w) ts n h, ap fault.Syntax (is ∙ place_same (drop n ts) end));
+  parts = map_placed_cut ts n;
+  is = inl (lexemes_of_drop (IsSyntaxAt w) ts n h, ap fault.Syntax (is ∙ place_same (drop n ts) end));
 }
-told w ts end (fault.TooDeep place) (n, is, h) = record {
+grammar_fault_of w ts end (fault.TooDeep place) (n, is, h) = record {
   before = map placed_of (take n ts);
   rest = map placed_of (drop n ts);
-  parts = cut ts n;
-  is = inr (inl (moved (IsTooDeepAt w) ts n h, ap fault.TooDeep (is ∙ place_same (drop n ts) end)));
+  parts = map_placed_cut ts n;
+  is = inr (inl (lexemes_of_drop (IsTooDeepAt w) ts n h, ap fault.TooDeep (is ∙ place_same (drop n ts) end)));
 }
-told w ts end (fault.OutOfProfile place) (n, is, h) = record {
+grammar_fault_of w ts end (fault.OutOfProfile place) (n, is, h) = record {
   before = map placed_of (take n ts);
   rest = map placed_of (drop n ts);
-  parts = cut ts n;
-  is = inr (inr (moved (IsOutOfProfileAt w) ts n h, ap fault.OutOfProfile (is ∙ place_same (drop n ts) end)));
+  parts = map_placed_cut ts n;
+  is = inr (inr (lexemes_of_drop (IsOutOfProfileAt w) ts n h, ap fault.OutOfProfile (is ∙ place_same (drop n ts) end)));
 }
-told w ts end _ h = absurd h
+grammar_fault_of w ts end _ h = absurd h
 
 pub unread : {X : Type 0} (w : Text) (r : Result X ScriptFault) (ts : List Token) (end : ℕ) → first_left_out (map placed_of ts) ≡ None
     → IfErr r (λ f. (f ≡ fault.OutOfMemory) ⊎ grammar.IsFaultOf w ts end f) → IfErr r (λ f. (f ≡ fault.OutOfMemory) ⊎ IsUnread w (map placed_of ts) end f)
 unread w (Ok x) ts end offered h = h
 unread w (Err f) ts end offered (inl e) = inl e
-unread w (Err f) ts end offered (inr h) = inr (inr (offered, told w ts end f h))
+unread w (Err f) ts end offered (inr h) = inr (inr (offered, grammar_fault_of w ts end f h))
 
 pub read_as : {X : Type 0} (r : Result X ScriptFault) (P : List Lexeme → X → Type 0) (ts : List Token) → IfOk r (λ x. P (map lexeme_of ts) x) → IfOk r (λ x. P (lexemes (map placed_of ts)) x)
 read_as (Ok x) P ts h = subst (λ (t : List Lexeme). P t x) (lexemes_same ts) h

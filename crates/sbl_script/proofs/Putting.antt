@@ -44,9 +44,9 @@ abbrev pub HoldsIn : (AtDepth → Type 0) → Starter × Groups → Type 0
 HoldsIn P a = (d : ℕ) → Each P (placed_command (among_ a.0 a.1) d [])
 
 -- an among with the others inside it that are put there
-chosen : (P : AtDepth → Type 0) (a : Starter × Groups) → HoldsIn P a → (s : Starter) (gs : Groups) (d k : ℕ) (r q : Ps) → (Each P r → Each P q) → Each P (placed_command (among_ s gs) d r)
+holds_in_choice : (P : AtDepth → Type 0) (a : Starter × Groups) → HoldsIn P a → (s : Starter) (gs : Groups) (d k : ℕ) (r q : Ps) → (Each P r → Each P q) → Each P (placed_command (among_ s gs) d r)
     → Each P (placed_starter (put_in_starter s (k - 1) a) d (placed_groups (put_in_groups gs (k - 1 - count_in_starter s) a) d ((lex.sign signs.Close, d) ∷ q))) → Each P (placed_command (put_among (among_ s gs) k a) d q)
-chosen P a o s gs d k r q f h inside = go (nat_eq k 1) where
+holds_in_choice P a o s gs d k r q f h inside = go (nat_eq k 1) where
   go : (b : Bool) → Each P (placed_command (if b then among_ a.0 a.1 else among_ (put_in_starter s (k - 1) a) (put_in_groups gs (k - 1 - count_in_starter s) a)) d q)
   go true = instead P (placed_command (among_ s gs) d) (placed_command (among_ a.0 a.1) d) (tree_before (among_ s gs) d) (tree_before (among_ a.0 a.1) d) r q (o d) f h
   go false = (h.0, (h.1.0, inside))
@@ -74,7 +74,7 @@ mutual
       let m = k - 1 - count_in_starter s in
       let old = (lex.sign signs.Close, d) ∷ r in
       let new = (lex.sign signs.Close, d) ∷ q in
-      chosen P a o s gs d k r q f h (starter_put P a o s d (k - 1) (placed_groups gs d old) (placed_groups (put_in_groups gs m a) d new) (λ x. groups_put P a o gs d m old new (λ y. (y.0, f y.1)) x) h.1.1)
+      holds_in_choice P a o s gs d k r q f h (starter_put P a o s d (k - 1) (placed_groups gs d old) (placed_groups (put_in_groups gs m a) d new) (λ x. groups_put P a o gs d m old new (λ y. (y.0, f y.1)) x) h.1.1)
 
   rows_put : (P : AtDepth → Type 0) (a : Starter × Groups) → HoldsIn P a → (rs : Rows) (d k : ℕ) (r q : Ps) → (Each P r → Each P q) → Each P (placed_rows rs d r) → Each P (placed_rows (put_in_rows rs k a) d q)
   rows_put P a o no_rows d k r q f h = f h

@@ -39,14 +39,14 @@ use Rattle.sbl_script.proofs.Shallow.{plains_before}
 abbrev Ps : Type 0
 Ps = List AtDepth
 
-abbrev lexed : Ps → List Lexeme
-lexed ps = tokens ps
+abbrev lexeme_list : Ps → List Lexeme
+lexeme_list ps = tokens ps
 
 abbrev Say : Directives → Ps → Type 0
-Say s ps = AreSaid s (lexed ps)
+Say s ps = AreSaid s (lexeme_list ps)
 
 abbrev Then : Directives → Ps → Directives
-Then s ps = after_all s (lexed ps)
+Then s ps = after_all s (lexeme_list ps)
 
 -- ---- one part after another
 

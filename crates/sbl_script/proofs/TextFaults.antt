@@ -42,17 +42,17 @@ AreOfText g = (place : ℕ) → IsOfText (g place)
 abbrev Refuses : {X : Type 0} → Result X Refusal → Type 0
 Refuses r = (g : Refusal) → r ≡ Err g → AreOfText g
 
-refused : {X : Type 0} (h : Refusal) → AreOfText h → Refuses {X = X} (Err h)
-refused h k g e = let same : h ≡ g = cc in subst AreOfText same k
+refuses_text : {X : Type 0} (h : Refusal) → AreOfText h → Refuses {X = X} (Err h)
+refuses_text h k g e = let same : h ≡ g = cc in subst AreOfText same k
 
 unknown : {X : Type 0} → Refuses {X = X} (Err fault.UnknownEscape)
-unknown = refused fault.UnknownEscape (λ place. refl)
+unknown = refuses_text fault.UnknownEscape (λ place. refl)
 
 ok_refuses : {X : Type 0} (x : X) → Refuses (Ok x)
 ok_refuses x g e = absurd cc
 
 code_refuses : (o : Option ℕ) → Refuses (code_or_fault o)
-code_refuses None = refused fault.BadCode (λ place. refl)
+code_refuses None = refuses_text fault.BadCode (λ place. refl)
 code_refuses (Some c) = ok_refuses c
 
 either : {X : Type 0} (b : Bool) (x y : Result X Refusal) → Refuses x → Refuses y → Refuses (cond b x y)
@@ -67,7 +67,7 @@ character_refuses e (c ∷ d ∷ cs) = either (c == 85 && d == 43) (code_or_faul
 value_refuses : (o : Option (List ℕ)) (c : Result ℕ Refusal) → Refuses c → Refuses (value_or_character o c)
 value_refuses (Some v) c h = ok_refuses v
 value_refuses None (Ok c) h = ok_refuses (c ∷ [])
-value_refuses None (Err k) h = refused k (h k refl)
+value_refuses None (Err k) h = refuses_text k (h k refl)
 
 inserted_refuses : (e : InForce) (name : List ℕ) → Refuses (insertion_value e name)
 inserted_refuses e name =

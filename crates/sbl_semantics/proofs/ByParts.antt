@@ -143,12 +143,12 @@ zero_longer : (n : ℕ) → 0 ≡ suc n → ⊥
 zero_longer n e = omega (arith, e)
 
 -- a flag before a part
-flagged : {X : Type 0} (b : Bool) (x y : Option (List X)) → x ≡ y → new.join (then_some b []) x ≡ (if b then y else None)
-flagged true x y e = ap (new.join (Some [])) e ∙ nothing_first y
-flagged false x y e = refl
+join_then_some : {X : Type 0} (b : Bool) (x y : Option (List X)) → x ≡ y → new.join (then_some b []) x ≡ (if b then y else None)
+join_then_some true x y e = ap (new.join (Some [])) e ∙ nothing_first y
+join_then_some false x y e = refl
 
 two_flags : {X : Type 0} (a b c : Bool) (x y : Option (List X)) → b ≡ c → x ≡ y → (if a then new.join (then_some b []) x else None) ≡ (if a && c then y else None)
-two_flags true b c x y p q = flagged b x y q ∙ ap (λ (f : Bool). if f then y else None) p
+two_flags true b c x y p q = join_then_some b x y q ∙ ap (λ (f : Bool). if f then y else None) p
 two_flags false b c x y p q = refl
 
 some_if : {X : Type 0} (a b : Bool) (x : X) → a ≡ b → then_some a x ≡ (if b then Some x else None)
@@ -304,7 +304,7 @@ module _ (one_tree : (w : Text) (t u : TreeOf w) → tokens_of w t ≡ tokens_of
     groups k (group e es rs gs) (group f fs ss hs) =
         let rest = joins _ _ _ _ (rows k rs ss) (groups (number_after_rows rs k) gs hs) in
         ap (λ (b : Bool). new.join (then_some b []) (new.join (new.differ_rows k rs ss) (new.differ_groups (number_after_rows rs k) gs hs))) (entries_same (e ∷ es) (f ∷ fs))
-        ∙ flagged (pointwise same_entry (e ∷ es) (f ∷ fs)) _ _ rest
+        ∙ join_then_some (pointwise same_entry (e ∷ es) (f ∷ fs)) _ _ rest
     groups k (bare es) (group f fs ss hs) =
         ap (λ (b : Bool). then_some b []) (is_false (alike (placed_groups (bare es) 1 []) (placed_groups (group f fs ss hs) 1 [])) (λ h. bare_group es fs f ss hs (alike_are _ _ h)))
     groups k (group e es rs gs) (bare fs) =

@@ -28,27 +28,27 @@ out_of_memory s t e h = by h.is
     by (inl p) = (RefusedAfter 0, (Some fault.OutOfMemory, (refl, p.1 ∙ ap (λ (k : ℕ). record s { count = k }) none_more, h), refl))
     by (inr b) = (RefusedAfter b.2, (Some fault.OutOfMemory, (refl, b.4, h), refl))
 
-pub answered : (r : Result (Unit {0}) EditFault) (s t : Contents) (e : Edit) → Edits r s e t → IsEditAnswer s e (edit_text (fault_in r)) t
-answered (Ok u) s t e h = (Enough, (None, h, refl))
-answered (Err fault.OutOfMemory) s t e h = out_of_memory s t e h
-answered (Err fault.Present) s t e h = (Enough, (Some fault.Present, h, refl))
-answered (Err fault.Absent) s t e h = (Enough, (Some fault.Absent, h, refl))
-answered (Err fault.EmptyWord) s t e h = (Enough, (Some fault.EmptyWord, h, refl))
-answered (Err fault.WordTooLong) s t e h = (Enough, (Some fault.WordTooLong, h, refl))
-answered (Err fault.Full) s t e h = (Enough, (Some fault.Full, h, refl))
-answered (Err fault.NoRoutine) s t e h = (Enough, (Some fault.NoRoutine, h, refl))
-answered (Err fault.NoAmong) s t e h = (Enough, (Some fault.NoAmong, h, refl))
-answered (Err fault.AmongCount) s t e h = (Enough, (Some fault.AmongCount, h, refl))
-answered (Err (fault.Script f)) s t e h = (Enough, (Some (fault.Script f), h, refl))
-answered (Err fault.MeterFull) s t e h = (Enough, (Some fault.MeterFull, h, refl))
-answered (Err fault.BadLimit) s t e h = (Enough, (Some fault.BadLimit, h, refl))
-answered (Err fault.NoGrouping) s t e h = (Enough, (Some fault.NoGrouping, h, refl))
+pub answer_of_edit : (r : Result (Unit {0}) EditFault) (s t : Contents) (e : Edit) → Edits r s e t → IsEditAnswer s e (edit_text (fault_in r)) t
+answer_of_edit (Ok u) s t e h = (Enough, (None, h, refl))
+answer_of_edit (Err fault.OutOfMemory) s t e h = out_of_memory s t e h
+answer_of_edit (Err fault.Present) s t e h = (Enough, (Some fault.Present, h, refl))
+answer_of_edit (Err fault.Absent) s t e h = (Enough, (Some fault.Absent, h, refl))
+answer_of_edit (Err fault.EmptyWord) s t e h = (Enough, (Some fault.EmptyWord, h, refl))
+answer_of_edit (Err fault.WordTooLong) s t e h = (Enough, (Some fault.WordTooLong, h, refl))
+answer_of_edit (Err fault.Full) s t e h = (Enough, (Some fault.Full, h, refl))
+answer_of_edit (Err fault.NoRoutine) s t e h = (Enough, (Some fault.NoRoutine, h, refl))
+answer_of_edit (Err fault.NoAmong) s t e h = (Enough, (Some fault.NoAmong, h, refl))
+answer_of_edit (Err fault.AmongCount) s t e h = (Enough, (Some fault.AmongCount, h, refl))
+answer_of_edit (Err (fault.Script f)) s t e h = (Enough, (Some (fault.Script f), h, refl))
+answer_of_edit (Err fault.MeterFull) s t e h = (Enough, (Some fault.MeterFull, h, refl))
+answer_of_edit (Err fault.BadLimit) s t e h = (Enough, (Some fault.BadLimit, h, refl))
+answer_of_edit (Err fault.NoGrouping) s t e h = (Enough, (Some fault.NoGrouping, h, refl))
 
 -- a text that replaces something, by what is replaced and its bytes
 pub replaced_text : (r : Result (Unit {0}) EditFault) (s t : Contents) (named what : ScriptEdit) (text bytes answer : List ℕ) → named ≡ what → text ≡ bytes
     → Edits r s (Replace named text) t → answer ≡ edit_text (fault_in r) → IsEditAnswer s (Replace what bytes) answer t
 replaced_text r s t named what text bytes answer is same h told =
-    let a : IsEditAnswer s (Replace named text) (edit_text (fault_in r)) t = answered r s t (Replace named text) h in
+    let a : IsEditAnswer s (Replace named text) (edit_text (fault_in r)) t = answer_of_edit r s t (Replace named text) h in
     let b : IsEditAnswer s (Replace what text) (edit_text (fault_in r)) t = subst (λ (e : ScriptEdit). IsEditAnswer s (Replace e text) (edit_text (fault_in r)) t) is a in
     let d : IsEditAnswer s (Replace what bytes) (edit_text (fault_in r)) t = subst (λ (x : List ℕ). IsEditAnswer s (Replace what x) (edit_text (fault_in r)) t) same b in
     subst (λ (x : List ℕ). IsEditAnswer s (Replace what bytes) x t) (sym told) d

@@ -16,11 +16,11 @@ pub reads_none : (text : List ℕ) → Reads text 0 0
 reads_none text = record { digits = refl; value = refl }
 
 -- digits after two numbers that are one up to the largest write what is one up to it
-capped : (text : List ℕ) (n m : ℕ) → min n max_number ≡ min m max_number → min (digits_value n text) max_number ≡ min (digits_value m text) max_number
-capped [] n m same = same
-capped (c ∷ text) n m same =
+digits_capped : (text : List ℕ) (n m : ℕ) → min n max_number ≡ min m max_number → min (digits_value n text) max_number ≡ min (digits_value m text) max_number
+digits_capped [] n m same = same
+digits_capped (c ∷ text) n m same =
     let next : min (n * 10 + (c - 48)) max_number ≡ min (m * 10 + (c - 48)) max_number = omega (arith, same) in
-    capped text (n * 10 + (c - 48)) (m * 10 + (c - 48)) next
+    digits_capped text (n * 10 + (c - 48)) (m * 10 + (c - 48)) next
 
 -- a digit more
 pub reads_more : (text : List ℕ) (i n m : ℕ) → i < length text → Reads text i n → is_digit (get_or text i 0) ≡ true
@@ -33,7 +33,7 @@ reads_more text i n m within so digit next =
     let same : min m max_number ≡ min (n * 10 + (c - 48)) max_number = omega (arith, next) in
     record {
       digits = sym (ap (λ (b : Bool). b && list_all is_digit rest) digit) ∙ digits;
-      value = capped rest m (n * 10 + (c - 48)) same ∙ sym (ap (λ (t : List ℕ). min (digits_value n t) max_number) parts) ∙ so.value;
+      value = digits_capped rest m (n * 10 + (c - 48)) same ∙ sym (ap (λ (t : List ℕ). min (digits_value n t) max_number) parts) ∙ so.value;
     }
 
 -- all were digits

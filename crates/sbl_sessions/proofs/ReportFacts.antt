@@ -57,20 +57,20 @@ some_none : {A : Type 0} {x : A} → Some x ≡ None → ⊥
 some_none e = cc e
 
 -- the first element that passes
-pub found : {A : Type 0} (p : A → Bool) (xs : List A) (i : ℕ) (x : A) → find p (take i xs) ≡ None → slice_get xs i ≡ Some x → p x ≡ true → find p xs ≡ Some x
-found p [] i x none at passes = absurd (some_none (sym at))
-found {A} p (y ∷ xs) zero x none at passes = let same : y ≡ x = cc at in rw (same, passes) refl
-found {A} p (y ∷ xs) (suc i) x none at passes = by (λ rest. found p xs i x rest at passes) (p y) refl
+pub find_here : {A : Type 0} (p : A → Bool) (xs : List A) (i : ℕ) (x : A) → find p (take i xs) ≡ None → slice_get xs i ≡ Some x → p x ≡ true → find p xs ≡ Some x
+find_here p [] i x none at passes = absurd (some_none (sym at))
+find_here {A} p (y ∷ xs) zero x none at passes = let same : y ≡ x = cc at in rw (same, passes) refl
+find_here {A} p (y ∷ xs) (suc i) x none at passes = by (λ rest. find_here p xs i x rest at passes) (p y) refl
   where
     by : (find p (take i xs) ≡ None → find p xs ≡ Some x) → (t : Bool) → p y ≡ t → find p (y ∷ xs) ≡ Some x
     by more true e = let some : Some y ≡ None = (rw e at none) in absurd (some_none some)
     by more false e = let rest : find p (take i xs) ≡ None = (rw e at none) in rw e (more rest)
 
 -- no element so far passes, and the next does not
-pub missed : {A : Type 0} (p : A → Bool) (xs : List A) (i : ℕ) (x : A) → find p (take i xs) ≡ None → slice_get xs i ≡ Some x → p x ≡ false → find p (take (suc i) xs) ≡ None
-missed p [] i x none at fails = absurd (some_none (sym at))
-missed {A} p (y ∷ xs) zero x none at fails = let same : y ≡ x = cc at in rw (same, fails) refl
-missed {A} p (y ∷ xs) (suc i) x none at fails = by (λ rest. missed p xs i x rest at fails) (p y) refl
+pub find_further : {A : Type 0} (p : A → Bool) (xs : List A) (i : ℕ) (x : A) → find p (take i xs) ≡ None → slice_get xs i ≡ Some x → p x ≡ false → find p (take (suc i) xs) ≡ None
+find_further p [] i x none at fails = absurd (some_none (sym at))
+find_further {A} p (y ∷ xs) zero x none at fails = let same : y ≡ x = cc at in rw (same, fails) refl
+find_further {A} p (y ∷ xs) (suc i) x none at fails = by (λ rest. find_further p xs i x rest at fails) (p y) refl
   where
     by : (find p (take i xs) ≡ None → find p (take (suc i) xs) ≡ None) → (t : Bool) → p y ≡ t → find p (take (suc (suc i)) (y ∷ xs)) ≡ None
     by more true e = let some : Some y ≡ None = (rw e at none) in absurd (some_none some)

@@ -23,7 +23,7 @@ use Rattle.sbl_io.specs.declared.faults.LineFault.TheVariants as read
 use Rattle.sbl_io.specs.declared.faults.ServeFault.{ServeFault}
 use Rattle.sbl_io.specs.declared.faults.ServeFault.TheVariants as fault
 use Rattle.sbl_sessions.specs.declared.replies.Reply.{Reply}
-use Rattle.sbl_formats.proofs.BlockFacts.{all_fit-append, all_fit-push, broken}
+use Rattle.sbl_formats.proofs.BlockFacts.{all_fit-append, all_fit-push, broken_block}
 use Rattle.sbl_io.proofs.Bytes.{took-kept, took-none, took-trans}
 
 -- ---- answers
@@ -89,8 +89,8 @@ session_ends a b c h i s t so keeps end =
 pub session_at_line : (a b c h i : Option (List ℕ)) (s t : Contents) (k : Option LineFault) (part : List ℕ) (f : LineFault) → RepliesToInput a b h i s t → k ≡ None
     → (f ≡ read.Read → TookWhole a b) → (f ≡ read.TooLong → BeginsLong b ⊎ (k ≡ Some f)) → (f ≡ read.Read → k ≡ None → BreaksOff b c part)
     → IsSession a c h i s t (Err (serve_fault_of f))
-session_at_line a b c h i s t k part read.Read so none whole long cut = (b, λ _. whole refl, so, broken (IsBegun fault.Read) b b c k [] part read.Read (inl (refl, λ is. cc is)) (took-none b) none long cut)
-session_at_line a b c h i s t k part read.TooLong so none whole long cut = (b, λ is. cc is, so, broken (IsBegun fault.LineTooLong) b b c k [] part read.TooLong (inl (refl, λ is. cc is)) (took-none b) none long cut)
+session_at_line a b c h i s t k part read.Read so none whole long cut = (b, λ _. whole refl, so, broken_block (IsBegun fault.Read) b b c k [] part read.Read (inl (refl, λ is. cc is)) (took-none b) none long cut)
+session_at_line a b c h i s t k part read.TooLong so none whole long cut = (b, λ is. cc is, so, broken_block (IsBegun fault.LineTooLong) b b c k [] part read.TooLong (inl (refl, λ is. cc is)) (took-none b) none long cut)
 
 -- where a block has no end
 pub session_open : (a b c d h i : Option (List ℕ)) (s t : Contents) (line : List ℕ) (f : ServeFault) → RepliesToInput a b h i s t → GivesLine b c line → length line ≤ 65536

@@ -29,9 +29,9 @@ run_at : (p : ℕ → Bool) (c : ℕ) (cs : List ℕ) (b : Bool) → p c ≡ b �
 run_at p c cs true h r = (c ∷ r.0, ap (λ (t : List ℕ). c ∷ t) r.1, rw h r.2)
 run_at p c cs false h r = ([], refl, refl)
 
-pub run : (p : ℕ → Bool) (cs : List ℕ) → Run p cs (past p cs)
-run p [] = ([], refl, refl)
-run p (c ∷ cs) = run_at p c cs (p c) refl (run p cs)
+pub run_of : (p : ℕ → Bool) (cs : List ℕ) → Run p cs (past p cs)
+run_of p [] = ([], refl, refl)
+run_of p (c ∷ cs) = run_at p c cs (p c) refl (run_of p cs)
 
 shorter_at : (p : ℕ → Bool) (c : ℕ) (cs : List ℕ) (b : Bool) → length (past p cs) ≤ length cs → length (if b then past p cs else c ∷ cs) ≤ length (c ∷ cs)
 shorter_at p c cs true h = omega arith

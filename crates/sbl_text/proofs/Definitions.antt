@@ -65,9 +65,9 @@ latest_more ds d q old new h is = subst (IsLatest (ds ++ d ∷ []) q) (sym is) (
     more false None f l = f ∙ l
     more false (Some i) f l = (l.0, get_more ds d l.0 i l.1, f ∙ l.2)
 
-pub defined : {M : Type 0} (f : M → Definition) (old new : List M) (m : M) (name : List ℕ) (place : ℕ) (q : List ℕ) (o p : Option ℕ) → new ≡ old ++ m ∷ [] → (f m).name ≡ name → place ≡ length old
+pub latest_push : {M : Type 0} (f : M → Definition) (old new : List M) (m : M) (name : List ℕ) (place : ℕ) (q : List ℕ) (o p : Option ℕ) → new ≡ old ++ m ∷ [] → (f m).name ≡ name → place ≡ length old
     → IsLatest (map f old) q o → p ≡ (if bytes_eq name q then Some place else o) → IsLatest (map f new) q p
-defined f old new m name place q o p put named at h is =
+latest_push f old new m name place q o p put named at h is =
     subst (λ (ds : List Definition). IsLatest ds q p) (sym (ap (map f) put ∙ map_append f old m))
     (latest_more (map f old) (f m) q o p h
     (is ∙ ap (λ (n : List ℕ). if bytes_eq n q then Some place else o) (sym named) ∙ ap (λ (k : ℕ). if bytes_eq (f m).name q then Some k else o) (at ∙ sym (length-map old f))))
@@ -77,8 +77,8 @@ defined f old new m name place q o p put named at h is =
 pub unfound : (ds : List Definition) (q : List ℕ) (o : Option ℕ) → IsLatest ds q o → None ≡ o → None ≡ find ds q
 unfound ds q o h is = sym (subst (IsLatest ds q) (sym is) h)
 
-pub found : (ds : List Definition) (q : List ℕ) (o : Option ℕ) (i : ℕ) → IsLatest ds q o → Some i ≡ o → IsLatest ds q (Some i)
-found ds q o i h is = subst (IsLatest ds q) (sym is) h
+pub latest_at : (ds : List Definition) (q : List ℕ) (o : Option ℕ) (i : ℕ) → IsLatest ds q o → Some i ≡ o → IsLatest ds q (Some i)
+latest_at ds q o i h is = subst (IsLatest ds q) (sym is) h
 
 pub get_within : {M : Type 0} (f : M → Definition) (ms : List M) (i : ℕ) (d : Definition) → slice_get (map f ms) i ≡ Some d → i < length ms
 get_within f [] i d h = absurd cc

@@ -165,8 +165,8 @@ next_shorter source s from u rest t h =
     let k = some_text s.escapes.inserts c.kind c.own c.piece.stands.has in omega arith
 
 -- where no fault was answered
-pub advanced : (r t : Reading) (result : Result (Option Token) ScriptFault) → r.fault ≡ None → IsNext r t result → Advances r.text r.state r.rest t.state t.rest result
-advanced r t result none h = fresh result (subst (λ (o : Option ScriptFault). IsAnswer o r t result) none h)
+pub next_advances : (r t : Reading) (result : Result (Option Token) ScriptFault) → r.fault ≡ None → IsNext r t result → Advances r.text r.state r.rest t.state t.rest result
+next_advances r t result none h = fresh result (subst (λ (o : Option ScriptFault). IsAnswer o r t result) none h)
   where
     met : (f : ScriptFault) → ((f ≡ fault.OutOfMemory) × (t.fault ≡ None)) ⊎ (Stops r.text r.state r.rest f × (t.fault ≡ Some f)) → (f ≡ fault.OutOfMemory) ⊎ Stops r.text r.state r.rest f
     met f (inl o) = inl o.0

@@ -35,8 +35,8 @@ too_large v d n total text rest is whole above =
 
 -- ---- words
 
-pub named : (text bytes : List ℕ) (o : Option Word) → bytes ≡ text → word_of text ≡ o → word_or_name o text ≡ word_or_name (word_of bytes) bytes
-named text bytes o is found = ap (λ (p : Option Word). word_or_name p text) (sym found) ∙ ap (λ (t : List ℕ). word_or_name (word_of t) t) (sym is)
+pub same_word_or_name : (text bytes : List ℕ) (o : Option Word) → bytes ≡ text → word_of text ≡ o → word_or_name o text ≡ word_or_name (word_of bytes) bytes
+same_word_or_name text bytes o is found = ap (λ (p : Option Word). word_or_name p text) (sym found) ∙ ap (λ (t : List ℕ). word_or_name (word_of t) t) (sym is)
 
 not_literal : (o : Option Word) (text spelling v : List ℕ) → literal spelling v ≡ word_or_name o text → ⊥
 not_literal None text spelling v h = cc
@@ -62,11 +62,11 @@ pub no_token : (s : Directives) (source from at : List ℕ) (place : ℕ) (f : S
     → AfterGaps (setting_of s) from at → NoPiece (setting_of s) at → (at ≡ [] → s.wanted ≡ wanted.Inserts) × (f ≡ fault_at s.wanted at place) → Stops source s from f
 no_token s source from at place f b p g n h = (b.0, at, b.1, g, inl (h.0, n, h.1 ∙ ap (fault_at s.wanted at) (p b.0 b.1)))
 
-pub refused : (s : Directives) (source from at rest text : List ℕ) (k : Shape) (place : ℕ) (f : ScriptFault) → (before : List ℕ) × (source ≡ before ++ at) → ((x : List ℕ) → source ≡ x ++ at → place ≡ byte_length x)
+pub no_piece_refused : (s : Directives) (source from at rest text : List ℕ) (k : Shape) (place : ℕ) (f : ScriptFault) → (before : List ℕ) × (source ≡ before ++ at) → ((x : List ℕ) → source ≡ x ++ at → place ≡ byte_length x)
     → AfterGaps (setting_of s) from at → Piece_at (setting_of s) k at rest → ((x : List ℕ) → at ≡ x ++ rest → text ≡ x)
     → (f ≡ fault.OutOfMemory) ⊎ IsRefused s k text place f → (f ≡ fault.OutOfMemory) ⊎ Stops source s from f
-refused s source from at rest text k place f b p g c t (inl h) = inl h
-refused s source from at rest text k place f b p g c t (inr h) =
+no_piece_refused s source from at rest text k place f b p g c t (inl h) = inl h
+no_piece_refused s source from at rest text k place f b p g c t (inr h) =
     inr (b.0, at, b.1, g, inr (k, c.0, rest, c.1, c.2, subst (λ (n : ℕ). IsRefused s k c.0 n f) (p b.0 b.1) (subst (λ (y : List ℕ). IsRefused s k y place f) (t c.0 c.1) h)))
 
 pub comes_end : (s : Directives) (source from at : List ℕ) → AfterGaps (setting_of s) from at → at ≡ [] → MayEnd s → Comes source s from at None
@@ -167,8 +167,8 @@ same_setting s f i w a b c = ap (λ (j : Option Inserts). setting j w) (a ∙ ap
 pub nothing_defined : (s t : Directives) (v : List ℕ) → s.defining ≡ None → t ≡ no_directive s.escapes → (w : List ℕ) × (value_for s.defining v ≡ Some w) × (t ≡ no_directive (defined_by s.escapes s.defining v))
 nothing_defined s t v d h = (v, ap (λ (o : Option Defining). value_for o v) d, h ∙ ap (λ (o : Option Defining). no_directive (defined_by s.escapes o v)) (sym d))
 
-pub undefined : {D : Type 0} (f : D → Defining) (s : Directives) (o : Option D) (e : InForce) (w : Expectation) → (let u : Directives = record { escapes = e; wanted = w; defining = option_map f o } in u) ≡ s → o ≡ None → s.defining ≡ None
-undefined f s o e w is h = ap (λ (u : Directives). u.defining) (sym is) ∙ ap (option_map f) h
+pub end_undefined : {D : Type 0} (f : D → Defining) (s : Directives) (o : Option D) (e : InForce) (w : Expectation) → (let u : Directives = record { escapes = e; wanted = w; defining = option_map f o } in u) ≡ s → o ≡ None → s.defining ≡ None
+end_undefined f s o e w is h = ap (λ (u : Directives). u.defining) (sym is) ∙ ap (option_map f) h
 
 pub after_first : (text cs : List ℕ) (c place n : ℕ) → text ≡ c ∷ cs → (c ≡ 39 → ⊥) → n ≡ byte_length (c ∷ []) → fault.BadCharacter (place + n) ≡ pair_fault text place
 after_first text cs c place n is q m =

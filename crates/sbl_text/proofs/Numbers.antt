@@ -45,8 +45,8 @@ too_large_code base most v d r (x ∷ xs) ds b l i j k h =
 abbrev runs : List ℕ → List (List ℕ)
 runs cs = slice_split is_white cs
 
-abbrev kept : List (List ℕ) → List (List ℕ)
-kept rs = filter (λ r. nat_lt 0 (length r)) rs
+abbrev nonempty_of : List (List ℕ) → List (List ℕ)
+nonempty_of rs = filter (λ r. nat_lt 0 (length r)) rs
 
 abbrev RunOf : List ℕ → Type 0
 RunOf cs = (w : List ℕ) × (rest : List ℕ) × (rs : List (List ℕ)) × (cs ≡ w ++ rest) × (length w ≡ position_or_len is_white cs) × (runs rest ≡ [] ∷ rs) × (runs cs ≡ w ∷ rs)
@@ -77,9 +77,9 @@ run_found cs n is =
     let l : n ≡ length r.0 = is ∙ end_is cs ∙ sym r.4 in
     let t : take n cs ≡ r.0 = ap (λ (m : ℕ). take m cs) l ∙ ap (take (length r.0)) r.3 ∙ take-append_seam r.0 r.1 in
     let d : drop n cs ≡ r.1 = ap (λ (m : ℕ). drop m cs) l ∙ ap (drop (length r.0)) r.3 ∙ drop-append_seam r.0 r.1 in
-    (omega (arith, l, ap length r.3, length-append r.0 r.1), λ some. ap kept r.6 ∙ keeps r.0 r.2 (λ z. some (l ∙ z)) ∙ ap (λ (x : List ℕ). x ∷ kept r.2) (sym t) ∙ ap (λ (y : List (List ℕ)). take n cs ∷ y) (sym (ap (λ (x : List ℕ). kept (runs x)) d ∙ ap kept r.5)))
+    (omega (arith, l, ap length r.3, length-append r.0 r.1), λ some. ap nonempty_of r.6 ∙ keeps r.0 r.2 (λ z. some (l ∙ z)) ∙ ap (λ (x : List ℕ). x ∷ nonempty_of r.2) (sym t) ∙ ap (λ (y : List (List ℕ)). take n cs ∷ y) (sym (ap (λ (x : List ℕ). nonempty_of (runs x)) d ∙ ap nonempty_of r.5)))
   where
-    keeps : (w : List ℕ) (rs : List (List ℕ)) → (length w ≡ 0 → ⊥) → kept (w ∷ rs) ≡ w ∷ kept rs
+    keeps : (w : List ℕ) (rs : List (List ℕ)) → (length w ≡ 0 → ⊥) → nonempty_of (w ∷ rs) ≡ w ∷ nonempty_of rs
     keeps [] rs h = absurd (h refl)
     keeps (c ∷ w) rs h = let some : nat_lt 0 (length (c ∷ w)) ≡ true = grind (arith, nat_tests) in rw some refl
 

@@ -82,9 +82,9 @@ plain_read e i spelling rest following value more place at n r s j is q o v m =
 abbrev pub Taken : InForce → List ℕ → List ℕ → List ℕ → ℕ → ℕ → Type 0
 Taken e rest name after r b = (rest ≡ (r ∷ (name ++ b ∷ [])) ++ after) × IsInsertion e (r ∷ (name ++ b ∷ [])) name × (is_closed e.inserts false rest ≡ true → is_closed e.inserts false after ≡ true)
 
-pub taken : (e : InForce) (i : Option Inserts) (rest following name after : List ℕ) (r b : ℕ) → i ≡ e.inserts → rest ≡ r ∷ following → (r ≡ 39 → ⊥) → opens i r ≡ true
+pub insert_taken : (e : InForce) (i : Option Inserts) (rest following name after : List ℕ) (r b : ℕ) → i ≡ e.inserts → rest ≡ r ∷ following → (r ≡ 39 → ⊥) → opens i r ≡ true
     → (following ≡ name ++ b ∷ after) × (closes i b ≡ true) × (list_all (λ c. not (closes i c)) name ≡ true) × (is_closed i true following ≡ is_closed i false after) → Taken e rest name after r b
-taken e i rest following name after r b j is q o h =
+insert_taken e i rest following name after r b j is q o h =
     let o' : opens e.inserts r ≡ true = ap (λ (k : Option Inserts). opens k r) (sym j) ∙ o in (
       is ∙ ap (λ (t : List ℕ). r ∷ t) (h.0 ∙ sym (append_assoc name (b ∷ []) after)),
       (r, b, refl, not_quote r q, o', ap (λ (k : Option Inserts). closes k b) (sym j) ∙ h.1, ap (λ (k : Option Inserts). list_all (λ c. not (closes k c)) name) (sym j) ∙ h.2),

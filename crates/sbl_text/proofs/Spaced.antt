@@ -80,8 +80,8 @@ sign_bytes signs.StarEquals = two_bytes 42 61 (omega arith) (omega arith)
 sign_bytes signs.SlashEquals = two_bytes 47 61 (omega arith) (omega arith)
 sign_bytes signs.EqualsGreater = two_bytes 61 62 (omega arith) (omega arith)
 
-quoted : (inner : List ℕ) → encode_utf8_all (39 ∷ (inner ++ 39 ∷ [])) ≡ 39 ∷ (encode_utf8_all inner ++ 39 ∷ [])
-quoted inner =
+encode_quoted : (inner : List ℕ) → encode_utf8_all (39 ∷ (inner ++ 39 ∷ [])) ≡ 39 ∷ (encode_utf8_all inner ++ 39 ∷ [])
+encode_quoted inner =
     ap (λ (t : List ℕ). t ++ encode_utf8_all (inner ++ 39 ∷ [])) (encode_ascii 39 (omega arith))
     ∙ ap (λ (t : List ℕ). 39 ∷ t) (encodes-append inner (39 ∷ []) ∙ ap (λ (t : List ℕ). encode_utf8_all inner ++ t) (one_byte 39 (omega arith)))
 
@@ -93,7 +93,7 @@ same_text s shape.Word t l u n told = word_case (word_of (encode_utf8_all (chars
     word_case None h = sym (ap lexeme_text (told ∙ ap (λ (p : Option Word). word_or_name p (encode_utf8_all (chars t))) h) ∙ encodes-chars t u)
     word_case (Some w) h = sym (ap lexeme_text (told ∙ ap (λ (p : Option Word). word_or_name p (encode_utf8_all (chars t))) h) ∙ word_is (encode_utf8_all (chars t)) w h ∙ encodes-chars t u)
 same_text s shape.Sign t l u n told = sym (ap lexeme_text told.2 ∙ sym (sign_bytes told.0) ∙ ap encode_utf8_all (sym told.1) ∙ encodes-chars t u)
-same_text s shape.Literal t l u n told = sym (ap lexeme_text told.4 ∙ sym (quoted told.0) ∙ ap encode_utf8_all (sym told.2) ∙ encodes-chars t u)
+same_text s shape.Literal t l u n told = sym (ap lexeme_text told.4 ∙ sym (encode_quoted told.0) ∙ ap encode_utf8_all (sym told.2) ∙ encodes-chars t u)
 same_text s shape.Inserts t l u n told = sym (ap lexeme_text told.3 ∙ ap encode_utf8_all (sym told.2) ∙ encodes-chars t u)
 same_text s shape.MacroName t l u n told = sym (ap lexeme_text told ∙ encodes-chars t u)
 same_text s shape.Number t l u n told = absurd (n refl)
@@ -156,8 +156,8 @@ no_gap s shape.Literal x l h = refl
 no_gap s shape.Inserts x l h = refl
 no_gap s shape.MacroName x l h = refl
 
-written : (s : Directives) (l : Lexeme) (k : Shape) (t : List ℕ) → IsSaidBy s l k t → IsSaidBy s l k (lexeme_text l)
-written s l k t h = by k h
+said_as_written : (s : Directives) (l : Lexeme) (k : Shape) (t : List ℕ) → IsSaidBy s l k t → IsSaidBy s l k (lexeme_text l)
+said_as_written s l k t h = by k h
   where
     other : (j : Shape) → (j ≡ shape.Number → ⊥) → IsSaidBy s l j t → IsSaidBy s l j (lexeme_text l)
     other j n g = subst (IsSaidBy s l j) (same_text s j t l g.0 n g.3.0) g
@@ -304,16 +304,16 @@ space_chars c rest h =
 abbrev Read : Directives → List SpacedToken → Type 0
 Read s ps = (qs : List Piece) × AreCut s (chars (spaced_text ps)) qs (after_all s (lexemes_of ps)) [] × (lexemes_of ps ≡ piece_lexemes qs)
 
-read : (s : Directives) (ps : List SpacedToken) → are_white ps ≡ true → AreSaid s (lexemes_of ps) → Read s ps
-read s [] w h = ([], (chars-nil, refl), refl)
-read s (p ∷ ps) w h =
+read_spaced : (s : Directives) (ps : List SpacedToken) → are_white ps ≡ true → AreSaid s (lexemes_of ps) → Read s ps
+read_spaced s [] w h = ([], (chars-nil, refl), refl)
+read_spaced s (p ∷ ps) w h =
     let l = p.lexeme in
     let c = p.space in
     let white = and_left (is_white c) (are_white ps) w in
     let k = h.0.0 in
-    let t = written s l k h.0.1 h.0.2 in
+    let t = said_as_written s l k h.0.1 h.0.2 in
     let x = chars (lexeme_text l) in
-    let r = read (after s l) ps (and_right (is_white c) (are_white ps) w) h.1 in
+    let r = read_spaced (after s l) ps (and_right (is_white c) (are_white ps) w) h.1 in
     let is : chars (spaced_text (p ∷ ps)) ≡ x ++ (c ∷ chars (spaced_text ps)) =
     chars-append (lexeme_text l) (encode_utf8_all (c ∷ []) ++ spaced_text ps) t.0 ∙ ap (λ (y : List ℕ). x ++ y) (space_chars c (spaced_text ps) white) in
     let token : Piece = record { shape = k; text = x; lexeme = Some l } in
@@ -330,7 +330,7 @@ read s (p ∷ ps) w h =
     )
 
 pub spaced_read : (s : Directives) (ps : List SpacedToken) → are_white ps ≡ true → AreSaid s (lexemes_of ps) → MayEnd (after_all s (lexemes_of ps)) → AreTokensFrom s (chars (spaced_text ps)) (lexemes_of ps)
-spaced_read s ps w h end = let r = read s ps w h in (r.0, after_all s (lexemes_of ps), r.1, end, r.2)
+spaced_read s ps w h end = let r = read_spaced s ps w h in (r.0, after_all s (lexemes_of ps), r.1, end, r.2)
 
 -- ---- and what a text says is said
 

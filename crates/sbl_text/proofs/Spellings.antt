@@ -83,9 +83,9 @@ some_at : (n l m : ℕ) (b : Bool) → nat_lt n l ≡ b → (let o : Option ℕ 
 some_at n l m true h k = (cc, grind (arith, nat_tests))
 some_at n l m false h k = absurd (cc)
 
-ended : (e : Option Inserts) (t : List ℕ) → length t ≡ 0 → is_closed e true t ≡ false
-ended e [] z = refl
-ended e (c ∷ t) z = absurd (omega (arith, z))
+open_at_end : (e : Option Inserts) (t : List ℕ) → length t ≡ 0 → is_closed e true t ≡ false
+open_at_end e [] z = refl
+open_at_end e (c ∷ t) z = absurd (omega (arith, z))
 
 pub never_closed : (e : Option Inserts) (cs : List ℕ) → None ≡ position (closes e) cs → is_closed e true cs ≡ false
 never_closed e cs h =
@@ -93,7 +93,7 @@ never_closed e cs h =
     let p = position_or_len (closes e) cs in
     let l = none_at p (length cs) (nat_lt p (length cs)) refl (sym h) in
     let z : length r.1 ≡ 0 = omega (arith, l, r.3, ap length r.2, length-append r.0 r.1) in
-    ap (is_closed e true) r.2 ∙ closed_past e r.0 r.1 r.4 ∙ ended e r.1 z
+    ap (is_closed e true) r.2 ∙ closed_past e r.0 r.1 r.4 ∙ open_at_end e r.1 z
 
 abbrev Parts : Option Inserts → List ℕ → List ℕ → ℕ → List ℕ → Type 0
 Parts e cs name b after =

@@ -367,20 +367,20 @@ tokens_or_fault s text ls f a b = end_or_fault s text a.1 b.3 b.1 (byte_length b
 -- ---- the same fault again
 
 -- a fault that was answered is kept
-kept : (s t : Reading) (f : ScriptFault) (a : Result (Option Token) ScriptFault) → s.fault ≡ Some f → IsNext s t a → (a ≡ Err f) × (t ≡ s)
-kept s t f a k h = subst (λ (o : Option ScriptFault). IsAnswer o s t a) k h
+fault_stays : (s t : Reading) (f : ScriptFault) (a : Result (Option Token) ScriptFault) → s.fault ≡ Some f → IsNext s t a → (a ≡ Err f) × (t ≡ s)
+fault_stays s t f a k h = subst (λ (o : Option ScriptFault). IsAnswer o s t a) k h
 
-faulted : (o : Option ScriptFault) (r s : Reading) (f : ScriptFault) → r.fault ≡ o → IsAnswer o r s (Err f) → (f ≡ fault.OutOfMemory) ⊎ (s.fault ≡ Some f)
-faulted None r s f is (_, _, inl o) = inl o.0
-faulted None r s f is (_, _, inr o) = inr o.1
-faulted (Some g) r s f is h = inr (ap (λ (u : Reading). u.fault) h.1 ∙ is ∙ (let e : f ≡ g = cc (h.0) in ap Some (sym e)))
+fault_known : (o : Option ScriptFault) (r s : Reading) (f : ScriptFault) → r.fault ≡ o → IsAnswer o r s (Err f) → (f ≡ fault.OutOfMemory) ⊎ (s.fault ≡ Some f)
+fault_known None r s f is (_, _, inl o) = inl o.0
+fault_known None r s f is (_, _, inr o) = inr o.1
+fault_known (Some g) r s f is h = inr (ap (λ (u : Reading). u.fault) h.1 ∙ is ∙ (let e : f ≡ g = cc (h.0) in ap Some (sym e)))
 
 pub same_again : (r s t : Reading) (f : ScriptFault) (a : Result (Option Token) ScriptFault) → IsNext r s (Err f) → IsNext s t a → (f ≡ fault.OutOfMemory) ⊎ ((a ≡ Err f) × (t ≡ s))
-same_again r s t f a h k = again (faulted r.fault r s f refl h)
+same_again r s t f a h k = again (fault_known r.fault r s f refl h)
   where
     again : (f ≡ fault.OutOfMemory) ⊎ (s.fault ≡ Some f) → (f ≡ fault.OutOfMemory) ⊎ ((a ≡ Err f) × (t ≡ s))
     again (inl o) = inl o
-    again (inr e) = inr (kept s t f a e k)
+    again (inr e) = inr (fault_stays s t f a e k)
 
 -- ---- one reading of a spelling
 

@@ -17,7 +17,7 @@ use Rattle.sbl_token.specs.SignCuts.{sign_of, sign_prefix, one, two}
 use Rattle.sbl_text.specs.Pieces.{Has, may_come, Setting, setting, Stands, IsPiece, NoPiece, BeginsComment, Gap, AreGaps, AfterGaps, is_gap}
 use Rattle.sbl_text.specs.Scan.{IsCutFrom, Piece_at, past_literal, past_block, start_of, FirstPiece, cut, cut_at, cut_as, sign_cut, slash_cut, pair_from, pair_cut, name_cut, cut_in}
 use Rattle.sbl_text.proofs.Written.{sign_is, sign_found_as}
-use Rattle.sbl_text.proofs.Cuts.{or_left, or_right, run, run_longest, sign_found, sign_longest, literal_parts, literal_ends, block_parts, block_ends, no_end, has_no_end, same_number}
+use Rattle.sbl_text.proofs.Cuts.{or_left, or_right, run_of, run_longest, sign_found, sign_longest, literal_parts, literal_ends, block_parts, block_ends, no_end, has_no_end, same_number}
 
 -- ---- first characters
 
@@ -165,7 +165,7 @@ block_stands e cs (Some rest) h =
 
 line_stands : (e : Option Inserts) (cs : List ℕ) → FoundCut e (47 ∷ 47 ∷ cs) (Some (shape.LineComment, past (λ d. not (d == 10)) cs))
 line_stands e cs =
-    let r = run (λ d. not (d == 10)) cs in
+    let r = run_of (λ d. not (d == 10)) cs in
     run_stands e shape.LineComment 47 (47 ∷ cs) (past (λ d. not (d == 10)) cs) (47 ∷ r.0) (ap (λ (t : List ℕ). 47 ∷ t) r.1) (r.0, refl, r.2) refl (λ i. cc)
 
 no_comment_at : (d : ℕ) (cs : List ℕ) → (d == 47) ≡ false → (d == 42) ≡ false → BeginsComment (47 ∷ d ∷ cs) → ⊥
@@ -192,17 +192,17 @@ other_free c cs h b = let s : c ≡ 47 = cc (b.2) in let t : (c == 47) ≡ true 
 found_by : (e : Option Inserts) (c : ℕ) (cs : List ℕ) (w l d q s : Bool) → is_white c ≡ w → is_letter c ≡ l → is_digit c ≡ d → (c == 39) ≡ q → (c == 47) ≡ s
     → FoundCut e (c ∷ cs) (cut_at e (if w then start.White else (if l then start.Letter else (if d then start.Digit else (if q then start.Quote else (if s then start.Slash else start.Other))))) c cs)
 found_by e c cs true l d q s hw hl hd hq hs = (c ∷ [], refl, ((c, refl, hw), refl, λ i b. cc))
-found_by e c cs false true d q s hw hl hd hq hs = let r = run is_word cs in run_stands e shape.Word c cs (past is_word cs) r.0 r.1 (c, r.0, refl, hl, r.2) refl (λ i. cc)
-found_by e c cs false false true q s hw hl hd hq hs = let r = run is_digit cs in run_stands e shape.Number c cs (past is_digit cs) r.0 r.1 (c, r.0, refl, hd, r.2) refl (λ i. cc)
+found_by e c cs false true d q s hw hl hd hq hs = let r = run_of is_word cs in run_stands e shape.Word c cs (past is_word cs) r.0 r.1 (c, r.0, refl, hl, r.2) refl (λ i. cc)
+found_by e c cs false false true q s hw hl hd hq hs = let r = run_of is_digit cs in run_stands e shape.Number c cs (past is_digit cs) r.0 r.1 (c, r.0, refl, hd, r.2) refl (λ i. cc)
 found_by e c cs false false false true s hw hl hd hq hs =
     subst (λ (n : ℕ). FoundCut e (n ∷ cs) (cut_as shape.Literal (past_literal e false cs))) (sym (same_number c 39 hq)) (literal_stands e cs (past_literal e false cs) refl)
 found_by e c cs false false false false true hw hl hd hq hs = subst (λ (n : ℕ). FoundCut e (n ∷ cs) (slash_cut (n ∷ cs) cs)) (sym (same_number c 47 hs)) (slash_stands e cs)
 found_by e c cs false false false false false hw hl hd hq hs = sign_cut_stands e (c ∷ cs) (other_free c cs hs)
 
-found : (e : Option Inserts) (text : List ℕ) → FoundCut e text (cut e text)
+found_cut : (e : Option Inserts) (text : List ℕ) → FoundCut e text (cut e text)
 unfolding cut
-found e [] = tt
-found e (c ∷ cs) = found_by e c cs (is_white c) (is_letter c) (is_digit c) (c == 39) (c == 47) refl refl refl refl refl
+found_cut e [] = tt
+found_cut e (c ∷ cs) = found_by e c cs (is_white c) (is_letter c) (is_digit c) (c == 39) (c == 47) refl refl refl refl refl
 
 -- ---- insert characters and names of macros
 
@@ -270,7 +270,7 @@ name_at : (e : Option Inserts) (c : ℕ) (cs : List ℕ) (b : Bool) → is_white
     → FoundIn (setting e wanted.MacroName) (c ∷ cs) (if b then Some (shape.Blank, cs) else Some (shape.MacroName, past (λ d. not (is_white d)) cs))
 name_at e c cs true h = (c ∷ [], refl, record { has = (c, refl, h); comes = refl; no_comment = λ j k. cc })
 name_at e c cs false h =
-    let r = run (λ d. not (is_white d)) cs in
+    let r = run_of (λ d. not (is_white d)) cs in
     (c ∷ r.0, ap (λ (t : List ℕ). c ∷ t) r.1, record { has = (c, r.0, refl, h, r.2); comes = refl; no_comment = λ j k. cc })
 
 found_name : (e : Option Inserts) (text : List ℕ) → FoundIn (setting e wanted.MacroName) text (name_cut text)
@@ -279,7 +279,7 @@ found_name e [] = tt
 found_name e (c ∷ cs) = name_at e c cs (is_white c) refl
 
 found_in : (e : Option Inserts) (w : Expectation) (text : List ℕ) → FoundIn (setting e w) text (cut_in e w text)
-found_in e wanted.Token text = found_token e text (cut e text) (found e text)
+found_in e wanted.Token text = found_token e text (cut e text) (found_cut e text)
 found_in e wanted.Inserts text = found_pair e text
 found_in e wanted.MacroName text = found_name e text
 
@@ -302,11 +302,11 @@ pub cut_is : (i : Option Inserts) (w : Expectation) (text : List ℕ) → IsCutF
 cut_is i w text = cut_is_at (setting i w) text (cut_in i w text) refl (found_in i w text)
 
 -- the same of what the code answers
-pub given : {B : Type 0} (i : Option Inserts) (w : Expectation) (text : List ℕ) (view : B → List ℕ) (IsLess : B → Type 0) (o : Option (Shape × B))
+pub piece_given : {B : Type 0} (i : Option Inserts) (w : Expectation) (text : List ℕ) (view : B → List ℕ) (IsLess : B → Type 0) (o : Option (Shape × B))
     → MatchOption o (cut_in i w text ≡ None) (λ p. (cut_in i w text ≡ Some (p.0, view p.1)) × IsLess p.1)
     → MatchOption o (NoPiece (setting i w) text) (λ p. (x : List ℕ) × (text ≡ x ++ view p.1) × IsPiece (setting i w) p.0 x (view p.1))
-given i w text view IsLess None h = subst (IsCutFrom (setting i w) text) h (cut_is i w text)
-given i w text view IsLess (Some p) h = subst (IsCutFrom (setting i w) text) h.0 (cut_is i w text)
+piece_given i w text view IsLess None h = subst (IsCutFrom (setting i w) text) h (cut_is i w text)
+piece_given i w text view IsLess (Some p) h = subst (IsCutFrom (setting i w) text) h.0 (cut_is i w text)
 
 -- ---- gaps
 
@@ -321,5 +321,5 @@ gaps_more e text rest following x (q ∷ gs) k a is p g = (a.0, a.1, a.2, a.3, g
 pub gap_more : (e : Setting) (text rest following : List ℕ) (k : Shape) → AfterGaps e text rest → Piece_at e k rest following → is_gap k ≡ true → AfterGaps e text following
 gap_more e text rest following k a p g = (a.0 ++ record { shape = k; text = p.0 } ∷ [], gaps_more e text rest following p.0 a.0 k a.1 p.1 p.2 g)
 
-pub passed : (r s : Bool) → r ≡ s → r ≡ true → s ≡ true
-passed r s h i = sym h ∙ i
+pub true_of_same : (r s : Bool) → r ≡ s → r ≡ true → s ≡ true
+true_of_same r s h i = sym h ∙ i

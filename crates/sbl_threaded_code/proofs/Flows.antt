@@ -21,7 +21,7 @@ use Rattle.sbl_threaded_code.specs.declared.instruction.Instruction.{Instruction
 use Rattle.sbl_threaded_code.specs.declared.instruction.Instruction.TheVariants.{Nested, Repeat, Loop, AtLeast, Seek, SetLimit, Search, Choose}
 use Rattle.sbl_threaded_code.specs.declared.instruction.Instruction.TheFolds.{fold_out-Group}
 use Rattle.sbl_threaded_code.specs.declared.instruction.Instruction.TheViews.{the_lemmas}
-use Rattle.sbl_threaded_code.specs.Flow.{Flow, flow, group_flow, alone, chosen, turns_of, loop_of, at_least_of, seek_of, limited_of}
+use Rattle.sbl_threaded_code.specs.Flow.{Flow, flow, group_flow, alone, chosen_flow, turns_of, loop_of, at_least_of, seek_of, limited_of}
 use Rattle.sbl_threaded_code.proofs.Instructions.{flow_nested, flow_repeat, flow_loop, flow_at_least, flow_seek, flow_set_limit, flow_search, flow_choose}
 
 abbrev I : Type 0
@@ -36,20 +36,20 @@ paid_of (Signals true v) pay_own u d f g h = ap (λ r. after (then_on r d) f g) 
 paid_of (Signals false v) pay_own u d f g h = let no : ⊥ = cc in absurd no
 paid_of (Stops fault v) pay_own u d f g h = let no : ⊥ = cc in absurd no
 
-paid : (cost : ℕ) (s u : State) (d f g : State → Ending) → IsPaid cost s u → then_on (pays cost s) (λ v. after (then_on (pay v.steps v) d) f g) ≡ after (d u) f g
-paid cost s u d f g h = paid_of (pays cost s) (λ v. pay v.steps v) u d f g h
+after_paid : (cost : ℕ) (s u : State) (d f g : State → Ending) → IsPaid cost s u → then_on (pays cost s) (λ v. after (then_on (pay v.steps v) d) f g) ≡ after (d u) f g
+after_paid cost s u d f g h = paid_of (pays cost s) (λ v. pay v.steps v) u d f g h
 
 -- a command that ends early
 pub ends_early : (r : Result Bool Halt) (halt : Halt) (new : State) (w e : Ending) (f g : State → Ending) → r ≡ Err halt → w ≡ after e f g → Follows (Err halt) new e → Follows r new w
 ends_early r halt new w e f g is p h = rw is (follows_at (Err halt) new w (after e f g) p (after_halts halt new e f g h))
 
 -- the group's command, if there is one
-picked_at : (f : Group → Flow) (xs : List Group) (g : ℕ) (x : Group) (next fail : Flow) → g < length xs → x ≡ get_or xs g x → chosen (Some g) (map f xs) next fail ≡ f x
+picked_at : (f : Group → Flow) (xs : List Group) (g : ℕ) (x : Group) (next fail : Flow) → g < length xs → x ≡ get_or xs g x → chosen_flow (Some g) (map f xs) next fail ≡ f x
 picked_at f [] g x next fail l e = absurd (omega arith)
 picked_at f (y ∷ ys) zero x next fail l e = ap f (sym e)
 picked_at f (y ∷ ys) (suc g) x next fail l e = picked_at f ys g x next fail (omega arith) e
 
-picked_past : (f : Group → Flow) (xs : List Group) (g : ℕ) (next fail : Flow) → length xs ≤ g → chosen (Some g) (map f xs) next fail ≡ next
+picked_past : (f : Group → Flow) (xs : List Group) (g : ℕ) (next fail : Flow) → length xs ≤ g → chosen_flow (Some g) (map f xs) next fail ≡ next
 picked_past f [] g next fail l = refl
 picked_past f (y ∷ ys) zero next fail l = absurd (omega arith)
 picked_past f (y ∷ ys) (suc g) next fail l = picked_past f ys g next fail (omega arith)
@@ -69,21 +69,21 @@ module _ (p : programs.Program) (levels : ℕ) (tables : ℕ → Listing) (m : M
   nested_paid cost body next fail x u is h hx =
       ap (λ (i : Instruction). F i m slots s) is
       ∙ flow_nested p levels tables m slots s cost body next fail
-      ∙ paid cost s u (alone (F body.value) m) (F next.value m slots) (F fail.value m slots) h
+      ∙ after_paid cost s u (alone (F body.value) m) (F next.value m slots) (F fail.value m slots) h
       ∙ ap (λ (z : Instruction). after (alone (F z) m u) (F next.value m slots) (F fail.value m slots)) (sym hx)
 
   pub repeat_paid : (cost : ℕ) (body next : I) (x : Instruction) (u : State) → at ≡ Repeat cost body next → IsPaid cost s u → x ≡ body.value → F at m slots s ≡ after (turns_of (alone (F x)) m u) (F next.value m slots) (Signals false)
   repeat_paid cost body next x u is h hx =
       ap (λ (i : Instruction). F i m slots s) is
       ∙ flow_repeat p levels tables m slots s cost body next
-      ∙ paid cost s u (turns_of (alone (F body.value)) m) (F next.value m slots) (Signals false) h
+      ∙ after_paid cost s u (turns_of (alone (F body.value)) m) (F next.value m slots) (Signals false) h
       ∙ ap (λ (z : Instruction). after (turns_of (alone (F z)) m u) (F next.value m slots) (Signals false)) (sym hx)
 
   pub loop_paid : (cost : ℕ) (count : Box Arithmetic Global) (body next fail : I) (k : Arithmetic) (x : Instruction) (u : State) → at ≡ Loop cost count body next fail → IsPaid cost s u → k ≡ count.value → x ≡ body.value → F at m slots s ≡ after (loop_of (view_number k) (alone (F x)) m u) (F next.value m slots) (F fail.value m slots)
   loop_paid cost count body next fail k x u is h hk hx =
       ap (λ (i : Instruction). F i m slots s) is
       ∙ flow_loop p levels tables m slots s cost count body next fail
-      ∙ paid cost s u (loop_of (view_number count.value) (alone (F body.value)) m) (F next.value m slots) (F fail.value m slots) h
+      ∙ after_paid cost s u (loop_of (view_number count.value) (alone (F body.value)) m) (F next.value m slots) (F fail.value m slots) h
       ∙ ap (λ (z : Instruction). after (loop_of (view_number count.value) (alone (F z)) m u) (F next.value m slots) (F fail.value m slots)) (sym hx)
       ∙ ap (λ (z : Arithmetic). after (loop_of (view_number z) (alone (F x)) m u) (F next.value m slots) (F fail.value m slots)) (sym hk)
 
@@ -91,7 +91,7 @@ module _ (p : programs.Program) (levels : ℕ) (tables : ℕ → Listing) (m : M
   at_least_paid cost count body next fail k x u is h hk hx =
       ap (λ (i : Instruction). F i m slots s) is
       ∙ flow_at_least p levels tables m slots s cost count body next fail
-      ∙ paid cost s u (at_least_of (view_number count.value) (alone (F body.value)) m) (F next.value m slots) (F fail.value m slots) h
+      ∙ after_paid cost s u (at_least_of (view_number count.value) (alone (F body.value)) m) (F next.value m slots) (F fail.value m slots) h
       ∙ ap (λ (z : Instruction). after (at_least_of (view_number count.value) (alone (F z)) m u) (F next.value m slots) (F fail.value m slots)) (sym hx)
       ∙ ap (λ (z : Arithmetic). after (at_least_of (view_number z) (alone (F x)) m u) (F next.value m slots) (F fail.value m slots)) (sym hk)
 
@@ -99,14 +99,14 @@ module _ (p : programs.Program) (levels : ℕ) (tables : ℕ → Listing) (m : M
   seek_paid cost past body next fail x u is h hx =
       ap (λ (i : Instruction). F i m slots s) is
       ∙ flow_seek p levels tables m slots s cost past body next fail
-      ∙ paid cost s u (seek_of past (alone (F body.value)) m) (F next.value m slots) (F fail.value m slots) h
+      ∙ after_paid cost s u (seek_of past (alone (F body.value)) m) (F next.value m slots) (F fail.value m slots) h
       ∙ ap (λ (z : Instruction). after (seek_of past (alone (F z)) m u) (F next.value m slots) (F fail.value m slots)) (sym hx)
 
   pub set_limit_paid : (cost : ℕ) (first second next fail : I) (x : Instruction) (y : Instruction) (u : State) → at ≡ SetLimit cost first second next fail → IsPaid cost s u → x ≡ first.value → y ≡ second.value → F at m slots s ≡ after (limited_of (alone (F x)) (alone (F y)) m u) (F next.value m slots) (F fail.value m slots)
   set_limit_paid cost first second next fail x y u is h hx hy =
       ap (λ (i : Instruction). F i m slots s) is
       ∙ flow_set_limit p levels tables m slots s cost first second next fail
-      ∙ paid cost s u (limited_of (alone (F first.value)) (alone (F second.value)) m) (F next.value m slots) (F fail.value m slots) h
+      ∙ after_paid cost s u (limited_of (alone (F first.value)) (alone (F second.value)) m) (F next.value m slots) (F fail.value m slots) h
       ∙ ap (λ (z : Instruction). after (limited_of (alone (F z)) (alone (F second.value)) m u) (F next.value m slots) (F fail.value m slots)) (sym hx)
       ∙ ap (λ (z : Instruction). after (limited_of (alone (F x)) (alone (F z)) m u) (F next.value m slots) (F fail.value m slots)) (sym hy)
 
@@ -114,12 +114,12 @@ module _ (p : programs.Program) (levels : ℕ) (tables : ℕ → Listing) (m : M
   search_paid cost among site next fail x u is h hx =
       ap (λ (i : Instruction). F i m slots s) is
       ∙ flow_search p levels tables m slots s cost among site next fail
-      ∙ paid cost s u (search_all (calls p levels) among site.value.entries.items (tables site.value.table) m) (F next.value m slots) (F fail.value m slots) h
+      ∙ after_paid cost s u (search_all (calls p levels) among site.value.entries.items (tables site.value.table) m) (F next.value m slots) (F fail.value m slots) h
       ∙ ap (λ (z : Site). after (search_all (calls p levels) among z.entries.items (tables z.table) m u) (F next.value m slots) (F fail.value m slots)) (sym hx)
 
-  choose_paid : (cost among : ℕ) (bodies : Box (Vec Group Global) Global) (next fail : I) (u : State) (g : ℕ) → at ≡ Choose cost among bodies next fail → pays cost s ≡ Signals true u → choice among u ≡ Some g → F at m slots s ≡ chosen (Some g) (map (group_flow p levels tables) bodies.value.items) (F next.value) (F fail.value) m slots u
+  choose_paid : (cost among : ℕ) (bodies : Box (Vec Group Global) Global) (next fail : I) (u : State) (g : ℕ) → at ≡ Choose cost among bodies next fail → pays cost s ≡ Signals true u → choice among u ≡ Some g → F at m slots s ≡ chosen_flow (Some g) (map (group_flow p levels tables) bodies.value.items) (F next.value) (F fail.value) m slots u
   choose_paid cost among bodies next fail u g is h k =
-      let pick = λ (o : Option ℕ) (v : State). chosen o (map (group_flow p levels tables) bodies.value.items) (F next.value) (F fail.value) m slots v in
+      let pick = λ (o : Option ℕ) (v : State). chosen_flow o (map (group_flow p levels tables) bodies.value.items) (F next.value) (F fail.value) m slots v in
       ap (λ (i : Instruction). F i m slots s) is
       ∙ flow_choose p levels tables m slots s cost among bodies next fail
       ∙ ap (λ r. then_on r (λ v. pick (choice among v) v)) h
@@ -129,12 +129,12 @@ module _ (p : programs.Program) (levels : ℕ) (tables : ℕ → Listing) (m : M
   pub chosen_at : (cost among : ℕ) (bodies : Box (Vec Group Global) Global) (next fail : I) (u : State) (g : ℕ) (ds : List Group) (x : Group) → at ≡ Choose cost among bodies next fail → pays cost s ≡ Signals true u → choice among u ≡ Some g → ds ≡ bodies.value.items → g < length ds → x ≡ get_or ds g x → F at m slots s ≡ group_flow p levels tables x m slots u
   chosen_at cost among bodies next fail u g ds x is h k same l e =
       choose_paid cost among bodies next fail u g is h k
-      ∙ ap (λ xs. chosen (Some g) (map (group_flow p levels tables) xs) (F next.value) (F fail.value) m slots u) (sym same)
+      ∙ ap (λ xs. chosen_flow (Some g) (map (group_flow p levels tables) xs) (F next.value) (F fail.value) m slots u) (sym same)
       ∙ ap (λ (f : Flow). f m slots u) (picked_at (group_flow p levels tables) ds g x (F next.value) (F fail.value) l e)
 
   -- it has none
   pub chosen_past : (cost among : ℕ) (bodies : Box (Vec Group Global) Global) (next fail : I) (u : State) (g : ℕ) (ds : List Group) → at ≡ Choose cost among bodies next fail → pays cost s ≡ Signals true u → choice among u ≡ Some g → ds ≡ bodies.value.items → length ds ≤ g → F at m slots s ≡ F next.value m slots u
   chosen_past cost among bodies next fail u g ds is h k same l =
       choose_paid cost among bodies next fail u g is h k
-      ∙ ap (λ xs. chosen (Some g) (map (group_flow p levels tables) xs) (F next.value) (F fail.value) m slots u) (sym same)
+      ∙ ap (λ xs. chosen_flow (Some g) (map (group_flow p levels tables) xs) (F next.value) (F fail.value) m slots u) (sym same)
       ∙ ap (λ (f : Flow). f m slots u) (picked_past (group_flow p levels tables) ds g (F next.value) (F fail.value) l)

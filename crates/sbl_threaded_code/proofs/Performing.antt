@@ -22,7 +22,7 @@ use Rattle.sbl_threaded_code.specs.declared.instruction.Group.{Group, out-Group}
 use Rattle.sbl_threaded_code.specs.declared.assembler.Exits.{Exits}
 use Rattle.sbl_threaded_code.specs.declared.assembler.Place.{Place}
 use Rattle.sbl_threaded_code.specs.Slots.{no_cursor, no_cursors}
-use Rattle.sbl_threaded_code.specs.Flow.{Flow, flow, group_flow, alone, chosen, fail_of, turns_of, wrapped_of}
+use Rattle.sbl_threaded_code.specs.Flow.{Flow, flow, group_flow, alone, chosen_flow, fail_of, turns_of, wrapped_of}
 use Rattle.sbl_threaded_code.specs.Performs.{Agree, GoesOn, Leaves, Meaning, Performs, PerformsAt, Ends, Restores, Saves, Runs, IsPlaced, IsPlace, ArePerformed}
 use Rattle.sbl_threaded_code.proofs.Endings.{after_after, after_same, as_it_is, Passes, passes_then, pay_passes, pays_pass, back_passes, own_step, steps_more}
 
@@ -63,12 +63,12 @@ after_steps cost s d a b go stop p q =
     ∙ sym (after_after (pays cost s) d (Signals false) go stop)
 
 -- an instruction that acts and goes on
-pub emitted :
+pub performs_act :
     (tables : ℕ → Listing) (d : Meaning) (cost : ℕ) (next fail entry : Instruction) →
     ((p : programs.Program) (levels : ℕ) (m : Mode) (ys : List SavedCursor) (s : State) →
     flow p levels tables entry m ys s ≡ then_on (pays cost s) (λ u. after (d p levels m u) (flow p levels tables next m ys) (flow p levels tables fail m ys))) →
     (n : ℕ) → Performs tables d cost n next fail entry
-emitted tables d cost next fail entry is n p levels m slots go stop l g h ys a s =
+performs_act tables d cost next fail entry is n p levels m slots go stop l g h ys a s =
     is p levels m ys s ∙ after_steps cost s (d p levels m) (flow p levels tables next m ys) (flow p levels tables fail m ys) go stop (g ys a) (h ys a)
 
 -- the same, for links to equal instructions
@@ -78,18 +78,18 @@ pub emitted_at :
     flow p levels tables entry m ys s ≡ then_on (pays cost s) (λ u. after (d p levels m u) (flow p levels tables a m ys) (flow p levels tables b m ys))) →
     (n : ℕ) → Performs tables d cost n next fail entry
 emitted_at tables d cost a b next fail entry x y is =
-    emitted tables d cost next fail entry
+    performs_act tables d cost next fail entry
     (λ p levels m ys s.
     is p levels m ys s
     ∙ ap (λ i. then_on (pays cost s) (λ u. after (d p levels m u) (flow p levels tables i m ys) (flow p levels tables b m ys))) x
     ∙ ap (λ i. then_on (pays cost s) (λ u. after (d p levels m u) (flow p levels tables next m ys) (flow p levels tables i m ys))) y)
 
 -- an instruction that only goes on
-pub skipped :
+pub performs_skip :
     (tables : ℕ → Listing) (cost : ℕ) (next fail entry : Instruction) →
     ((p : programs.Program) (levels : ℕ) (m : Mode) (ys : List SavedCursor) (s : State) → flow p levels tables entry m ys s ≡ then_on (pays cost s) (flow p levels tables next m ys)) →
     (n : ℕ) → Performs tables (λ p levels m s. Signals true s) cost n next fail entry
-skipped tables cost next fail entry is n = emitted tables (λ p levels m s. Signals true s) cost next fail entry is n
+performs_skip tables cost next fail entry is n = performs_act tables (λ p levels m s. Signals true s) cost next fail entry is n
 
 -- the same instruction, for a meaning that is equal
 pub same_meaning :
@@ -289,22 +289,22 @@ module _ (tables : ℕ → Listing) (p : programs.Program) (levels n : ℕ) (exi
       length slots ≡ 4 → GoesOn (flow p levels tables exits.next.value) m n slots go → GoesOn (flow p levels tables exits.fail.value) m n slots stop →
       (nodes : List Node) (groups : List Group) (o : Option ℕ) → ArePerformed tables nodes n exits groups →
       (ys : List SavedCursor) → Agree n slots ys → (u : State) →
-      chosen o (map (group_flow p levels tables) groups) (flow p levels tables exits.next.value) (flow p levels tables exits.fail.value) m ys u ≡ after (group_runs p levels (view_nodes tables nodes) o m u) go stop
+      chosen_flow o (map (group_flow p levels tables) groups) (flow p levels tables exits.next.value) (flow p levels tables exits.fail.value) m ys u ≡ after (group_runs p levels (view_nodes tables nodes) o m u) go stop
   chosen_group l h k nodes groups None are ys a u = k ys a u
   chosen_group l h k nodes groups (Some g) are ys a u = nth_group l h k nodes groups g are ys a u
 
 pub choosing :
     (tables : ℕ → Listing) (cost among n : ℕ) (exits : Exits) (nodes : List Node) (groups : List Group) (a b made : Instruction) → a ≡ exits.next.value → b ≡ exits.fail.value →
     ((p : programs.Program) (levels : ℕ) (m : Mode) (ys : List SavedCursor) (s : State) →
-    flow p levels tables made m ys s ≡ then_on (pays cost s) (λ u. chosen (choice among u) (map (group_flow p levels tables) groups) (flow p levels tables a) (flow p levels tables b) m ys u)) →
+    flow p levels tables made m ys s ≡ then_on (pays cost s) (λ u. chosen_flow (choice among u) (map (group_flow p levels tables) groups) (flow p levels tables a) (flow p levels tables b) m ys u)) →
     ArePerformed tables nodes n exits groups →
     Performs tables (λ p levels m t. group_runs p levels (view_nodes tables nodes) (choice among t) m t) cost n exits.next.value exits.fail.value made
 choosing tables cost among n exits nodes groups a b made x y is are p levels m slots go stop l h k ys w s =
     let gs = map (group_flow p levels tables) groups in
     let d = λ (u : State). group_runs p levels (view_nodes tables nodes) (choice among u) m u in
     is p levels m ys s
-    ∙ ap (λ i. then_on (pays cost s) (λ u. chosen (choice among u) gs (flow p levels tables i) (flow p levels tables b) m ys u)) x
-    ∙ ap (λ i. then_on (pays cost s) (λ u. chosen (choice among u) gs (flow p levels tables exits.next.value) (flow p levels tables i) m ys u)) y
-    ∙ after_same (pays cost s) (λ u. chosen (choice among u) gs (flow p levels tables exits.next.value) (flow p levels tables exits.fail.value) m ys u) (Signals false) (λ u. after (d u) go stop) (Signals false)
+    ∙ ap (λ i. then_on (pays cost s) (λ u. chosen_flow (choice among u) gs (flow p levels tables i) (flow p levels tables b) m ys u)) x
+    ∙ ap (λ i. then_on (pays cost s) (λ u. chosen_flow (choice among u) gs (flow p levels tables exits.next.value) (flow p levels tables i) m ys u)) y
+    ∙ after_same (pays cost s) (λ u. chosen_flow (choice among u) gs (flow p levels tables exits.next.value) (flow p levels tables exits.fail.value) m ys u) (Signals false) (λ u. after (d u) go stop) (Signals false)
     (λ u. chosen_group tables p levels n exits m slots go stop l h k nodes groups (choice among u) are ys w u) (λ u. refl)
     ∙ after_steps cost s d go stop go stop (λ t. refl) (λ t. refl)

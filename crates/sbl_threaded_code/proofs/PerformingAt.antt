@@ -95,10 +95,10 @@ anywhere tables d cost n k next fail entry is h' p levels m slots go stop l g w 
     let h = subst (λ j. Performs tables d cost j next fail entry) one h' in
     h p levels m slots go stop l g w ys a s
 
-pub tested :
+pub performs_test :
     (tables : ℕ → Listing) (d : Meaning) (cost n : ℕ) (next fail stay entry : Instruction) → Restores n stay fail → Tests tables d cost next stay entry →
     PerformsAt tables d cost n next fail entry
-tested tables d cost n next fail stay entry r is p levels m slots go stop l g k ys a s at =
+performs_test tables d cost n next fail stay entry r is p levels m slots go stop l g k ys a s at =
     let to = flow p levels tables next m ys in
     let out = flow p levels tables fail m ys in
     let home = λ (u f : State). then_on (put_back m (saved_cursor u) f) (flow p levels tables stay m ys) in

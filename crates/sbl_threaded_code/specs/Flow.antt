@@ -92,10 +92,10 @@ abbrev pub limited_of : Doing → Doing → Doing
 limited_of c d m s =
     after (c m s) (λ t. then_on (put_back m (saved_cursor s) (limit_here m t)) (λ u. restore_limit m (limits s) (d m u))) (Signals false)
 
--- the instruction of the chosen group: `fail` if none is chosen, `next` if the group has no command
-abbrev pub chosen : Option ℕ → List Flow → Flow → Flow → Flow
-chosen None bodies next fail = fail
-chosen (Some g) bodies next fail = option_map_or (λ f. f) (slice_get bodies g) next
+-- what a run does from the instruction of the chosen group on: `fail` if none is chosen, `next` if the group has no command
+abbrev pub chosen_flow : Option ℕ → List Flow → Flow → Flow → Flow
+chosen_flow None bodies next fail = fail
+chosen_flow (Some g) bodies next fail = option_map_or (λ f. f) (slice_get bodies g) next
 
 -- whether the cursor is put back to where it was at `from`
 abbrev pub back_if : Bool → Mode → State → (State → Ending) → State → Ending
@@ -144,7 +144,7 @@ flow_step p levels tables (code.Call cost routine next fail) m slots s =
 flow_step p levels tables (code.Search cost among site next fail) m slots s =
     then_on (pays cost s) (λ u. after (pay_first (search_all (calls p levels) among site.value.entries.items (tables site.value.table)) m u) (next.value m slots) (fail.value m slots))
 flow_step p levels tables (code.Choose cost among bodies next fail) m slots s =
-    then_on (pays cost s) (λ u. chosen (choice among u) bodies.value.items next.value fail.value m slots u)
+    then_on (pays cost s) (λ u. chosen_flow (choice among u) bodies.value.items next.value fail.value m slots u)
 
 abbrev pub group_step : Group-F Flow Flow → Flow
 group_step g = g.first.value

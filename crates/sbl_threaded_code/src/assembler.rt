@@ -14,7 +14,7 @@ ghost use Rattle.sbl_threaded_code.specs.CodeOf.{IsCodeOf, AreCodeOf};
 // Makes an instruction that goes on with the exits of a command.
 macro_rules! emit {
     ($assembler:ident, $exits:ident, $kind:ident { $($field:ident),* }) => {{
-        let Exits { next, fail } = $exits.again()?;
+        let Exits { next, fail } = $exits.copy()?;
         $assembler.emit(Instruction::$kind {
             $($field,)*
             next,
@@ -91,7 +91,7 @@ fn steps_of(count: usize) -> Result<u32, AllocError>
 
 impl Exits {
     // Returns the same exits.
-    fn again(&self) -> Result<Exits, AllocError>
+    fn copy(&self) -> Result<Exits, AllocError>
         ensures { IfOk result (λ copy. (copy.next.value ≡ self.now.next.value) × (copy.fail.value ≡ self.now.fail.value)) }
     {
         Ok(Exits {
@@ -162,16 +162,16 @@ impl Assembler {
                 let place = self.place(cost, own, slot, exits)?;
                 let rest = self.rest(others, place.slot, &place.exits)?;
                 let entry = self.inner(first, place.slot, &rest)?;
-                self.saved(&place, entry, cost, exits)
+                self.save_before(&place, entry, cost, exits)
             }
-            Node::Not(inner) => self.wrapped(inner, Way::Fail, Way::Back, cost, slot, exits),
-            Node::Test(inner) => self.wrapped(inner, Way::Back, Way::Fail, cost, slot, exits),
-            Node::Try(inner) => self.wrapped(inner, Way::Next, Way::Back, cost, slot, exits),
-            Node::Do(inner) => self.wrapped(inner, Way::Back, Way::Back, cost, slot, exits),
+            Node::Not(inner) => self.wrap(inner, Way::Fail, Way::Back, cost, slot, exits),
+            Node::Test(inner) => self.wrap(inner, Way::Back, Way::Fail, cost, slot, exits),
+            Node::Try(inner) => self.wrap(inner, Way::Next, Way::Back, cost, slot, exits),
+            Node::Do(inner) => self.wrap(inner, Way::Back, Way::Back, cost, slot, exits),
             Node::Fail(inner) => self.fail(inner, cost, slot, exits),
             Node::Repeat(inner) => self.repeat(inner, cost, exits),
-            Node::Loop(count, inner) => self.counted(inner, count, false, cost, exits),
-            Node::AtLeast(count, inner) => self.counted(inner, count, true, cost, exits),
+            Node::Loop(count, inner) => self.iterate(inner, count, false, cost, exits),
+            Node::AtLeast(count, inner) => self.iterate(inner, count, true, cost, exits),
             Node::Goto(inner) => self.seek(false, inner, cost, exits),
             Node::GoPast(inner) => self.seek(true, inner, cost, exits),
             Node::Backwards(inner) => self.backwards(cost, exits, inner),
@@ -236,7 +236,7 @@ impl Assembler {
         ensures fail { IfOk result (λ tail. tail.fail.value ≡ exits.now.fail.value) }
         ensures next { IfOk result (λ tail. (tables : ℕ → Listing) → PerformsWithExits tables (λ p levels. all_run p levels (view_nodes tables (drop count commands.now))) 0 slot exits.now tail.next.value) }
     {
-        let mut now = exits.again()?;
+        let mut now = exits.copy()?;
         let mut i = commands.len();
         while count < i {
             i -= 1;

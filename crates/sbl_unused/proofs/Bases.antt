@@ -91,9 +91,9 @@ built_any (m ∷ ns) a ts = built_more m ns a ts ∙ ap (λ (b : Bool). built_on
 
 -- ---- what is reached from touched items by a walk from the last definition to the first
 
-abbrev pub reached : List Item' → List ItemInMode → Item' → Bool
-reached us [] x = list_any (same_item x) us
-reached us (p ∷ ps) x = and_terms p.plain (reached us ps) x
+abbrev pub is_reached : List Item' → List ItemInMode → Item' → Bool
+is_reached us [] x = list_any (same_item x) us
+is_reached us (p ∷ ps) x = and_terms p.plain (is_reached us ps) x
 
 pub same_terms : (p : Plain) (f g : Item' → Bool) → ((y : Item') → f y ≡ g y) → (x : Item') → and_terms p f x ≡ and_terms p g x
 same_terms (grouping r a ts) f g e x = ap₂ (λ (b c : Bool). (b && built_on (λ k. same_item x (Grouping k)) a ts) || c) (e (Grouping r)) (e x)
@@ -113,9 +113,9 @@ module _ (us : List Item') where
   routine_at (macro m b q) f n = refl
   routine_at (routine m c os) f n = refl
 
-  routine_is : (ps : List ItemInMode) (n : List ℕ) → reached us ps (Routine n) ≡ list_any (same_item (Routine n)) us
+  routine_is : (ps : List ItemInMode) (n : List ℕ) → is_reached us ps (Routine n) ≡ list_any (same_item (Routine n)) us
   routine_is [] n = refl
-  routine_is (p ∷ ps) n = routine_at p.plain (reached us ps) n ∙ routine_is ps n
+  routine_is (p ∷ ps) n = routine_at p.plain (is_reached us ps) n ∙ routine_is ps n
 
   among_at : (p : Plain) (f : Item' → Bool) (n : List ℕ) (k : ℕ) → and_terms p f (Among n k) ≡ f (Among n k)
   among_at (grouping r a ts) f n k = nothing f r a ts (f (Among n k))
@@ -124,25 +124,25 @@ module _ (us : List Item') where
   among_at (macro m b q) f n k = refl
   among_at (routine m c os) f n k = refl
 
-  among_is : (ps : List ItemInMode) (n : List ℕ) (k : ℕ) → reached us ps (Among n k) ≡ list_any (same_item (Among n k)) us
+  among_is : (ps : List ItemInMode) (n : List ℕ) (k : ℕ) → is_reached us ps (Among n k) ≡ list_any (same_item (Among n k)) us
   among_is [] n k = refl
-  among_is (p ∷ ps) n k = among_at p.plain (reached us ps) n k ∙ among_is ps n k
+  among_is (p ∷ ps) n k = among_at p.plain (is_reached us ps) n k ∙ among_is ps n k
 
   abbrev touched : List ℕ → Bool
   touched m = list_any (same_item (Grouping m)) us
 
   -- the names that are built from some, and the names that are reached
-  built_is : (ps : List ItemInMode) (ns : List (List ℕ)) → list_any touched (built_after ps ns) ≡ list_any (λ m. reached us ps (Grouping m)) ns
+  built_is : (ps : List ItemInMode) (ns : List (List ℕ)) → list_any touched (built_after ps ns) ≡ list_any (λ m. is_reached us ps (Grouping m)) ns
   built_is [] ns = refl
   built_is (p ∷ ps) ns = at p.plain (built_is ps)
     where
-      at : (x : Plain) → ((ms : List (List ℕ)) → list_any touched (built_after ps ms) ≡ list_any (λ m. reached us ps (Grouping m)) ms) →
-          list_any touched (built_after ps (and_built x ns)) ≡ list_any (λ m. and_terms x (reached us ps) (Grouping m)) ns
+      at : (x : Plain) → ((ms : List (List ℕ)) → list_any touched (built_after ps ms) ≡ list_any (λ m. is_reached us ps (Grouping m)) ms) →
+          list_any touched (built_after ps (and_built x ns)) ≡ list_any (λ m. and_terms x (is_reached us ps) (Grouping m)) ns
       at (grouping r a ts) rest =
           rest (if built_on (is_among ns) a ts then ns ++ r ∷ [] else ns)
-          ∙ any_if (λ m. reached us ps (Grouping m)) ns r (built_on (is_among ns) a ts)
-          ∙ ap (λ (b : Bool). (reached us ps (Grouping r) && b) || list_any (λ m. reached us ps (Grouping m)) ns) (built_any ns a ts)
-          ∙ sym (any_and (reached us ps (Grouping r)) (λ m. built_on (bytes_eq m) a ts) (λ m. reached us ps (Grouping m)) ns)
+          ∙ any_if (λ m. is_reached us ps (Grouping m)) ns r (built_on (is_among ns) a ts)
+          ∙ ap (λ (b : Bool). (is_reached us ps (Grouping r) && b) || list_any (λ m. is_reached us ps (Grouping m)) ns) (built_any ns a ts)
+          ∙ sym (any_and (is_reached us ps (Grouping r)) (λ m. built_on (bytes_eq m) a ts) (λ m. is_reached us ps (Grouping m)) ns)
       at (declaration k xs) rest = rest ns
       at (escapes a b) rest = rest ns
       at (macro n b q) rest = rest ns
@@ -167,10 +167,10 @@ or_false : (b : Bool) → (b || false) ≡ b
 or_false true = refl
 or_false false = refl
 
-pub reached_is : (us : List Item') (s : Source) (x : Item') → reached us (in_order s.items) x ≡ list_any (is_affected_by s x) us
+pub reached_is : (us : List Item') (s : Source) (x : Item') → is_reached us (in_order s.items) x ≡ list_any (is_affected_by s x) us
 reached_is us s (Routine n) = routine_is us (in_order s.items) n
 reached_is us s (Among n k) = among_is us (in_order s.items) n k
 reached_is us s (Grouping m) =
-    sym (or_false (reached us (in_order s.items) (Grouping m)))
+    sym (or_false (is_reached us (in_order s.items) (Grouping m)))
     ∙ sym (built_is us (in_order s.items) (m ∷ []))
     ∙ sym (affects_is s m us)

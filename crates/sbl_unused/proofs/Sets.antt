@@ -11,7 +11,7 @@ use Rattle.std.proofs.lemmas.Map.Lookups.{exact_bytes}
 use Rattle.std.specs.Cmp.{unsigned_tied}
 use Rattle.std.proofs.lemmas.Map.Text.{is_eq-slice_cmp}
 use Rattle.sbl_bench.proofs.PairFacts.{then_eq}
-use Rattle.sbl_machine.proofs.Order.{inserted}
+use Rattle.sbl_machine.proofs.Order.{map_insert_key}
 use Rattle.sbl_machine.proofs.TouchedOrder.{item_exact}
 use Rattle.sbl_semantics.specs.TouchedItems.{Item', Routine, Among, Grouping, item_cmp, item_of, same_item}
 use Rattle.sbl_semantics.specs.contracts.item.ItemOrd.TheImpl.{cmp-value}
@@ -42,7 +42,7 @@ any_inserted test (x ∷ xs) k = by (item_cmp k x) refl (any_inserted test xs k)
     by Greater h rest = rw h (ap (λ (b : Bool). test x || b) rest ∙ or_swap (test x) (test k) (list_any test xs))
 
 pub item_added : (ks : List Item) (k : Item) (test : Item' → Bool) → list_any test (map item_of (insert_key cmp-value.it ks k)) ≡ (test (item_of k) || list_any test (map item_of ks))
-item_added ks k test = ap (list_any test) (inserted ks k) ∙ any_inserted test (map item_of ks) (item_of k)
+item_added ks k test = ap (list_any test) (map_insert_key ks k) ∙ any_inserted test (map item_of ks) (item_of k)
 
 pub same_order : (x y : Item) → cmp-value.it x y ≡ item_cmp (item_of x) (item_of y)
 same_order (code.Routine m) (code.Routine n) = refl
@@ -56,19 +56,19 @@ same_order (code.Grouping m) (code.Among n l) = refl
 same_order (code.Grouping m) (code.Grouping n) = refl
 
 -- the order finds two items equal exactly if they are the same
-tied : (x y : Item') → is_eq (item_cmp x y) ≡ same_item x y
-tied (Routine m) (Routine n) = is_eq-slice_cmp m n
-tied (Routine m) (Among n l) = refl
-tied (Routine m) (Grouping n) = refl
-tied (Among m k) (Routine n) = refl
-tied (Among m k) (Among n l) = then_eq _ _ ∙ ap₂ (λ (a b : Bool). a && b) (is_eq-slice_cmp m n) (unsigned_tied k l)
-tied (Among m k) (Grouping n) = refl
-tied (Grouping m) (Routine n) = refl
-tied (Grouping m) (Among n l) = refl
-tied (Grouping m) (Grouping n) = is_eq-slice_cmp m n
+item_cmp_eq : (x y : Item') → is_eq (item_cmp x y) ≡ same_item x y
+item_cmp_eq (Routine m) (Routine n) = is_eq-slice_cmp m n
+item_cmp_eq (Routine m) (Among n l) = refl
+item_cmp_eq (Routine m) (Grouping n) = refl
+item_cmp_eq (Among m k) (Routine n) = refl
+item_cmp_eq (Among m k) (Among n l) = then_eq _ _ ∙ ap₂ (λ (a b : Bool). a && b) (is_eq-slice_cmp m n) (unsigned_tied k l)
+item_cmp_eq (Among m k) (Grouping n) = refl
+item_cmp_eq (Grouping m) (Routine n) = refl
+item_cmp_eq (Grouping m) (Among n l) = refl
+item_cmp_eq (Grouping m) (Grouping n) = is_eq-slice_cmp m n
 
 at_item : (q k : Item) → is_eq (cmp-value.it q k) ≡ same_item (item_of q) (item_of k)
-at_item q k = ap is_eq (same_order q k) ∙ tied (item_of q) (item_of k)
+at_item q k = ap is_eq (same_order q k) ∙ item_cmp_eq (item_of q) (item_of k)
 
 pub item_held : (q : Item) (ks : List Item) → list_any (is_at (cmp-value.it q)) ks ≡ list_any (same_item (item_of q)) (map item_of ks)
 item_held q [] = refl

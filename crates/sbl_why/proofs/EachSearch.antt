@@ -20,7 +20,7 @@ use Rattle.sbl_machine.specs.Why.{text_after}
 use Rattle.sbl_why.specs.RoutineAmongs.{HasAmong, IsInOthers}
 use Rattle.sbl_why.specs.Searches.{IsWhole, Course, EachSearchTakesFirst, EndsWith, SearchesTakeFirst, TakesFirst, call_of, course, fits, with_calls, within}
 use Rattle.sbl_why.proofs.FirstAmongs.{none_is, others_are}
-use Rattle.sbl_why.proofs.RunParts.{Any_refusal, Each, Family, GoodIn, IsOne, Moment, Part, PartBy, PartX, Some_end, add, add_add, add_none, at, each_append, each_at, here_with, recorded, stop_with, text_append, with_add, with_one}
+use Rattle.sbl_why.proofs.RunParts.{Any_refusal, Each, Family, GoodIn, IsOne, Moment, Part, PartBy, PartX, Some_end, add, add_add, add_none, at, each_append, each_at, here_with, recorded_events, stop_with, text_append, with_add, with_one}
 use Rattle.sbl_why.proofs.Commands.{Unended}
 use Rattle.sbl_why.proofs.SearchesEnd.{Called, CallsAre, first_in, search_found}
 use Rattle.sbl_why.proofs.Bodies.{act_paid, others_paid}
@@ -53,7 +53,7 @@ module _ (ns : DeclaredNames) (class : List ℕ → ℕ → Bool) (bodies : List
       abbrev whole : Family
       whole n = leave s.routine s.choices (run n)
 
-      leave_grows : (i : Ending) → (zs : List Event') × (recorded (leave s.routine s.choices i) ≡ add zs (recorded i))
+      leave_grows : (i : Ending) → (zs : List Event') × (recorded_events (leave s.routine s.choices i) ≡ add zs (recorded_events i))
       leave_grows (Signals true t) = (Leaves true ∷ [], with_one (Leaves true) t.events)
       leave_grows (Signals false t) = (Leaves false ∷ [], with_one (Leaves false) t.events)
       leave_grows (Stops fault t) = ([], add_none t.events)
@@ -136,7 +136,7 @@ module _ (ns : DeclaredNames) (class : List ℕ → ℕ → Bool) (bodies : List
 
 -- ---- the laws
 
-events_recorded : (e : Ending) → events_at e ≡ events_in (recorded e)
+events_recorded : (e : Ending) → events_at e ≡ events_in (recorded_events e)
 events_recorded (Signals b t) = refl
 events_recorded (Stops fault t) = refl
 
@@ -150,7 +150,7 @@ searches_take_first script levels a m s before e =
     let end_search = search_found known bodies 0 call calls a m s s.steps in
     let h = first_in known bodies 0 call calls a m s end_search.0 (λ n. search call a m (at n s)) s.steps end_search.2 in (
       h.0,
-      events_recorded (search call a m s) ∙ ap (λ i. events_in (recorded i)) end_search.1 ∙ ap events_in (h.1 ∙ ap (add (Searches s.routine a.number m s.cursor ∷ h.0)) e),
+      events_recorded (search call a m s) ∙ ap (λ i. events_in (recorded_events i)) end_search.1 ∙ ap events_in (h.1 ∙ ap (add (Searches s.routine a.number m s.cursor ∷ h.0)) e),
       subst (EndsWith known bodies a.number s.choices (fits a (ahead_at a.mode s.text s.cursor (bound_of m s))) (course h.0)) (sym end_search.1) h.2,
     )
 

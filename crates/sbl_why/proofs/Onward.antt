@@ -10,7 +10,7 @@ use Rattle.sbl_semantics.specs.Control.{pay_first}
 use Rattle.sbl_semantics.specs.State.{State, Ending, Signals, Stops, Doing, after, pay, then_on}
 use Rattle.sbl_ast.specs.declared.mode.Mode.{Mode}
 use Rattle.sbl_why.specs.Searches.{within}
-use Rattle.sbl_why.proofs.RunParts.{Any_refusal, Each, Ends, Family, Good, GoodIn, Moment, Part, PartBy, PartX, Refused, Some_end, add, add_add, add_none, at, each_append, each_go, recorded, signals_good, text_append}
+use Rattle.sbl_why.proofs.RunParts.{Any_refusal, Each, Ends, Family, Good, GoodIn, Moment, Part, PartBy, PartX, Refused, Some_end, add, add_add, add_none, at, each_append, each_go, recorded_events, signals_good, text_append}
 
 module _ (ns : DeclaredNames) (bodies : List ℕ → Option Body) (r : ℕ) where
   -- ---- the moments of a later part
@@ -30,7 +30,7 @@ module _ (ns : DeclaredNames) (bodies : List ℕ → Option Body) (r : ℕ) wher
           same q.0 below ∙ q.4,
           q.5 ∙ ap (add before) of_events ∙ add_add ys before events,
           q.6 ∙ ap (λ y. text_after y before) of_text ∙ sym (text_append text ys before),
-          ap (λ y. recorded (run y)) one_more ∙ ap recorded (same (suc q.0) q.3) ∙ q.7 ∙ ap (add (before ++ (x ∷ q.2))) of_events ∙ add_add ys (before ++ (x ∷ q.2)) events
+          ap (λ y. recorded_events (run y)) one_more ∙ ap recorded_events (same (suc q.0) q.3) ∙ q.7 ∙ ap (add (before ++ (x ∷ q.2))) of_events ∙ add_add ys (before ++ (x ∷ q.2)) events
               ∙ ap (λ zs. add zs events) (sym (append_assoc ys before (x ∷ q.2))),
           (q.8.0, q.8.1, q.8.2, (λ e. q.8.3 (of_routine ∙ e)), q.8.4, q.8.5, q.8.6),
         )
@@ -42,7 +42,7 @@ module _ (ns : DeclaredNames) (bodies : List ℕ → Option Body) (r : ℕ) wher
   -- ---- a part, and what goes on from it
 
   module _ (s : State) (run run' : Family) (most : ℕ)
-      (stops : (n : ℕ) (u : State) → run n ≡ Stops faults.Steps u → run' n ≡ Stops faults.Steps u) (grows : (n : ℕ) → (zs : List Event') × (recorded (run' n) ≡ add zs (recorded (run n)))) where
+      (stops : (n : ℕ) (u : State) → run n ≡ Stops faults.Steps u → run' n ≡ Stops faults.Steps u) (grows : (n : ℕ) → (zs : List Event') × (recorded_events (run' n) ≡ add zs (recorded_events (run n)))) where
     moment_stays : (E E' : Type 0) → (E' → E) → (before : List Event') (i k : ℕ) (m : Mode) (c : ℕ) (rest : List Event') → Moment ns bodies r E s.events s.text s.routine run most before i k m c rest → Moment ns bodies r E' s.events s.text s.routine run' most before i k m c rest
     moment_stays E E' w before i k m c rest h =
         let g = grows (suc h.0) in
@@ -110,11 +110,11 @@ module _ (ns : DeclaredNames) (bodies : List ℕ → Option Body) (r : ℕ) wher
   -- ---- what a command adds to the events
 
   abbrev pub Grows : (State → Ending) → Type 0
-  Grows f = (t : State) → (zs : List Event') × (recorded (f t) ≡ add zs t.events)
+  Grows f = (t : State) → (zs : List Event') × (recorded_events (f t) ≡ add zs t.events)
 
-  pub added_by : (A : Ends ns bodies r) (B : Refused ns bodies r) (s : State) (run : Family) (most : ℕ) → PartX ns bodies r A B s run most → (zs : List Event') × (recorded (run most) ≡ add zs s.events)
-  added_by A B s run most (Signals b t, e, h) = (h.0, ap recorded e ∙ h.1)
-  added_by A B s run most (Stops fault t, e, h) = (h.0, ap recorded e ∙ h.1)
+  pub added_by : (A : Ends ns bodies r) (B : Refused ns bodies r) (s : State) (run : Family) (most : ℕ) → PartX ns bodies r A B s run most → (zs : List Event') × (recorded_events (run most) ≡ add zs s.events)
+  added_by A B s run most (Signals b t, e, h) = (h.0, ap recorded_events e ∙ h.1)
+  added_by A B s run most (Stops fault t, e, h) = (h.0, ap recorded_events e ∙ h.1)
 
   pub grows_by : (A : State → Ends ns bodies r) (B : Refused ns bodies r) (f : State → Ending) → ((t : State) → PartX ns bodies r (A t) B t (λ n. f (at n t)) t.steps) → Grows f
   grows_by A B f h t = added_by (A t) B t (λ n. f (at n t)) t.steps (h t)
@@ -122,7 +122,7 @@ module _ (ns : DeclaredNames) (bodies : List ℕ → Option Body) (r : ℕ) wher
   pub good_grows : (f : State → Ending) → Good ns bodies r f → Grows f
   good_grows f h = grows_by (λ t. Some_end ns bodies r) (Any_refusal ns bodies r) f h
 
-  after_grows : (g h : State → Ending) → Grows g → Grows h → (e : Ending) → (zs : List Event') × (recorded (after e g h) ≡ add zs (recorded e))
+  after_grows : (g h : State → Ending) → Grows g → Grows h → (e : Ending) → (zs : List Event') × (recorded_events (after e g h) ≡ add zs (recorded_events e))
   after_grows g h i j (Signals true t) = i t
   after_grows g h i j (Signals false t) = j t
   after_grows g h i j (Stops fault t) = ([], add_none t.events)
@@ -139,7 +139,7 @@ module _ (ns : DeclaredNames) (bodies : List ℕ → Option Body) (r : ℕ) wher
     stop_both : (n : ℕ) (u : State) → run n ≡ Stops faults.Steps u → both n ≡ Stops faults.Steps u
     stop_both n u e = ap (λ x. after x g h) e
 
-    grow_both : (n : ℕ) → (zs : List Event') × (recorded (both n) ≡ add zs (recorded (run n)))
+    grow_both : (n : ℕ) → (zs : List Event') × (recorded_events (both n) ≡ add zs (recorded_events (run n)))
     grow_both n = after_grows g h grow_g grow_h (run n)
 
     pub after_x : PartX ns bodies r A1 B1 s run most → PartX ns bodies r A B s both most
@@ -160,7 +160,7 @@ module _ (ns : DeclaredNames) (bodies : List ℕ → Option Body) (r : ℕ) wher
     abbrev paying : Family
     paying n = then_on (pay n (at n s)) f
 
-    grow_paying : (n : ℕ) → (zs : List Event') × (recorded (paying n) ≡ add zs (recorded (pay n (at n s))))
+    grow_paying : (n : ℕ) → (zs : List Event') × (recorded_events (paying n) ≡ add zs (recorded_events (pay n (at n s))))
     grow_paying zero = ([], add_none s.events)
     grow_paying (suc n) = added_by A B (at n s) (λ n. f (at n s)) n (rest n)
 

@@ -48,9 +48,9 @@ at n s = record s { steps = n }
 abbrev pub Family : Type 0
 Family = ℕ → Ending
 
-abbrev pub recorded : Ending → Option (List Event')
-recorded (Signals b t) = t.events
-recorded (Stops fault t) = t.events
+abbrev pub recorded_events : Ending → Option (List Event')
+recorded_events (Signals b t) = t.events
+recorded_events (Stops fault t) = t.events
 
 module _ (ns : DeclaredNames) (bodies : List ℕ → Option Body) (r : ℕ) where
   -- What is told of a search that begins in a state, in a part that the routine with number r begins. If E holds, the search
@@ -64,7 +64,7 @@ module _ (ns : DeclaredNames) (bodies : List ℕ → Option Body) (r : ℕ) wher
   abbrev pub Moment : Type 0 → Option (List Event') → List ℕ → ℕ → Family → ℕ → List Event' → ℕ → ℕ → Mode → ℕ → List Event' → Type 0
   Moment E events text routine run most before i k m c rest =
       (n : ℕ) × (u : State) × (later : List Event') × (suc n ≤ most) × (run n ≡ Stops faults.Steps u) × (u.events ≡ add before events) × (u.text ≡ text_after text before) ×
-      (recorded (run (suc n)) ≡ add (before ++ (Searches i k m c ∷ later)) events) × Begins E routine u i k m c rest
+      (recorded_events (run (suc n)) ≡ add (before ++ (Searches i k m c ∷ later)) events) × Begins E routine u i k m c rest
 
   abbrev pub IsOne : Type 0 → Option (List Event') → List ℕ → ℕ → Family → ℕ → List Event' → Event' → List Event' → Type 0
   IsOne E events text routine run most before (Searches i k m c) rest = Moment E events text routine run most before i k m c rest
@@ -203,7 +203,7 @@ module _ (ns : DeclaredNames) (bodies : List ℕ → Option Body) (r : ℕ) wher
       sym (same h.0 (omega (arith, h.3))) ∙ h.4,
       h.5,
       h.6,
-      ap recorded (sym (same (suc h.0) h.3)) ∙ h.7,
+      ap recorded_events (sym (same (suc h.0) h.3)) ∙ h.7,
       h.8,
     )
 

@@ -23,7 +23,7 @@ use Rattle.std.proofs.Math.Path.{fun_ext}
 use Rattle.sbl_semantics.specs.declared.fault.RunFault.TheVariants as faults
 use Rattle.sbl_semantics.specs.Control.{pay_first}
 use Rattle.sbl_ast.specs.declared.mode.Mode.TheVariants.{Forward, Backward}
-use Rattle.sbl_why.proofs.RunParts.{Each, Ends, Family, Moment, Part, PartBy, PartX, Refused, add, add_add, add_none, at, noted_with, part_same, recorded, signals_good, with_one}
+use Rattle.sbl_why.proofs.RunParts.{Each, Ends, Family, Moment, Part, PartBy, PartX, Refused, add, add_add, add_none, at, noted_with, part_same, recorded_events, signals_good, with_one}
 use Rattle.sbl_why.proofs.Onward.{Grows, added_by, after_x, each_shifts, good_grows, grows_by, paid_x}
 use Rattle.sbl_why.proofs.Commands.{Placed, Unended, conv, place_after_x}
 
@@ -281,7 +281,7 @@ module _ (ns : DeclaredNames) (bodies : List ℕ → Option Body) (r : ℕ) wher
       first_here : (E : Type 0) (rest : List Event') → EndsBy ns bodies a.number (fits a text_ahead) (course rest).calls (course rest).end → (E → (y : Event') × ((course rest).end ≡ Some y)) → Moment ns bodies r E s.events s.text s.routine paying (suc c) [] s.routine a.number m s.cursor rest
       first_here E rest h end =
           let later = added_by ns bodies r FoundHere (Unended ns bodies r) begun (λ n. search call a m (at n s)) 0 (search_found 0) in
-          let begins : recorded (paying 1) ≡ add (x ∷ later.0) s.events = later.1 ∙ ap (add later.0) (with_one x s.events) ∙ add_add (x ∷ []) later.0 s.events in (
+          let begins : recorded_events (paying 1) ≡ add (x ∷ later.0) s.events = later.1 ∙ ap (add later.0) (with_one x s.events) ∙ add_add (x ∷ []) later.0 s.events in (
             0,
             at 0 s,
             later.0,
@@ -334,7 +334,7 @@ module _ (ns : DeclaredNames) (bodies : List ℕ → Option Body) (r : ℕ) wher
     -- ---- the search alone
 
     pub first_in : (e : Ending) (run : Family) (most : ℕ) → PartBy ns bodies r FoundHere (Unended ns bodies r) begun.events begun.text begun.routine run most e
-        → (rest : List Event') × (recorded e ≡ add (x ∷ rest) s.events) × EndsWith ns bodies a.number s.choices (fits a text_ahead) (course rest) e
+        → (rest : List Event') × (recorded_events e ≡ add (x ∷ rest) s.events) × EndsWith ns bodies a.number s.choices (fits a text_ahead) (course rest) e
     first_in (Signals b t) run most h =
         (h.0, h.1 ∙ ap (add h.0) (with_one x s.events) ∙ add_add (x ∷ []) h.0 s.events, subst (λ ys. EndsWith ns bodies a.number s.choices (fits a text_ahead) (course ys) (Signals b t)) (append-nil h.0) (h.9 []))
     first_in (Stops fault t) run most h = (h.0, h.1 ∙ ap (add h.0) (with_one x s.events) ∙ add_add (x ∷ []) h.0 s.events, h.4)

@@ -34,9 +34,9 @@ pub same_command : (s t : Contents) (d e : State) (a b : WorkCommand) (r : Reply
 same_command s t d e a b r is answer = subst (λ (x : WorkCommand). IsWorkAnswer s d x r t e) is answer
 
 -- a report, or memory for it is refused
-pub told : (s : Contents) (d : State) (report : List ℕ) (r : Reply) → IsReply r report ⊎ IsReply r (edit_text (Some fault.OutOfMemory)) → (text : List ℕ) × IsReply r text × TellsReport report s d text s d
-told s d report r (inl shown) = (report, shown, inl (refl, refl, refl))
-told s d report r (inr shown) = (edit_text (Some fault.OutOfMemory), shown, inr (refl, refl, refl))
+pub reply_is_told : (s : Contents) (d : State) (report : List ℕ) (r : Reply) → IsReply r report ⊎ IsReply r (edit_text (Some fault.OutOfMemory)) → (text : List ℕ) × IsReply r text × TellsReport report s d text s d
+reply_is_told s d report r (inl shown) = (report, shown, inl (refl, refl, refl))
+reply_is_told s d report r (inr shown) = (edit_text (Some fault.OutOfMemory), shown, inr (refl, refl, refl))
 
 pub no_utf8 : (bytes : List ℕ) → ¬ (IsUtf8 bytes) → is_utf8 bytes ≡ false
 no_utf8 bytes not = by (is_utf8 bytes) refl

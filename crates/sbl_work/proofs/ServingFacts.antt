@@ -17,7 +17,7 @@ use Rattle.sbl_io.specs.declared.faults.LineFault.{LineFault}
 use Rattle.sbl_io.specs.declared.faults.LineFault.TheVariants as read
 use Rattle.sbl_io.specs.declared.faults.ServeFault.{ServeFault}
 use Rattle.sbl_io.specs.declared.faults.ServeFault.TheVariants as fault
-use Rattle.sbl_formats.proofs.BlockFacts.{all_fit-append, all_fit-push, broken}
+use Rattle.sbl_formats.proofs.BlockFacts.{all_fit-append, all_fit-push, broken_block}
 use Rattle.sbl_formats.specs.Block.{BlockLines, Breaks, HoldsText, ReadsBlock, point}
 use Rattle.sbl_sessions.specs.CommandViews.{IsReply}
 use Rattle.sbl_sessions.specs.Requests.{Request, block_lines, lines_in, lines_in_all}
@@ -125,9 +125,9 @@ pub work_at_line : (prompt : List ℕ) (a b c h i : Option (List ℕ)) (s t : Co
     → WorkRepliesToInput prompt a b h i s x t y → k ≡ None → (f ≡ read.Read → TookWhole a b) → (f ≡ read.TooLong → BeginsLong b ⊎ (k ≡ Some f))
     → (f ≡ read.Read → k ≡ None → BreaksOff b c part) → IsWork prompt a c h i s x t y (Err (serve_fault_of f))
 work_at_line prompt a b c h i s t x y k part read.Read so none whole long cut =
-    (b, whole refl, so, broken IsBegunWork b b c k [] part read.Read tt (took-none b) none long cut)
+    (b, whole refl, so, broken_block IsBegunWork b b c k [] part read.Read tt (took-none b) none long cut)
 work_at_line prompt a b c h i s t x y k part read.TooLong so none whole long cut =
-    (b, so, broken IsBegunWork b b c k [] part read.TooLong tt (took-none b) none long cut)
+    (b, so, broken_block IsBegunWork b b c k [] part read.TooLong tt (took-none b) none long cut)
 
 -- a block has no end
 pub work_open : (prompt : List ℕ) (a b c d h i : Option (List ℕ)) (s t : Contents) (x y : State) (line : List ℕ) (f : ServeFault) → WorkRepliesToInput prompt a b h i s x t y → GivesLine b c line

@@ -27,7 +27,7 @@ undo¶|x¶||1000|1,undo,x,do¶!1
 undo¶|x¶||1001|!71 Write";
 
 /// Checks the lists of a row by a script that deletes a first `un` or `re`. Each write takes four bytes.
-fn checked(alloc: Global, row: &str) -> Result<Vec<u8>, Fail> {
+fn check_lists(alloc: Global, row: &str) -> Result<Vec<u8>, Fail> {
     let words = bytes_of(alloc, field(row, 0))?;
     let expected = bytes_of(alloc, field(row, 1))?;
     let pieces = in_pieces(Vec::new(alloc), 4, number(row, 2), number(row, 3));
@@ -48,7 +48,7 @@ fn checked(alloc: Global, row: &str) -> Result<Vec<u8>, Fail> {
 fn a_check_writes_a_row_for_each_difference(rt: HostRuntime) -> Result<(), Fail> {
     for row in ROWS.split('\n') {
         let want = bytes_of(rt.alloc(), field(row, 4))?;
-        assert!(rt; checked(rt.alloc(), row)? == want, "{row}");
+        assert!(rt; check_lists(rt.alloc(), row)? == want, "{row}");
     }
     Ok(())
 }

@@ -1,6 +1,6 @@
 //! Tests of readers and writers that fail at each of their calls, of the limit on reads, and of interruptions.
 
-use crate::verbs::{Verb, written};
+use crate::verbs::{Verb, run_verb};
 use sbl_io::{Device, Lines};
 use std::alloc::{AllocError, Global};
 use std::process::Abort;
@@ -79,7 +79,7 @@ fn runs(alloc: Global, case: &Case, stops: Stops) -> Result<Vec<u8>, Fail> {
     let reader = in_pieces(input.as_slice(), 1, stops.read, stops.interruptions);
     let mut lines = Lines::with_reads(alloc, Device::new(reader), stops.most)?;
     let writer = in_pieces(Vec::new(alloc), 1, stops.write, stops.interruptions);
-    written(alloc, case.0, &mut lines, Device::new(writer))
+    run_verb(alloc, case.0, &mut lines, Device::new(writer))
 }
 
 /// Asserts that a run with these stops gives this text.

@@ -41,7 +41,7 @@ fn session(
 }
 
 /// Does what the verb says. Returns what is written, and after it `!` and the fault that ends it, if there is one.
-pub(crate) fn written(
+pub(crate) fn run_verb(
     alloc: Global,
     verb: Verb,
     lines: &mut Lines<Reader<'_>>,
@@ -65,7 +65,7 @@ fn gives(rt: &impl Abort, alloc: Global, verb: Verb, script: &str, row: &str) ->
     let reader = in_pieces(input.as_slice(), 16, number(row, 1), 0);
     let mut lines = Lines::new(alloc, Device::new(reader))?;
     let writer = in_pieces(Vec::new(alloc), 4, number(row, 2), number(row, 3));
-    let text = written(alloc, verb, &mut lines, Device::new(writer))?;
+    let text = run_verb(alloc, verb, &mut lines, Device::new(writer))?;
     assert!(rt; text == bytes_of(alloc, field(row, 4))?, "{row}");
     let mut next = Vec::new(alloc);
     if lines.next_line() == Ok(true) {

@@ -61,13 +61,13 @@ chomped_is line =
     let count : length (line ++ 13 ∷ []) - 1 ≡ length line = rw (length-append {A = ℕ} line (13 ∷ [])) (omega arith) in
     rw (count, last_is line) (prefix_is line)
 
-joined : (line more : List ℕ) → (line ++ 13 ∷ 10 ∷ []) ++ more ≡ (line ++ 13 ∷ []) ++ 10 ∷ more
-joined line more = append_assoc line (13 ∷ 10 ∷ []) more ∙ sym (append_assoc line (13 ∷ []) (10 ∷ more))
+append_line_end : (line more : List ℕ) → (line ++ 13 ∷ 10 ∷ []) ++ more ≡ (line ++ 13 ∷ []) ++ 10 ∷ more
+append_line_end line more = append_assoc line (13 ∷ 10 ∷ []) more ∙ sym (append_assoc line (13 ∷ []) (10 ∷ more))
 
 line_read : (line more : List ℕ) → NoFeed line → lines_of ((line ++ 13 ∷ 10 ∷ []) ++ more) ≡ line ∷ lines_of more
 line_read line more free =
     let other : 13 ≢ 10 = λ e. cc e in
-    ap lines_of (joined line more) ∙ ap (map without_carriage_return) (lines-feed (line ++ 13 ∷ []) more (no_feed_push line 13 free other))
+    ap lines_of (append_line_end line more) ∙ ap (map without_carriage_return) (lines-feed (line ++ 13 ∷ []) more (no_feed_push line 13 free other))
     ∙ ap (λ (l : List ℕ). l ∷ lines_of more) (chomped_is line)
 
 lines_read : (lines : List (List ℕ)) → AreFree lines → lines_of (list_text lines) ≡ lines

@@ -35,7 +35,7 @@ pub(crate) fn bench_of(alloc: Global, script: &str, words: &str) -> Result<Bench
 }
 
 /// A row as `WORD STEM`, or `WORD` and the fault.
-pub(crate) fn shown(alloc: Global, row: &Row<'_>) -> Result<String, Fail> {
+pub(crate) fn row_text(alloc: Global, row: &Row<'_>) -> Result<String, Fail> {
     let word = text_of(alloc, row.word)?;
     match row.outcome {
         Outcome::Stem(stem) => {
@@ -51,7 +51,7 @@ pub(crate) fn rows_shown(alloc: Global, bench: &Bench) -> Result<String, Fail> {
     let mut text = String::new(alloc);
     let rows = bench.rows()?;
     for row in &rows {
-        text.push_str(shown(alloc, row)?.as_str())?;
+        text.push_str(row_text(alloc, row)?.as_str())?;
         text.push(';')?;
     }
     Ok(text)

@@ -1,7 +1,7 @@
 //! Two lists of rows, and their changes.
 
 use crate::tests::families::families_of;
-use crate::tests::row_lists::{rows_in, shown, view};
+use crate::tests::row_lists::{changes_text, rows_in, view};
 use sbl_changes::changes;
 use std::alloc::{AllocError, Global};
 use std::process::Abort;
@@ -13,7 +13,7 @@ fn changes_of(alloc: Global, before: &str, after: &str) -> Result<String, AllocE
     let (before, after) = (rows_in(alloc, before)?, rows_in(alloc, after)?);
     let (before, after) = (view(alloc, &before)?, view(alloc, &after)?);
     let changes = changes(alloc, &before, &after)?;
-    shown(alloc, &changes)
+    changes_text(alloc, &changes)
 }
 
 /// What is asked about two texts.

@@ -1,6 +1,6 @@
 //! Edits of a bench, with the rows, the changes and the count of runs after each. Sessions of edits are in tests/cases.
 
-use crate::tests::bench::{bench_of, rows_shown, shown};
+use crate::tests::bench::{bench_of, row_text, rows_shown};
 use crate::tests::groupings::GROUPINGS;
 use crate::tests::limits::LIMITS;
 use sbl_bench::{Bench, EditFault, Row};
@@ -24,7 +24,7 @@ remove s||?||",
 ];
 
 /// Makes an edit of a bench.
-fn made(alloc: Global, bench: &mut Bench, edit: &str) -> Result<Result<(), EditFault>, Fail> {
+fn make_edit(alloc: Global, bench: &mut Bench, edit: &str) -> Result<Result<(), EditFault>, Fail> {
     let (verb, rest) = edit.split_once(' ').unwrap_or((edit, ""));
     let (name, text) = rest.split_once(' ').unwrap_or((rest, ""));
     Ok(match verb {
@@ -51,7 +51,7 @@ fn changes_shown(alloc: Global, bench: &Bench) -> Result<String, Fail> {
                 word: change.word,
                 outcome,
             };
-            text.push_str(shown(alloc, &row)?.as_str())?;
+            text.push_str(row_text(alloc, &row)?.as_str())?;
             text.push(';')?;
         }
     }
@@ -60,7 +60,7 @@ fn changes_shown(alloc: Global, bench: &Bench) -> Result<String, Fail> {
 
 /// Makes one edit, and asserts what it gives.
 fn edits_one(rt: &impl Abort, alloc: Global, bench: &mut Bench, row: &str) -> Result<(), Fail> {
-    let answer = match made(alloc, bench, field(row, 0))? {
+    let answer = match make_edit(alloc, bench, field(row, 0))? {
         Ok(()) => String::new(alloc),
         Err(fault) => format!(in alloc; "{fault}")?,
     };

@@ -160,7 +160,7 @@ fn put_change(text: &mut String, change: &ChangeRow<'_>) -> Result<(), AllocErro
 }
 
 /// The changes as rows, each with a semicolon.
-pub(crate) fn shown(alloc: Global, changes: &[ChangeRow<'_>]) -> Result<String, AllocError> {
+pub(crate) fn changes_text(alloc: Global, changes: &[ChangeRow<'_>]) -> Result<String, AllocError> {
     let mut text = String::new(alloc);
     for change in changes {
         put_change(&mut text, change)?;

@@ -26,14 +26,14 @@ const LAID_OUT: &str =
 const OTHER_EXTERNAL: &str = "externals ( other ) define other as next";
 
 /// Returns the text with `new` in place of the first `old`.
-fn changed(alloc: Global, text: &str, old: &str, new: &str) -> Result<String, AllocError> {
+fn replace_first(alloc: Global, text: &str, old: &str, new: &str) -> Result<String, AllocError> {
     let (prefix, back) = text.split_once(old).unwrap_or(("", ""));
     format!(in alloc; "{prefix}{new}{back}")
 }
 
 /// Returns the first script with a `head` that takes nothing off.
 fn other_routine(alloc: Global) -> Result<String, AllocError> {
-    changed(alloc, FIRST, "( [ u ] delete )", "( u )")
+    replace_first(alloc, FIRST, "( [ u ] delete )", "( u )")
 }
 
 /// Whole scripts one after another: a text, `first`, `laid out` or `before` for the script before it; a part of it and what is in its place
@@ -64,7 +64,7 @@ fn script_in(alloc: Global, before: &str, row: &str) -> Result<String, AllocErro
     if field(row, 1).is_empty() {
         return String::from_str(alloc, text);
     }
-    changed(alloc, text, field(row, 1), field(row, 2))
+    replace_first(alloc, text, field(row, 1), field(row, 2))
 }
 
 /// Returns the case, as in edits.rt, of an edit to this script.

@@ -60,7 +60,7 @@ fn keeps_strings_apart<S: AmongSearch>(rt: &impl Abort, alloc: Global) -> Result
 }
 
 /// Builds tables of one search, and asks them.
-fn asked<S: AmongSearch>(rt: &impl Abort, alloc: Global) -> Result<(), Fail> {
+fn ask_tables<S: AmongSearch>(rt: &impl Abort, alloc: Global) -> Result<(), Fail> {
     finds_forwards::<S>(rt, alloc)?;
     finds_backwards::<S>(rt, alloc)?;
     finds_nothing_shorter::<S>(rt, alloc)?;
@@ -69,8 +69,8 @@ fn asked<S: AmongSearch>(rt: &impl Abort, alloc: Global) -> Result<(), Fail> {
 
 #[test]
 fn a_table_finds_the_longest_and_then_the_next_shorter(rt: HostRuntime) -> Result<(), Fail> {
-    asked::<PlainTable>(&rt, rt.alloc())?;
-    asked::<LinkedTable>(&rt, rt.alloc())
+    ask_tables::<PlainTable>(&rt, rt.alloc())?;
+    ask_tables::<LinkedTable>(&rt, rt.alloc())
 }
 
 #[test]

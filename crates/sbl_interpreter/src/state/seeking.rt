@@ -7,7 +7,7 @@ ghost use Rattle.sbl_char_class.specs.Terms.{class_at};
 ghost use Rattle.sbl_semantics.specs.Control.{pay_first, seeks};
 ghost use Rattle.sbl_interpreter.specs.Endings.{Follows};
 ghost use Rattle.sbl_interpreter.specs.Actions.{test_grouping};
-ghost use Rattle.sbl_interpreter.specs.Seeking.{count_before, sought};
+ghost use Rattle.sbl_interpreter.specs.Seeking.{count_before, seek_ending};
 ghost use Rattle.sbl_semantics.specs.Fitting.{read_as};
 ghost use Rattle.sbl_semantics.specs.Touches.{with_touch};
 ghost use Rattle.sbl_semantics.specs.declared.touch.Touch.TheVariants.{Tested};
@@ -55,7 +55,7 @@ impl State {
         requires enough { before < self.old.steps }
         requires all { len ≡ room mode self.old }
         requires there { before ≤ len }
-        ensures { sought past mode self.old.steps before (room mode self.old) self.old ≡ Signals result self.new }
+        ensures { seek_ending past mode self.old.steps before (room mode self.old) self.old ≡ Signals result self.new }
     {
         let steps = self.steps() - before as u32 - 1;
         if before == len {

@@ -122,7 +122,7 @@ impl Assembler {
     pub(super) fn next(&mut self, cost: u32, exits: &Exits) -> Result<Rc<Instruction>, AllocError>
         ensures { IfOk result (λ made. (tables : ℕ → Listing) (n : ℕ) → PerformsWithExits tables (λ p levels m s. move_next m s) cost n exits.now made.value) }
     {
-        let Exits { next, fail } = exits.again()?;
+        let Exits { next, fail } = exits.copy()?;
         self.emit(Instruction::Next { cost, next, fail })
     }
 

@@ -123,7 +123,7 @@ impl Assembler {
     }
 
     // Instructions that run with slots of their own, after one step.
-    pub(super) fn nested(
+    pub(super) fn nest(
         &mut self,
         body: Rc<Instruction>,
         cost: u32,

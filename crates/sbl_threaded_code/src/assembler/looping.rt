@@ -110,7 +110,7 @@ impl Assembler {
 
     // `loop AE C`, and `atleast AE C` if `repeats`.
     #[cycle(command)]
-    pub(super) fn counted(
+    pub(super) fn iterate(
         &mut self,
         inner: &Node,
         count: &Arithmetic,

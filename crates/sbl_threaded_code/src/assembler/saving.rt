@@ -38,7 +38,7 @@ impl Assembler {
             return Ok(Place {
                 cost: more(cost, own)?,
                 slot,
-                exits: exits.again()?,
+                exits: exits.copy()?,
                 nested: false,
             });
         }
@@ -51,7 +51,7 @@ impl Assembler {
     }
 
     // Saves the cursor in that slot before these instructions.
-    pub(super) fn saved(
+    pub(super) fn save_before(
         &mut self,
         place: &Place,
         inner: Rc<Instruction>,
@@ -62,7 +62,7 @@ impl Assembler {
     {
         let entry = self.save(place.cost, place.slot, inner)?;
         if place.nested {
-            self.nested(entry, cost, exits)
+            self.nest(entry, cost, exits)
         } else {
             Ok(entry)
         }
@@ -81,7 +81,7 @@ impl Assembler {
 
     // `not C`, `test C`, `try C` and `do C`.
     #[cycle(command)]
-    pub(super) fn wrapped(
+    pub(super) fn wrap(
         &mut self,
         inner: &Node,
         after_t: Way,
@@ -98,7 +98,7 @@ impl Assembler {
             fail: self.way(after_f, &place)?,
         };
         let entry = self.inner(inner, place.slot, &own)?;
-        self.saved(&place, entry, cost, exits)
+        self.save_before(&place, entry, cost, exits)
     }
 
     // Where a row goes on after its first command.
@@ -112,18 +112,18 @@ impl Assembler {
         requires { slot < 4 }
         ensures { IfOk result (λ rest. (tables : ℕ → Listing) → IsRest tables slot (map (view_next_command tables) others.now) exits.now rest) }
     {
-        let mut rest = exits.again()?;
+        let mut rest = exits.copy()?;
         let mut i = others.len();
         while 0 < i {
             i -= 1;
-            rest = self.joined(&others[i], slot, &rest)?;
+            rest = self.exits_before(&others[i], slot, &rest)?;
         }
         Ok(rest)
     }
 
     // Where a row goes on before one of its commands, if it goes on like this after it.
     #[cycle(command)]
-    pub(super) fn joined(
+    pub(super) fn exits_before(
         &mut self,
         other: &JoinedNode,
         slot: usize,

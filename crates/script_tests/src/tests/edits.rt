@@ -1,7 +1,7 @@
 //! Edits of scripts: why they are refused, and what they make.
 
 use crate::tests::grouping_edits::{GROUPING_EDITS, GROUPING_TEXTS};
-use crate::tests::script::{fault_in, repeated, script_of};
+use crate::tests::script::{fault_in, repeat_part, script_of};
 use crate::tests::script_edits::{AMONG_TEXTS, SCRIPT_EDITS};
 use sbl_script::laws::canonical_is_read;
 use sbl_script::{Script, ScriptEditFault, ScriptFault};
@@ -33,7 +33,7 @@ fn part_in(text: &str) -> Part<'_> {
 }
 
 /// Makes an edit.
-fn edited(
+fn edit_part(
     alloc: Global,
     script: &Script,
     part: Part,
@@ -60,7 +60,7 @@ fn script_named(rt: &impl Abort, alloc: Global, text: &str) -> Script {
 
 /// Asserts that an edit is refused with this fault, or accepted if the fault is empty.
 fn is_refused(rt: &impl Abort, alloc: Global, script: &Script, part: Part, text: &str, want: &str) {
-    let taken = edited(alloc, script, part, text);
+    let taken = edit_part(alloc, script, part, text);
     let fault = fault_in(alloc, taken).expect(rt, "memory");
     assert_eq!(rt; fault.as_str(), want, "{part:?}: {text}");
 }
@@ -109,9 +109,9 @@ fn edits_are_refused_or_accepted(rt: HostRuntime) -> Result<(), Fail> {
 #[test]
 fn depth_counts_from_the_place_and_length_from_the_text(rt: HostRuntime) -> Result<(), Fail> {
     let alloc = rt.alloc();
-    let nots = repeated(alloc, SCRIPT_PREFIX, "not ", 59)?;
+    let nots = repeat_part(alloc, SCRIPT_PREFIX, "not ", 59)?;
     let deep = format!(in alloc; "{nots}among ( 'a' )")?;
-    let long = repeated(alloc, "", " ", 1_048_577)?;
+    let long = repeat_part(alloc, "", " ", 1_048_577)?;
     let at_65 = "among ( 'a' ( not not not next ) )";
     let at_64 = "among ( 'a' ( not not next ) )";
     let too_long = "48 24 ScriptTooLong";
@@ -152,7 +152,7 @@ fn makes(
     want: bool,
 ) {
     let script = script_named(rt, alloc, before);
-    let made = edited(alloc, &script, edit.0, edit.1).expect(rt, "an edit");
+    let made = edit_part(alloc, &script, edit.0, edit.1).expect(rt, "an edit");
     script.discard();
     is_read_back(rt, alloc, &made);
     let other = script_named(rt, alloc, after);

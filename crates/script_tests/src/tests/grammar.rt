@@ -1,6 +1,6 @@
 //! Tests of the trees of texts, and of faults of the grammar. tests/cases has more of them.
 
-use crate::tests::script::repeated;
+use crate::tests::script::repeat_part;
 use sbl_parser::parse;
 use sbl_script::{Command, Plain, ScriptItem};
 use sbl_text::{ScriptFault, tokens};
@@ -26,7 +26,7 @@ fn non_of(items: &[ScriptItem]) -> &'static str {
 }
 
 /// Returns the number of items and how the first begins, or the fault, as text.
-fn shown(alloc: Global, prefix: &str, body: &str) -> Result<String, AllocError> {
+fn items_text(alloc: Global, prefix: &str, body: &str) -> Result<String, AllocError> {
     let text = format!(in alloc; "{prefix}{body}")?;
     match read(alloc, text.as_str()) {
         Ok(items) => {
@@ -77,7 +77,7 @@ fn is_shown(
     body: &str,
     want: &str,
 ) -> Result<(), Fail> {
-    let shown = shown(alloc, prefix, body)?;
+    let shown = items_text(alloc, prefix, body)?;
     assert!(rt; shown.as_str() == want, "{want}: {shown}");
     Ok(())
 }
@@ -100,6 +100,6 @@ fn long_and_deep_texts_are_read_or_have_a_fault(rt: HostRuntime) -> Result<(), F
     let alloc = rt.alloc();
     is_shown(&rt, alloc, "", PLURALS, "4")?;
     is_shown(&rt, alloc, "", PORTER, "9")?;
-    let deep = repeated(alloc, "", "(", 100_000)?;
+    let deep = repeat_part(alloc, "", "(", 100_000)?;
     is_shown(&rt, alloc, SCRIPT_PREFIX, deep.as_str(), "8 TooDeep at 98")
 }

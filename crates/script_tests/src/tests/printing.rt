@@ -6,7 +6,7 @@ use std::alloc::Global;
 use test_scripts::{PLURALS, PORTER, PREFIXES};
 
 /// Returns the canonical text of a script with the external `stem`.
-fn printed(alloc: Global, text: &str) -> Option<String> {
+fn canonical_text(alloc: Global, text: &str) -> Option<String> {
     let script = Script::parse(alloc, text.as_bytes(), "stem").ok()?;
     let printed = script.print(alloc).ok();
     script.discard();
@@ -52,9 +52,9 @@ const TEXTS: &[(&str, &str)] = &[
 fn an_item_is_a_line_of_its_tokens_and_a_canonical_text_its_own(rt: HostRuntime) {
     let alloc = rt.alloc();
     for (text, want) in TEXTS {
-        let once = printed(alloc, text).expect(&rt, "a script");
+        let once = canonical_text(alloc, text).expect(&rt, "a script");
         assert!(rt; *want == "" || once.as_str() == *want, "{once}");
-        let twice = printed(alloc, once.as_str()).expect(&rt, "a script");
+        let twice = canonical_text(alloc, once.as_str()).expect(&rt, "a script");
         assert_eq!(rt; once.as_str(), twice.as_str());
     }
 }
@@ -72,6 +72,6 @@ fn an_edit_is_printed_from_its_tokens(rt: HostRuntime) {
     edited.discard();
     let want = "externals ( stem )\ndefine stem as ( [ among ( 'dis' ( ) ) ] delete )\n";
     assert_eq!(rt; text.as_str(), want);
-    let again = printed(alloc, text.as_str()).expect(&rt, "a script");
+    let again = canonical_text(alloc, text.as_str()).expect(&rt, "a script");
     assert_eq!(rt; again.as_str(), want);
 }

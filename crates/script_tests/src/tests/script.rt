@@ -33,7 +33,7 @@ pub(crate) fn script_of(rt: &impl Abort, alloc: Global, text: &str) -> Script {
 }
 
 /// A text, and then a part so many times.
-pub(crate) fn repeated(
+pub(crate) fn repeat_part(
     alloc: Global,
     prefix: &str,
     part: &str,
@@ -92,7 +92,7 @@ const LONG: &[(&str, &str, usize, &str)] = &[
 fn texts_of_every_depth_and_length_have_an_answer(rt: HostRuntime) -> Result<(), Fail> {
     let alloc = rt.alloc();
     for (prefix, part, count, want) in LONG {
-        let text = repeated(alloc, prefix, part, *count)?;
+        let text = repeat_part(alloc, prefix, part, *count)?;
         has_fault(&rt, alloc, text.as_bytes(), "stem", want)?;
     }
     Ok(())

@@ -31,7 +31,7 @@ enum Asked {
 }
 
 /// Returns what is asked of a text, or its fault.
-fn shown(alloc: Global, text: &str, asked: Asked) -> Result<String, AllocError> {
+fn answer_text(alloc: Global, text: &str, asked: Asked) -> Result<String, AllocError> {
     let found = match tokens(alloc, text) {
         Ok(found) => found,
         Err(fault) => return format!(in alloc; "{fault}"),
@@ -121,7 +121,7 @@ fn are_shown(
     rows: &[(&str, &str)],
 ) -> Result<(), Fail> {
     for (text, want) in rows {
-        let shown = shown(alloc, text, asked)?;
+        let shown = answer_text(alloc, text, asked)?;
         assert!(rt; shown.as_str() == *want, "{shown} in {text:?}");
     }
     Ok(())
@@ -332,7 +332,7 @@ fn a_macro_has_at_most_64_characters(rt: HostRuntime) -> Result<(), Fail> {
 
 /// Returns a script that defines macros `m0`, `m1`, .. , each two insertions of the one before, and then, if `inserted` is not 0, has
 /// a literal that inserts `m5` so many times.
-fn doubled(alloc: Global, count: usize, inserted: usize) -> Result<String, AllocError> {
+fn doubling_macros(alloc: Global, count: usize, inserted: usize) -> Result<String, AllocError> {
     let mut text = String::from_str(alloc, "stringescapes {} stringdef m0 'ab'")?;
     for i in 1..count {
         let before = i - 1;
@@ -366,11 +366,11 @@ fn macros_that_double_are_refused_at_the_first_that_is_too_long(
 ) -> Result<(), Fail> {
     let alloc = rt.alloc();
     for (count, want) in DOUBLED {
-        let text = doubled(alloc, *count, 0)?;
-        assert_eq!(rt; shown(alloc, &text, Asked::Texts)?.as_str(), *want);
+        let text = doubling_macros(alloc, *count, 0)?;
+        assert_eq!(rt; answer_text(alloc, &text, Asked::Texts)?.as_str(), *want);
     }
     // but a macro may be inserted often
-    let text = doubled(alloc, 6, 500)?;
-    assert_eq!(rt; shown(alloc, &text, Asked::Value)?.len(), 32000);
+    let text = doubling_macros(alloc, 6, 500)?;
+    assert_eq!(rt; answer_text(alloc, &text, Asked::Value)?.len(), 32000);
     Ok(())
 }

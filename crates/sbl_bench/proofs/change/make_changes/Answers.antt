@@ -7,7 +7,7 @@ use Rattle.sbl_bench.specs.Changes.{is_changed}
 use Rattle.sbl_bench.specs.KeptRuns.{KeptWord}
 use Rattle.sbl_bench.specs.Pairs.{Text, find}
 use Rattle.sbl_bench.specs.declared.change.Change.{Change}
-use Rattle.sbl_bench.proofs.ChangeFacts.{all_fresh, fresh_list, words_kept, written}
+use Rattle.sbl_bench.proofs.ChangeFacts.{all_fresh, fresh_list, words_kept, take_overwritten}
 use Rattle.sbl_bench.proofs.Following.{follows}
 use Rattle.sbl_bench.proofs.LastChanges.{last_is}
 use Rattle.sbl_bench.proofs.change.make_changes.Goals as goal
@@ -38,7 +38,7 @@ returns-clause-follows c =
     let ls = c.commit.new.changes in
     let was : map word_run ls ≡ map (word_found es) cs = c.commit.ensures.before ∙ ap (map (word_found es)) c.as_mut_slice.ensures.value in
     let same : length ls ≡ length cs = sym (length-map ls word_run) ∙ ap length was ∙ length-map cs (word_found es) in
-    let back : take c.args.changes.len (ls ++ drop (length ls) cs) ≡ ls = ap (λ (n : ℕ). take n (ls ++ drop (length ls) cs)) c.args.changes.ok.0 ∙ written ls cs same in
+    let back : take c.args.changes.len (ls ++ drop (length ls) cs) ≡ ls = ap (λ (n : ℕ). take n (ls ++ drop (length ls) cs)) c.args.changes.ok.0 ∙ take_overwritten ls cs same in
     subst (λ (l : List Change). Follows es l fs) (sym back) (follows es fs cs ls was (subst (Stays es fs) c.as_mut_slice.ensures.value c.commit.ensures.others))
 
 pub returns-clause-last : goal.returns-clause-last
@@ -49,5 +49,5 @@ returns-clause-last c = λ s t fresh anew.
     let ls = c.commit.new.changes in
     let was : map word_run ls ≡ map (word_found es) cs = c.commit.ensures.before ∙ ap (map (word_found es)) c.as_mut_slice.ensures.value in
     let same : length ls ≡ length cs = sym (length-map ls word_run) ∙ ap length was ∙ length-map cs (word_found es) in
-    let back : take c.args.changes.len (ls ++ drop (length ls) cs) ≡ ls = ap (λ (n : ℕ). take n (ls ++ drop (length ls) cs)) c.args.changes.ok.0 ∙ written ls cs same in
+    let back : take c.args.changes.len (ls ++ drop (length ls) cs) ≡ ls = ap (λ (n : ℕ). take n (ls ++ drop (length ls) cs)) c.args.changes.ok.0 ∙ take_overwritten ls cs same in
     ap (last_changes fs) back ∙ last_is s t es fs cs ls fresh anew.run (subst (All (Now fs)) c.as_mut_slice.ensures.value c.commit.ensures.run) was

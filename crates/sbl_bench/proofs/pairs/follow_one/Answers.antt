@@ -1,7 +1,7 @@
 use Rattle.std.proofs.Common.{◌∙◌, refl, sym}
 use Rattle.sbl_semantics.specs.Outcome.{outcome_of}
 use Rattle.sbl_bench.specs.Pairs.{has}
-use Rattle.sbl_bench.proofs.Following.{exchanged, stays_followed}
+use Rattle.sbl_bench.proofs.Following.{exchange_follows, stays_followed}
 use Rattle.sbl_bench.proofs.pairs.follow_one.Goals as goal
 
 pub returns-then-is_same : goal.returns-then-is_same
@@ -10,4 +10,4 @@ returns-then-is_same c = λ q.
 
 pub returns : goal.returns
 returns c = λ q.
-    exchanged c.args.word.now (outcome_of c.args.before.now) (outcome_of c.args.now.now) (has c.args.pairs.now) (has c.exchange_pair.new.pairs) q (c.in_ok-exchange_pair.ensures q)
+    exchange_follows c.args.word.now (outcome_of c.args.before.now) (outcome_of c.args.now.now) (has c.args.pairs.now) (has c.exchange_pair.new.pairs) q (c.in_ok-exchange_pair.ensures q)

@@ -21,7 +21,7 @@ expression-loop-operator-smaller t_ c = turns.shorter (ahead c.loop-operator.cur
 
 pub expression-loop-operator-preserved : goal.expression-loop-operator-preserved
 expression-loop-operator-preserved t_ c =
-    let first : ahead c.loop-operator.cursor ≡ t.additive c.in-Additive.operator ∷ ahead c.skip.new.self = d.headed (ahead c.loop-operator.cursor) (ahead c.skip.new.self) (t.additive c.in-Additive.operator) (of_role.as_terminal (ahead c.loop-operator.cursor) (t.additive c.in-Additive.operator) refl (sym c.role.ensures ∙ c.in-Additive.is)) c.skip.ensures in
+    let first : ahead c.loop-operator.cursor ≡ t.additive c.in-Additive.operator ∷ ahead c.skip.new.self = d.head_of_drop (ahead c.loop-operator.cursor) (ahead c.skip.new.self) (t.additive c.in-Additive.operator) (of_role.as_terminal (ahead c.loop-operator.cursor) (t.additive c.in-Additive.operator) refl (sym c.role.ensures ∙ c.in-Additive.is)) c.skip.ensures in
     let last : view.NextProductView = (c.in-Additive.operator, view.view_product c.in_ok-product.field-0) in
     let more : map view.view_next_product c.push.new.self.items ≡ map view.view_next_product c.loop-operator.others.items ++ last ∷ [] = ap (λ (xs : List NextProduct). map view.view_next_product xs) c.in_ok-push.ensures.items ∙ map_push view.view_next_product c.loop-operator.others.items _ ∙ ap (λ (x : view.NextProductView). map view.view_next_product c.loop-operator.others.items ++ x ∷ []) (views.view_of_next_product (record { operator = c.in-Additive.operator; product = c.in_ok-product.field-0 })) in
     record {
@@ -34,7 +34,7 @@ product-loop-operator-smaller t_ c = turns.shorter (ahead c.loop-operator.cursor
 
 pub product-loop-operator-preserved : goal.product-loop-operator-preserved
 product-loop-operator-preserved t_ c =
-    let first : ahead c.loop-operator.cursor ≡ t.multiplicative c.in-Multiplicative.operator ∷ ahead c.skip.new.self = d.headed (ahead c.loop-operator.cursor) (ahead c.skip.new.self) (t.multiplicative c.in-Multiplicative.operator) (of_role.as_terminal (ahead c.loop-operator.cursor) (t.multiplicative c.in-Multiplicative.operator) refl (sym c.role.ensures ∙ c.in-Multiplicative.is)) c.skip.ensures in
+    let first : ahead c.loop-operator.cursor ≡ t.multiplicative c.in-Multiplicative.operator ∷ ahead c.skip.new.self = d.head_of_drop (ahead c.loop-operator.cursor) (ahead c.skip.new.self) (t.multiplicative c.in-Multiplicative.operator) (of_role.as_terminal (ahead c.loop-operator.cursor) (t.multiplicative c.in-Multiplicative.operator) refl (sym c.role.ensures ∙ c.in-Multiplicative.is)) c.skip.ensures in
     let last : view.NextFactorView = (c.in-Multiplicative.operator, view.view_factor c.in_ok-factor.field-0) in
     let more : map view.view_next_factor c.push.new.self.items ≡ map view.view_next_factor c.loop-operator.others.items ++ last ∷ [] = ap (λ (xs : List NextFactor). map view.view_next_factor xs) c.in_ok-push.ensures.items ∙ map_push view.view_next_factor c.loop-operator.others.items _ ∙ ap (λ (x : view.NextFactorView). map view.view_next_factor c.loop-operator.others.items ++ x ∷ []) (views.view_of_next_factor (record { operator = c.in-Multiplicative.operator; factor = c.in_ok-factor.field-0 })) in
     record {

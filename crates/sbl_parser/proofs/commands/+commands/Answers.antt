@@ -55,7 +55,7 @@ row-loop-joiner-smaller t_ c = turns.shorter (ahead c.loop-joiner.cursor) (ahead
 
 pub row-loop-joiner-preserved : goal.row-loop-joiner-preserved
 row-loop-joiner-preserved t_ c =
-    let first : ahead c.loop-joiner.cursor ≡ t.joiner c.in-Joiner.joiner ∷ ahead c.skip.new.self = d.headed (ahead c.loop-joiner.cursor) (ahead c.skip.new.self) (t.joiner c.in-Joiner.joiner) (of_role.as_terminal (ahead c.loop-joiner.cursor) (t.joiner c.in-Joiner.joiner) refl (sym c.role.ensures ∙ c.in-Joiner.is)) c.skip.ensures in
+    let first : ahead c.loop-joiner.cursor ≡ t.joiner c.in-Joiner.joiner ∷ ahead c.skip.new.self = d.head_of_drop (ahead c.loop-joiner.cursor) (ahead c.skip.new.self) (t.joiner c.in-Joiner.joiner) (of_role.as_terminal (ahead c.loop-joiner.cursor) (t.joiner c.in-Joiner.joiner) refl (sym c.role.ensures ∙ c.in-Joiner.is)) c.skip.ensures in
     let last : view.NextCommandView = (c.in-Joiner.joiner, view.view_command c.in_ok-command.field-0) in
     let more : map view.view_next_command c.push.new.self.items ≡ map view.view_next_command c.loop-joiner.others.items ++ last ∷ [] = ap (λ (xs : List NextCommand). map view.view_next_command xs) c.in_ok-push.ensures.items ∙ map_push view.view_next_command c.loop-joiner.others.items _ ∙ ap (λ (x : view.NextCommandView). map view.view_next_command c.loop-joiner.others.items ++ x ∷ []) (views.view_of_next_command (record { joiner = c.in-Joiner.joiner; command = c.in_ok-command.field-0 })) in
     record {
@@ -68,7 +68,7 @@ pub groups-loop-cursor-preserved : goal.groups-loop-cursor-preserved
 groups-loop-cursor-preserved t_ c =
     let now : List Terminal = ahead c.loop-cursor.cursor in
     let first : ahead c.loop-cursor.cursor ≡ t.literal (first_literal c.loop-cursor.cursor.tokens.now) ∷ drop 1 (ahead c.loop-cursor.cursor) = of_role.as_literal c.loop-cursor.cursor.tokens.now (sym c.role.ensures ∙ c.in-Literal.is) in
-    let second : ahead c.entries.new.cursor ≡ t.open_ ∷ ahead c.skip.new.self = d.headed (ahead c.entries.new.cursor) (ahead c.skip.new.self) t.open_ (of_role.as_terminal (ahead c.entries.new.cursor) t.open_ refl (sym c.role-in-Literal.ensures ∙ c.in-Open.is)) c.skip.ensures in
+    let second : ahead c.entries.new.cursor ≡ t.open_ ∷ ahead c.skip.new.self = d.head_of_drop (ahead c.entries.new.cursor) (ahead c.skip.new.self) t.open_ (of_role.as_terminal (ahead c.entries.new.cursor) t.open_ refl (sym c.role-in-Literal.ensures ∙ c.in-Open.is)) c.skip.ensures in
     let last : view.GroupView = record { first = view.view_entry c.in_ok-first.first; others = map view.view_entry c.in_ok-others.others.items; rows = view.view_rows c.in_ok-rows-in-Open.rows.items } in
     let more : map view.view_group c.push.new.self.items ≡ map view.view_group c.loop-cursor.groups.items ++ last ∷ [] = ap (λ (xs : List Group). map view.view_group xs) c.in_ok-push-in-Open.ensures.items ∙ map_push view.view_group c.loop-cursor.groups.items _ ∙ ap (λ (x : view.GroupView). map view.view_group c.loop-cursor.groups.items ++ x ∷ []) (views.view_of_group (record { first = c.in_ok-first.first; others = c.in_ok-others.others; rows = c.in_ok-rows-in-Open.rows })) in
     record {

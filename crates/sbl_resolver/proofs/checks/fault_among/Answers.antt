@@ -3,8 +3,8 @@ use Rattle.sbl_resolver.specs.OccurrenceView.{view_occurrence, view_occurrences}
 use Rattle.sbl_resolver.specs.Checks.{fault_at}
 use Rattle.sbl_resolver.specs.Subjects.{subject_of, subjects_of}
 use Rattle.sbl_resolver.specs.FirstFault.{one_more}
-use Rattle.sbl_resolver.proofs.Turns.{met_more, taken, note_in}
-use Rattle.sbl_resolver.proofs.Numbered.{stops, goes_on, counted, few}
+use Rattle.sbl_resolver.proofs.Turns.{met_more, take_push, note_in}
+use Rattle.sbl_resolver.proofs.Numbered.{stops, goes_on, subjects_length_push, few}
 use Rattle.sbl_resolver.proofs.checks.fault_among.Goals as goal
 
 pub returns-in-Some-clause-fault : goal.returns-in-Some-clause-fault
@@ -24,7 +24,7 @@ loop-index-preserved c =
     let before = view_occurrences (take i c.args.occurrences.now) in
     let is = c.fault_at.ensures all before c.requires.sites c.loop-index.invariant.met ∙ ap (λ l. fault_at all before (view_occurrence (note_in c.args.occurrences.now c.loop-index.index)) (view_occurrences l)) c.following.ensures in
     record {
-      met = rw (taken c.args.occurrences.now i c.loop-index-test.true) (met_more c.loop-index.met c.note.new.met before (view_occurrence (note_in c.args.occurrences.now i)) c.loop-index.invariant.met c.in_ok-note.ensures);
-      number = c.number_after-number.ensures ∙ ap (one_more (subject_of (view_occurrence (note_in c.args.occurrences.now i)).notice)) c.loop-index.invariant.number ∙ sym (counted c.args.occurrences.now i c.loop-index-test.true);
+      met = rw (take_push c.args.occurrences.now i c.loop-index-test.true) (met_more c.loop-index.met c.note.new.met before (view_occurrence (note_in c.args.occurrences.now i)) c.loop-index.invariant.met c.in_ok-note.ensures);
+      number = c.number_after-number.ensures ∙ ap (one_more (subject_of (view_occurrence (note_in c.args.occurrences.now i)).notice)) c.loop-index.invariant.number ∙ sym (subjects_length_push c.args.occurrences.now i c.loop-index-test.true);
       none = goes_on all c.args.occurrences.now i c.fault_at.result c.loop-index-test.true is c.in_default.is ∙ c.loop-index.invariant.none;
     }

@@ -9,7 +9,7 @@ use Rattle.sbl_sessions.specs.CommandViews.{IsAnswer, IsEditAnswer}
 use Rattle.sbl_sessions.specs.Commands.{Class, Classes, Command, Makes, Runs, Script, Stems}
 use Rattle.sbl_formats.specs.RowRecords.{classes_text, stems_text}
 use Rattle.sbl_sessions.specs.declared.replies.Reply.TheVariants as reply
-use Rattle.sbl_sessions.proofs.EditFacts.{answered}
+use Rattle.sbl_sessions.proofs.EditFacts.{answer_of_edit}
 use Rattle.sbl_sessions.proofs.ReportFacts.{report_answer}
 use Rattle.sbl_sessions.proofs.serving.answer_line.Goals as goal
 
@@ -34,7 +34,7 @@ returns-in-Limit c =
     let s = contents_of c.args.bench.now in
     let t = contents_of c.set_limit.new.self in
     let h : IsEditAnswer s (edits.Limit c.in-Limit.number) c.edit_text.result.now t =
-    subst (λ (text : List ℕ). IsEditAnswer s (edits.Limit c.in-Limit.number) text t) (sym c.edit_text.ensures) (answered c.set_limit.result s t (edits.Limit c.in-Limit.number) c.set_limit.ensures.edits) in
+    subst (λ (text : List ℕ). IsEditAnswer s (edits.Limit c.in-Limit.number) text t) (sym c.edit_text.ensures) (answer_of_edit c.set_limit.result s t (edits.Limit c.in-Limit.number) c.set_limit.ensures.edits) in
     let a : IsAnswer s (Makes (edits.Limit c.in-Limit.number)) (reply.Fixed c.edit_text.result) t = (h.0, c.edit_text.result.now, refl, h.1) in
     subst (λ (x : Command). IsAnswer s x (reply.Fixed c.edit_text.result) t) c.in-Limit.ensures a
 

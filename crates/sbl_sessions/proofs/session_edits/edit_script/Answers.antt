@@ -12,11 +12,11 @@ use Rattle.sbl_sessions.proofs.EditFacts.{bad_line, block_held, block_too_long, 
 use Rattle.sbl_sessions.proofs.session_edits.edit_script.Goals as goal
 
 -- what was found is what the line asks for
-found : (given : Result (Option Target) AllocError) (o : Option Target) (line : List ℕ) → given ≡ Ok o → FindsTarget given line → view_found o ≡ target_of line
-found given o line is finds = subst (λ (x : Result (Option Target) AllocError). FindsTarget x line) is finds
+found_target : (given : Result (Option Target) AllocError) (o : Option Target) (line : List ℕ) → given ≡ Ok o → FindsTarget given line → view_found o ≡ target_of line
+found_target given o line is finds = subst (λ (x : Result (Option Target) AllocError). FindsTarget x line) is finds
 
 pub returns-in-Ok-None : goal.returns-in-Ok-None
-returns-in-Ok-None c = λ line lines finds holds. bad_line (contents_of c.args.bench.now) line lines (found c.args.target None line (search rules) finds)
+returns-in-Ok-None c = λ line lines finds holds. bad_line (contents_of c.args.bench.now) line lines (found_target c.args.target None line (search rules) finds)
 
 -- a name that could not be kept is one that the line asks for
 unkept : (given : Result (Option Target) AllocError) (e : AllocError) (line : List ℕ) → given ≡ Err e → FindsTarget given line → is_some (target_of line) ≡ true
@@ -38,7 +38,7 @@ returns-in-Ok-whole c =
     let answer : (line : List ℕ) (lines : List (List ℕ)) → FindsTarget c.args.target line → HoldsText c.args.block lines → IsTextAnswer s (block_command line lines) c.replace.result.now t =
     λ line lines finds holds.
     let held : HasText None bytes lines = subst (λ (x : List ℕ). HasText None x lines) (sym c.deref.ensures.value) (c.in-Ok.ensures.text lines holds) in
-    block_held s t line bytes c.replace.result.now lines what (found c.args.target (Some c.in-Ok-Some.target) line is finds) held c.replace.ensures.text c.replace.ensures.bytes in
+    block_held s t line bytes c.replace.result.now lines what (found_target c.args.target (Some c.in-Ok-Some.target) line is finds) held c.replace.ensures.text c.replace.ensures.bytes in
     (answer, c.replace.utf8)
 
 pub returns-in-Err-TooLong : goal.returns-in-Err-TooLong
@@ -49,4 +49,4 @@ returns-in-Err-TooLong c = λ line lines finds holds.
     let why : c.in-Err-TooLong.field-0 ≡ TooLong = search rules in
     let long : max_script < length (made_text lines) = subst (λ (f : BlockFault). HasText (Some f) [] lines) why (c.in-Err-TooLong.ensures.fault lines holds) in
     subst (λ (x : List ℕ). IsTextAnswer s (block_command line lines) x s) (sym c.edit_text-in-Err-TooLong.ensures)
-    (block_too_long s line lines what (found c.args.target (Some c.in-Ok-Some.target) line is finds) long)
+    (block_too_long s line lines what (found_target c.args.target (Some c.in-Ok-Some.target) line is finds) long)

@@ -3,7 +3,7 @@ use Rattle.std.specs.Str.{chars}
 use Rattle.sbl_bench.specs.KeptRuns.{contents_of}
 use Rattle.sbl_bench.specs.Edits.{Edits, Remove}
 use Rattle.sbl_sessions.specs.CommandViews.{IsEditAnswer}
-use Rattle.sbl_sessions.proofs.EditFacts.{answered}
+use Rattle.sbl_sessions.proofs.EditFacts.{answer_of_edit}
 use Rattle.sbl_sessions.proofs.FirstFacts.{looks, removes_first}
 use Rattle.sbl_sessions.proofs.session_edits.remove_word.Goals as goal
 
@@ -17,4 +17,4 @@ returns c =
     subst (λ (n : ℕ). take c.first_characters-count.result c.first_characters-count.new.room ≡ take n word) room c.first_characters-count.ensures.first in
     let cut : Edits c.remove.result s (Remove (take 256 word)) t = subst (λ (w : List ℕ). Edits c.remove.result s (Remove w) t) first c.remove.ensures.edits in
     let removes : Edits c.remove.result s (Remove word) t = removes_first c.remove.result s t word (looks s.words c.words_fit.ensures word) cut in
-    subst (λ (text : List ℕ). IsEditAnswer s (Remove word) text t) (sym c.edit_text.ensures) (answered c.remove.result s t (Remove word) removes)
+    subst (λ (text : List ℕ). IsEditAnswer s (Remove word) text t) (sym c.edit_text.ensures) (answer_of_edit c.remove.result s t (Remove word) removes)

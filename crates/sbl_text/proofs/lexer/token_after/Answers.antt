@@ -3,7 +3,7 @@ use Rattle.std.specs.Str.{chars}
 use Rattle.std.proofs.lemmas.Result.{err_from_is_err_and}
 use Rattle.sbl_text.specs.Pieces.{Has}
 use Rattle.sbl_text.specs.Directives.{setting_of}
-use Rattle.sbl_text.proofs.Nexts.{after_gaps, after_piece, no_token, refused, comes}
+use Rattle.sbl_text.proofs.Nexts.{after_gaps, after_piece, no_token, no_piece_refused, comes}
 use Rattle.sbl_text.proofs.lexer.token_after.Goals as goal
 
 pub place_of-start-requires : goal.place_of-start-requires
@@ -22,7 +22,7 @@ returns-in_err-kind-in-Some c =
     let before = after_gaps (setting_of c.args.state.now) (chars c.args.source.now) (chars c.args.from.now) (chars c.cut_after.result.0.now) c.requires c.cut_after.ensures.gaps in
     let cut = rw c.in-Some.is at c.cut_after.ensures.next in
     let p = err_from_is_err_and c.from_residual-in_err-kind-in-Some.result c.from_residual-in_err-kind-in-Some.ensures.1 in
-    rw (p.1, p.2) (refused c.args.state.now (chars c.args.source.now) (chars c.args.from.now) (chars c.cut_after.result.0.now) (chars c.in-Some.rest.now) (chars c.prefix_before-text.result.now) c.in-Some.shape
+    rw (p.1, p.2) (no_piece_refused c.args.state.now (chars c.args.source.now) (chars c.args.from.now) (chars c.cut_after.result.0.now) (chars c.in-Some.rest.now) (chars c.prefix_before-text.result.now) c.in-Some.shape
     c.place_of-start.result c.in_err-kind-in-Some.field-0.0 before c.place_of-start.ensures.place c.cut_after.ensures.gaps cut.1 c.prefix_before-text.ensures.characters c.in_err-kind-in-Some.ensures)
 
 pub meaning-requires-clause-has : goal.meaning-requires-clause-has

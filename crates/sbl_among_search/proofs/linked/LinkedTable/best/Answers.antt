@@ -11,8 +11,8 @@ use Rattle.sbl_among_search.proofs.linked.LinkedTable.best.Goals as goal
 
 -- ---- what the table keeps, of its slices
 
-keyed : (rows rs : List Row) (keys ks : List ℕ) → ∥ AreKeys (texts_of rows) keys ∥₁ → rs ≡ rows → ks ≡ keys → AreKeys (texts_of rs) ks
-keyed rows rs keys ks are same_rows same_keys = ∥∥₁_elim are (Prim.hlevel props) (λ a. rw same_rows (rw same_keys a))
+keys_of_rows : (rows rs : List Row) (keys ks : List ℕ) → ∥ AreKeys (texts_of rows) keys ∥₁ → rs ≡ rows → ks ≡ keys → AreKeys (texts_of rs) ks
+keys_of_rows rows rs keys ks are same_rows same_keys = ∥∥₁_elim are (Prim.hlevel props) (λ a. rw same_rows (rw same_keys a))
 
 down : (strings : List (List ℕ)) (rows : List Row) (links ls : List (Option ℕ)) → ∥ IsLinked strings rows links ∥₁ → ls ≡ links → GoDown ls
 down strings rows links ls linked same = ∥∥₁_elim linked (Prim.hlevel props) (λ l. rw same l.down)
@@ -24,7 +24,7 @@ rise : (strings : List (List ℕ)) (rows rs : List Row) (links : List (Option �
 rise strings rows rs links linked same = ∥∥₁_elim linked (Prim.hlevel props) (λ l. rw same l.rows_are.rise)
 
 pub best_of-requires-clause-keyed : goal.best_of-requires-clause-keyed
-best_of-requires-clause-keyed c = keyed c.args.self.now.rows.items c.deref.result.now c.args.self.now.keys.items c.deref-in-Forward.result.now c.args.self.now.keyed c.deref.ensures.value c.deref-in-Forward.ensures.value
+best_of-requires-clause-keyed c = keys_of_rows c.args.self.now.rows.items c.deref.result.now c.args.self.now.keys.items c.deref-in-Forward.result.now c.args.self.now.keyed c.deref.ensures.value c.deref-in-Forward.ensures.value
 
 pub best_of-requires-clause-down : goal.best_of-requires-clause-down
 best_of-requires-clause-down c = down (strings_of c.args.self.now) c.args.self.now.rows.items c.args.self.now.links.items c.deref-in-Forward-2.result.now c.args.self.now.linked c.deref-in-Forward-2.ensures.value
@@ -36,7 +36,7 @@ pub best_of-requires-clause-rise : goal.best_of-requires-clause-rise
 best_of-requires-clause-rise c = rise (strings_of c.args.self.now) c.args.self.now.rows.items c.deref.result.now c.args.self.now.links.items c.args.self.now.linked c.deref.ensures.value
 
 pub best_of-requires-in-Backward-clause-keyed : goal.best_of-requires-in-Backward-clause-keyed
-best_of-requires-in-Backward-clause-keyed c = keyed c.args.self.now.rows.items c.deref-in-Backward.result.now c.args.self.now.keys.items c.deref-in-Backward-2.result.now c.args.self.now.keyed c.deref-in-Backward.ensures.value c.deref-in-Backward-2.ensures.value
+best_of-requires-in-Backward-clause-keyed c = keys_of_rows c.args.self.now.rows.items c.deref-in-Backward.result.now c.args.self.now.keys.items c.deref-in-Backward-2.result.now c.args.self.now.keyed c.deref-in-Backward.ensures.value c.deref-in-Backward-2.ensures.value
 
 pub best_of-requires-in-Backward-clause-down : goal.best_of-requires-in-Backward-clause-down
 best_of-requires-in-Backward-clause-down c = down (strings_of c.args.self.now) c.args.self.now.rows.items c.args.self.now.links.items c.deref-in-Backward-3.result.now c.args.self.now.linked c.deref-in-Backward-3.ensures.value

@@ -4,7 +4,7 @@ use Rattle.std.specs.List.{starts_with}
 use Rattle.std.proofs.lemmas.Option.{slice_get-get_or}
 use Rattle.sbl_semantics.specs.Fitting.{read_as}
 use Rattle.sbl_among_search.specs.Linked.{Row, StandsAt, texts_of}
-use Rattle.sbl_among_search.proofs.Chain.{down_below, down_row, found, goes_on, some_at, stand_at}
+use Rattle.sbl_among_search.proofs.Chain.{down_below, down_row, match_stands_at, goes_on, some_at, stand_at}
 use Rattle.sbl_among_search.proofs.Sorted.{part_at}
 use Rattle.sbl_among_search.proofs.linked.links.follow.Goals as goal
 
@@ -22,7 +22,7 @@ returns-then-is_shorter_prefix-clause-last c links stand =
     let yes = c.if-is_shorter_prefix.ensures in
     let prefix : starts_with nat_eq x r.0.items ≡ true = ap (λ y. starts_with nat_eq x y) (sym c.deref.ensures.value) ∙ yes.0 in
     let short : length r.0.items < c.args.below = omega (arith, yes.1, ap length c.deref.ensures.value) in
-    found (texts_of rows) x c.args.below row r.0.items st at prefix short
+    match_stands_at (texts_of rows) x c.args.below row r.0.items st at prefix short
 
 pub loop-at-smaller : goal.loop-at-smaller
 loop-at-smaller c =

@@ -12,7 +12,7 @@ pub put_in_rows-loop-row-preserved : goal.put_in_rows-loop-row-preserved
 put_in_rows-loop-row-preserved t_ c =
     let prefix = p.at_prefix view.view_row c.args.rows.now.items c.deref-row-items.result.now c.loop-row.row-index c.row-item.result c.deref-row-items.ensures.value c.loop-row-test.true c.row-item.is in
     record {
-      put = p.rows_put (map view.view_row c.loop-row.copies.items) (map view.view_row c.push.new.self.items) (view.view_row c.in_ok-copy.copy) (view.view_row c.row-item.result) _ _ _ c.loop-row.rest c.in_ok-copy.after (view.view_among c.args.self.now.among.now) (p.pushed view.view_row c.loop-row.copies.items c.push.new.self.items c.in_ok-copy.copy c.in_ok-push.ensures.items) c.in_ok-copy.ensures.put c.in_ok-copy.ensures.rest prefix c.loop-row.invariant.put;
+      put = p.rows_put (map view.view_row c.loop-row.copies.items) (map view.view_row c.push.new.self.items) (view.view_row c.in_ok-copy.copy) (view.view_row c.row-item.result) _ _ _ c.loop-row.rest c.in_ok-copy.after (view.view_among c.args.self.now.among.now) (p.map_appended view.view_row c.loop-row.copies.items c.push.new.self.items c.in_ok-copy.copy c.in_ok-push.ensures.items) c.in_ok-copy.ensures.put c.in_ok-copy.ensures.rest prefix c.loop-row.invariant.put;
       rest = p.rows_left (view.view_row c.row-item.result) _ _ _ c.loop-row.rest c.in_ok-copy.after c.in_ok-copy.ensures.rest prefix c.loop-row.invariant.rest;
     }
 
@@ -24,7 +24,7 @@ put_in_rows-returns-clause-put t_ c =
 pub put_after-loop-joined-preserved : goal.put_after-loop-joined-preserved
 put_after-loop-joined-preserved t_ c =
     let prefix = p.at_prefix view.view_next_command c.args.others.now.items c.deref-joined-items.result.now c.loop-joined.joined-index c.joined-item.result c.deref-joined-items.ensures.value c.loop-joined-test.true c.joined-item.is in
-    let now = p.pushed view.view_next_command c.loop-joined.copies.items c.push.new.self.items _ c.in_ok-push.ensures.items in
+    let now = p.map_appended view.view_next_command c.loop-joined.copies.items c.push.new.self.items _ c.in_ok-push.ensures.items in
     let seen = views.seen_next_command c.joined-item.result in
     let whole = prefix ∙ ap (λ (y : view.NextCommandView). y ∷ map view.view_next_command (drop (c.loop-joined.joined-index + 1) c.args.others.now.items)) seen in
     record {
@@ -40,7 +40,7 @@ put_after-returns-clause-put t_ c =
 pub put_in_groups-loop-group-preserved : goal.put_in_groups-loop-group-preserved
 put_in_groups-loop-group-preserved t_ c =
     let prefix = p.at_prefix view.view_group c.args.groups.now.items c.deref-group-items.result.now c.loop-group.group-index c.group-item.result c.deref-group-items.ensures.value c.loop-group-test.true c.group-item.is in
-    let now = p.pushed view.view_group c.loop-group.copies.items c.push.new.self.items _ c.in_ok-push.ensures.items in
+    let now = p.map_appended view.view_group c.loop-group.copies.items c.push.new.self.items _ c.in_ok-push.ensures.items in
     let one : view.GroupView = record { first = view.view_entry (out-Group c.group-item.result).first; others = map view.view_entry (out-Group c.group-item.result).others.items; rows = view.view_rows (out-Group c.group-item.result).rows.items } in
     let whole = prefix ∙ ap (λ (y : view.GroupView). y ∷ map view.view_group (drop (c.loop-group.group-index + 1) c.args.groups.now.items)) (views.seen_group c.group-item.result) in
     let same = views.view_of_group (record { first = c.in_ok-first.first; others = c.in_ok-others.others; rows = c.in_ok-rows.rows }) ∙ p.same_group _ _ _ _ _ _ c.in_ok-first.ensures c.in_ok-others.ensures c.in_ok-rows.ensures.put in

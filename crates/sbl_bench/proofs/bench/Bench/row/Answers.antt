@@ -7,7 +7,7 @@ use Rattle.sbl_semantics.specs.declared.outcome.Outcome.{Outcome}
 use Rattle.sbl_semantics.specs.Outcome.{outcome_of}
 use Rattle.sbl_bench.specs.KeptRuns.{setting_of, KeptRuns}
 use Rattle.sbl_bench.specs.Rows.{Row, rows_of}
-use Rattle.sbl_bench.proofs.MapEntries.{shown, rows_shown}
+use Rattle.sbl_bench.proofs.MapEntries.{row_shown, rows_shown}
 use Rattle.sbl_bench.proofs.bench.Bench.row.Goals as goal
 
 -- a word and its outcome, as a row
@@ -19,7 +19,7 @@ returns c =
     let es = c.self.inside.traces.entries in
     ap (λ (o : Outcome). row_with c.as_slice.result.now o) c.outcome.ensures
     ∙ ap (λ (w : List ℕ). row_with w c.in_ok-word.last.now.outcome) c.as_slice.ensures.value
-    ∙ ap (option_map shown) c.in_ok-word.ensures.entry
-    ∙ sym (slice_get-map shown es c.args.i)
+    ∙ ap (option_map row_shown) c.in_ok-word.ensures.entry
+    ∙ sym (slice_get-map row_shown es c.args.i)
     ∙ ap (λ (rows : List Row). slice_get rows c.args.i) (rows_shown (under (source_of c.self.inside.script) c.self.inside.limit) es c.self.invariant.1.fresh)
     ∙ ap (λ (k : KeptRuns). slice_get (rows_of (setting_of k) k.words) c.args.i) c.self.view_is

@@ -3,8 +3,8 @@ use Rattle.sbl_char_class.specs.CharacterClasses.{members}
 use Rattle.sbl_char_class.specs.Terms.{class_at}
 use Rattle.sbl_semantics.specs.declared.fault.RunFault.TheVariants.{Steps}
 use Rattle.sbl_semantics.specs.State.{State, Stops, ahead, move_cursor, room}
-use Rattle.sbl_interpreter.specs.Seeking.{count_before, sought}
-use Rattle.sbl_interpreter.proofs.Seeking.{count_in_room, seeks_is, sought_short}
+use Rattle.sbl_interpreter.specs.Seeking.{count_before, seek_ending}
+use Rattle.sbl_interpreter.proofs.Seeking.{count_in_room, seeks_is, seek_ending_short}
 use Rattle.sbl_interpreter.proofs.state.State.seek_touched.Goals as goal
 
 pub pass_over-requires : goal.pass_over-requires
@@ -32,8 +32,8 @@ returns-then-steps-before-clause-follows c =
     let n : before ≡ count_before c.args.wanted class (ahead m s) = c.count_before-before.ensures ∙ ap (count_before c.args.wanted class) c.part_ahead-part.ensures.value in
     let short : s.steps ≤ before = omega (arith, e, c.if-steps-before.true) in
     seeks_is past c.args.wanted class c.args.number m s l c.requires
-    ∙ ap (λ n. sought past m s.steps n (room m s) s) (sym n)
-    ∙ sought_short past m s.steps before (room m s) s short
+    ∙ ap (λ n. seek_ending past m s.steps n (room m s) s) (sym n)
+    ∙ seek_ending_short past m s.steps before (room m s) s short
     ∙ ap (λ n. Stops Steps (record (move_cursor m n s) { steps = 0 })) (sym e)
     ∙ ap (Stops Steps) (sym c.pass_over.ensures)
 
@@ -59,5 +59,5 @@ returns-clause-follows c =
     let l : s.cursor ≤ length s.text = omega (arith, cursor, len, c.self.invariant.cursor_in) in
     let n = c.count_before-before.ensures ∙ ap (count_before c.args.wanted class) c.part_ahead-part.ensures.value in
     seeks_is past c.args.wanted class c.args.number m s l c.requires
-    ∙ ap (λ n. sought past m s.steps n (room m s) s) (sym n)
+    ∙ ap (λ n. seek_ending past m s.steps n (room m s) s) (sym n)
     ∙ c.seek_over.ensures

@@ -147,7 +147,7 @@ returns-then-has_as_many_amongs-clause-script c =
     let new = c.in_ok-new.ensures ∙ ap (λ (r : RowView). routine n r.0 r.1) c.in_ok-body.ensures.put in
     let items = c.in_ok-script.ensures.items ∙ ap (λ (y : Plain). items_with (defines kinds.Routine n) y s.items) new in
     let counted : h.keeps_count x ≡ true = search rules in
-    edited_out s (among n k) text u (h, there, editing.substituted s u h text ts x true c.in_ok-found.ensures.tokens offered read items c.in_ok-script.ensures.external c.in_ok-script.ensures.well_declared counted)
+    edited_out s (among n k) text u (h, there, editing.substitution_of s u h text ts x true c.in_ok-found.ensures.tokens offered read items c.in_ok-script.ensures.external c.in_ok-script.ensures.well_declared counted)
 
 pub returns-clause-fault : goal.returns-clause-fault
 returns-clause-fault c =
@@ -170,7 +170,7 @@ returns-clause-fault c =
     let new = c.in_ok-new.ensures ∙ ap (λ (r : RowView). routine n r.0 r.1) c.in_ok-body.ensures.put in
     let items = c.in_ok-script.ensures.items ∙ ap (λ (y : Plain). items_with (defines kinds.Routine n) y s.items) new in
     let counted : h.keeps_count x ≡ false = search rules in
-    inr (fault_out s (among n k) text edits.AmongCount (h, there, u, editing.substituted s u h text ts x false c.in_ok-found.ensures.tokens offered read items c.in_ok-script.ensures.external c.in_ok-script.ensures.well_declared counted))
+    inr (fault_out s (among n k) text edits.AmongCount (h, there, u, editing.substitution_of s u h text ts x false c.in_ok-found.ensures.tokens offered read items c.in_ok-script.ensures.external c.in_ok-script.ensures.well_declared counted))
 
 pub returns-in_err-found-clause-missing : goal.returns-in_err-found-clause-missing
 returns-in_err-found-clause-missing c =

@@ -112,4 +112,4 @@ returns-clause-script c =
     let read = subst (λ (xs : List Token). IsReadAs texts.body (lexemes (map placed_of xs)) x) c.deref-2.ensures.value c.in_ok-body.ensures.tree in
     let u = source_of c.in_ok-script.script in
     let items = c.in_ok-script.ensures.items ∙ ap (λ (y : Plain). items_with (defines kinds.Routine n) y s.items) c.in_ok-new.ensures in
-    edited_out s (body n) text u (h, there, editing.substituted s u h text ts x true c.in_ok-found.ensures.tokens offered read items c.in_ok-script.ensures.external c.in_ok-script.ensures.well_declared refl)
+    edited_out s (body n) text u (h, there, editing.substitution_of s u h text ts x true c.in_ok-found.ensures.tokens offered read items c.in_ok-script.ensures.external c.in_ok-script.ensures.well_declared refl)

@@ -55,8 +55,8 @@ seek_any-returns t c =
     (λ p levels m ys s. ap (λ i. flow p levels tables i m ys s) is ∙ flow_seek p levels tables m ys s c.args.cost c.args.past body o.next o.fail) n))
     c.emit.ensures
 
-pub counted-returns-in_ok-next : goal.counted-returns-in_ok-next
-counted-returns-in_ok-next t c =
+pub iterate-returns-in_ok-next : goal.iterate-returns-in_ok-next
+iterate-returns-in_ok-next t c =
     let e = c.args.exits.now in
     let o = c.in_ok-next.field-0 in
     let body = c.in_ok-body.body in
@@ -70,8 +70,8 @@ counted-returns-in_ok-next t c =
     (λ p levels m ys s. ap (λ i. flow p levels tables i m ys s) is ∙ flow_at_least p levels tables m ys s c.args.cost c.in_ok-count.count body o.next o.fail ∙ ap (λ a. then_on (pays c.args.cost s) (λ u. after (pay_first (at_least_of a (alone (flow p levels tables body.value))) m u) (flow p levels tables o.next.value m ys) (flow p levels tables o.fail.value m ys))) (ap view_number c.in_ok-count.ensures.ok ∙ c.in_ok-copy.ensures)) n)))
     c.emit.ensures
 
-pub counted-returns-in_ok-next-2 : goal.counted-returns-in_ok-next-2
-counted-returns-in_ok-next-2 t c =
+pub iterate-returns-in_ok-next-2 : goal.iterate-returns-in_ok-next-2
+iterate-returns-in_ok-next-2 t c =
     let e = c.args.exits.now in
     let o = c.in_ok-next-2.field-0 in
     let body = c.in_ok-body.body in
@@ -150,14 +150,14 @@ fail-returns t c =
     (failing tables run c.in_ok-more.field-0 c.args.slot e.next.value e.fail.value c.in_ok-clone.field-0.value c.in_ok-clone-2.field-0.value made.value c.in_ok-clone.ensures.cases c.in_ok-clone-2.ensures.cases (h tables)))
     c.command.ensures
 
-pub wrapped-returns : goal.wrapped-returns
-wrapped-returns t c =
+pub wrap-returns : goal.wrap-returns
+wrap-returns t c =
     let e = c.args.exits.now in
     let place = c.in_ok-place.place in
     let x = place.exits in
     let t' = c.args.after_t in
     let f' = c.args.after_f in
-    IfOk-weaker c.saved.result _ _
+    IfOk-weaker c.save_before.result _ _
     (λ made h. λ tables.
     let run = λ (p : programs.Program) (levels : ℕ). runs p levels (view_node tables c.args.inner.now) in
     one_step tables (λ p levels. wrapped_of (way_does t') (way_does f') (run p levels)) c.args.cost c.args.slot e.next.value e.fail.value made.value
@@ -165,18 +165,18 @@ wrapped-returns t c =
     (λ entry saves.
     saving tables run (way_does t') (way_does f') place.cost place.slot x.next.value x.fail.value c.in_ok-way.field-0.value c.in_ok-way-2.field-0.value c.in_ok-entry.entry.value entry c.in_ok-place.ensures.0 saves (c.in_ok-entry.ensures tables)
     (c.in_ok-way.ensures tables) (c.in_ok-way-2.ensures tables))))
-    c.saved.ensures
+    c.save_before.ensures
 
-pub joined-returns-in-Or : goal.joined-returns-in-Or
-joined-returns-in-Or t c =
+pub exits_before-returns-in-Or : goal.exits_before-returns-in-Or
+exits_before-returns-in-Or t c =
     λ tables exits others row.
     let o = view_next_command tables c.args.other.now in
     rest_or tables c.args.slot exits c.args.rest.now (record { next = c.in_ok-clone-in-Or.field-0; fail = c.in_ok-back.back }) o others c.in_ok-entry.entry.value c.in_ok-back.back.value (view_joiner tables c.args.other.now ∙ c.in-Or.is)
     (subst (λ n. PerformsAt tables (λ p levels. runs p levels n) 0 c.args.slot c.args.rest.now.next.value c.args.rest.now.fail.value c.in_ok-entry.entry.value) (sym (view_command tables c.args.other.now)) (c.in_ok-entry.ensures tables))
     c.in_ok-back.ensures c.in_ok-clone-in-Or.ensures.cases refl row
 
-pub joined-returns : goal.joined-returns
-joined-returns t c =
+pub exits_before-returns : goal.exits_before-returns
+exits_before-returns t c =
     λ tables exits others row.
     let o = view_next_command tables c.args.other.now in
     rest_and tables c.args.slot exits c.args.rest.now (record { next = c.in_ok-back.back; fail = c.in_ok-clone-in-And.field-0 }) o others c.in_ok-entry.entry.value c.in_ok-back.back.value (view_joiner tables c.args.other.now ∙ c.in-And.is)
@@ -428,33 +428,33 @@ pub command-returns-in-Not : goal.command-returns-in-Not
 command-returns-in-Not t c =
     let e = c.args.exits.now in
     let node = c.args.node.now in
-    IfOk-weaker c.wrapped.result _ _
+    IfOk-weaker c.wrap.result _ _
     (λ made h. λ tables. arm tables (λ p levels. not_of (runs p levels (view_node tables c.deref-in-Not.result.now))) node (Not c.in-Not.inner) c.args.cost c.args.slot e.next.value e.fail.value made.value c.in-Not.is (λ p levels m s. not_does tables p levels c.in-Not.inner m s ∙ ap (λ y. not_of (runs p levels (view_node tables y)) m s) (sym c.deref-in-Not.ensures)) (h tables))
-    c.wrapped.ensures
+    c.wrap.ensures
 
 pub command-returns-in-Test : goal.command-returns-in-Test
 command-returns-in-Test t c =
     let e = c.args.exits.now in
     let node = c.args.node.now in
-    IfOk-weaker c.wrapped-in-Test.result _ _
+    IfOk-weaker c.wrap-in-Test.result _ _
     (λ made h. λ tables. arm tables (λ p levels. test_of (runs p levels (view_node tables c.deref-in-Test.result.now))) node (Test c.in-Test.inner) c.args.cost c.args.slot e.next.value e.fail.value made.value c.in-Test.is (λ p levels m s. test_does tables p levels c.in-Test.inner m s ∙ ap (λ y. test_of (runs p levels (view_node tables y)) m s) (sym c.deref-in-Test.ensures)) (h tables))
-    c.wrapped-in-Test.ensures
+    c.wrap-in-Test.ensures
 
 pub command-returns-in-Try : goal.command-returns-in-Try
 command-returns-in-Try t c =
     let e = c.args.exits.now in
     let node = c.args.node.now in
-    IfOk-weaker c.wrapped-in-Try.result _ _
+    IfOk-weaker c.wrap-in-Try.result _ _
     (λ made h. λ tables. arm tables (λ p levels. try_of (runs p levels (view_node tables c.deref-in-Try.result.now))) node (Try c.in-Try.inner) c.args.cost c.args.slot e.next.value e.fail.value made.value c.in-Try.is (λ p levels m s. try_does tables p levels c.in-Try.inner m s ∙ ap (λ y. try_of (runs p levels (view_node tables y)) m s) (sym c.deref-in-Try.ensures)) (h tables))
-    c.wrapped-in-Try.ensures
+    c.wrap-in-Try.ensures
 
 pub command-returns-in-Do : goal.command-returns-in-Do
 command-returns-in-Do t c =
     let e = c.args.exits.now in
     let node = c.args.node.now in
-    IfOk-weaker c.wrapped-in-Do.result _ _
+    IfOk-weaker c.wrap-in-Do.result _ _
     (λ made h. λ tables. arm tables (λ p levels. do_of (runs p levels (view_node tables c.deref-in-Do.result.now))) node (Do c.in-Do.inner) c.args.cost c.args.slot e.next.value e.fail.value made.value c.in-Do.is (λ p levels m s. do_does tables p levels c.in-Do.inner m s ∙ ap (λ y. do_of (runs p levels (view_node tables y)) m s) (sym c.deref-in-Do.ensures)) (h tables))
-    c.wrapped-in-Do.ensures
+    c.wrap-in-Do.ensures
 
 pub command-returns-in-Fail : goal.command-returns-in-Fail
 command-returns-in-Fail t c =
@@ -500,17 +500,17 @@ pub command-returns-in-Loop : goal.command-returns-in-Loop
 command-returns-in-Loop t c =
     let e = c.args.exits.now in
     let node = c.args.node.now in
-    IfOk-weaker c.counted.result _ _
+    IfOk-weaker c.iterate.result _ _
     (λ made h. λ tables. arm tables (λ p levels. loop_of (view_number c.in-Loop.count) (runs p levels (view_node tables c.deref-in-Loop.result.now))) node (Loop c.in-Loop.count c.in-Loop.inner) c.args.cost c.args.slot e.next.value e.fail.value made.value c.in-Loop.is (λ p levels m s. loop_does tables p levels c.in-Loop.count c.in-Loop.inner m s ∙ ap (λ y. loop_of (view_number c.in-Loop.count) (runs p levels (view_node tables y)) m s) (sym c.deref-in-Loop.ensures)) (h tables c.args.slot))
-    c.counted.ensures
+    c.iterate.ensures
 
 pub command-returns-in-AtLeast : goal.command-returns-in-AtLeast
 command-returns-in-AtLeast t c =
     let e = c.args.exits.now in
     let node = c.args.node.now in
-    IfOk-weaker c.counted-in-AtLeast.result _ _
+    IfOk-weaker c.iterate-in-AtLeast.result _ _
     (λ made h. λ tables. arm tables (λ p levels. at_least_of (view_number c.in-AtLeast.count) (runs p levels (view_node tables c.deref-in-AtLeast.result.now))) node (AtLeast c.in-AtLeast.count c.in-AtLeast.inner) c.args.cost c.args.slot e.next.value e.fail.value made.value c.in-AtLeast.is (λ p levels m s. atleast_does tables p levels c.in-AtLeast.count c.in-AtLeast.inner m s ∙ ap (λ y. at_least_of (view_number c.in-AtLeast.count) (runs p levels (view_node tables y)) m s) (sym c.deref-in-AtLeast.ensures)) (h tables c.args.slot))
-    c.counted-in-AtLeast.ensures
+    c.iterate-in-AtLeast.ensures
 
 pub command-returns-in-Call : goal.command-returns-in-Call
 command-returns-in-Call t c =
@@ -570,7 +570,7 @@ command-returns-in_ok-entry-in-Row t c =
     let rest = c.in_ok-rest-in-Row.rest in
     let own = c.in_ok-own-in-Row.own in
     let some : length others ≡ own = search rules in
-    IfOk-weaker c.saved.result _ _
+    IfOk-weaker c.save_before.result _ _
     (λ made h. λ tables.
     let run = λ (p : programs.Program) (levels : ℕ). runs p levels (view_node tables first) in
     let os = map (view_next_command tables) others in
@@ -582,4 +582,4 @@ command-returns-in_ok-entry-in-Row t c =
     (λ p levels m s. ap (λ k. then_on (pays k s) (d p levels m)) (sym many) ∙ after_after (pay s.steps s) (pays (length os - 1)) (Signals false) (d p levels m) (Signals false))
     (h tables d own c.args.slot c.in_ok-place-in-Row.ensures
     (λ entry saves. saving_row tables run os place.cost place.slot place.exits rest c.in_ok-entry-in-Row.entry.value entry c.in_ok-place-in-Row.ensures.0 saves (c.in_ok-entry-in-Row.ensures tables) (c.in_ok-rest-in-Row.ensures tables)))))
-    c.saved.ensures
+    c.save_before.ensures

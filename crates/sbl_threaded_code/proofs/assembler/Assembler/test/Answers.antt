@@ -5,7 +5,7 @@ use Rattle.sbl_program.specs.ProgramOf.{view_action}
 use Rattle.sbl_program.specs.declared.action.Action.TheVariants.{Match}
 use Rattle.sbl_interpreter.specs.Actions.{acts, test_grouping}
 use Rattle.sbl_semantics.specs.Moves.{match}
-use Rattle.sbl_threaded_code.proofs.PerformingAt.{anywhere, tested, same_meaning_at}
+use Rattle.sbl_threaded_code.proofs.PerformingAt.{anywhere, performs_test, same_meaning_at}
 use Rattle.sbl_threaded_code.proofs.assembler.Assembler.test.Goals as goal
 
 pub returns-in_default : goal.returns-in_default
@@ -37,7 +37,7 @@ returns-in-Literal c =
     (λ made h. λ tables.
     same_meaning_at tables (λ p levels m s. match c.deref.result.now m s) (λ p levels. acts p.groupings (view_action c.args.action.now)) c.args.cost c.args.slot e.next.value e.fail.value made.value
     (λ p levels m s. ap (λ cs. match cs m s) c.deref.ensures.value ∙ ap (λ x. acts p.groupings (view_action (Match x)) m s) (sym c.in-Literal.is) ∙ ap (λ a. acts p.groupings (view_action a) m s) (sym c.in-Match.is))
-    (tested tables (λ p levels m s. match c.deref.result.now m s) c.args.cost c.args.slot e.next.value e.fail.value stay made.value c.in-Some.ensures (h tables)))
+    (performs_test tables (λ p levels m s. match c.deref.result.now m s) c.args.cost c.args.slot e.next.value e.fail.value stay made.value c.in-Some.ensures (h tables)))
     c.test_literal.ensures
 
 pub returns-in-Grouping : goal.returns-in-Grouping
@@ -49,7 +49,7 @@ returns-in-Grouping c =
     (λ made h. λ tables.
     same_meaning_at tables (λ p levels m s. test_grouping true (class_at p.groupings n) n m s) (λ p levels. acts p.groupings (view_action c.args.action.now)) c.args.cost c.args.slot e.next.value e.fail.value made.value
     (λ p levels m s. ap (λ a. acts p.groupings (view_action a) m s) (sym c.in-Grouping.is))
-    (tested tables (λ p levels m s. test_grouping true (class_at p.groupings n) n m s) c.args.cost c.args.slot e.next.value e.fail.value stay made.value c.in-Some.ensures (h tables)))
+    (performs_test tables (λ p levels m s. test_grouping true (class_at p.groupings n) n m s) c.args.cost c.args.slot e.next.value e.fail.value stay made.value c.in-Some.ensures (h tables)))
     c.test_class.ensures
 
 pub returns-in-NonGrouping : goal.returns-in-NonGrouping
@@ -61,5 +61,5 @@ returns-in-NonGrouping c =
     (λ made h. λ tables.
     same_meaning_at tables (λ p levels m s. test_grouping false (class_at p.groupings n) n m s) (λ p levels. acts p.groupings (view_action c.args.action.now)) c.args.cost c.args.slot e.next.value e.fail.value made.value
     (λ p levels m s. ap (λ a. acts p.groupings (view_action a) m s) (sym c.in-NonGrouping.is))
-    (tested tables (λ p levels m s. test_grouping false (class_at p.groupings n) n m s) c.args.cost c.args.slot e.next.value e.fail.value stay made.value c.in-Some.ensures (h tables)))
+    (performs_test tables (λ p levels m s. test_grouping false (class_at p.groupings n) n m s) c.args.cost c.args.slot e.next.value e.fail.value stay made.value c.in-Some.ensures (h tables)))
     c.test_class-in-NonGrouping.ensures

@@ -2,7 +2,7 @@
 use Rattle.std.proofs.Common.{◌≡◌, ◌+◌, true, false, Ok, Err, refl, ◌<◌, [], ◌∷◌, ◌++◌, ◌≤◌, sym, ap, ◌∙◌, arith, rules, append_assoc}
 use Rattle.std.specs.Prelude.{slice_get, ◌-◌}
 use Rattle.sbl_interpreter.specs.Endings.{Follows}
-use Rattle.sbl_interpreter.proofs.Arms.{by_fault, follows_at, one_more, one_time, stops_at, time_stops, halted, called, leave_signals, leave_halts}
+use Rattle.sbl_interpreter.proofs.Arms.{by_fault, follows_at, one_more, one_time, stops_at, time_stops, tries_halt, calls_routine, leave_signals, leave_halts}
 use Rattle.sbl_semantics.specs.State.{Signals}
 use Rattle.sbl_program.specs.ProgramOf.{program_of, view_number}
 use Rattle.sbl_semantics.specs.Control.{times, count_of, back_in, enter}
@@ -45,7 +45,7 @@ run_search-returns-in-Err-clause-follows g t c =
     let call = calls (program_of (g.T.Tables.listed c.args.self.now.tables.now) c.args.self.now.code.now) c.args.self.now.levels in
     let o = one_more call c.args.among es c.args.self.now.mode s0 inv.1 c.in-Some.i c.loop-place.state c.loop-place.place inv.3 c.in-Some.is in
     let follow = tries call c.args.among es c.args.self.now.mode s0 o.0 in
-    halted c.in-Err.halt c.try_string.new.state (try_one call c.args.among (slice_get es c.in-Some.i) c.args.self.now.mode s0 c.loop-place.state follow) (follow c.try_string.new.state) _ (c.in-Err.ensures.tried s0 follow c.saved_cursor-from.ensures.value) (sym o.2 ∙ inv.4)
+    tries_halt c.in-Err.halt c.try_string.new.state (try_one call c.args.among (slice_get es c.in-Some.i) c.args.self.now.mode s0 c.loop-place.state follow) (follow c.try_string.new.state) _ (c.in-Err.ensures.tried s0 follow c.saved_cursor-from.ensures.value) (sym o.2 ∙ inv.4)
 
 pub run_search-returns-in-Ok-true-clause-follows : goal.run_search-returns-in-Ok-true-clause-follows
 run_search-returns-in-Ok-true-clause-follows g t c =
@@ -69,7 +69,7 @@ run_call-returns-in_err-signal-in-Some-clause-follows g t c =
     let new = c.run_from.new.state in
     let some : 0 < levels = omega (arith, c.if-self-eq0.false) in
     let is = c.in-Some.ensures T in
-    let q = called p levels c.args.number m s is.0 some is.1 in
+    let q = calls_routine p levels c.args.number m s is.0 some is.1 in
     let entered : c.enter.new.self ≡ enter c.args.number code.amongs s = c.in_ok-kept-in-Some.ensures.entered in
     let k = ap (λ x. alone (flow p (levels - 1) T x) m c.enter.new.self) c.deref.ensures ∙ ap (alone (flow p (levels - 1) T code.first.value) m) (entered ∙ ap (λ n. enter c.args.number n s) is.2.amongs) ∙ is.2.does p (levels - 1) m (enter c.args.number is.0.amongs s) in
     let body = runs p (levels - 1) is.0.body m (enter c.args.number is.0.amongs s) in
@@ -89,7 +89,7 @@ run_call-returns-in_ok-leave-in-Some-clause-follows g t c =
     let new = c.run_from.new.state in
     let some : 0 < levels = omega (arith, c.if-self-eq0.false) in
     let is = c.in-Some.ensures T in
-    let q = called p levels c.args.number m s is.0 some is.1 in
+    let q = calls_routine p levels c.args.number m s is.0 some is.1 in
     let entered : c.enter.new.self ≡ enter c.args.number code.amongs s = c.in_ok-kept-in-Some.ensures.entered in
     let k = ap (λ x. alone (flow p (levels - 1) T x) m c.enter.new.self) c.deref.ensures ∙ ap (alone (flow p (levels - 1) T code.first.value) m) (entered ∙ ap (λ n. enter c.args.number n s) is.2.amongs) ∙ is.2.does p (levels - 1) m (enter c.args.number is.0.amongs s) in
     let body = runs p (levels - 1) is.0.body m (enter c.args.number is.0.amongs s) in

@@ -4,7 +4,7 @@ use Rattle.sbl_semantics.specs.Control.{pay_first}
 use Rattle.sbl_threaded_code.specs.Flow.{flow, alone}
 use Rattle.sbl_threaded_code.proofs.Instructions.{flow_nested}
 use Rattle.sbl_threaded_code.proofs.Performing.{emitted_at}
-use Rattle.sbl_threaded_code.proofs.assembler.Assembler.nested.Goals as goal
+use Rattle.sbl_threaded_code.proofs.assembler.Assembler.nest.Goals as goal
 
 pub returns : goal.returns
 returns c =
