@@ -17,7 +17,8 @@ use Rattle.sbl_parser.specs.TerminalReading.{IsPrefix, IsTooDeep, HasNoneTooDeep
 use Rattle.sbl_ast.specs.Texts.{Text, TreeOf}
 use Rattle.sbl_parser.specs.FirstStack.{first_stack}
 use Rattle.sbl_ast.specs.Texts as texts
-use Rattle.sbl_parser.proofs.Runs.{Runs, IsDone, text_runs}
+use Rattle.sbl_parser.proofs.Runs.{text_runs}
+use Rattle.sbl_parser.proofs.Followers.{Runs, IsDone}
 use Rattle.sbl_parser.proofs.Viable.{runs_made}
 use Rattle.sbl_parser.proofs.Operators.{came, wants}
 

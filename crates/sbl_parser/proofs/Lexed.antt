@@ -13,7 +13,8 @@ use Rattle.sbl_ast.specs.TerminalPlaces as roles
 use Rattle.sbl_ast.proofs.Lexed.{lexemes_at_depth, with_lexeme, places_lexed, text_lexed, tokens_lexed}
 use Rattle.sbl_parser.specs.Reading.{IsPrefix, IsTooDeep, HasNoneTooDeep, IsReadAs, CannotFollow, StopsAt, IsSyntaxAt, IsTooDeepAt, IsOutOfProfileAt}
 use Rattle.sbl_parser.specs.TerminalReading as reading
-use Rattle.sbl_parser.proofs.Runs.{IsDone, text_runs}
+use Rattle.sbl_parser.proofs.Runs.{text_runs}
+use Rattle.sbl_parser.proofs.Followers.{IsDone}
 use Rattle.sbl_parser.proofs.Faults.{none_too_deep}
 use Rattle.sbl_parser.proofs.Parts.{there, back}
 

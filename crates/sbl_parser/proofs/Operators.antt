@@ -10,7 +10,7 @@ use Rattle.sbl_parser.specs.Steps as s
 use Rattle.sbl_ast.specs.Texts.{Text}
 use Rattle.sbl_parser.specs.FirstStack.{first_stack}
 use Rattle.sbl_ast.specs.Texts as texts
-use Rattle.sbl_parser.proofs.Runs.{Runs}
+use Rattle.sbl_parser.proofs.Followers.{Runs}
 
 -- what stands at the top alone
 abbrev is_clear : Symbol → Bool

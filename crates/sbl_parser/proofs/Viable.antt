@@ -13,7 +13,7 @@ use Rattle.sbl_ast.specs.Spelled.{argument_terminal, spelled_expression, spelled
 use Rattle.sbl_ast.specs.TerminalPlaces.{AtDepth, tokens}
 use Rattle.sbl_parser.specs.Steps.{Symbol, Stack, Step, goes, stuck, unassigned, is_optional, following, after_opening, after_closing, after_name, after_argument, after_for, after_excluded, after_subject, after_operator, after_comparison, after_factor, after_scales, after_sums, after_command, after_among, after_others, after_starter, after_groups, after_entries, after_inserts, after_macro, after_base, after_literal, after_definition, after_terms, after_names, after_plain, after_item, or_else, step}
 use Rattle.sbl_parser.specs.Steps as s
-use Rattle.sbl_parser.proofs.Runs.{Runs}
+use Rattle.sbl_parser.proofs.Followers.{Runs}
 
 abbrev Ts : Type 0
 Ts = List Terminal

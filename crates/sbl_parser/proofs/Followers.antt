@@ -1,0 +1,263 @@
+-- Steps over tokens from one stack to an end, and what may follow an expression or a row.
+use Rattle.std.proofs.Common.{◌≡◌, ℕ, Bool, true, false, List, [], ◌∷◌, refl, ap, ◌∙◌}
+use Rattle.std.specs.Prelude.{if◌then◌else◌, ◌&&◌}
+use Rattle.sbl_ast.specs.Terminal.{Terminal}
+use Rattle.sbl_ast.specs.Terminal as t
+use Rattle.sbl_ast.specs.Tree.{expression, row}
+use Rattle.sbl_ast.specs.TerminalPlaces.{AtDepth}
+use Rattle.sbl_parser.specs.Steps.{Symbol, Stack, Step, goes, stuck, unassigned, is_optional, is_done, following, after_sums, after_scales, after_others, after_terms, after_plain, after_item, or_else, step}
+use Rattle.sbl_parser.specs.Steps as s
+
+-- over tokens at their depths, from one stack to an end
+abbrev pub Runs : List AtDepth → Stack → (Stack → Type 0) → Type 0
+Runs [] k End = End k
+Runs (p ∷ ps) k End = (next : Stack) × (step k p.0 ≡ goes p.1 next) × Runs ps next End
+
+abbrev pub IsDone : Stack → Type 0
+IsDone k = is_done k ≡ true
+
+abbrev pub Passes : List AtDepth → Stack → Type 0
+Passes ps k = Runs ps k IsDone
+
+-- ---- what may follow an expression or a row
+
+abbrev pub no_plus : Terminal → Bool
+no_plus (t.additive o) = false
+no_plus _ = true
+
+abbrev pub no_times : Terminal → Bool
+no_times (t.multiplicative o) = false
+no_times _ = true
+
+abbrev pub no_or : Terminal → Bool
+no_or (t.joiner j) = false
+no_or _ = true
+
+abbrev pub first_is : (Terminal → Bool) → List AtDepth → Bool
+first_is f [] = true
+first_is f (p ∷ ps) = f p.0
+
+pub record Calm (ps : List AtDepth) : Type 0 where
+  pub plus : first_is no_plus ps ≡ true
+  pub times : first_is no_times ps ≡ true
+
+-- the first token is no part of what the symbol stands for
+abbrev pub Refuses : Symbol → List AtDepth → Stack → Type 0
+Refuses s [] k = Unit {0}
+Refuses s (p ∷ ps) k = following s p.0 k ≡ stuck
+
+pub skip : (s : Symbol) (ps : List AtDepth) (k : Stack) → is_optional s ≡ true → Refuses s ps k → Passes ps k → Passes ps (s ∷ k)
+skip s [] k o r h = ap (λ (b : Bool). b && is_done k) o ∙ h
+skip s (p ∷ ps) k o r h = (h.0, ap (λ (b : Step). or_else b (if is_optional s then step k p.0 else stuck)) r ∙ ap (λ (b : Bool). if b then step k p.0 else stuck) o ∙ h.1, h.2)
+
+-- one symbol begins as another that is optional
+pub or_other : (b other : Step) (e : ℕ) (n : Stack) → or_else b stuck ≡ goes e n → or_else b other ≡ goes e n
+or_other (goes d k) other e n h = h
+or_other stuck other e n h = absurd cc
+or_other unassigned other e n h = h
+
+pub as_row : (d : ℕ) (ps : List AtDepth) (k : Stack) → Passes ps (s.command d ∷ s.others d ∷ s.rows d ∷ k) → Passes ps (s.rows d ∷ k)
+as_row d [] k h = absurd cc
+as_row d (p ∷ ps) k h = (h.0, or_other (following (s.command d) p.0 (s.others d ∷ s.rows d ∷ k)) (step k p.0) p.1 h.0 h.1, h.2)
+
+pub as_plains : (ps : List AtDepth) (k : Stack) → Passes ps (s.plain ∷ s.plains ∷ k) → Passes ps (s.plains ∷ k)
+as_plains [] k h = absurd cc
+as_plains (p ∷ ps) k h = (h.0, or_other (following s.plain p.0 (s.plains ∷ k)) (step k p.0) p.1 h.0 h.1, h.2)
+
+pub as_items : (ps : List AtDepth) (k : Stack) → Passes ps (s.item ∷ s.items ∷ k) → Passes ps (s.items ∷ k)
+as_items [] k h = absurd cc
+as_items (p ∷ ps) k h = (h.0, or_other (following s.item p.0 (s.items ∷ k)) (step k p.0) p.1 h.0 h.1, h.2)
+
+pub as_item : (ps : List AtDepth) (k : Stack) → Passes ps (s.plain ∷ k) → Passes ps (s.item ∷ k)
+as_item [] k h = absurd cc
+as_item (p ∷ ps) k h = (h.0, same p.0 p.1 h.0 h.1, h.2) where
+  same : (x : Terminal) (e : ℕ) (n : Stack) → or_else (after_plain x k) stuck ≡ goes e n → or_else (after_item x k) stuck ≡ goes e n
+  same t.open_ e z h = absurd cc
+  same t.close_ e z h = absurd cc
+  same t.dollar e z h = absurd cc
+  same t.as_ e z h = absurd cc
+  same t.for_ e z h = absurd cc
+  same t.non e z h = absurd cc
+  same t.among e z h = absurd cc
+  same t.define e z h = h
+  same t.backward_mode e z h = absurd cc
+  same t.set_limit e z h = absurd cc
+  same t.string_def e z h = h
+  same t.string_escapes e z h = h
+  same t.len_of e z h = absurd cc
+  same (t.declares o) e z h = h
+  same (t.base o) e z h = absurd cc
+  same (t.joiner o) e z h = absurd cc
+  same (t.simple o) e z h = absurd cc
+  same (t.prefix o) e z h = absurd cc
+  same (t.count o) e z h = absurd cc
+  same (t.move o) e z h = absurd cc
+  same (t.naming o) e z h = absurd cc
+  same (t.edit o) e z h = absurd cc
+  same (t.additive o) e z h = absurd cc
+  same (t.multiplicative o) e z h = absurd cc
+  same (t.assigns o) e z h = absurd cc
+  same (t.compares o) e z h = absurd cc
+  same (t.constant o) e z h = absurd cc
+  same (t.name n) e z h = absurd cc
+  same (t.number n) e z h = absurd cc
+  same (t.literal q) e z h = absurd cc
+  same (t.inserts a b) e z h = absurd cc
+  same (t.macro_name n) e z h = absurd cc
+  same (t.other o) e z h = absurd cc
+
+pub sums_stuck : (d : ℕ) (x : Terminal) (k : Stack) → no_plus x ≡ true → after_sums d x k ≡ stuck
+sums_stuck d t.open_ k e = refl
+sums_stuck d t.close_ k e = refl
+sums_stuck d t.dollar k e = refl
+sums_stuck d t.as_ k e = refl
+sums_stuck d t.for_ k e = refl
+sums_stuck d t.non k e = refl
+sums_stuck d t.among k e = refl
+sums_stuck d t.define k e = refl
+sums_stuck d t.backward_mode k e = refl
+sums_stuck d t.set_limit k e = refl
+sums_stuck d t.string_def k e = refl
+sums_stuck d t.string_escapes k e = refl
+sums_stuck d t.len_of k e = refl
+sums_stuck d (t.declares o) k e = refl
+sums_stuck d (t.base o) k e = refl
+sums_stuck d (t.joiner o) k e = refl
+sums_stuck d (t.simple o) k e = refl
+sums_stuck d (t.prefix o) k e = refl
+sums_stuck d (t.count o) k e = refl
+sums_stuck d (t.move o) k e = refl
+sums_stuck d (t.naming o) k e = refl
+sums_stuck d (t.edit o) k e = refl
+sums_stuck d (t.additive o) k e = absurd cc
+sums_stuck d (t.multiplicative o) k e = refl
+sums_stuck d (t.assigns o) k e = refl
+sums_stuck d (t.compares o) k e = refl
+sums_stuck d (t.constant o) k e = refl
+sums_stuck d (t.name n) k e = refl
+sums_stuck d (t.number n) k e = refl
+sums_stuck d (t.literal q) k e = refl
+sums_stuck d (t.inserts a b) k e = refl
+sums_stuck d (t.macro_name n) k e = refl
+sums_stuck d (t.other o) k e = refl
+
+pub scales_stuck : (d : ℕ) (x : Terminal) (k : Stack) → no_times x ≡ true → after_scales d x k ≡ stuck
+scales_stuck d t.open_ k e = refl
+scales_stuck d t.close_ k e = refl
+scales_stuck d t.dollar k e = refl
+scales_stuck d t.as_ k e = refl
+scales_stuck d t.for_ k e = refl
+scales_stuck d t.non k e = refl
+scales_stuck d t.among k e = refl
+scales_stuck d t.define k e = refl
+scales_stuck d t.backward_mode k e = refl
+scales_stuck d t.set_limit k e = refl
+scales_stuck d t.string_def k e = refl
+scales_stuck d t.string_escapes k e = refl
+scales_stuck d t.len_of k e = refl
+scales_stuck d (t.declares o) k e = refl
+scales_stuck d (t.base o) k e = refl
+scales_stuck d (t.joiner o) k e = refl
+scales_stuck d (t.simple o) k e = refl
+scales_stuck d (t.prefix o) k e = refl
+scales_stuck d (t.count o) k e = refl
+scales_stuck d (t.move o) k e = refl
+scales_stuck d (t.naming o) k e = refl
+scales_stuck d (t.edit o) k e = refl
+scales_stuck d (t.additive o) k e = refl
+scales_stuck d (t.multiplicative o) k e = absurd cc
+scales_stuck d (t.assigns o) k e = refl
+scales_stuck d (t.compares o) k e = refl
+scales_stuck d (t.constant o) k e = refl
+scales_stuck d (t.name n) k e = refl
+scales_stuck d (t.number n) k e = refl
+scales_stuck d (t.literal q) k e = refl
+scales_stuck d (t.inserts a b) k e = refl
+scales_stuck d (t.macro_name n) k e = refl
+scales_stuck d (t.other o) k e = refl
+
+pub others_stuck : (d : ℕ) (x : Terminal) (k : Stack) → no_or x ≡ true → after_others d x k ≡ stuck
+others_stuck d t.open_ k e = refl
+others_stuck d t.close_ k e = refl
+others_stuck d t.dollar k e = refl
+others_stuck d t.as_ k e = refl
+others_stuck d t.for_ k e = refl
+others_stuck d t.non k e = refl
+others_stuck d t.among k e = refl
+others_stuck d t.define k e = refl
+others_stuck d t.backward_mode k e = refl
+others_stuck d t.set_limit k e = refl
+others_stuck d t.string_def k e = refl
+others_stuck d t.string_escapes k e = refl
+others_stuck d t.len_of k e = refl
+others_stuck d (t.declares o) k e = refl
+others_stuck d (t.base o) k e = refl
+others_stuck d (t.joiner o) k e = absurd cc
+others_stuck d (t.simple o) k e = refl
+others_stuck d (t.prefix o) k e = refl
+others_stuck d (t.count o) k e = refl
+others_stuck d (t.move o) k e = refl
+others_stuck d (t.naming o) k e = refl
+others_stuck d (t.edit o) k e = refl
+others_stuck d (t.additive o) k e = refl
+others_stuck d (t.multiplicative o) k e = refl
+others_stuck d (t.assigns o) k e = refl
+others_stuck d (t.compares o) k e = refl
+others_stuck d (t.constant o) k e = refl
+others_stuck d (t.name n) k e = refl
+others_stuck d (t.number n) k e = refl
+others_stuck d (t.literal q) k e = refl
+others_stuck d (t.inserts a b) k e = refl
+others_stuck d (t.macro_name n) k e = refl
+others_stuck d (t.other o) k e = refl
+
+pub terms_stuck : (x : Terminal) (k : Stack) → no_plus x ≡ true → after_terms x k ≡ stuck
+terms_stuck t.open_ k e = refl
+terms_stuck t.close_ k e = refl
+terms_stuck t.dollar k e = refl
+terms_stuck t.as_ k e = refl
+terms_stuck t.for_ k e = refl
+terms_stuck t.non k e = refl
+terms_stuck t.among k e = refl
+terms_stuck t.define k e = refl
+terms_stuck t.backward_mode k e = refl
+terms_stuck t.set_limit k e = refl
+terms_stuck t.string_def k e = refl
+terms_stuck t.string_escapes k e = refl
+terms_stuck t.len_of k e = refl
+terms_stuck (t.declares o) k e = refl
+terms_stuck (t.base o) k e = refl
+terms_stuck (t.joiner o) k e = refl
+terms_stuck (t.simple o) k e = refl
+terms_stuck (t.prefix o) k e = refl
+terms_stuck (t.count o) k e = refl
+terms_stuck (t.move o) k e = refl
+terms_stuck (t.naming o) k e = refl
+terms_stuck (t.edit o) k e = refl
+terms_stuck (t.additive o) k e = absurd cc
+terms_stuck (t.multiplicative o) k e = refl
+terms_stuck (t.assigns o) k e = refl
+terms_stuck (t.compares o) k e = refl
+terms_stuck (t.constant o) k e = refl
+terms_stuck (t.name n) k e = refl
+terms_stuck (t.number n) k e = refl
+terms_stuck (t.literal q) k e = refl
+terms_stuck (t.inserts a b) k e = refl
+terms_stuck (t.macro_name n) k e = refl
+terms_stuck (t.other o) k e = refl
+
+pub skip_sums : (d : ℕ) (ps : List AtDepth) (k : Stack) → first_is no_plus ps ≡ true → Passes ps k → Passes ps (s.sums d ∷ k)
+skip_sums d [] k e h = skip (s.sums d) [] k refl tt h
+skip_sums d (p ∷ ps) k e h = skip (s.sums d) (p ∷ ps) k refl (sums_stuck d p.0 k e) h
+
+pub skip_scales : (d : ℕ) (ps : List AtDepth) (k : Stack) → first_is no_times ps ≡ true → Passes ps k → Passes ps (s.scales d ∷ k)
+skip_scales d [] k e h = skip (s.scales d) [] k refl tt h
+skip_scales d (p ∷ ps) k e h = skip (s.scales d) (p ∷ ps) k refl (scales_stuck d p.0 k e) h
+
+pub skip_others : (d : ℕ) (ps : List AtDepth) (k : Stack) → first_is no_or ps ≡ true → Passes ps k → Passes ps (s.others d ∷ k)
+skip_others d [] k e h = skip (s.others d) [] k refl tt h
+skip_others d (p ∷ ps) k e h = skip (s.others d) (p ∷ ps) k refl (others_stuck d p.0 k e) h
+
+pub skip_terms : (ps : List AtDepth) (k : Stack) → first_is no_plus ps ≡ true → Passes ps k → Passes ps (s.terms ∷ k)
+skip_terms [] k e h = skip s.terms [] k refl tt h
+skip_terms (p ∷ ps) k e h = skip s.terms (p ∷ ps) k refl (terms_stuck p.0 k e) h
