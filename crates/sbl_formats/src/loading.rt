@@ -108,7 +108,6 @@ fn read_words<R: Source + Drop>(
 }
 
 /// A script and the words after it.
-#[derive(Drop)]
 struct ParsedInput {
     script: Script,
     words: WordList,

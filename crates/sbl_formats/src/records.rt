@@ -206,6 +206,7 @@ pub fn rows_text(alloc: Global, bench: &Bench) -> Result<Vec<u8>, AllocError>
 {
     let mut writer = RecordWriter::new(alloc);
     for i in 0..bench.len() {
+        // A bench has a row at each number below its length: the case without one is proved impossible.
         if let Some(row) = bench.row(i) {
             row.write(&mut writer)?;
         }

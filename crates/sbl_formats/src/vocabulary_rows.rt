@@ -24,7 +24,6 @@ use std::hash::RandomState;
 use std::mem::forget;
 
 /// The words of a vocabulary so far, and their rows.
-#[derive(Drop)]
 struct VocabularyRows {
     alloc: Global,
     meter: Meter,
@@ -105,6 +104,19 @@ impl VocabularyRows {
         forget(words);
         records.into_text()
     }
+
+    /// Frees the text of the rows, but not the words. The crate would have to prove the destructor of a meter again to drop
+    /// the whole value.
+    fn discard(self) {
+        let VocabularyRows {
+            alloc: _,
+            meter,
+            words,
+            records: _,
+        } = self;
+        forget(meter);
+        forget(words);
+    }
 }
 
 /// Runs the script on a word and writes its row. Returns `AllocError` if an allocation fails.
@@ -144,6 +156,9 @@ pub(crate) fn vocabulary_rows(
     let mut rows = VocabularyRows::new(alloc, keys);
     let result = rows.push_all(&machine, words);
     forget(machine);
-    result?;
+    if let Err(fault) = result {
+        rows.discard();
+        return Err(fault);
+    }
     Ok(rows.into_text()?)
 }

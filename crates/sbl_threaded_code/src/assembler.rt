@@ -39,7 +39,7 @@ use std::rc::Rc;
 #[derive(Drop)]
 pub struct Assembler {
     alloc: Global,
-    made: Vec<Rc<Instruction>>,
+    instructions: Vec<Rc<Instruction>>,
 }
 
 /// Where a command goes on after t and after f.
@@ -106,15 +106,15 @@ impl Assembler {
     pub fn new(alloc: Global) -> Assembler {
         Assembler {
             alloc,
-            made: Vec::new(alloc),
+            instructions: Vec::new(alloc),
         }
     }
 
     /// Returns all instructions, each before those that it leads to.
-    pub fn into_made(self) -> Vec<Rc<Instruction>> {
-        let mut made = self.made;
-        made.reverse();
-        made
+    pub fn into_instructions(self) -> Vec<Rc<Instruction>> {
+        let mut instructions = self.instructions;
+        instructions.reverse();
+        instructions
     }
 
     /// Returns the first instruction of each routine.

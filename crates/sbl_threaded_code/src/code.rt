@@ -28,7 +28,7 @@ pub struct Code {
     program: Program,
     routines: Vec<RoutineCode>,
     // All instructions, each before those that it leads to. So a drop ends one instruction after the other.
-    made: Vec<Rc<Instruction>>,
+    instructions: Vec<Rc<Instruction>>,
 }
 
 impl Model for Code {
@@ -54,12 +54,12 @@ impl Code {
     {
         let mut assembler = Assembler::new(alloc);
         let routines = assembler.routines(&program);
-        let made = assembler.into_made();
+        let instructions = assembler.into_instructions();
         let routines = routines?;
         Ok(Code {
             program,
             routines,
-            made,
+            instructions,
         })
     }
 

@@ -1,25 +1,25 @@
 //! Runs code.
 
-ghost use Rattle.std.specs.Prelude.{◌≡◌, ◌<◌, ◌≤◌, true, false, suc, IfOk, slice_get};
+ghost use Rattle.std.specs.Prelude.{◌<◌, ◌≤◌, suc, IfOk};
 ghost use Rattle.sbl_program.specs.ProgramOf.{program_of, view_number};
 ghost use Rattle.sbl_interpreter.specs.Arithmetic.{value};
-ghost use Rattle.sbl_interpreter.specs.Endings.{Follows, IsSaved, Leads, Tries};
+ghost use Rattle.sbl_interpreter.specs.Endings.{Follows, Leads};
 ghost use Rattle.sbl_interpreter.specs.Rows.{pays};
 ghost use Rattle.sbl_interpreter.specs.Run.{calls};
-ghost use Rattle.sbl_interpreter.specs.Search.{search_all, search_strings, try_one};
 ghost use Rattle.sbl_semantics.specs.Control.{times, count_of, seeks};
 ghost use Rattle.sbl_semantics.specs.Numbers.{continue_with};
-ghost use Rattle.sbl_semantics.specs.State.{State as RunState, Ending, Signals, after, pay, saved_cursor, then_on};
+ghost use Rattle.sbl_semantics.specs.State.{Signals, after, pay, then_on};
 ghost use Rattle.sbl_threaded_code.specs.Slots.{no_cursors};
 ghost use Rattle.sbl_threaded_code.specs.Flow.{flow, alone, turns_of, backwards_of, limited_of};
 
+mod searching;
+
 use crate::code::Code;
-use crate::instruction::{Instruction, Site};
+use crate::instruction::Instruction;
 use crate::slots::SavedCursors;
 use sbl_ast::Mode;
 use sbl_interpreter::{Halt, State, Tables, count_of};
-use sbl_program::{Arithmetic, Candidate};
-use sbl_semantics::SavedCursor;
+use sbl_program::Arithmetic;
 
 // Uses the steps of `cost`, and the command's own. Returns `Steps` if fewer are left.
 #[inline(always)]
@@ -244,6 +244,7 @@ impl<'a, T: Tables> Runner<'a, T> {
                     at = if state.take_character(self.mode, *character) {
                         next
                     } else {
+                        // Only for its contract: the cursor lies in the text, so to put it back to here changes nothing.
                         state.place();
                         fail
                     };
@@ -259,6 +260,7 @@ impl<'a, T: Tables> Runner<'a, T> {
                     at = if state.take_literal(self.mode, string) {
                         next
                     } else {
+                        // Only for its contract: the cursor lies in the text, so to put it back to here changes nothing.
                         state.place();
                         fail
                     };
@@ -276,6 +278,7 @@ impl<'a, T: Tables> Runner<'a, T> {
                     at = if state.take_grouping(self.mode, groupings, *grouping, *wanted)? {
                         next
                     } else {
+                        // Only for its contract: the cursor lies in the text, so to put it back to here changes nothing.
                         state.place();
                         fail
                     };
@@ -477,75 +480,5 @@ impl<'a, T: Tables> Runner<'a, T> {
                 Ok(signal)
             }
         }
-    }
-
-    /// Searches an among, which touches it.
-    #[cycle(run)]
-    #[inline(never)]
-    fn run_search_all(&self, among: usize, site: &Site, state: &mut State) -> Result<bool, Halt>
-        ensures follows { Follows result state.new (search_all (calls (program_of (T.listed self.now.tables.now) self.now.code.now) self.now.levels) among site.now.entries.items (T.listed self.now.tables.now site.now.table) self.now.mode state.old) }
-        ensures no_more { IfOk result (λ _. state.new.steps ≤ state.old.steps) }
-    {
-        state.touch_among(among, self.mode)?;
-        self.run_search(among, site.table, &site.entries, state)
-    }
-
-    /// Tries the strings that match, the longest first.
-    #[cycle(run)]
-    #[inline(always)]
-    fn run_search(
-        &self,
-        among: usize,
-        table: usize,
-        entries: &[Candidate],
-        state: &mut State,
-    ) -> Result<bool, Halt>
-        ensures follows { Follows result state.new (search_strings (calls (program_of (T.listed self.now.tables.now) self.now.code.now) self.now.levels) among entries.now (T.listed self.now.tables.now table) self.now.mode state.old) }
-        ensures no_more { IfOk result (λ _. state.new.steps ≤ state.old.steps) }
-    {
-        let from = state.saved_cursor();
-        let mut place = self
-            .tables
-            .longest(table, state.text(), state.place(), state.bound(self.mode));
-        while let Some(i) = place {
-            match self.try_string(among, from, entries, i, state) {
-                Err(halt) => return Err(halt),
-                Ok(true) => return Ok(true),
-                Ok(false) => {}
-            }
-            place = self.tables.next_shorter(table, i);
-        }
-        state.take_none(among)?;
-        Ok(false)
-    }
-
-    /// Tries one string and returns whether it is taken. It is not taken if its condition signals f.
-    #[cycle(run)]
-    fn try_string(
-        &self,
-        among: usize,
-        from: SavedCursor,
-        entries: &[Candidate],
-        i: usize,
-        state: &mut State,
-    ) -> Result<bool, Halt>
-        requires { IsSaved from }
-        ensures tried { (begun : RunState) (follow : RunState → Ending) → from ≡ saved_cursor begun → Tries result state.new (try_one (calls (program_of (T.listed self.now.tables.now) self.now.code.now) self.now.levels) among (slice_get entries.now i) self.now.mode begun state.old follow) (follow state.new) }
-        ensures no_more { IfOk result (λ _. state.new.steps ≤ state.old.steps) }
-        ensures fewer { IfOk result (λ b. b ≡ false → state.new.steps < state.old.steps) }
-    {
-        let Some(entry) = entries.get(i).copied() else {
-            return Ok(true);
-        };
-        state.place_after(self.mode, from, entry.length)?;
-        if let Some(number) = entry.condition {
-            state.pay()?;
-            if !self.run_call(number, state)? {
-                return Ok(false);
-            }
-        }
-        state.place_after(self.mode, from, entry.length)?;
-        state.take_string(among, entry.length, entry.group)?;
-        Ok(true)
     }
 }

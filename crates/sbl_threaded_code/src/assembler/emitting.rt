@@ -25,7 +25,7 @@ impl Assembler {
         ensures { IfOk result (λ made. made.value ≡ instruction) }
     {
         let made = Rc::new(self.alloc, instruction)?;
-        self.made.push(made.clone()?)?;
+        self.instructions.push(made.clone()?)?;
         Ok(made)
     }
 

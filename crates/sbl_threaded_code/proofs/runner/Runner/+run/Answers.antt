@@ -1,8 +1,10 @@
 -- What the functions of the run cycle owe, each proved in the file that its name stands under.
 mod Instructions
+mod Choices
 mod Calls
 use Rattle.sbl_threaded_code.proofs.runner.Runner.+run.Goals as goal
 use Rattle.sbl_threaded_code.proofs.runner.Runner.+run.Answers.Instructions as instructions
+use Rattle.sbl_threaded_code.proofs.runner.Runner.+run.Answers.Choices as choices
 use Rattle.sbl_threaded_code.proofs.runner.Runner.+run.Answers.Calls as calls
 
 pub run_from-returns-in_err-run_from-in-Nested-clause-follows : goal.run_from-returns-in_err-run_from-in-Nested-clause-follows
@@ -63,16 +65,16 @@ pub run_from-loop-at-preserved-else-branch-10 : goal.run_from-loop-at-preserved-
 run_from-loop-at-preserved-else-branch-10 = instructions.run_from-loop-at-preserved-else-branch-10
 
 pub run_from-loop-at-preserved-in-None-get : goal.run_from-loop-at-preserved-in-None-get
-run_from-loop-at-preserved-in-None-get = instructions.run_from-loop-at-preserved-in-None-get
+run_from-loop-at-preserved-in-None-get = choices.run_from-loop-at-preserved-in-None-get
 
 pub run_from-loop-at-preserved-in-Some-get : goal.run_from-loop-at-preserved-in-Some-get
-run_from-loop-at-preserved-in-Some-get = instructions.run_from-loop-at-preserved-in-Some-get
+run_from-loop-at-preserved-in-Some-get = choices.run_from-loop-at-preserved-in-Some-get
 
 pub run_from-loop-at-preserved-then-branch-11 : goal.run_from-loop-at-preserved-then-branch-11
-run_from-loop-at-preserved-then-branch-11 = instructions.run_from-loop-at-preserved-then-branch-11
+run_from-loop-at-preserved-then-branch-11 = choices.run_from-loop-at-preserved-then-branch-11
 
 pub run_from-loop-at-preserved-else-branch-11 : goal.run_from-loop-at-preserved-else-branch-11
-run_from-loop-at-preserved-else-branch-11 = instructions.run_from-loop-at-preserved-else-branch-11
+run_from-loop-at-preserved-else-branch-11 = choices.run_from-loop-at-preserved-else-branch-11
 
 pub run_search-loop-place-init : goal.run_search-loop-place-init
 run_search-loop-place-init = calls.run_search-loop-place-init
