@@ -15,11 +15,11 @@ use Rattle.sbl_semantics.specs.Choices.{choice}
 use Rattle.sbl_semantics.specs.State.{State, Ending, Signals, Stops, after, pay, then_on}
 use Rattle.sbl_semantics.specs.declared.cursor.SavedCursor.{SavedCursor}
 use Rattle.sbl_ast.specs.declared.mode.Mode.{Mode}
-use Rattle.sbl_threaded_code.specs.declared.instruction.Group.{Group, out-Group}
-use Rattle.sbl_threaded_code.specs.declared.instruction.Site.{Site}
+use Rattle.sbl_threaded_code.specs.declared.instruction.GroupCode.{GroupCode, out-GroupCode}
+use Rattle.sbl_threaded_code.specs.declared.instruction.SearchSite.{SearchSite}
 use Rattle.sbl_threaded_code.specs.declared.instruction.Instruction.{Instruction}
 use Rattle.sbl_threaded_code.specs.declared.instruction.Instruction.TheVariants.{Nested, Repeat, Loop, AtLeast, Seek, SetLimit, Search, Choose}
-use Rattle.sbl_threaded_code.specs.declared.instruction.Instruction.TheFolds.{fold_out-Group}
+use Rattle.sbl_threaded_code.specs.declared.instruction.Instruction.TheFolds.{fold_out-GroupCode}
 use Rattle.sbl_threaded_code.specs.declared.instruction.Instruction.TheViews.{the_lemmas}
 use Rattle.sbl_threaded_code.specs.Flow.{Flow, flow, group_flow, alone, chosen_flow, turns_of, loop_of, at_least_of, seek_of, limited_of}
 use Rattle.sbl_threaded_code.proofs.Instructions.{flow_nested, flow_repeat, flow_loop, flow_at_least, flow_seek, flow_set_limit, flow_search, flow_choose}
@@ -44,21 +44,21 @@ pub ends_early : (r : Result Bool Halt) (halt : Halt) (new : State) (w e : Endin
 ends_early r halt new w e f g is p h = rw is (follows_at (Err halt) new w (after e f g) p (after_halts halt new e f g h))
 
 -- the group's command, if there is one
-picked_at : (f : Group → Flow) (xs : List Group) (g : ℕ) (x : Group) (next fail : Flow) → g < length xs → x ≡ get_or xs g x → chosen_flow (Some g) (map f xs) next fail ≡ f x
+picked_at : (f : GroupCode → Flow) (xs : List GroupCode) (g : ℕ) (x : GroupCode) (next fail : Flow) → g < length xs → x ≡ get_or xs g x → chosen_flow (Some g) (map f xs) next fail ≡ f x
 picked_at f [] g x next fail l e = absurd (omega arith)
 picked_at f (y ∷ ys) zero x next fail l e = ap f (sym e)
 picked_at f (y ∷ ys) (suc g) x next fail l e = picked_at f ys g x next fail (omega arith) e
 
-picked_past : (f : Group → Flow) (xs : List Group) (g : ℕ) (next fail : Flow) → length xs ≤ g → chosen_flow (Some g) (map f xs) next fail ≡ next
+picked_past : (f : GroupCode → Flow) (xs : List GroupCode) (g : ℕ) (next fail : Flow) → length xs ≤ g → chosen_flow (Some g) (map f xs) next fail ≡ next
 picked_past f [] g next fail l = refl
 picked_past f (y ∷ ys) zero next fail l = absurd (omega arith)
 picked_past f (y ∷ ys) (suc g) next fail l = picked_past f ys g next fail (omega arith)
 
-group_is : (p : programs.Program) (levels : ℕ) (tables : ℕ → Listing) (x : Group) → group_flow p levels tables x ≡ flow p levels tables (out-Group x).first.value
-group_is p levels tables x = first_of (search (rules, the_lemmas), search (rules, the_lemmas, fold_out-Group))
+group_is : (p : programs.Program) (levels : ℕ) (tables : ℕ → Listing) (x : GroupCode) → group_flow p levels tables x ≡ flow p levels tables (out-GroupCode x).first.value
+group_is p levels tables x = first_of (search (rules, the_lemmas), search (rules, the_lemmas, fold_out-GroupCode))
 
 -- what the command of a group does
-pub group_does : (p : programs.Program) (levels : ℕ) (tables : ℕ → Listing) (m : Mode) (slots : List SavedCursor) (s : State) (x : Group) (y : Instruction) → y ≡ (out-Group x).first.value → group_flow p levels tables x m slots s ≡ flow p levels tables y m slots s
+pub group_does : (p : programs.Program) (levels : ℕ) (tables : ℕ → Listing) (m : Mode) (slots : List SavedCursor) (s : State) (x : GroupCode) (y : Instruction) → y ≡ (out-GroupCode x).first.value → group_flow p levels tables x m slots s ≡ flow p levels tables y m slots s
 group_does p levels tables m slots s x y h = ap (λ (f : Flow). f m slots s) (group_is p levels tables x) ∙ ap (λ (i : Instruction). flow p levels tables i m slots s) (sym h)
 
 module _ (p : programs.Program) (levels : ℕ) (tables : ℕ → Listing) (m : Mode) (slots : List SavedCursor) (s : State) (at : Instruction) where
@@ -110,14 +110,14 @@ module _ (p : programs.Program) (levels : ℕ) (tables : ℕ → Listing) (m : M
       ∙ ap (λ (z : Instruction). after (limited_of (alone (F z)) (alone (F second.value)) m u) (F next.value m slots) (F fail.value m slots)) (sym hx)
       ∙ ap (λ (z : Instruction). after (limited_of (alone (F x)) (alone (F z)) m u) (F next.value m slots) (F fail.value m slots)) (sym hy)
 
-  pub search_paid : (cost among : ℕ) (site : Box Site Global) (next fail : I) (x : Site) (u : State) → at ≡ Search cost among site next fail → IsPaid cost s u → x ≡ site.value → F at m slots s ≡ after (search_all (calls p levels) among x.entries.items (tables x.table) m u) (F next.value m slots) (F fail.value m slots)
+  pub search_paid : (cost among : ℕ) (site : Box SearchSite Global) (next fail : I) (x : SearchSite) (u : State) → at ≡ Search cost among site next fail → IsPaid cost s u → x ≡ site.value → F at m slots s ≡ after (search_all (calls p levels) among x.entries.items (tables x.table) m u) (F next.value m slots) (F fail.value m slots)
   search_paid cost among site next fail x u is h hx =
       ap (λ (i : Instruction). F i m slots s) is
       ∙ flow_search p levels tables m slots s cost among site next fail
       ∙ after_paid cost s u (search_all (calls p levels) among site.value.entries.items (tables site.value.table) m) (F next.value m slots) (F fail.value m slots) h
-      ∙ ap (λ (z : Site). after (search_all (calls p levels) among z.entries.items (tables z.table) m u) (F next.value m slots) (F fail.value m slots)) (sym hx)
+      ∙ ap (λ (z : SearchSite). after (search_all (calls p levels) among z.entries.items (tables z.table) m u) (F next.value m slots) (F fail.value m slots)) (sym hx)
 
-  choose_paid : (cost among : ℕ) (bodies : Box (Vec Group Global) Global) (next fail : I) (u : State) (g : ℕ) → at ≡ Choose cost among bodies next fail → pays cost s ≡ Signals true u → choice among u ≡ Some g → F at m slots s ≡ chosen_flow (Some g) (map (group_flow p levels tables) bodies.value.items) (F next.value) (F fail.value) m slots u
+  choose_paid : (cost among : ℕ) (bodies : Box (Vec GroupCode Global) Global) (next fail : I) (u : State) (g : ℕ) → at ≡ Choose cost among bodies next fail → pays cost s ≡ Signals true u → choice among u ≡ Some g → F at m slots s ≡ chosen_flow (Some g) (map (group_flow p levels tables) bodies.value.items) (F next.value) (F fail.value) m slots u
   choose_paid cost among bodies next fail u g is h k =
       let pick = λ (o : Option ℕ) (v : State). chosen_flow o (map (group_flow p levels tables) bodies.value.items) (F next.value) (F fail.value) m slots v in
       ap (λ (i : Instruction). F i m slots s) is
@@ -126,14 +126,14 @@ module _ (p : programs.Program) (levels : ℕ) (tables : ℕ → Listing) (m : M
       ∙ ap (λ o. pick o u) k
 
   -- the chosen group has a command
-  pub chosen_at : (cost among : ℕ) (bodies : Box (Vec Group Global) Global) (next fail : I) (u : State) (g : ℕ) (ds : List Group) (x : Group) → at ≡ Choose cost among bodies next fail → pays cost s ≡ Signals true u → choice among u ≡ Some g → ds ≡ bodies.value.items → g < length ds → x ≡ get_or ds g x → F at m slots s ≡ group_flow p levels tables x m slots u
+  pub chosen_at : (cost among : ℕ) (bodies : Box (Vec GroupCode Global) Global) (next fail : I) (u : State) (g : ℕ) (ds : List GroupCode) (x : GroupCode) → at ≡ Choose cost among bodies next fail → pays cost s ≡ Signals true u → choice among u ≡ Some g → ds ≡ bodies.value.items → g < length ds → x ≡ get_or ds g x → F at m slots s ≡ group_flow p levels tables x m slots u
   chosen_at cost among bodies next fail u g ds x is h k same l e =
       choose_paid cost among bodies next fail u g is h k
       ∙ ap (λ xs. chosen_flow (Some g) (map (group_flow p levels tables) xs) (F next.value) (F fail.value) m slots u) (sym same)
       ∙ ap (λ (f : Flow). f m slots u) (picked_at (group_flow p levels tables) ds g x (F next.value) (F fail.value) l e)
 
   -- it has none
-  pub chosen_past : (cost among : ℕ) (bodies : Box (Vec Group Global) Global) (next fail : I) (u : State) (g : ℕ) (ds : List Group) → at ≡ Choose cost among bodies next fail → pays cost s ≡ Signals true u → choice among u ≡ Some g → ds ≡ bodies.value.items → length ds ≤ g → F at m slots s ≡ F next.value m slots u
+  pub chosen_past : (cost among : ℕ) (bodies : Box (Vec GroupCode Global) Global) (next fail : I) (u : State) (g : ℕ) (ds : List GroupCode) → at ≡ Choose cost among bodies next fail → pays cost s ≡ Signals true u → choice among u ≡ Some g → ds ≡ bodies.value.items → length ds ≤ g → F at m slots s ≡ F next.value m slots u
   chosen_past cost among bodies next fail u g ds is h k same l =
       choose_paid cost among bodies next fail u g is h k
       ∙ ap (λ xs. chosen_flow (Some g) (map (group_flow p levels tables) xs) (F next.value) (F fail.value) m slots u) (sym same)

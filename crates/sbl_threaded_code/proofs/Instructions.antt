@@ -22,11 +22,11 @@ use Rattle.sbl_semantics.specs.declared.cursor.SavedCursor.{SavedCursor}
 use Rattle.sbl_ast.specs.declared.mode.Mode.{Mode}
 use Rattle.sbl_threaded_code.specs.declared.instruction.Instruction.{Instruction}
 use Rattle.sbl_threaded_code.specs.declared.instruction.Instruction.TheVariants.{End, Pay, Character, Literal, Grouping, LeftBracket, RightBracket, Boolean, Next, Act, Save, Restore, Nested, Repeat, Loop, AtLeast, Seek, SeekGrouping, Backwards, SetLimit, Call, Search, Choose}
-use Rattle.sbl_threaded_code.specs.declared.instruction.Instruction.TheFolds.{fold_out-Instruction, fold_out-Group}
+use Rattle.sbl_threaded_code.specs.declared.instruction.Instruction.TheFolds.{fold_out-Instruction, fold_out-GroupCode}
 use Rattle.sbl_threaded_code.specs.declared.instruction.Instruction.TheViews.{the_lemmas}
 use Rattle.sbl_threaded_code.specs.Slots.{no_cursor}
-use Rattle.sbl_threaded_code.specs.declared.instruction.Group.{Group}
-use Rattle.sbl_threaded_code.specs.declared.instruction.Site.{Site}
+use Rattle.sbl_threaded_code.specs.declared.instruction.GroupCode.{GroupCode}
+use Rattle.sbl_threaded_code.specs.declared.instruction.SearchSite.{SearchSite}
 use Rattle.sbl_threaded_code.specs.Flow.{Flow, flow, back_if, group_flow, alone, chosen_flow, turns_of, loop_of, at_least_of, seek_of, backwards_of, limited_of}
 
 abbrev I : Type 0
@@ -99,8 +99,8 @@ module _ (p : programs.Program) (levels : ℕ) (tables : ℕ → Listing) (m : M
   pub flow_call : (cost routine : ℕ) (next fail : I) → F (Call cost routine next fail) m ys s ≡ then_on (pays cost s) (λ u. after (pay_first (calls p levels routine) m u) (F next.value m ys) (F fail.value m ys))
   flow_call cost routine next fail = first_of (search (rules, the_lemmas), search (rules, the_lemmas, fold_out-Instruction))
 
-  pub flow_search : (cost among : ℕ) (site : Box Site Global) (next fail : I) → F (Search cost among site next fail) m ys s ≡ then_on (pays cost s) (λ u. after (pay_first (search_all (calls p levels) among site.value.entries.items (tables site.value.table)) m u) (F next.value m ys) (F fail.value m ys))
+  pub flow_search : (cost among : ℕ) (site : Box SearchSite Global) (next fail : I) → F (Search cost among site next fail) m ys s ≡ then_on (pays cost s) (λ u. after (pay_first (search_all (calls p levels) among site.value.entries.items (tables site.value.table)) m u) (F next.value m ys) (F fail.value m ys))
   flow_search cost among site next fail = first_of (search (rules, the_lemmas), search (rules, the_lemmas, fold_out-Instruction))
 
-  pub flow_choose : (cost among : ℕ) (bodies : Box (Vec Group Global) Global) (next fail : I) → F (Choose cost among bodies next fail) m ys s ≡ then_on (pays cost s) (λ u. chosen_flow (choice among u) (map (group_flow p levels tables) bodies.value.items) (F next.value) (F fail.value) m ys u)
+  pub flow_choose : (cost among : ℕ) (bodies : Box (Vec GroupCode Global) Global) (next fail : I) → F (Choose cost among bodies next fail) m ys s ≡ then_on (pays cost s) (λ u. chosen_flow (choice among u) (map (group_flow p levels tables) bodies.value.items) (F next.value) (F fail.value) m ys u)
   flow_choose cost among bodies next fail = first_of (search (rules, the_lemmas), search (rules, the_lemmas, fold_out-Instruction))

@@ -16,9 +16,9 @@ use Rattle.sbl_semantics.specs.State.{State, Ending, Signals, Doing, after, then
 use Rattle.sbl_semantics.specs.declared.cursor.SavedCursor.{SavedCursor}
 use Rattle.sbl_ast.specs.declared.mode.Mode.{Mode}
 use Rattle.sbl_threaded_code.specs.declared.instruction.Instruction.{Instruction}
-use Rattle.sbl_threaded_code.specs.declared.instruction.Instruction.TheFolds.{fold_out-Instruction, fold_out-Group}
+use Rattle.sbl_threaded_code.specs.declared.instruction.Instruction.TheFolds.{fold_out-Instruction, fold_out-GroupCode}
 use Rattle.sbl_threaded_code.specs.declared.instruction.Instruction.TheViews.{the_lemmas}
-use Rattle.sbl_threaded_code.specs.declared.instruction.Group.{Group, out-Group}
+use Rattle.sbl_threaded_code.specs.declared.instruction.GroupCode.{GroupCode, out-GroupCode}
 use Rattle.sbl_threaded_code.specs.declared.assembler.Exits.{Exits}
 use Rattle.sbl_threaded_code.specs.declared.assembler.Place.{Place}
 use Rattle.sbl_threaded_code.specs.Slots.{no_cursor, no_cursors}
@@ -272,12 +272,12 @@ nested_place tables d cost own slot exits place entry made is when h k =
 -- ---- the groups of an among
 
 module _ (tables : ℕ → Listing) (p : programs.Program) (levels n : ℕ) (exits : Exits) (m : Mode) (slots : List SavedCursor) (go stop : State → Ending) where
-  group_is : (x : Group) → group_flow p levels tables x ≡ flow p levels tables (out-Group x).first.value
-  group_is x = first_of (search (rules, the_lemmas), search (rules, the_lemmas, fold_out-Group, fold_out-Instruction))
+  group_is : (x : GroupCode) → group_flow p levels tables x ≡ flow p levels tables (out-GroupCode x).first.value
+  group_is x = first_of (search (rules, the_lemmas), search (rules, the_lemmas, fold_out-GroupCode, fold_out-Instruction))
 
   nth_group :
       length slots ≡ 4 → GoesOn (flow p levels tables exits.next.value) m n slots go → GoesOn (flow p levels tables exits.fail.value) m n slots stop →
-      (nodes : List Node) (groups : List Group) (g : ℕ) → ArePerformed tables nodes n exits groups →
+      (nodes : List Node) (groups : List GroupCode) (g : ℕ) → ArePerformed tables nodes n exits groups →
       (ys : List SavedCursor) → Agree n slots ys → (u : State) →
       option_map_or (λ f. f) (slice_get (map (group_flow p levels tables) groups) g) (flow p levels tables exits.next.value) m ys u ≡ after (nth_runs p levels (view_nodes tables nodes) g m u) go stop
   nth_group l h k nodes [] g are ys a u = h ys a u ∙ ap (λ ns. after (nth_runs p levels (view_nodes tables ns) g m u) go stop) (sym are)
@@ -287,14 +287,14 @@ module _ (tables : ℕ → Listing) (p : programs.Program) (levels n : ℕ) (exi
 
   pub chosen_group :
       length slots ≡ 4 → GoesOn (flow p levels tables exits.next.value) m n slots go → GoesOn (flow p levels tables exits.fail.value) m n slots stop →
-      (nodes : List Node) (groups : List Group) (o : Option ℕ) → ArePerformed tables nodes n exits groups →
+      (nodes : List Node) (groups : List GroupCode) (o : Option ℕ) → ArePerformed tables nodes n exits groups →
       (ys : List SavedCursor) → Agree n slots ys → (u : State) →
       chosen_flow o (map (group_flow p levels tables) groups) (flow p levels tables exits.next.value) (flow p levels tables exits.fail.value) m ys u ≡ after (group_runs p levels (view_nodes tables nodes) o m u) go stop
   chosen_group l h k nodes groups None are ys a u = k ys a u
   chosen_group l h k nodes groups (Some g) are ys a u = nth_group l h k nodes groups g are ys a u
 
 pub choosing :
-    (tables : ℕ → Listing) (cost among n : ℕ) (exits : Exits) (nodes : List Node) (groups : List Group) (a b made : Instruction) → a ≡ exits.next.value → b ≡ exits.fail.value →
+    (tables : ℕ → Listing) (cost among n : ℕ) (exits : Exits) (nodes : List Node) (groups : List GroupCode) (a b made : Instruction) → a ≡ exits.next.value → b ≡ exits.fail.value →
     ((p : programs.Program) (levels : ℕ) (m : Mode) (ys : List SavedCursor) (s : State) →
     flow p levels tables made m ys s ≡ then_on (pays cost s) (λ u. chosen_flow (choice among u) (map (group_flow p levels tables) groups) (flow p levels tables a) (flow p levels tables b) m ys u)) →
     ArePerformed tables nodes n exits groups →

@@ -15,7 +15,7 @@ use Rattle.sbl_semantics.specs.State.{State, Ending, Signals, Stops, after, then
 use Rattle.sbl_semantics.specs.declared.cursor.SavedCursor.{SavedCursor}
 use Rattle.sbl_ast.specs.declared.mode.Mode.{Mode}
 use Rattle.sbl_threaded_code.specs.declared.instruction.Instruction.{Instruction}
-use Rattle.sbl_threaded_code.specs.declared.instruction.Group.{Group, out-Group}
+use Rattle.sbl_threaded_code.specs.declared.instruction.GroupCode.{GroupCode, out-GroupCode}
 use Rattle.sbl_threaded_code.specs.declared.assembler.Exits.{Exits}
 use Rattle.sbl_threaded_code.specs.Slots.{no_cursor}
 use Rattle.sbl_threaded_code.specs.Flow.{flow}
@@ -126,8 +126,8 @@ saving_row tables c os cost n exits rest inner entry small saves h row p levels 
     ∙ after_steps cost s d go stop go stop (λ t. refl) (λ t. refl)
 
 -- one more group
-pub performed_more : (tables : ℕ → Listing) (nodes : List Node) (n : ℕ) (exits : Exits) (groups : List Group) (node : Node) (x : Group) →
-    ArePerformed tables nodes n exits groups → PerformsWithExits tables (λ p levels. runs p levels (view_node tables node)) 0 n exits (out-Group x).first.value →
+pub performed_more : (tables : ℕ → Listing) (nodes : List Node) (n : ℕ) (exits : Exits) (groups : List GroupCode) (node : Node) (x : GroupCode) →
+    ArePerformed tables nodes n exits groups → PerformsWithExits tables (λ p levels. runs p levels (view_node tables node)) 0 n exits (out-GroupCode x).first.value →
     ArePerformed tables (nodes ++ (node ∷ [])) n exits (groups ++ (x ∷ []))
 performed_more tables nodes n exits [] node x are h = subst (λ ns. ArePerformed tables (ns ++ (node ∷ [])) n exits (x ∷ [])) (sym are) (h, refl)
 performed_more tables [] n exits (g ∷ gs) node x are h = absurd are

@@ -25,10 +25,10 @@ use Rattle.sbl_threaded_code.specs.Slots.{no_cursor, no_cursors}
 use Rattle.sbl_threaded_code.specs.declared.assembler.Way.{Way}
 use Rattle.sbl_threaded_code.specs.declared.assembler.Way.TheVariants.{Next, Fail, Back}
 use Rattle.sbl_threaded_code.specs.declared.instruction.Instruction.{Instruction}
-use Rattle.sbl_threaded_code.specs.declared.instruction.Instruction.TheOpen.{Instruction-F, Group-F}
+use Rattle.sbl_threaded_code.specs.declared.instruction.Instruction.TheOpen.{Instruction-F, GroupCode-F}
 use Rattle.sbl_threaded_code.specs.declared.instruction.Instruction.TheOpen as code
-use Rattle.sbl_threaded_code.specs.declared.instruction.Instruction.TheFolds.{fold-Instruction, fold-Group}
-use Rattle.sbl_threaded_code.specs.declared.instruction.Group.{Group}
+use Rattle.sbl_threaded_code.specs.declared.instruction.Instruction.TheFolds.{fold-Instruction, fold-GroupCode}
+use Rattle.sbl_threaded_code.specs.declared.instruction.GroupCode.{GroupCode}
 
 -- what a run does from an instruction on, with these saved cursors
 abbrev pub Flow : Type 0
@@ -146,7 +146,7 @@ flow_step p levels tables (code.Search cost among site next fail) m slots s =
 flow_step p levels tables (code.Choose cost among bodies next fail) m slots s =
     then_on (pays cost s) (λ u. chosen_flow (choice among u) bodies.value.items next.value fail.value m slots u)
 
-abbrev pub group_step : Group-F Flow Flow → Flow
+abbrev pub group_step : GroupCode-F Flow Flow → Flow
 group_step g = g.first.value
 
 -- what a run of a program does from an instruction on, if this many levels are left; `tables` has the strings of each table
@@ -154,5 +154,5 @@ abbrev pub flow : programs.Program → ℕ → (ℕ → Listing) → Instruction
 flow p levels tables = fold-Instruction Flow Flow (flow_step p levels tables) group_step
 
 -- the same of the command of a group
-abbrev pub group_flow : programs.Program → ℕ → (ℕ → Listing) → Group → Flow
-group_flow p levels tables = fold-Group Flow Flow (flow_step p levels tables) group_step
+abbrev pub group_flow : programs.Program → ℕ → (ℕ → Listing) → GroupCode → Flow
+group_flow p levels tables = fold-GroupCode Flow Flow (flow_step p levels tables) group_step

@@ -11,7 +11,7 @@ use Rattle.sbl_semantics.specs.State.{State, Ending, Doing, Signals, after, then
 use Rattle.sbl_semantics.specs.declared.cursor.SavedCursor.{SavedCursor}
 use Rattle.sbl_ast.specs.declared.mode.Mode.{Mode}
 use Rattle.sbl_threaded_code.specs.declared.instruction.Instruction.{Instruction}
-use Rattle.sbl_threaded_code.specs.declared.instruction.Group.{Group, out-Group}
+use Rattle.sbl_threaded_code.specs.declared.instruction.GroupCode.{GroupCode, out-GroupCode}
 use Rattle.sbl_threaded_code.specs.declared.assembler.Exits.{Exits}
 use Rattle.sbl_threaded_code.specs.declared.assembler.Place.{Place}
 use Rattle.sbl_threaded_code.specs.Flow.{Flow, flow, alone}
@@ -123,7 +123,7 @@ IsRest tables n others exits rest =
     GoesOn (flow p levels tables rest.fail.value) m (suc n) ys (λ s. after (others_run p levels m (slice_index_or ys n no_cursor) others (Signals false s)) go stop)
 
 -- for each command instructions that perform it
-abbrev pub ArePerformed : (ℕ → Listing) → List Node → ℕ → Exits → List Group → Type 0
+abbrev pub ArePerformed : (ℕ → Listing) → List Node → ℕ → Exits → List GroupCode → Type 0
 ArePerformed tables nodes n exits [] = nodes ≡ []
 ArePerformed tables [] n exits (x ∷ xs) = ⊥
-ArePerformed tables (node ∷ nodes) n exits (x ∷ xs) = PerformsWithExits tables (λ p levels. runs p levels (view_node tables node)) 0 n exits (out-Group x).first.value × ArePerformed tables nodes n exits xs
+ArePerformed tables (node ∷ nodes) n exits (x ∷ xs) = PerformsWithExits tables (λ p levels. runs p levels (view_node tables node)) 0 n exits (out-GroupCode x).first.value × ArePerformed tables nodes n exits xs

@@ -30,7 +30,7 @@ mod saving;
 mod testing;
 
 use crate::code::RoutineCode;
-use crate::instruction::{Group, Instruction};
+use crate::instruction::{GroupCode, Instruction};
 use sbl_program::{Node, Program, Routine};
 use std::alloc::{AllocError, Global};
 use std::rc::Rc;
@@ -296,7 +296,7 @@ impl Assembler {
         let mut entries = Vec::new(self.alloc);
         for body in bodies {
             let first = self.command(body, 0, slot, exits)?;
-            entries.push(Group { first })?;
+            entries.push(GroupCode { first })?;
         }
         self.choose(among, entries, 0, exits)
     }

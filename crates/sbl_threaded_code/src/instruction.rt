@@ -154,7 +154,7 @@ pub enum Instruction {
     Search {
         cost: u32,
         among: usize,
-        site: Box<Site>,
+        site: Box<SearchSite>,
         next: Rc<Instruction>,
         fail: Rc<Instruction>,
     },
@@ -162,7 +162,7 @@ pub enum Instruction {
     Choose {
         cost: u32,
         among: usize,
-        bodies: Box<Vec<Group>>,
+        bodies: Box<Vec<GroupCode>>,
         next: Rc<Instruction>,
         fail: Rc<Instruction>,
     },
@@ -170,7 +170,7 @@ pub enum Instruction {
 
 /// What an among searches: the strings of a table, and the candidate of each.
 #[derive(Drop)]
-pub struct Site {
+pub struct SearchSite {
     /// The number of the table.
     pub table: usize,
     /// The candidates.
@@ -180,7 +180,7 @@ pub struct Site {
 /// The command of a group of an among.
 #[cycle(instruction)]
 #[derive(Drop)]
-pub struct Group {
+pub struct GroupCode {
     /// Its first instruction.
     pub first: Rc<Instruction>,
 }

@@ -9,5 +9,5 @@ mod runner;
 mod slots;
 
 pub use code::{Code, RoutineCode};
-pub use instruction::{Group, Instruction};
+pub use instruction::{GroupCode, Instruction};
 pub use runner::Runner;

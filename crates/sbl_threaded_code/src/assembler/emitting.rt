@@ -14,7 +14,7 @@ ghost use Rattle.sbl_semantics.specs.Control.{pay_first};
 ghost use Rattle.sbl_semantics.specs.State.{Signals};
 
 use crate::assembler::{Assembler, Exits};
-use crate::instruction::{Group, Instruction, Site};
+use crate::instruction::{GroupCode, Instruction, SearchSite};
 use sbl_program::{Candidate, Node};
 use std::alloc::AllocError;
 use std::rc::Rc;
@@ -95,7 +95,7 @@ impl Assembler {
         ensures { IfOk result (λ made. (tables : ℕ → Listing) (n : ℕ) → PerformsWithExits tables (λ p levels. pay_first (search_all (calls p levels) among entries.now (tables table))) cost n exits.now made.value) }
     {
         let entries = Vec::from_slice(self.alloc, entries)?;
-        let site = Box::new(self.alloc, Site { table, entries })?;
+        let site = Box::new(self.alloc, SearchSite { table, entries })?;
         emit!(self, exits, Search { cost, among, site })
     }
 
@@ -138,7 +138,7 @@ impl Assembler {
     pub(super) fn choose(
         &mut self,
         among: usize,
-        groups: Vec<Group>,
+        groups: Vec<GroupCode>,
         cost: u32,
         exits: &Exits,
     ) -> Result<Rc<Instruction>, AllocError>

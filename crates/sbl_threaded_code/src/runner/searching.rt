@@ -7,7 +7,7 @@ ghost use Rattle.sbl_interpreter.specs.Run.{calls};
 ghost use Rattle.sbl_interpreter.specs.Search.{search_all, search_strings, try_one};
 ghost use Rattle.sbl_semantics.specs.State.{State as RunState, Ending, saved_cursor};
 
-use crate::instruction::Site;
+use crate::instruction::SearchSite;
 use crate::runner::Runner;
 use sbl_interpreter::{Halt, State, Tables};
 use sbl_program::Candidate;
@@ -17,7 +17,12 @@ impl<'a, T: Tables> Runner<'a, T> {
     /// Searches an among, which touches it.
     #[cycle(run)]
     #[inline(never)]
-    pub(super) fn run_search_all(&self, among: usize, site: &Site, state: &mut State) -> Result<bool, Halt>
+    pub(super) fn run_search_all(
+        &self,
+        among: usize,
+        site: &SearchSite,
+        state: &mut State,
+    ) -> Result<bool, Halt>
         ensures follows { Follows result state.new (search_all (calls (program_of (T.listed self.now.tables.now) self.now.code.now) self.now.levels) among site.now.entries.items (T.listed self.now.tables.now site.now.table) self.now.mode state.old) }
         ensures no_more { IfOk result (λ _. state.new.steps ≤ state.old.steps) }
     {

@@ -1,5 +1,5 @@
 -- What the functions of the assembler's cycle owe.
-mod Commands
+mod AnyCommand
 use Rattle.std.proofs.Common.{◌≡◌, ℕ, ◌+◌, ◌-◌, ◌<◌, true, false, [], ◌∷◌, ◌++◌, length, map, take, drop, get_or, refl, sym, ap, subst, ◌∙◌, arith, rules}
 use Rattle.std.proofs.lemmas.List.{take_more, take_all, nil_from_length}
 use Rattle.std.proofs.lemmas.Bool.Decides.{nat_tests}
@@ -25,7 +25,7 @@ use Rattle.sbl_threaded_code.proofs.Performing.{emitted_at, made_of, same_meanin
 use Rattle.sbl_threaded_code.proofs.Rests.{rest_or, rest_and, performed_more}
 use Rattle.sbl_threaded_code.proofs.ProgramViews.{act_does, view_joiner, view_command}
 use Rattle.sbl_threaded_code.proofs.assembler.Assembler.+command.Goals as goal
-use Rattle.sbl_threaded_code.proofs.assembler.Assembler.+command.Answers.Commands as commands
+use Rattle.sbl_threaded_code.proofs.assembler.Assembler.+command.Answers.AnyCommand as any_command
 
 pub backwards-returns : goal.backwards-returns
 backwards-returns t c =
@@ -409,58 +409,58 @@ seek-returns-in_ok-more-in-NonGrouping t c =
 -- ---- any command
 
 pub command-returns-in_ok-more-in-Act : goal.command-returns-in_ok-more-in-Act
-command-returns-in_ok-more-in-Act = commands.command-returns-in_ok-more-in-Act
+command-returns-in_ok-more-in-Act = any_command.command-returns-in_ok-more-in-Act
 
 pub command-returns-in_ok-more-in-Sequence : goal.command-returns-in_ok-more-in-Sequence
-command-returns-in_ok-more-in-Sequence = commands.command-returns-in_ok-more-in-Sequence
+command-returns-in_ok-more-in-Sequence = any_command.command-returns-in_ok-more-in-Sequence
 
 pub command-returns-in-Not : goal.command-returns-in-Not
-command-returns-in-Not = commands.command-returns-in-Not
+command-returns-in-Not = any_command.command-returns-in-Not
 
 pub command-returns-in-Test : goal.command-returns-in-Test
-command-returns-in-Test = commands.command-returns-in-Test
+command-returns-in-Test = any_command.command-returns-in-Test
 
 pub command-returns-in-Try : goal.command-returns-in-Try
-command-returns-in-Try = commands.command-returns-in-Try
+command-returns-in-Try = any_command.command-returns-in-Try
 
 pub command-returns-in-Do : goal.command-returns-in-Do
-command-returns-in-Do = commands.command-returns-in-Do
+command-returns-in-Do = any_command.command-returns-in-Do
 
 pub command-returns-in-Fail : goal.command-returns-in-Fail
-command-returns-in-Fail = commands.command-returns-in-Fail
+command-returns-in-Fail = any_command.command-returns-in-Fail
 
 pub command-returns-in-Repeat : goal.command-returns-in-Repeat
-command-returns-in-Repeat = commands.command-returns-in-Repeat
+command-returns-in-Repeat = any_command.command-returns-in-Repeat
 
 pub command-returns-in-Backwards : goal.command-returns-in-Backwards
-command-returns-in-Backwards = commands.command-returns-in-Backwards
+command-returns-in-Backwards = any_command.command-returns-in-Backwards
 
 pub command-returns-in-Goto : goal.command-returns-in-Goto
-command-returns-in-Goto = commands.command-returns-in-Goto
+command-returns-in-Goto = any_command.command-returns-in-Goto
 
 pub command-returns-in-GoPast : goal.command-returns-in-GoPast
-command-returns-in-GoPast = commands.command-returns-in-GoPast
+command-returns-in-GoPast = any_command.command-returns-in-GoPast
 
 pub command-returns-in-Loop : goal.command-returns-in-Loop
-command-returns-in-Loop = commands.command-returns-in-Loop
+command-returns-in-Loop = any_command.command-returns-in-Loop
 
 pub command-returns-in-AtLeast : goal.command-returns-in-AtLeast
-command-returns-in-AtLeast = commands.command-returns-in-AtLeast
+command-returns-in-AtLeast = any_command.command-returns-in-AtLeast
 
 pub command-returns-in-Call : goal.command-returns-in-Call
-command-returns-in-Call = commands.command-returns-in-Call
+command-returns-in-Call = any_command.command-returns-in-Call
 
 pub command-returns-in-Search : goal.command-returns-in-Search
-command-returns-in-Search = commands.command-returns-in-Search
+command-returns-in-Search = any_command.command-returns-in-Search
 
 pub command-returns-in_ok-second-in-SetLimit : goal.command-returns-in_ok-second-in-SetLimit
-command-returns-in_ok-second-in-SetLimit = commands.command-returns-in_ok-second-in-SetLimit
+command-returns-in_ok-second-in-SetLimit = any_command.command-returns-in_ok-second-in-SetLimit
 
 pub command-returns-in_ok-choose-in-Among : goal.command-returns-in_ok-choose-in-Among
-command-returns-in_ok-choose-in-Among = commands.command-returns-in_ok-choose-in-Among
+command-returns-in_ok-choose-in-Among = any_command.command-returns-in_ok-choose-in-Among
 
 pub command-returns-then-is_empty : goal.command-returns-then-is_empty
-command-returns-then-is_empty = commands.command-returns-then-is_empty
+command-returns-then-is_empty = any_command.command-returns-then-is_empty
 
 pub command-returns-in_ok-entry-in-Row : goal.command-returns-in_ok-entry-in-Row
-command-returns-in_ok-entry-in-Row = commands.command-returns-in_ok-entry-in-Row
+command-returns-in_ok-entry-in-Row = any_command.command-returns-in_ok-entry-in-Row

@@ -7,7 +7,7 @@ use Rattle.sbl_interpreter.specs.Search.{search_all}
 use Rattle.sbl_semantics.specs.Control.{pay_first}
 use Rattle.sbl_semantics.specs.State.{after, then_on}
 use Rattle.sbl_threaded_code.specs.Flow.{flow}
-use Rattle.sbl_threaded_code.specs.declared.instruction.Site.{Site}
+use Rattle.sbl_threaded_code.specs.declared.instruction.SearchSite.{SearchSite}
 use Rattle.sbl_threaded_code.proofs.Instructions.{flow_search}
 use Rattle.sbl_threaded_code.proofs.Performing.{emitted_at}
 use Rattle.sbl_threaded_code.proofs.assembler.Assembler.search.Goals as goal
@@ -22,6 +22,6 @@ returns c =
     (λ p levels m ys s.
     ap (λ i. flow p levels tables i m ys s) is
     ∙ flow_search p levels tables m ys s c.args.cost c.args.among c.in_ok-site.site o.next o.fail
-    ∙ ap (λ (x : Site). then_on (pays c.args.cost s) (λ u. after (pay_first (search_all (calls p levels) c.args.among x.entries.items (tables x.table)) m u) (flow p levels tables o.next.value m ys) (flow p levels tables o.fail.value m ys))) c.in_ok-site.ensures.ok
+    ∙ ap (λ (x : SearchSite). then_on (pays c.args.cost s) (λ u. after (pay_first (search_all (calls p levels) c.args.among x.entries.items (tables x.table)) m u) (flow p levels tables o.next.value m ys) (flow p levels tables o.fail.value m ys))) c.in_ok-site.ensures.ok
     ∙ ap (λ (xs : List Candidate). then_on (pays c.args.cost s) (λ u. after (pay_first (search_all (calls p levels) c.args.among xs (tables c.args.table)) m u) (flow p levels tables o.next.value m ys) (flow p levels tables o.fail.value m ys))) c.in_ok-entries.ensures.items) n)
     c.emit.ensures

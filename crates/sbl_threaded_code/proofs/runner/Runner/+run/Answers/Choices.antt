@@ -8,7 +8,7 @@ use Rattle.sbl_interpreter.specs.Actions.{test_grouping}
 use Rattle.sbl_semantics.specs.Choices.{choice}
 use Rattle.sbl_semantics.specs.State.{State, Signals, after, then_on}
 use Rattle.sbl_threaded_code.specs.Flow.{flow, back_if}
-use Rattle.sbl_threaded_code.specs.declared.instruction.Group.{Group, out-Group}
+use Rattle.sbl_threaded_code.specs.declared.instruction.GroupCode.{GroupCode, out-GroupCode}
 use Rattle.sbl_threaded_code.proofs.Instructions.{flow_grouping}
 use Rattle.sbl_threaded_code.proofs.PerformingAt.{grouping_stays, back_stays}
 use Rattle.sbl_threaded_code.proofs.Flows.{chosen_at, chosen_past, group_does}
@@ -28,7 +28,7 @@ run_from-loop-at-preserved-in-None-get g t c =
     let u = c.pay_for-in-Choose.new.self in
     let bodies = c.deref-in-Some.result.now in
     let ds = c.deref-in-Some-2.result.now in
-    let ds_is : ds ≡ a.bodies.value.items = c.deref-in-Some-2.ensures.value ∙ ap (λ (v : Vec Group Global). v.items) c.deref-in-Some.ensures in
+    let ds_is : ds ≡ a.bodies.value.items = c.deref-in-Some-2.ensures.value ∙ ap (λ (v : Vec GroupCode Global). v.items) c.deref-in-Some.ensures in
     let group = c.in-Some.group in
     let is : choice a.among u ≡ Some group = sym c.choice.ensures ∙ c.in-Some.is in
     let no_more : u.steps ≤ s.steps = c.in_ok-pay_for-in-Choose.ensures.no_more in
@@ -51,7 +51,7 @@ run_from-loop-at-preserved-in-Some-get g t c =
     let u = c.pay_for-in-Choose.new.self in
     let bodies = c.deref-in-Some.result.now in
     let ds = c.deref-in-Some-2.result.now in
-    let ds_is : ds ≡ a.bodies.value.items = c.deref-in-Some-2.ensures.value ∙ ap (λ (v : Vec Group Global). v.items) c.deref-in-Some.ensures in
+    let ds_is : ds ≡ a.bodies.value.items = c.deref-in-Some-2.ensures.value ∙ ap (λ (v : Vec GroupCode Global). v.items) c.deref-in-Some.ensures in
     let group = c.in-Some.group in
     let is : choice a.among u ≡ Some group = sym c.choice.ensures ∙ c.in-Some.is in
     let no_more : u.steps ≤ s.steps = c.in_ok-pay_for-in-Choose.ensures.no_more in
@@ -61,7 +61,7 @@ run_from-loop-at-preserved-in-Some-get g t c =
     let r : body ≡ get_or ds group body = search rules in
     let whole = sym inv.0 ∙ chosen_at P levels T m slots s at a.cost a.among a.bodies a.next a.fail u group ds body a.is c.in_ok-pay_for-in-Choose.ensures.leads is ds_is l r in
     let y = c.deref-in-Some-get.result.now in
-    let first : y ≡ (out-Group body).first.value = c.deref-in-Some-get.ensures in
+    let first : y ≡ (out-GroupCode body).first.value = c.deref-in-Some-get.ensures in
     (sym (whole ∙ group_does P levels T m slots u body y first), steps)
 
 pub run_from-loop-at-preserved-then-branch-11 : goal.run_from-loop-at-preserved-then-branch-11
