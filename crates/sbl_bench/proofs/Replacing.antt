@@ -40,13 +40,13 @@ module _ {A : Type 0} (s : Contents) (what : ScriptEdit) (text : List ℕ) (r : 
   for_its_text script.OutOfMemory f out is same = absurd is
 
   -- a fault that is no want of memory is the edit's
-  known : (g : declared.ScriptEditFault) → IsEditFault s.setting.script what text g → Edits (Err (fault_of_script g)) s (Replace what text) s
-  known script.NoRoutine is = (inl (script.NoRoutine, is, refl), refl)
-  known script.NoGrouping is = (inl (script.NoGrouping, is, refl), refl)
-  known script.NoAmong is = (inl (script.NoAmong, is, refl), refl)
-  known script.AmongCount is = (inl (script.AmongCount, is, refl), refl)
-  known (script.Script f) is = (inl (script.Script f, is, refl), refl)
-  known script.OutOfMemory is = absurd is
+  fault_of_edit : (g : declared.ScriptEditFault) → IsEditFault s.setting.script what text g → Edits (Err (fault_of_script g)) s (Replace what text) s
+  fault_of_edit script.NoRoutine is = (inl (script.NoRoutine, is, refl), refl)
+  fault_of_edit script.NoGrouping is = (inl (script.NoGrouping, is, refl), refl)
+  fault_of_edit script.NoAmong is = (inl (script.NoAmong, is, refl), refl)
+  fault_of_edit script.AmongCount is = (inl (script.AmongCount, is, refl), refl)
+  fault_of_edit (script.Script f) is = (inl (script.Script f, is, refl), refl)
+  fault_of_edit script.OutOfMemory is = absurd is
 
   -- where a script was made, it is for its text that the edit is refused, if it is
   of_its_text : (a : A) (g : declared.ScriptEditFault) (f : EditFault) → r ≡ Ok a → IsEditFault s.setting.script what text g → f ≡ fault_of_script g → IsOfText f
@@ -59,22 +59,22 @@ module _ {A : Type 0} (s : Contents) (what : ScriptEdit) (text : List ℕ) (r : 
 
   -- so nothing but the text refuses it
   pub passes : (a : A) → r ≡ Ok a → PassesTests s (Replace what text)
-  passes a made = λ f refused. of_its_text a refused.0 f made refused.1 refused.2
+  passes a made = λ f refusal_edits. of_its_text a refusal_edits.0 f made refusal_edits.1 refusal_edits.2
 
   -- if memory was refused after that
   pub nothing_made : (a : A) → r ≡ Ok a → Edits (Err fault.OutOfMemory) s (Replace what text) s
   nothing_made a made = record { wanted = λ w same. cc same; is = inl (passes a made, refl) }
 
   out_of_memory : r ≡ Err script.OutOfMemory → Edits (Err fault.OutOfMemory) s (Replace what text) s
-  out_of_memory out = record { wanted = λ w same. cc same; is = inl (λ f refused. for_its_text refused.0 f out refused.1 refused.2, refl) }
+  out_of_memory out = record { wanted = λ w same. cc same; is = inl (λ f refusal_edits. for_its_text refusal_edits.0 f out refusal_edits.1 refusal_edits.2, refl) }
 
-  pub refused : (g : declared.ScriptEditFault) → r ≡ Err g → (g ≡ script.OutOfMemory) ⊎ IsEditFault s.setting.script what text g → Edits (Err (fault_of_script g)) s (Replace what text) s
-  refused g is (inl out) = rw out (out_of_memory (rw (sym out) is))
-  refused g is (inr fault) = known g fault
+  pub refusal_edits : (g : declared.ScriptEditFault) → r ≡ Err g → (g ≡ script.OutOfMemory) ⊎ IsEditFault s.setting.script what text g → Edits (Err (fault_of_script g)) s (Replace what text) s
+  refusal_edits g is (inl out) = rw out (out_of_memory (rw (sym out) is))
+  refusal_edits g is (inr fault) = fault_of_edit g fault
 
 -- ---- a whole script
 
 pub unread : (s : Contents) (bytes : List ℕ) (g : ScriptFault) (f : EditFault) → IsFaultOfText g f → (g ≡ texts.OutOfMemory) ⊎ IsFaultOf bytes s.setting.script.external g → Edits (Err f) s (Whole bytes) s
-unread s bytes g f (inl out) is = rw out.1 (record { wanted = λ w same. cc same; is = inl (λ h refused. inr (refused.0, refused.2), refl) })
-unread s bytes g f (inr known) (inl out) = absurd (known.0 out)
-unread s bytes g f (inr known) (inr is) = rw known.1 (inl (g, is, refl), refl)
+unread s bytes g f (inl out) is = rw out.1 (record { wanted = λ w same. cc same; is = inl (λ h refusal_edits. inr (refusal_edits.0, refusal_edits.2), refl) })
+unread s bytes g f (inr fault_of_edit) (inl out) = absurd (fault_of_edit.0 out)
+unread s bytes g f (inr fault_of_edit) (inr is) = rw fault_of_edit.1 (inl (g, is, refl), refl)

@@ -13,34 +13,34 @@ use Rattle.sbl_bench.proofs.Meeting.{needed_is}
 use Rattle.sbl_bench.proofs.Refusals.{replaces, replaces_never, replaces_nothing}
 
 module _ (s : Contents) (e : Edit) (t : Setting) (a : AffectedWords) (es : List KeptWord) (b : Brings s e t a) (words : s.words ≡ words_in es) (fresh : AreFresh s.setting es) where
-  abbrev needed : ℕ
-  needed = length (met_words a es)
+  abbrev need : ℕ
+  need = length (met_words a es)
 
-  same : needed ≡ runs_needed s e t
+  same : need ≡ runs_needed s e t
   same = needed_is s e t a es b words fresh
 
   -- where memory was refused before any run
   pub out_of_memory : Edits (Err fault.OutOfMemory) s e s
   out_of_memory = record { wanted = b.wants; is = inl (b.passes, refl) }
 
-  pub stopped : (f : EditFault) (count : ℕ) → IsStopOf needed f s.count count → Edits (Err f) s e (record s { count = count })
-  stopped fault.OutOfMemory count (inl none) = record { wanted = b.wants; is = inl (b.passes, λ i. record s { count = none i }) }
-  stopped fault.OutOfMemory count (inr some) =
-      replaces_nothing s e t s.words s.count needed count b.wants b.after refl same some.2 refl (some.0, subst (λ (n : ℕ). some.0 ≤ n) same some.1, some.3)
-  stopped fault.MeterFull count full =
-      subst (λ (n : ℕ). Edits (Err fault.MeterFull) s e (record s { count = n })) (sym full.1) (replaces_never s e t s.count needed b.after refl same full.0)
-  stopped fault.Present count stop = absurd stop
-  stopped fault.Absent count stop = absurd stop
-  stopped fault.EmptyWord count stop = absurd stop
-  stopped fault.WordTooLong count stop = absurd stop
-  stopped fault.Full count stop = absurd stop
-  stopped fault.NoRoutine count stop = absurd stop
-  stopped fault.NoAmong count stop = absurd stop
-  stopped fault.AmongCount count stop = absurd stop
-  stopped (fault.Script f) count stop = absurd stop
-  stopped fault.BadLimit count stop = absurd stop
-  stopped fault.NoGrouping count stop = absurd stop
+  pub stop_edits : (f : EditFault) (count : ℕ) → IsStopOf need f s.count count → Edits (Err f) s e (record s { count = count })
+  stop_edits fault.OutOfMemory count (inl none) = record { wanted = b.wants; is = inl (b.passes, λ i. record s { count = none i }) }
+  stop_edits fault.OutOfMemory count (inr some) =
+      replaces_nothing s e t s.words s.count need count b.wants b.after refl same some.2 refl (some.0, subst (λ (n : ℕ). some.0 ≤ n) same some.1, some.3)
+  stop_edits fault.MeterFull count full =
+      subst (λ (n : ℕ). Edits (Err fault.MeterFull) s e (record s { count = n })) (sym full.1) (replaces_never s e t s.count need b.after refl same full.0)
+  stop_edits fault.Present count stop = absurd stop
+  stop_edits fault.Absent count stop = absurd stop
+  stop_edits fault.EmptyWord count stop = absurd stop
+  stop_edits fault.WordTooLong count stop = absurd stop
+  stop_edits fault.Full count stop = absurd stop
+  stop_edits fault.NoRoutine count stop = absurd stop
+  stop_edits fault.NoAmong count stop = absurd stop
+  stop_edits fault.AmongCount count stop = absurd stop
+  stop_edits (fault.Script f) count stop = absurd stop
+  stop_edits fault.BadLimit count stop = absurd stop
+  stop_edits fault.NoGrouping count stop = absurd stop
 
-  pub made : (fs : List KeptWord) (count : ℕ) → words_in fs ≡ words_in es → needed ≤ max_runs - s.count → count ≡ s.count + needed → Edits (Ok tt) s e (record { setting = t; words = words_in fs; count = count })
-  made fs count stay room counts =
-      replaces s e t (words_in fs) s.count needed count b.after refl same room (stay ∙ sym words ∙ sym b.words) (counts ∙ ap (λ (n : ℕ). s.count + n) same)
+  pub commit_edits : (fs : List KeptWord) (count : ℕ) → words_in fs ≡ words_in es → need ≤ max_runs - s.count → count ≡ s.count + need → Edits (Ok tt) s e (record { setting = t; words = words_in fs; count = count })
+  commit_edits fs count stay room counts =
+      replaces s e t (words_in fs) s.count need count b.after refl same room (stay ∙ sym words ∙ sym b.words) (counts ∙ ap (λ (n : ℕ). s.count + n) same)

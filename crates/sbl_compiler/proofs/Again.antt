@@ -25,9 +25,9 @@ module _ (ns : Names) (classes : List (ℕ → Bool)) where
   has_it (by_name n) k c h = ap (λ (i : ℕ). class_at classes i c) (eqb-true (number_of ns.groupings n) k h)
 
   -- what a character of a grouping that is named later was before does not matter
-  forgotten : (ts : List Term) (k : ℕ) (a b : ℕ → Bool) (c : ℕ) → is_named ns ts k ≡ true → class_at classes k c ≡ true → with_terms ns classes ts a c ≡ with_terms ns classes ts b c
-  forgotten [] k a b c n h = absurd (true≢false (sym n))
-  forgotten (term o x ∷ ts) k a b c n h = by (is_name_of ns x k) refl n (forgotten ts k (class_after o (term_class ns classes x) a) (class_after o (term_class ns classes x) b) c)
+  terms_forget : (ts : List Term) (k : ℕ) (a b : ℕ → Bool) (c : ℕ) → is_named ns ts k ≡ true → class_at classes k c ≡ true → with_terms ns classes ts a c ≡ with_terms ns classes ts b c
+  terms_forget [] k a b c n h = absurd (true≢false (sym n))
+  terms_forget (term o x ∷ ts) k a b c n h = by (is_name_of ns x k) refl n (terms_forget ts k (class_after o (term_class ns classes x) a) (class_after o (term_class ns classes x) b) c)
     where
       by : (t : Bool) → is_name_of ns x k ≡ t → (if t then true else is_named ns ts k) ≡ true
           → (is_named ns ts k ≡ true → class_at classes k c ≡ true → with_terms ns classes ts (class_after o (term_class ns classes x) a) c ≡ with_terms ns classes ts (class_after o (term_class ns classes x) b) c)
@@ -44,7 +44,7 @@ module _ (ns : Names) (classes : List (ℕ → Bool)) where
     where
       by : (t : Bool) → class_at classes (number_of ns.groupings n) c ≡ t
           → with_terms ns classes ts class c ≡ with_terms ns classes ts (class_after o (class_at classes (number_of ns.groupings n)) class) c
-      by true e = forgotten ts (number_of ns.groupings n) class (class_after o (class_at classes (number_of ns.groupings n)) class) c h e
+      by true e = terms_forget ts (number_of ns.groupings n) class (class_after o (class_at classes (number_of ns.groupings n)) class) c h e
       by false e = same_on ts class (class_after o (class_at classes (number_of ns.groupings n)) class) c (sym (ap (λ (y : Bool). if y then is_added o else class c) e))
 
   pub passed_over : (o : Additive) (x : Argument) (ts : List Term) (class : ℕ → Bool) → is_named_again ns x ts ≡ true

@@ -38,31 +38,31 @@ use Rattle.sbl_ast.specs.Source.{Source}
 abbrev call_of : ℕ → ℕ → Doing → Doing
 call_of j n d m s = leave s.routine s.choices (d m (enter j n s))
 
-module _ (marked : Touch → Bool) where
-  enter_up : (j n : ℕ) (s : State) → dirty marked s ≡ true → dirty marked (enter j n s) ≡ true
-  enter_up j n s d = with_grows marked (Entered j) s.touched d
+module _ (is_marked : Touch → Bool) where
+  enter_up : (j n : ℕ) (s : State) → dirty is_marked s ≡ true → dirty is_marked (enter j n s) ≡ true
+  enter_up j n s d = with_grows is_marked (Entered j) s.touched d
 
-  leave_grown : (j n : ℕ) (s : State) (e : Ending) → Grown marked (enter j n s) e → Grown marked s (leave s.routine s.choices e)
+  leave_grown : (j n : ℕ) (s : State) (e : Ending) → Grown is_marked (enter j n s) e → Grown is_marked s (leave s.routine s.choices e)
   leave_grown j n s (Signals true t) h = record { up = λ d. h.up (enter_up j n s d); here = refl }
   leave_grown j n s (Signals false t) h = record { up = λ d. h.up (enter_up j n s d); here = refl }
   leave_grown j n s (Stops fault t) h = record { up = λ d. h.up (enter_up j n s d); here = tt }
 
-  leave_dirty : (r : ℕ) (cs : List (Option ℕ)) (e : Ending) → dirty_at marked e ≡ true → dirty_at marked (leave r cs e) ≡ true
+  leave_dirty : (r : ℕ) (cs : List (Option ℕ)) (e : Ending) → dirty_at is_marked e ≡ true → dirty_at is_marked (leave r cs e) ≡ true
   leave_dirty r cs (Signals true t) d = d
   leave_dirty r cs (Signals false t) d = d
   leave_dirty r cs (Stops fault t) d = d
 
-  leave_within : (i j n : ℕ) (s : State) (e : Ending) → Within marked i s → Grown marked (enter j n s) e → WithinAt marked i (leave s.routine s.choices e)
+  leave_within : (i j n : ℕ) (s : State) (e : Ending) → Within is_marked i s → Grown is_marked (enter j n s) e → WithinAt is_marked i (leave s.routine s.choices e)
   leave_within i j n s (Signals true t) w h =
       record { here = w.here; quiet = λ k c clear. w.quiet k c (not_then _ _ (λ d. h.up (enter_up j n s d)) clear) }
   leave_within i j n s (Signals false t) w h =
       record { here = w.here; quiet = λ k c clear. w.quiet k c (not_then _ _ (λ d. h.up (enter_up j n s d)) clear) }
   leave_within i j n s (Stops fault t) w h = tt
 
-  entered : (j n : ℕ) (s : State) → Within marked j (enter j n s)
-  entered j n s = record { here = refl; quiet = λ k c clear. replicate_index n k None }
+  enter_within : (j n : ℕ) (s : State) → Within is_marked j (enter j n s)
+  enter_within j n s = record { here = refl; quiet = λ k c clear. replicate_index n k None }
 
-  called_pair : (i j n : ℕ) (d d' : Doing) (m : Mode) → Alike marked j d d' → Pair marked i (call_of j n d m) (call_of j n d' m)
+  called_pair : (i j n : ℕ) (d d' : Doing) (m : Mode) → Alike is_marked j d d' → Pair is_marked i (call_of j n d m) (call_of j n d' m)
   called_pair i j n d d' m h =
       let a = h.in_mode m in
       record {
@@ -72,19 +72,19 @@ module _ (marked : Touch → Bool) where
           kin =
               ⊎_elim (λ p. inl (ap (leave s.routine s.choices) p))
               (λ x. inr (leave_dirty s.routine s.choices (d m (enter j n s)) x.0, leave_dirty s.routine s.choices (d' m (enter j n s)) x.1))
-              (a.at (enter j n s) (entered j n s)).kin;
+              (a.at (enter j n s) (enter_within j n s)).kin;
           within = leave_within i j n s _ w (a.grown (enter j n s));
         };
       }
 
   -- a routine that is picked
-  entered_pair : (i j n n' : ℕ) (d d' : Doing) (m : Mode) → marked (Entered j) ≡ true → ((s : State) → Grown marked s (d m s)) → ((s : State) → Grown marked s (d' m s)) → Pair marked i (call_of j n d m) (call_of j n' d' m)
+  entered_pair : (i j n n' : ℕ) (d d' : Doing) (m : Mode) → is_marked (Entered j) ≡ true → ((s : State) → Grown is_marked s (d m s)) → ((s : State) → Grown is_marked s (d' m s)) → Pair is_marked i (call_of j n d m) (call_of j n' d' m)
   entered_pair i j n n' d d' m c h h' =
-      spoiled_pair marked i _ _
+      spoiled_pair is_marked i _ _
       (λ s. leave_grown j n s _ (h (enter j n s)))
       (λ s. leave_grown j n' s _ (h' (enter j n' s)))
-      (λ s w. leave_dirty s.routine s.choices (d m (enter j n s)) ((h (enter j n s)).up (with_chosen marked (Entered j) s.touched c)))
-      (λ s w. leave_dirty s.routine s.choices (d' m (enter j n' s)) ((h' (enter j n' s)).up (with_chosen marked (Entered j) s.touched c)))
+      (λ s w. leave_dirty s.routine s.choices (d m (enter j n s)) ((h (enter j n s)).up (with_chosen is_marked (Entered j) s.touched c)))
+      (λ s w. leave_dirty s.routine s.choices (d' m (enter j n' s)) ((h' (enter j n' s)).up (with_chosen is_marked (Entered j) s.touched c)))
 
 -- what is picked, by number
 abbrev pub marked_by : (Item' → Bool) → Names' → Touch → Bool
@@ -101,11 +101,11 @@ module _ (picked : Item' → Bool) (items : List ItemInMode) (closed : AllByRecu
   abbrev class' : List ℕ → ℕ → Bool
   class' = class_of (classes_after (holed_items picked items) [])
 
-  abbrev marked : Touch → Bool
-  marked = marked_by picked (record { routines = known_in items kinds.Routines; groupings = known_in items kinds.Groupings })
+  abbrev is_marked : Touch → Bool
+  is_marked = marked_by picked (record { routines = known_in items kinds.Routines; groupings = known_in items kinds.Groupings })
 
   -- a grouping that is not marked has the same; so has a name of none, which has nothing
-  classes_alike : (n : List ℕ) → marked (Tested (place_of (ns kinds.Groupings) n)) ≡ false → class' n ≡ class n
+  classes_alike : (n : List ℕ) → is_marked (Tested (place_of (ns kinds.Groupings) n)) ≡ false → class' n ≡ class n
   classes_alike n clear = at (is_among (known_in items kinds.Groupings) n) refl
     where
       at : (b : Bool) → is_among (known_in items kinds.Groupings) n ≡ b → class' n ≡ class n
@@ -113,40 +113,40 @@ module _ (picked : Item' → Bool) (items : List ItemInMode) (closed : AllByRecu
       at false e = fun_ext (λ c. no_class (holed_items picked items) n c (ap (λ l. is_among l n) (ap (λ known. known kinds.Groupings) (known_same picked items)) ∙ e) ∙ sym (no_class items n c e))
 
   routine_by : (i : ℕ) (n : List ℕ) (body : Body) (call call' : List ℕ → Doing) (m : Mode) (b : Bool) → picked (Routine n) ≡ b → slice_index_or (known_in items kinds.Routines) (place_of (known_in items kinds.Routines) n) [] ≡ n
-      → Alike marked (place_of (known_in items kinds.Routines) n) (pay_first (row_does ns class call body.mode body.first body.others))
+      → Alike is_marked (place_of (known_in items kinds.Routines) n) (pay_first (row_does ns class call body.mode body.first body.others))
       (pay_first (row_does ns class' call' body.mode (with_holes (λ k. picked (Among n k)) 0 body.first) (others_with_holes (λ k. picked (Among n k)) (number_after body.first 0) body.others)))
-      → Pair marked i (body_does ns class call n (Some body) m) (body_does ns class' call' n (Some (hole_of picked b n body)) m)
+      → Pair is_marked i (body_does ns class call n (Some body) m) (body_does ns class' call' n (Some (hole_of picked b n body)) m)
   routine_by i n body call call' m true c name a =
       let j = place_of (known_in items kinds.Routines) n in
-      entered_pair marked i j (number_after_others body.others (number_after body.first 0)) 0 (pay_first (row_does ns class call body.mode body.first body.others))
+      entered_pair is_marked i j (number_after_others body.others (number_after body.first 0)) 0 (pay_first (row_does ns class call body.mode body.first body.others))
       (pay_first (row_does ns class' call' body.mode (bracket no_rows) no_others)) m (ap (λ x. picked (Routine x)) name ∙ c) (a.in_mode m).grown
-      (λ s. grown_after marked s (pay s.steps s) (Signals true) (Signals false) (same_grown marked s _ (pay_same s.steps s)) (λ t. same_grown marked t _ refl) (λ t. same_grown marked t _ refl))
+      (λ s. grown_after is_marked s (pay s.steps s) (Signals true) (Signals false) (same_grown is_marked s _ (pay_same s.steps s)) (λ t. same_grown is_marked t _ refl) (λ t. same_grown is_marked t _ refl))
   routine_by i n body call call' m false c name a =
       let j = place_of (known_in items kinds.Routines) n in
       let holes = λ (k : ℕ). picked (Among n k) in
       let d = pay_first (row_does ns class call body.mode body.first body.others) in
       let d' = pay_first (row_does ns class' call' body.mode (with_holes holes 0 body.first) (others_with_holes holes (number_after body.first 0) body.others)) in
       let amongs = number_after_others body.others (number_after body.first 0) in
-      subst (λ l. Pair marked i (call_of j amongs d m) (call_of j l d' m)) (sym (after_others_same holes body.others (number_after body.first 0) _ (after_same holes body.first 0 0 refl)))
-      (called_pair marked i j amongs d d' m a)
+      subst (λ l. Pair is_marked i (call_of j amongs d m) (call_of j l d' m)) (sym (after_others_same holes body.others (number_after body.first 0) _ (after_same holes body.first 0 0 refl)))
+      (called_pair is_marked i j amongs d d' m a)
 
-  body_pair : (i : ℕ) (n : List ℕ) (call call' : List ℕ → Doing) (m : Mode) → ((j : ℕ) (x : List ℕ) → Alike marked j (call x) (call' x)) → (o : Option Body) → body_named items n ≡ o
-      → Pair marked i (body_does ns class call n o m) (body_does ns class' call' n (option_map (holed_body picked n) o) m)
-  body_pair i n call call' m h None is = signals_pair marked i false
+  body_pair : (i : ℕ) (n : List ℕ) (call call' : List ℕ → Doing) (m : Mode) → ((j : ℕ) (x : List ℕ) → Alike is_marked j (call x) (call' x)) → (o : Option Body) → body_named items n ≡ o
+      → Pair is_marked i (body_does ns class call n o m) (body_does ns class' call' n (option_map (holed_body picked n) o) m)
+  body_pair i n call call' m h None is = signals_pair is_marked i false
   body_pair i n call call' m h (Some body) is =
       let j = place_of (known_in items kinds.Routines) n in
       let name : slice_index_or (known_in items kinds.Routines) j [] ≡ n = name_stands items n body is in
       routine_by i n body call call' m (picked (Routine n)) refl name
-      (paid_alike marked j _ _ (row_alike marked ns class class' classes_alike call call' j (h j) (λ k. picked (Among n k)) (λ k. ap (λ (x : List ℕ). picked (Among x (suc k))) name) body.mode body.first body.others))
+      (paid_alike is_marked j _ _ (row_alike is_marked ns class class' classes_alike call call' j (h j) (λ k. picked (Among n k)) (λ k. ap (λ (x : List ℕ). picked (Among x (suc k))) name) body.mode body.first body.others))
 
-  calls_alike : (l i : ℕ) (n : List ℕ) → Alike marked i (calls ns class (body_named items) l n) (calls ns class' (body_named (holed_items picked items)) l n)
-  calls_alike zero i n = record { in_mode = λ m. same_pair marked i (Stops Depth) (λ s. refl) }
+  calls_alike : (l i : ℕ) (n : List ℕ) → Alike is_marked i (calls ns class (body_named items) l n) (calls ns class' (body_named (holed_items picked items)) l n)
+  calls_alike zero i n = record { in_mode = λ m. same_pair is_marked i (Stops Depth) (λ s. refl) }
   calls_alike (suc l) i n =
       let call = calls ns class (body_named items) l in
       let call' = calls ns class' (body_named (holed_items picked items)) l in
       record {
         in_mode = λ m.
-            subst (λ o. Pair marked i (body_does ns class call n (body_named items n) m) (body_does ns class' call' n o m)) (sym (bodies_holed picked items n))
+            subst (λ o. Pair is_marked i (body_does ns class call n (body_named items n) m) (body_does ns class' call' n o m)) (sym (bodies_holed picked items n))
             (body_pair i n call call' m (λ j x. calls_alike l j x) (body_named items n) refl);
       }
 
@@ -155,7 +155,7 @@ module _ (picked : Item' → Bool) (items : List ItemInMode) (closed : AllByRecu
   run_kin : (l : ℕ) (external word : List ℕ) (limit : ℕ) →
       let e = calls ns class (body_named items) l external Forward (start ns word limit) in
       let e' = calls ns class' (body_named (holed_items picked items)) l external Forward (start ns word limit) in
-      (e' ≡ e) ⊎ ((dirty_at marked e ≡ true) × (dirty_at marked e' ≡ true))
+      (e' ≡ e) ⊎ ((dirty_at is_marked e ≡ true) × (dirty_at is_marked e' ≡ true))
   run_kin l external word limit =
       (((calls_alike l 0 external).in_mode Forward).at (start ns word limit) (record { here = refl; quiet = λ k c clear. refl })).kin
 
@@ -172,7 +172,7 @@ holed_run picked l items external word limit =
 
 -- two endings are the same, or something that is picked was touched in both
 abbrev Kin : (Touch → Bool) → Ending → Ending → Type 0
-Kin marked e e' = (e' ≡ e) ⊎ ((dirty_at marked e ≡ true) × (dirty_at marked e' ≡ true))
+Kin is_marked e e' = (e' ≡ e) ⊎ ((dirty_at is_marked e ≡ true) × (dirty_at is_marked e' ≡ true))
 
 levels_kin : (picked : Item' → Bool) (l : ℕ) (s : Source) → IsClosed picked s → (word : List ℕ) (limit : ℕ) →
     Kin (marked_by picked (names_of s)) (run_on l (in_order s.items) s.external word limit) (run_on l (in_order (holed_script picked s).items) s.external word limit)
@@ -188,21 +188,21 @@ ending_kin picked s closed word limit = levels_kin picked 32 s closed word limit
 pub agree_names : (picked : Item' → Bool) (s t : Source) → AgreeOutside picked s t → names_of t ≡ names_of s
 agree_names picked s t agree = sym (names_same picked t) ∙ ap names_of (sym agree) ∙ names_same picked s
 
-clear_kin : (marked : Touch → Bool) (e e' : Ending) → Kin marked e e' → dirty_at marked e ≡ false → e' ≡ e
-clear_kin marked e e' h clear = ⊎_elim (λ p. p) (λ d. absurd (true≢false (sym d.0 ∙ clear))) h
+clear_kin : (is_marked : Touch → Bool) (e e' : Ending) → Kin is_marked e e' → dirty_at is_marked e ≡ false → e' ≡ e
+clear_kin is_marked e e' h clear = ⊎_elim (λ p. p) (λ d. absurd (true≢false (sym d.0 ∙ clear))) h
 
-clear_back : (marked : Touch → Bool) (e e' : Ending) → Kin marked e e' → dirty_at marked e' ≡ false → e ≡ e'
-clear_back marked e e' h clear = ⊎_elim (λ p. sym p) (λ d. absurd (true≢false (sym d.1 ∙ clear))) h
+clear_back : (is_marked : Touch → Bool) (e e' : Ending) → Kin is_marked e e' → dirty_at is_marked e' ≡ false → e ≡ e'
+clear_back is_marked e e' h clear = ⊎_elim (λ p. sym p) (λ d. absurd (true≢false (sym d.1 ∙ clear))) h
 
 pub frame_on : (picked : Item' → Bool) (s t : Source) → IsClosed picked s → AgreeOutside picked s t → (word : List ℕ) (limit : ℕ) → dirty_at (marked_by picked (names_of s)) (ending s word limit) ≡ false → ending t word limit ≡ ending s word limit
 frame_on picked s t closed agree word limit clear =
-    let marked = marked_by picked (names_of s) in
+    let is_marked = marked_by picked (names_of s) in
     let hole = holed_script picked in
     let later : IsClosed picked t = closed_of_holed picked t (subst (IsClosed picked) agree (closed_holed picked s closed)) in
-    let same : ending (hole t) word limit ≡ ending s word limit = ap (λ x. ending x word limit) (sym agree) ∙ clear_kin marked _ _ (ending_kin picked s closed word limit) clear in
-    let kin : Kin marked (ending t word limit) (ending (hole t) word limit) =
+    let same : ending (hole t) word limit ≡ ending s word limit = ap (λ x. ending x word limit) (sym agree) ∙ clear_kin is_marked _ _ (ending_kin picked s closed word limit) clear in
+    let kin : Kin is_marked (ending t word limit) (ending (hole t) word limit) =
     subst (λ ns. Kin (marked_by picked ns) (ending t word limit) (ending (hole t) word limit)) (agree_names picked s t agree) (ending_kin picked t later word limit) in
-    clear_back marked _ _ kin (ap (dirty_at marked) same ∙ clear) ∙ same
+    clear_back is_marked _ _ kin (ap (dirty_at is_marked) same ∙ clear) ∙ same
 
 -- ---- what is said of it
 

@@ -105,8 +105,8 @@ module _ (bs after : List ItemInMode) (m : Mode) (n : List ℕ) (a : Argument) (
   abbrev all : List Grouping
   all = classes_after ours []
 
-  known : map name_of gs ≡ known_in bs kinds.Groupings
-  known = class_names bs []
+  known_names : map name_of gs ≡ known_in bs kinds.Groupings
+  known_names = class_names bs []
 
   whole : (more : List Grouping) × (all ≡ gs ++ g ∷ more)
   whole =
@@ -117,11 +117,11 @@ module _ (bs after : List ItemInMode) (m : Mode) (n : List ℕ) (a : Argument) (
   class_is c =
       let more = g ∷ whole.0 in
       ap (λ l. class_of l n c) whole.1
-      ∙ class_after gs g whole.0 n c (ap (λ l. is_among l n) known ∙ names.once) (same_name n)
+      ∙ class_after gs g whole.0 n c (ap (λ l. is_among l n) known_names ∙ names.once) (same_name n)
       ∙ sym (
       ap (λ l. terms_have l ts (term_has l a c) c) whole.1
-      ∙ terms_kept gs more ts (term_has (gs ++ more) a c) c (subst (λ l. AreKnown l ts) (sym known) names.others)
-      ∙ ap (λ k. terms_have gs ts k c) (term_kept gs more a c (subst (λ l. IsKnown l a) (sym known) names.first))
+      ∙ terms_kept gs more ts (term_has (gs ++ more) a c) c (subst (λ l. AreKnown l ts) (sym known_names) names.others)
+      ∙ ap (λ k. terms_have gs ts k c) (term_kept gs more a c (subst (λ l. IsKnown l a) (sym known_names) names.first))
       )
 
 pub groupings_are : WellDeclaredPasses → GroupingsAreTheirTerms

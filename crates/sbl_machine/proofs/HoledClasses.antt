@@ -42,13 +42,13 @@ no_class xs n c h = none_has (classes_after xs []) n c (ap (λ l. is_among l n) 
 -- ---- groupings beside those of the same items with holes
 
 module _ (picked : Item' → Bool) where
-  abbrev chosen : List ℕ → Bool
-  chosen n = picked (items.Grouping n)
+  abbrev is_picked : List ℕ → Bool
+  is_picked n = picked (items.Grouping n)
 
   -- two groupings of one name, which have the same unless it is picked
   record Like (g g' : Grouping) : Type 0 where
     name : g'.name ≡ g.name
-    has : chosen g.name ≡ false → (c : ℕ) → g'.has c ≡ g.has c
+    has : is_picked g.name ≡ false → (c : ℕ) → g'.has c ≡ g.has c
 
   -- groupings beside others
   AllLike : List Grouping → List Grouping → Type 0
@@ -64,7 +64,7 @@ module _ (picked : Item' → Bool) where
   more_like (f ∷ fs) [] g g' h l = absurd h
   more_like (f ∷ fs) (f' ∷ fs') g g' h l = (h.0, more_like fs fs' g g' h.1 l)
 
-  class_like : (gs gs' : List Grouping) → AllLike gs gs' → (n : List ℕ) → chosen n ≡ false → (c : ℕ) → class_of gs' n c ≡ class_of gs n c
+  class_like : (gs gs' : List Grouping) → AllLike gs gs' → (n : List ℕ) → is_picked n ≡ false → (c : ℕ) → class_of gs' n c ≡ class_of gs n c
   unfolding AllLike
   class_like [] [] h n e c = refl
   class_like [] (g' ∷ gs') h n e c = absurd h
@@ -75,21 +75,21 @@ module _ (picked : Item' → Bool) where
       ∙ ap (λ (b : Bool). if bytes_eq g.name n then g.has c else b) (class_like gs gs' h.1 n e c)
     where
       by : (b : Bool) → bytes_eq g.name n ≡ b → (if b then g'.has c else class_of gs' n c) ≡ (if b then g.has c else class_of gs' n c)
-      by true k = h.0.has (ap chosen ((bytes_eq-Decides g.name n).0 k) ∙ e) c
+      by true k = h.0.has (ap is_picked ((bytes_eq-Decides g.name n).0 k) ∙ e) c
       by false k = refl
 
   module _ (gs gs' : List Grouping) (h : AllLike gs gs') (c : ℕ) where
-    term_like : (a : Argument) → names chosen a ≡ false → term_has gs' a c ≡ term_has gs a c
+    term_like : (a : Argument) → names is_picked a ≡ false → term_has gs' a c ≡ term_has gs a c
     term_like (written_out q) e = refl
     term_like (by_name n) e = class_like gs gs' h n e c
 
-    terms_like : (ts : List Term) → any_names chosen ts ≡ false → (b b' : Bool) → b' ≡ b → terms_have gs' ts b' c ≡ terms_have gs ts b c
+    terms_like : (ts : List Term) → any_names is_picked ts ≡ false → (b b' : Bool) → b' ≡ b → terms_have gs' ts b' c ≡ terms_have gs ts b c
     terms_like [] e b b' p = p
     terms_like (term Plus a ∷ ts) e b b' p =
-        let d = no_or (names chosen a) (any_names chosen ts) e in
+        let d = no_or (names is_picked a) (any_names is_picked ts) e in
         terms_like ts d.1 _ _ (ap (λ x. x || term_has gs' a c) p ∙ ap (λ x. b || x) (term_like a d.0))
     terms_like (term Minus a ∷ ts) e b b' p =
-        let d = no_or (names chosen a) (any_names chosen ts) e in
+        let d = no_or (names is_picked a) (any_names is_picked ts) e in
         terms_like ts d.1 _ _ (ap (λ x. x && not (term_has gs' a c)) p ∙ ap (λ x. b && not x) (term_like a d.0))
 
   -- ---- items and the same with holes
@@ -97,19 +97,19 @@ module _ (picked : Item' → Bool) where
   abbrev of_terms : List Grouping → List ℕ → Argument → List Term → Grouping
   of_terms gs n a ts = record { name = n; has = λ c. terms_have gs ts (term_has gs a c) c }
 
-  kept_like : (gs gs' : List Grouping) → AllLike gs gs' → (n : List ℕ) (a : Argument) (ts : List Term) → (built_on chosen a ts ≡ true → chosen n ≡ true) → Like (of_terms gs n a ts) (of_terms gs' n a ts)
+  kept_like : (gs gs' : List Grouping) → AllLike gs gs' → (n : List ℕ) (a : Argument) (ts : List Term) → (built_on is_picked a ts ≡ true → is_picked n ≡ true) → Like (of_terms gs n a ts) (of_terms gs' n a ts)
   kept_like gs gs' h n a ts closed =
       record {
         name = refl;
         has = λ e c.
-            let d = no_or (names chosen a) (any_names chosen ts) (not_so (built_on chosen a ts) (chosen n) closed e) in
+            let d = no_or (names is_picked a) (any_names is_picked ts) (not_so (built_on is_picked a ts) (is_picked n) closed e) in
             terms_like gs gs' h c ts d.1 _ _ (term_like gs gs' h c a d.0);
       }
 
-  hole_like : (gs gs' : List Grouping) (n : List ℕ) (a a' : Argument) (ts ts' : List Term) → chosen n ≡ true → Like (of_terms gs n a ts) (of_terms gs' n a' ts')
+  hole_like : (gs gs' : List Grouping) (n : List ℕ) (a a' : Argument) (ts ts' : List Term) → is_picked n ≡ true → Like (of_terms gs n a ts) (of_terms gs' n a' ts')
   hole_like gs gs' n a a' ts ts' e = record { name = refl; has = λ no c. absurd (true≢false (sym e ∙ no)) }
 
-  grouping_like : (gs gs' : List Grouping) → AllLike gs gs' → (n : List ℕ) (a : Argument) (ts : List Term) → IsClosedAt picked (grouping n a ts) → (b : Bool) → chosen n ≡ b
+  grouping_like : (gs gs' : List Grouping) → AllLike gs gs' → (n : List ℕ) (a : Argument) (ts : List Term) → IsClosedAt picked (grouping n a ts) → (b : Bool) → is_picked n ≡ b
       → AllLike (and_grouping (grouping n a ts) gs) (and_grouping (if b then grouping n (written_out nothing) [] else grouping n a ts) gs')
   grouping_like gs gs' h n a ts closed true e = more_like gs gs' _ _ h (hole_like gs gs' n a (written_out nothing) ts [] e)
   grouping_like gs gs' h n a ts closed false e = more_like gs gs' _ _ h (kept_like gs gs' h n a ts closed)
@@ -119,7 +119,7 @@ module _ (picked : Item' → Bool) where
   routine_like gs gs' h n c c' os os' false = h
 
   plain_like : (gs gs' : List Grouping) → AllLike gs gs' → (x : Plain) → IsClosedAt picked x → AllLike (and_grouping x gs) (and_grouping (holed_plain picked x) gs')
-  plain_like gs gs' h (grouping n a ts) closed = grouping_like gs gs' h n a ts closed (chosen n) refl
+  plain_like gs gs' h (grouping n a ts) closed = grouping_like gs gs' h n a ts closed (is_picked n) refl
   plain_like gs gs' h (routine n c os) closed = routine_like gs gs' h n _ _ _ _ (picked (Routine n))
   plain_like gs gs' h (declaration k xs) closed = h
   plain_like gs gs' h (escapes a b) closed = h

@@ -320,14 +320,14 @@ module _ (s : Source) (spelled : AreSpelled s.items) where
   -- ---- all together
 
   module _ (xs : List Item') (there : list_all (has_item (names_of s)) xs ≡ true) where
-    abbrev found : List Touch
-    found = searches (amongs_in xs) 0 routines []
+    abbrev search_touches : List Touch
+    search_touches = searches (amongs_in xs) 0 routines []
 
-    abbrev entered : (List ℕ → Bool) → List Touch
-    entered test = with_names Entered test 0 routines found
+    abbrev entry_touches : (List ℕ → Bool) → List Touch
+    entry_touches test = with_names Entered test 0 routines search_touches
 
-    abbrev tested : (List ℕ → Bool) → (List ℕ → Bool) → List Touch
-    tested test other = with_names Tested test 0 groupings (entered other)
+    abbrev test_touches : (List ℕ → Bool) → (List ℕ → Bool) → List Touch
+    test_touches test other = with_names Tested test 0 groupings (entry_touches other)
 
     abbrev in_routines : List ℕ → Bool
     in_routines = is_among (routines_after xs [])
@@ -341,23 +341,23 @@ module _ (s : Source) (spelled : AreSpelled s.items) where
     no_built : in_built [] ≡ false
     no_built = groupings_are xs [] ∙ none_passes (λ x. is_affected_by s x (Grouping [])) (has_item (names_of s)) named_grouping xs there
 
-    by_touch : (t : Touch) → list_any (same_touch t) (tested in_built in_routines) ≡ affected_by s xs (item_of_touch (names_of s) t)
+    by_touch : (t : Touch) → list_any (same_touch t) (test_touches in_built in_routines) ≡ affected_by s xs (item_of_touch (names_of s) t)
     by_touch (Entered j) =
         let n = slice_index_or routines j [] in
-        not_marked Tested in_built (Entered j) groupings (entered in_routines) (λ i. refl)
-        ∙ own_marked Entered in_routines (Entered j) routines found j (λ i. refl) no_routine
+        not_marked Tested in_built (Entered j) groupings (entry_touches in_routines) (λ i. refl)
+        ∙ own_marked Entered in_routines (Entered j) routines search_touches j (λ i. refl) no_routine
         ∙ ap (λ (b : Bool). in_routines n || b) (searches_not (Entered j) (λ i k. refl) (amongs_in xs) 0 routines [])
         ∙ or_false (in_routines n)
         ∙ routines_are xs n
     by_touch (Searched j l) =
-        not_marked Tested in_built (Searched j l) groupings (entered in_routines) (λ i. refl)
-        ∙ not_marked Entered in_routines (Searched j l) routines found (λ i. refl)
+        not_marked Tested in_built (Searched j l) groupings (entry_touches in_routines) (λ i. refl)
+        ∙ not_marked Entered in_routines (Searched j l) routines search_touches (λ i. refl)
         ∙ own_search (amongs_in xs) j l routines (amongs_are l xs [] ∙ none_passes (λ x. is_affected_by s x (Among [] (suc l))) (has_item (names_of s)) (named_among (suc l)) xs there)
         ∙ amongs_are l xs (slice_index_or routines j [])
     by_touch (Tested g) =
         let n = slice_index_or groupings g [] in
-        own_marked Tested in_built (Tested g) groupings (entered in_routines) g (λ i. refl) no_built
-        ∙ ap (λ (b : Bool). in_built n || b) (not_marked Entered in_routines (Tested g) routines found (λ i. refl) ∙ searches_not (Tested g) (λ i k. refl) (amongs_in xs) 0 routines [])
+        own_marked Tested in_built (Tested g) groupings (entry_touches in_routines) g (λ i. refl) no_built
+        ∙ ap (λ (b : Bool). in_built n || b) (not_marked Entered in_routines (Tested g) routines search_touches (λ i. refl) ∙ searches_not (Tested g) (λ i k. refl) (amongs_in xs) 0 routines [])
         ∙ or_false (in_built n)
         ∙ groupings_are xs n
 
@@ -365,4 +365,4 @@ module _ (s : Source) (spelled : AreSpelled s.items) where
   are_marks xs there t =
       let built = fun_ext (among_is (built_after items (groupings_after xs []))) in
       let own = fun_ext (among_is (routines_after xs [])) in
-      (λ i. list_any (same_touch t) (tested xs there (built i) (own i))) ∙ by_touch xs there t
+      (λ i. list_any (same_touch t) (test_touches xs there (built i) (own i))) ∙ by_touch xs there t

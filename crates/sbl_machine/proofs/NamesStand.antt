@@ -97,9 +97,9 @@ site_of i x = record { item = i; mode = x.mode }
 
 -- the names of one kind of variables, by the items
 module _ (kind : DeclarationKind) (here : (ns : List (List ℕ)) → names_by kind (declaration kind ns) ≡ ns) where
-  declared : (n : List ℕ) (xs : List ItemInMode) (i : ℕ) (s : List Occurrence) → look (kinds_at n) s ≡ None → look (kinds_at n) (noted_items xs i s) ≡ Some kind → is_among (known_in xs kind) n ≡ true
-  declared n [] i s e h = let no : ⊥ = cc in absurd no
-  declared n (x ∷ xs) i s e h = at (kind_after x.plain (site_of i x) s n e) (λ none. declared n xs (i + 1) (noted_plain x.plain (site_of i x) s) none h)
+  declared_among : (n : List ℕ) (xs : List ItemInMode) (i : ℕ) (s : List Occurrence) → look (kinds_at n) s ≡ None → look (kinds_at n) (noted_items xs i s) ≡ Some kind → is_among (known_in xs kind) n ≡ true
+  declared_among n [] i s e h = let no : ⊥ = cc in absurd no
+  declared_among n (x ∷ xs) i s e h = at (kind_after x.plain (site_of i x) s n e) (λ none. declared_among n xs (i + 1) (noted_plain x.plain (site_of i x) s) none h)
     where
       at : (look (kinds_at n) (noted_plain x.plain (site_of i x) s) ≡ None) ⊎ Declares x.plain (site_of i x) s n → (look (kinds_at n) (noted_plain x.plain (site_of i x) s) ≡ None → is_among (known_in xs kind) n ≡ true) → is_among (names_by kind x.plain ++ known_in xs kind) n ≡ true
       at (inl none) rest = among_right (names_by kind x.plain) (known_in xs kind) n (rest none)
@@ -251,11 +251,11 @@ module _ (all : List Occurrence) (passing : Passing all) (n : List ℕ) (d : Sit
   in_item (routine r c os) p s xs more e later = in_routine r c os p s xs more e later
   in_item (grouping r a ts) p s xs more e later = in_grouping r a ts p s xs more e later
 
-  defined : (xs : List ItemInMode) (i : ℕ) (s : List Occurrence) → all ≡ noted_items xs i s → look (defined_at n) s ≡ None → Defined all xs n d.mode
-  defined [] i s parts e = let no : ⊥ = cc in absurd no
-  defined (x ∷ xs) i s parts e =
+  has_definition : (xs : List ItemInMode) (i : ℕ) (s : List Occurrence) → all ≡ noted_items xs i s → look (defined_at n) s ≡ None → Defined all xs n d.mode
+  has_definition [] i s parts e = let no : ⊥ = cc in absurd no
+  has_definition (x ∷ xs) i s parts e =
       in_item x.plain (site_of i x) s xs (subst (Extends (noted_plain x.plain (site_of i x) s)) (sym parts) (items_more xs (i + 1) (noted_plain x.plain (site_of i x) s))) e
-      (defined xs (i + 1) (noted_plain x.plain (site_of i x) s) parts)
+      (has_definition xs (i + 1) (noted_plain x.plain (site_of i x) s) parts)
 
 -- ---- a script
 
@@ -277,19 +277,19 @@ module _ (items : List Item) (passing : Passing (occurrences_of items)) (u : Use
 
   string_there : r.kind ≡ kinds.Strings → is_among (known_in ours kinds.Strings) n ≡ true
   string_there k =
-      declared kinds.Strings (λ ns. refl) n ours 1 [] refl (kind_there ∙ ap Some k)
+      declared_among kinds.Strings (λ ns. refl) n ours 1 [] refl (kind_there ∙ ap Some k)
 
   integer_there : r.kind ≡ kinds.Integers → is_among (known_in ours kinds.Integers) n ≡ true
   integer_there k =
-      declared kinds.Integers (λ ns. refl) n ours 1 [] refl (kind_there ∙ ap Some k)
+      declared_among kinds.Integers (λ ns. refl) n ours 1 [] refl (kind_there ∙ ap Some k)
 
   boolean_there : r.kind ≡ kinds.Booleans → is_among (known_in ours kinds.Booleans) n ≡ true
   boolean_there k =
-      declared kinds.Booleans (λ ns. refl) n ours 1 [] refl (kind_there ∙ ap Some k)
+      declared_among kinds.Booleans (λ ns. refl) n ours 1 [] refl (kind_there ∙ ap Some k)
 
   definition_there : (d : Site) → definition_of n all ≡ Some d → Defined all ours n d.mode
   definition_there d h =
-      defined all passing n d (sym (site_is n all) ∙ h) ours 1 [] refl refl
+      has_definition all passing n d (sym (site_is n all) ∙ h) ours 1 [] refl refl
 
   either : (b c : Bool) → c ≡ true → (b || c) ≡ true
   either true c h = refl
@@ -303,8 +303,8 @@ module _ (items : List Item) (passing : Passing (occurrences_of items)) (u : Use
   never_both kinds.Externals h g = cc
   never_both kinds.Groupings h g = cc
 
-  tested : (test : DeclarationKind → Bool) → is_some_and test (look (kinds_at n) all) ≡ true → test r.kind ≡ true
-  tested test h = sym (ap (is_some_and test) kind_there) ∙ h
+  kind_passes : (test : DeclarationKind → Bool) → is_some_and test (look (kinds_at n) all) ≡ true → test r.kind ≡ true
+  kind_passes test h = sym (ap (is_some_and test) kind_there) ∙ h
 
   body_there : is_routine r.kind ≡ true → HasBody ours n m
   body_there k = at (r.defined (needs k))
@@ -317,7 +317,7 @@ module _ (items : List Item) (passing : Passing (occurrences_of items)) (u : Use
         where
           pick : Defined all ours n d.0.mode → HasBody ours n m
           pick (inl h) = (h.1.0, h.1.1, h.1.2 ∙ same_mode m d.0.mode (r.same_mode k d.0 d.1))
-          pick (inr h) = absurd (never_both r.kind k (tested is_grouping h.0))
+          pick (inr h) = absurd (never_both r.kind k (kind_passes is_grouping h.0))
 
   grouping_there : is_grouping r.kind ≡ true → is_among (known_in ours kinds.Groupings) n ≡ true
   grouping_there k = at (r.defined (either (is_routine r.kind) (is_grouping r.kind) k))
@@ -326,7 +326,7 @@ module _ (items : List Item) (passing : Passing (occurrences_of items)) (u : Use
       at d = pick (definition_there d.0 d.1)
         where
           pick : Defined all ours n d.0.mode → is_among (known_in ours kinds.Groupings) n ≡ true
-          pick (inl h) = absurd (never_both r.kind (tested is_routine h.0) k)
+          pick (inl h) = absurd (never_both r.kind (kind_passes is_routine h.0) k)
           pick (inr h) = h.1
 
   a_command : (k : DeclarationKind) → r.kind ≡ k → not (is_kind k kinds.Integers) ≡ true → StandsFor ours use_as.Command n m

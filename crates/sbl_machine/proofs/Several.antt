@@ -62,18 +62,18 @@ module _ {X : Type 0} where
 -- ---- terms that name one of several
 
 module _ {X : Type 0} (choose : X → List ℕ → Bool) (xs : List X) where
-  abbrev chosen : List ℕ → Bool
-  chosen m = list_any (λ x. choose x m) xs
+  abbrev is_chosen : List ℕ → Bool
+  is_chosen m = list_any (λ x. choose x m) xs
 
-  name_any : (a : Argument) → names chosen a ≡ list_any (λ x. names (choose x) a) xs
+  name_any : (a : Argument) → names is_chosen a ≡ list_any (λ x. names (choose x) a) xs
   name_any (written_out q) = sym (any_none xs)
   name_any (by_name n) = refl
 
-  names_any : (ts : List Term) → any_names chosen ts ≡ list_any (λ x. any_names (choose x) ts) xs
+  names_any : (ts : List Term) → any_names is_chosen ts ≡ list_any (λ x. any_names (choose x) ts) xs
   names_any [] = sym (any_none xs)
   names_any (term o a ∷ ts) = (λ i. name_any a i || names_any ts i) ∙ sym (any_or (λ x. names (choose x) a) (λ x. any_names (choose x) ts) xs)
 
-  built_on_any : (a : Argument) (ts : List Term) → built_on chosen a ts ≡ list_any (λ x. built_on (choose x) a ts) xs
+  built_on_any : (a : Argument) (ts : List Term) → built_on is_chosen a ts ≡ list_any (λ x. built_on (choose x) a ts) xs
   built_on_any a ts = (λ i. name_any a i || names_any ts i) ∙ sym (any_or (λ x. names (choose x) a) (λ x. any_names (choose x) ts) xs)
 
 -- ---- closed sets together are closed

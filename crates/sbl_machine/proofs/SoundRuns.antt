@@ -31,8 +31,8 @@ module _ (items : List ItemInMode) (external : List ℕ) where
   abbrev ns : Names
   ns = names_after items no_names
 
-  abbrev known : DeclaredNames
-  known = known_in items
+  abbrev names_known : DeclaredNames
+  names_known = known_in items
 
   abbrev class : List ℕ → ℕ → Bool
   class = class_of (classes_after items [])
@@ -46,7 +46,7 @@ module _ (items : List ItemInMode) (external : List ℕ) where
   variables integers booleans strings kinds.Strings = strings
   variables integers booleans strings k = []
 
-  agree : Agree ns known
+  agree : Agree ns names_known
   agree = record {
     strings = strings_are items no_names;
     integers = integers_are items no_names;
@@ -55,38 +55,38 @@ module _ (items : List ItemInMode) (external : List ℕ) where
     routines = routines_are items no_names;
   }
 
-  body_same : (call : ℕ → Doing) (call' : List ℕ → Doing) (n : List ℕ) (o : Option Body) (m : Mode) (s : State) → ((n : List ℕ) → call (number_of ns.routines n) ≡ call' n) → run.body_does (does program.groupings call) (number_of ns.routines n) (option_map (as_made ns) o) m s ≡ meaning.body_does known class call' n o m s
+  body_same : (call : ℕ → Doing) (call' : List ℕ → Doing) (n : List ℕ) (o : Option Body) (m : Mode) (s : State) → ((n : List ℕ) → call (number_of ns.routines n) ≡ call' n) → run.body_does (does program.groupings call) (number_of ns.routines n) (option_map (as_made ns) o) m s ≡ meaning.body_does names_known class call' n o m s
   body_same call call' n None m s h = refl
   body_same call call' n (Some b) m s h =
       let i = number_of ns.routines n in
       let amongs = number_after_others b.others (number_after b.first 0) in
-      ap (λ d. leave s.routine s.choices (pay_first d m (enter i amongs s))) (row_sound ns known agree program.groupings class call call' (class_same items external) h b.mode b.first b.others)
-      ∙ ap (λ i. leave s.routine s.choices (pay_first (meaning.row_does known class call' b.mode b.first b.others) m (enter i amongs s))) (placed_by _ _ n agree.routines)
+      ap (λ d. leave s.routine s.choices (pay_first d m (enter i amongs s))) (row_sound ns names_known agree program.groupings class call call' (class_same items external) h b.mode b.first b.others)
+      ∙ ap (λ i. leave s.routine s.choices (pay_first (meaning.row_does names_known class call' b.mode b.first b.others) m (enter i amongs s))) (placed_by _ _ n agree.routines)
 
-  calls_same : (l : ℕ) (n : List ℕ) (m : Mode) (s : State) → run.calls program l (number_of ns.routines n) m s ≡ meaning.calls known class (body_named items) l n m s
+  calls_same : (l : ℕ) (n : List ℕ) (m : Mode) (s : State) → run.calls program l (number_of ns.routines n) m s ≡ meaning.calls names_known class (body_named items) l n m s
   calls_same zero n m s = refl
   calls_same (suc l) n m s =
       ap (λ o. run.body_does (does program.groupings (run.calls program l)) (number_of ns.routines n) o m s) (routine_same items external n)
-      ∙ body_same (run.calls program l) (meaning.calls known class (body_named items) l) n (body_named items n) m s (λ n. fun_ext (λ m. fun_ext (λ s. calls_same l n m s)))
+      ∙ body_same (run.calls program l) (meaning.calls names_known class (body_named items) l) n (body_named items n) m s (λ n. fun_ext (λ m. fun_ext (λ s. calls_same l n m s)))
 
   -- where a run begins, by the names of its variables
-  abbrev started : List (List ℕ) → List (List ℕ) → List (List ℕ) → List ℕ → ℕ → State
-  started integers booleans strings word limit = meaning.start (variables integers booleans strings) word limit
+  abbrev start_state : List (List ℕ) → List (List ℕ) → List (List ℕ) → List ℕ → ℕ → State
+  start_state integers booleans strings word limit = meaning.start (variables integers booleans strings) word limit
 
-  start_same : (word : List ℕ) (limit : ℕ) → start program word limit ≡ meaning.start known word limit
+  start_same : (word : List ℕ) (limit : ℕ) → start program word limit ≡ meaning.start names_known word limit
   start_same word limit =
-      ap (λ l. started l ns.booleans ns.strings word limit) agree.integers
-      ∙ ap (λ l. started (known kinds.Integers) l ns.strings word limit) agree.booleans
-      ∙ ap (λ l. started (known kinds.Integers) (known kinds.Booleans) l word limit) agree.strings
+      ap (λ l. start_state l ns.booleans ns.strings word limit) agree.integers
+      ∙ ap (λ l. start_state (names_known kinds.Integers) l ns.strings word limit) agree.booleans
+      ∙ ap (λ l. start_state (names_known kinds.Integers) (names_known kinds.Booleans) l word limit) agree.strings
 
-  told_by_items : (word : List ℕ) (limit : ℕ) → telling_of program word limit ≡ meaning.calls known class (body_named items) 32 external Forward (record (meaning.start known word limit) { events = Some [] })
+  told_by_items : (word : List ℕ) (limit : ℕ) → telling_of program word limit ≡ meaning.calls names_known class (body_named items) 32 external Forward (record (meaning.start names_known word limit) { events = Some [] })
   told_by_items word limit =
       let begun : State = record (start program word limit) { events = Some [] } in
       calls_same 32 external Forward begun
-      ∙ ap (λ (s : State). meaning.calls known class (body_named items) 32 external Forward (record s { events = Some [] })) (start_same word limit)
+      ∙ ap (λ (s : State). meaning.calls names_known class (body_named items) 32 external Forward (record s { events = Some [] })) (start_same word limit)
 
-  by_items : (word : List ℕ) (limit : ℕ) → ending_of program word limit ≡ meaning.calls known class (body_named items) 32 external Forward (meaning.start known word limit)
-  by_items word limit = calls_same 32 external Forward (start program word limit) ∙ ap (meaning.calls known class (body_named items) 32 external Forward) (start_same word limit)
+  by_items : (word : List ℕ) (limit : ℕ) → ending_of program word limit ≡ meaning.calls names_known class (body_named items) 32 external Forward (meaning.start names_known word limit)
+  by_items word limit = calls_same 32 external Forward (start program word limit) ∙ ap (meaning.calls names_known class (body_named items) 32 external Forward) (start_same word limit)
 
 pub ending_same : (script : Source) (word : List ℕ) (limit : ℕ) → ending_of (numbered_script script) word limit ≡ meaning.ending script word limit
 unfolding numbered_items meaning.ending

@@ -312,11 +312,11 @@ module _ (prefix mine other rest : List Occurrence) (i : ℕ) (closed : Closed p
 -- ---- a script
 
 module _ (items : List Item) (external : List ℕ) (d : DefinitionKind) (n : List ℕ) (y : Plain) (same : defines d n y ≡ true) (well : WellDeclared items external) where
-  abbrev edited : List Item
-  edited = items_with (defines d n) y items
+  abbrev edited_items : List Item
+  edited_items = items_with (defines d n) y items
 
-  told : (q : Parts (defines d n) y (in_order items) (in_order edited)) (f : ScriptFault) → fault_of edited external ≡ Some f → (i : ℕ) × (item_of f ≡ Some i) × (number_of (defines d n) items ≡ Some i)
-  told q f bad = (i, at (first.fault_is_first edited external f bad), q.number 1)
+  fault_item : (q : Parts (defines d n) y (in_order items) (in_order edited_items)) (f : ScriptFault) → fault_of edited_items external ≡ Some f → (i : ℕ) × (item_of f ≡ Some i) × (number_of (defines d n) items ≡ Some i)
+  fault_item q f bad = (i, at (first.fault_is_first edited_items external f bad), q.number 1)
     where
       i : ℕ
       i = 1 + length q.before
@@ -339,7 +339,7 @@ module _ (items : List Item) (external : List ℕ) (d : DefinitionKind) (n : Lis
       old_is : occurrences_of items ≡ prefix ++ (mine ++ rest)
       old_is = ap (λ l. noted_items l 1 []) q.old ∙ round_item q.before (at_mode q.mode q.item) q.after
 
-      new_is : occurrences_of edited ≡ prefix ++ (other ++ rest)
+      new_is : occurrences_of edited_items ≡ prefix ++ (other ++ rest)
       new_is = ap (λ l. noted_items l 1 []) q.new ∙ round_item q.before (at_mode q.mode y) q.after
 
       two : Alike (1 + length q.before) mine other
@@ -354,14 +354,14 @@ module _ (items : List Item) (external : List ℕ) (d : DefinitionKind) (n : Lis
       fine : EachPasses (occurrences_of items) × (has_external items external (occurrences_of items) ≡ true)
       fine = first.well_declared_passes items external well
 
-      kept : has_external edited external (occurrences_of edited) ≡ true
+      kept : has_external edited_items external (occurrences_of edited_items) ≡ true
       kept =
-          ap (λ o. is_some_and (is_kind declared_kinds.Externals) o && is_some (body_in external edited)) (ap (kind_of external) new_is ∙ kinds_same prefix mine other rest (1 + length q.before) closed two later external rest ∙ sym (ap (kind_of external) old_is))
+          ap (λ o. is_some_and (is_kind declared_kinds.Externals) o && is_some (body_in external edited_items)) (ap (kind_of external) new_is ∙ kinds_same prefix mine other rest (1 + length q.before) closed two later external rest ∙ sym (ap (kind_of external) old_is))
           ∙ ap (λ c. is_some_and (is_kind declared_kinds.Externals) (kind_of external (occurrences_of items)) && c) (still_defined d n y same items external) ∙ fine.1
 
-      at : IsFirst (occurrences_of edited) f ⊎ (EachPasses (occurrences_of edited) × (has_external edited external (occurrences_of edited) ≡ false) × (f ≡ fault.NoExternal)) → item_of f ≡ Some (1 + length q.before)
+      at : IsFirst (occurrences_of edited_items) f ⊎ (EachPasses (occurrences_of edited_items) × (has_external edited_items external (occurrences_of edited_items) ≡ false) × (f ≡ fault.NoExternal)) → item_of f ≡ Some (1 + length q.before)
       at (inl h) = in_item prefix mine other rest (1 + length q.before) closed two later (subst EachPasses old_is fine.0) f (subst (λ l. IsFirst l f) new_is h)
-      at (inr h) = let no : ⊥ = true_false (has_external edited external (occurrences_of edited)) kept h.1 in absurd no where
+      at (inr h) = let no : ⊥ = true_false (has_external edited_items external (occurrences_of edited_items)) kept h.1 in absurd no where
         true_false : (c : Bool) → c ≡ true → c ≡ false → ⊥
         true_false true h g = cc
         true_false false h g = cc
@@ -420,7 +420,7 @@ check_tells : (s : Source) (e : ScriptEdit) (h : Home) (ts : List PlacedToken) (
 check_tells s e h ts f well there bad =
     let r = place_of s.items e h (first_passing (changes e) s.items) refl there bad.tree in
     let parts = parts_of (defines r.kind r.name) r.item s.items r.there in
-    let tells = told s.items s.external r.kind r.name r.item r.same well parts f (ap (λ (is : List Item). fault_of is s.external) (sym r.is) ∙ bad.is) in
+    let tells = fault_item s.items s.external r.kind r.name r.item r.same well parts f (ap (λ (is : List Item). fault_of is s.external) (sym r.is) ∙ bad.is) in
     (tells.0, tells.1, ap (λ (p : Plain → Bool). number_of p s.items) r.which ∙ tells.2)
 
 -- a fault of a text tells none

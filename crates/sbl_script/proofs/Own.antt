@@ -179,8 +179,8 @@ module _ (i : ℕ) where
   entries_own (e ∷ es) k p h = and_ (entry_own e k p h) (entries_own es k p h)
 
   -- what goes by the number of the among that comes next
-  numbered : (f : ℕ → List Occurrence → List Occurrence) → ((k : ℕ) → Ours (f k)) → Ours (λ s. f (amongs_in s 0 + 1) s)
-  numbered f h = record {
+  ours_by_number : (f : ℕ → List Occurrence → List Occurrence) → ((k : ℕ) → Ours (f k)) → Ours (λ s. f (amongs_in s 0 + 1) s)
+  ours_by_number f h = record {
     more = λ s. (h (amongs_in s 0 + 1)).more s;
     is = λ s. (h (amongs_in s 0 + 1)).is s;
     each = λ s. (h (amongs_in s 0 + 1)).each s;
@@ -205,7 +205,7 @@ module _ (i : ℕ) where
     command_own (compare_values_ e o f) p h = and_ (expression_own e p h) (expression_own f p h)
     command_own (among_ x gs) p h =
         let n = among (has_starter x) (is_empty gs) in
-        like (numbered (λ k s. noted_groups gs k p (noted_starter x p (put n p s))) (λ k. and_ (one n p h refl) (and_ (starter_own x p h) (groups_own gs k p h)))) (λ s. among_is x gs p s)
+        like (ours_by_number (λ k s. noted_groups gs k p (noted_starter x p (put n p s))) (λ k. and_ (one n p h refl) (and_ (starter_own x p h) (groups_own gs k p h)))) (λ s. among_is x gs p s)
 
     rows_own : (rs : Rows) (p : Site) → p.item ≡ i → Ours (λ s. noted_rows rs p s)
     rows_own no_rows p h = none

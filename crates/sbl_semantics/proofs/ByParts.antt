@@ -161,14 +161,14 @@ module _ (one_tree : (w : Text) (t u : TreeOf w) → tokens_of w t ≡ tokens_of
   command_is : (c d : Command) → alike (placed_command c 1 []) (placed_command d 1 []) ≡ true → c ≡ d
   command_is c d e = ap (λ (b : Command × Others). b.0) (one_tree texts.body (c, no_others) (d, no_others) (alike_are _ _ e))
 
-  abbrev moved : Expression → Command → Expression
-  moved d (move_ m e) = e
-  moved d _ = d
+  abbrev operand_of : Expression → Command → Expression
+  operand_of d (move_ m e) = e
+  operand_of d _ = d
 
   expressions : (e f : Expression) → alike (placed_expression e 1 []) (placed_expression f 1 []) ≡ same_expression e f
   expressions e f =
       agree (alike (placed_expression e 1 []) (placed_expression f 1 [])) (same_expression e f)
-      (λ h. subst (λ (x : Expression). same_expression e x ≡ true) (ap (moved e) (command_is (move_ moves.Hop e) (move_ moves.Hop f) h)) (expression_self e))
+      (λ h. subst (λ (x : Expression). same_expression e x ≡ true) (ap (operand_of e) (command_is (move_ moves.Hop e) (move_ moves.Hop f) h)) (expression_self e))
       (λ h. subst (λ (x : Expression). alike (placed_expression e 1 []) (placed_expression x 1 []) ≡ true) (expression_is e f h) (alike_self (placed_expression e 1 [])))
 
   closing : (es : List Entry) (rest : List AtDepth) → tokens (placed_entries es 1 rest) ≡ tokens (placed_entries es 1 []) ++ tokens rest

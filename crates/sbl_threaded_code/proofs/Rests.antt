@@ -33,8 +33,8 @@ module _ (p : programs.Program) (levels : ℕ) (m : Mode) where
   others_split from os (Signals false s) go stop = refl
   others_split from os (Stops fault s) go stop = ap (λ r. after r go stop) (others_stop p levels m from os fault s)
 
-  settled : (from : SavedCursor) (o : JoinedView) (b : Bool) (s : State) → is_settled o.0 b ≡ true → joined_runs p levels m from o b s ≡ Signals b s
-  settled from o b s e = ap (λ x. if x then Signals b s else then_on (put_back m from s) (runs p levels o.1 m)) e
+  joined_runs_settled : (from : SavedCursor) (o : JoinedView) (b : Bool) (s : State) → is_settled o.0 b ≡ true → joined_runs p levels m from o b s ≡ Signals b s
+  joined_runs_settled from o b s e = ap (λ x. if x then Signals b s else then_on (put_back m from s) (runs p levels o.1 m)) e
 
   open_still : (from : SavedCursor) (o : JoinedView) (b : Bool) (s : State) → is_settled o.0 b ≡ false → joined_runs p levels m from o b s ≡ then_on (put_back m from s) (runs p levels o.1 m)
   open_still from o b s e = ap (λ x. if x then Signals b s else then_on (put_back m from s) (runs p levels o.1 m)) e
@@ -50,13 +50,13 @@ module _ (tables : ℕ → Listing) (n : ℕ) (exits rest : Exits) (o : JoinedVi
   abbrev from : SavedCursor
   from = slice_index_or ys n no_cursor
 
-  abbrev left : Bool → State → Ending
-  left b s = after (others_run p levels m from os (Signals b s)) go stop
+  abbrev rest_does : Bool → State → Ending
+  rest_does b s = after (others_run p levels m from os (Signals b s)) go stop
 
   -- a signal that decides
-  decided : (b : Bool) (s : State) → is_settled o.0 b ≡ true → after (others_run p levels m from (o ∷ os) (Signals b s)) go stop ≡ left b s
-  decided true s e = ap (λ r. after (others_run p levels m from os r) go stop) (settled p levels m from o true s e)
-  decided false s e = ap (λ r. after (others_run p levels m from os r) go stop) (settled p levels m from o false s e)
+  signal_decides : (b : Bool) (s : State) → is_settled o.0 b ≡ true → after (others_run p levels m from (o ∷ os) (Signals b s)) go stop ≡ rest_does b s
+  signal_decides true s e = ap (λ r. after (others_run p levels m from os r) go stop) (joined_runs_settled p levels m from o true s e)
+  signal_decides false s e = ap (λ r. after (others_run p levels m from os r) go stop) (joined_runs_settled p levels m from o false s e)
 
   joined_is : (b : Bool) (s : State) → is_settled o.0 b ≡ false → after (others_run p levels m from (o ∷ os) (Signals b s)) go stop ≡ after (others_run p levels m from os (then_on (put_back m from s) (runs p levels o.1 m))) go stop
   joined_is true s e = ap (λ r. after (others_run p levels m from os r) go stop) (open_still p levels m from o true s e)
@@ -65,16 +65,16 @@ module _ (tables : ℕ → Listing) (n : ℕ) (exits rest : Exits) (o : JoinedVi
   -- a signal after which the next command runs
   goes_back : (entry back : Instruction) → length ys ≡ 4 → Restores n entry back →
       PerformsAt tables (λ p levels. runs p levels o.1) 0 n rest.next.value rest.fail.value entry →
-      GoesOn (flow p levels tables rest.next.value) m (suc n) ys (left true) → GoesOn (flow p levels tables rest.fail.value) m (suc n) ys (left false) →
+      GoesOn (flow p levels tables rest.next.value) m (suc n) ys (rest_does true) → GoesOn (flow p levels tables rest.fail.value) m (suc n) ys (rest_does false) →
       (b : Bool) → is_settled o.0 b ≡ false →
       GoesOn (flow p levels tables back) m (suc n) ys (λ s. after (others_run p levels m from (o ∷ os) (Signals b s)) go stop)
   goes_back entry back l r h g k b e zs a s =
-      let D = λ (t : State). after (runs p levels o.1 m t) (left true) (left false) in
+      let D = λ (t : State). after (runs p levels o.1 m t) (rest_does true) (rest_does false) in
       r p levels tables m zs s
       ∙ ap (λ v. then_on (put_back m v s) (flow p levels tables entry m zs)) (a.same n (omega arith))
-      ∙ then_same (put_back m from s) (flow p levels tables entry m zs) D (λ t at. h p levels m ys (left true) (left false) l g k zs a t (back_at m from s t at))
-      ∙ back_passes m from s D (Signals false) (left false)
-      ∙ sym (after_after (put_back m from s) (runs p levels o.1 m) (Signals false) (left true) (left false))
+      ∙ then_same (put_back m from s) (flow p levels tables entry m zs) D (λ t at. h p levels m ys (rest_does true) (rest_does false) l g k zs a t (back_at m from s t at))
+      ∙ back_passes m from s D (Signals false) (rest_does false)
+      ∙ sym (after_after (put_back m from s) (runs p levels o.1 m) (Signals false) (rest_does true) (rest_does false))
       ∙ sym (others_split p levels m from os (then_on (put_back m from s) (runs p levels o.1 m)) go stop)
       ∙ sym (joined_is b s e)
 
@@ -85,7 +85,7 @@ pub rest_or :
     made.next.value ≡ rest.next.value → made.fail.value ≡ back → IsRest tables n os exits rest → IsRest tables n (o ∷ os) exits made
 rest_or tables n exits rest made o os entry back e h r x y is p levels m slots ys go stop l g k a =
     let q = is p levels m slots ys go stop l g k a in (
-      λ zs b s. ap (λ i. flow p levels tables i m zs s) x ∙ q.0 zs b s ∙ sym (decided tables n exits rest o os p levels m slots ys go stop true s (ap (λ j. is_settled j true) e)),
+      λ zs b s. ap (λ i. flow p levels tables i m zs s) x ∙ q.0 zs b s ∙ sym (signal_decides tables n exits rest o os p levels m slots ys go stop true s (ap (λ j. is_settled j true) e)),
       λ zs b s. ap (λ i. flow p levels tables i m zs s) y ∙ goes_back tables n exits rest o os p levels m slots ys go stop entry back (a.as_many ∙ l) r h q.0 q.1 false (ap (λ j. is_settled j false) e) zs b s,
     )
 
@@ -97,7 +97,7 @@ pub rest_and :
 rest_and tables n exits rest made o os entry back e h r x y is p levels m slots ys go stop l g k a =
     let q = is p levels m slots ys go stop l g k a in (
       λ zs b s. ap (λ i. flow p levels tables i m zs s) x ∙ goes_back tables n exits rest o os p levels m slots ys go stop entry back (a.as_many ∙ l) r h q.0 q.1 true (ap (λ j. is_settled j true) e) zs b s,
-      λ zs b s. ap (λ i. flow p levels tables i m zs s) y ∙ q.1 zs b s ∙ sym (decided tables n exits rest o os p levels m slots ys go stop false s (ap (λ j. is_settled j false) e)),
+      λ zs b s. ap (λ i. flow p levels tables i m zs s) y ∙ q.1 zs b s ∙ sym (signal_decides tables n exits rest o os p levels m slots ys go stop false s (ap (λ j. is_settled j false) e)),
     )
 
 -- a row whose cursor is saved, and what is left of it

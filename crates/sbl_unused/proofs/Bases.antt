@@ -128,16 +128,16 @@ module _ (us : List Item') where
   among_is [] n k = refl
   among_is (p ∷ ps) n k = among_at p.plain (is_reached us ps) n k ∙ among_is ps n k
 
-  abbrev touched : List ℕ → Bool
-  touched m = list_any (same_item (Grouping m)) us
+  abbrev is_touched : List ℕ → Bool
+  is_touched m = list_any (same_item (Grouping m)) us
 
   -- the names that are built from some, and the names that are reached
-  built_is : (ps : List ItemInMode) (ns : List (List ℕ)) → list_any touched (built_after ps ns) ≡ list_any (λ m. is_reached us ps (Grouping m)) ns
+  built_is : (ps : List ItemInMode) (ns : List (List ℕ)) → list_any is_touched (built_after ps ns) ≡ list_any (λ m. is_reached us ps (Grouping m)) ns
   built_is [] ns = refl
   built_is (p ∷ ps) ns = at p.plain (built_is ps)
     where
-      at : (x : Plain) → ((ms : List (List ℕ)) → list_any touched (built_after ps ms) ≡ list_any (λ m. is_reached us ps (Grouping m)) ms) →
-          list_any touched (built_after ps (and_built x ns)) ≡ list_any (λ m. and_terms x (is_reached us ps) (Grouping m)) ns
+      at : (x : Plain) → ((ms : List (List ℕ)) → list_any is_touched (built_after ps ms) ≡ list_any (λ m. is_reached us ps (Grouping m)) ms) →
+          list_any is_touched (built_after ps (and_built x ns)) ≡ list_any (λ m. and_terms x (is_reached us ps) (Grouping m)) ns
       at (grouping r a ts) rest =
           rest (if built_on (is_among ns) a ts then ns ++ r ∷ [] else ns)
           ∙ any_if (λ m. is_reached us ps (Grouping m)) ns r (built_on (is_among ns) a ts)

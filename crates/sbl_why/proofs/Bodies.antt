@@ -114,8 +114,8 @@ module _ (ns : DeclaredNames) (class : List ℕ → ℕ → Bool) (bodies : List
     by_value s f v w e h =
         part_same ns bodies r (Some_end ns bodies r) (Any_refusal ns bodies r) s (λ n. f v (at n s)) (λ n. f (w n) (at n s)) s.steps (λ n l. ap (λ x. f x (at n s)) (sym (e n))) h
 
-    spliced : (y : Splice) (z : trees.Argument) (m : Mode) (s : State) → Part ns bodies r s (λ n. edited_does y (meaning.text ns z (at n s)) m (at n s)) s.steps
-    spliced y z m s =
+    splice_part : (y : Splice) (z : trees.Argument) (m : Mode) (s : State) → Part ns bodies r s (λ n. edited_does y (meaning.text ns z (at n s)) m (at n s)) s.steps
+    splice_part y z m s =
         part_same ns bodies r (Some_end ns bodies r) (Any_refusal ns bodies r) s (λ n. edited_does y (meaning.text ns z s) m (at n s)) (λ n. edited_does y (meaning.text ns z (at n s)) m (at n s)) s.steps
         (λ n l. ap (λ cs. edited_does y cs m (at n s)) (sym (text_at ns z n s))) (edited_good ns bodies r y (meaning.text ns z s) m s)
 
@@ -141,7 +141,7 @@ module _ (ns : DeclaredNames) (class : List ℕ → ℕ → Bool) (bodies : List
       act_paid (move_ y e) w i v x p q =
           pays (does w i v x (move_ y e)) (λ m s. by_value s (λ z. moved_does y z m) (meaning.worth ns e m s) (λ n. meaning.worth ns e m (at n s)) (λ n. worth_at ns m n s e) (moved_good ns bodies r y (meaning.worth ns e m s) m s))
       act_paid (named y z) w i v x p q = pays (does w i v x (named y z)) (λ m s. named_good ns bodies r y z m s)
-      act_paid (splice_ y z) w i v x p q = pays (does w i v x (splice_ y z)) (λ m s. spliced y z m s)
+      act_paid (splice_ y z) w i v x p q = pays (does w i v x (splice_ y z)) (λ m s. splice_part y z m s)
       act_paid (setlimit_ b c) w i v x p q =
           let d = does w i v (first w c (number_after b i) x) b in
           let e = does w (number_after b i) (waits b v) x c in

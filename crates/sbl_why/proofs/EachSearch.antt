@@ -31,8 +31,8 @@ module _ (ns : DeclaredNames) (class : List ℕ → ℕ → Bool) (bodies : List
       abbrev p : ℕ
       p = place_of (ns kinds.Routines) x
 
-      abbrev begun : State
-      begun = enter p (number_after_others b.others (number_after b.first 0)) s
+      abbrev start_state : State
+      start_state = enter p (number_after_others b.others (number_after b.first 0)) s
 
       abbrev row_run : Doing
       row_run = meaning.row_does ns class call b.mode b.first b.others
@@ -48,7 +48,7 @@ module _ (ns : DeclaredNames) (class : List ℕ → ℕ → Bool) (bodies : List
           (act_paid ns class bodies call p (calls p) b.first b.mode 0 false n (λ a j. (x, b, refl, e, inl j)) (others_are HasHere b.others b.mode (number_after b.first 0) None others (none_is HasHere)))
 
       abbrev run : Family
-      run n = pay_first row_run m (at n begun)
+      run n = pay_first row_run m (at n start_state)
 
       abbrev whole : Family
       whole n = leave s.routine s.choices (run n)
@@ -58,7 +58,7 @@ module _ (ns : DeclaredNames) (class : List ℕ → ℕ → Bool) (bodies : List
       leave_grows (Signals false t) = (Leaves false ∷ [], with_one (Leaves false) t.events)
       leave_grows (Stops fault t) = ([], add_none t.events)
 
-      moment_out : (E : Type 0) (most : ℕ) (before : List Event') (i k : ℕ) (n : Mode) (c : ℕ) (rest : List Event') → Moment ns bodies p E begun.events begun.text begun.routine run most before i k n c rest → Moment ns bodies r E s.events s.text s.routine whole most (Enters p ∷ before) i k n c rest
+      moment_out : (E : Type 0) (most : ℕ) (before : List Event') (i k : ℕ) (n : Mode) (c : ℕ) (rest : List Event') → Moment ns bodies p E start_state.events start_state.text start_state.routine run most before i k n c rest → Moment ns bodies r E s.events s.text s.routine whole most (Enters p ∷ before) i k n c rest
       moment_out E most before i k n c rest h =
           let g = leave_grows (run (suc h.0)) in
           let y = Searches i k n c in (
@@ -69,19 +69,19 @@ module _ (ns : DeclaredNames) (class : List ℕ → ℕ → Bool) (bodies : List
             ap (leave s.routine s.choices) h.4,
             h.5 ∙ ap (add before) (with_one (Enters p) s.events) ∙ add_add (Enters p ∷ []) before s.events,
             h.6,
-            g.1 ∙ ap (add g.0) h.7 ∙ add_add (before ++ (y ∷ h.2)) g.0 begun.events ∙ ap (λ zs. add zs begun.events) (append_assoc before (y ∷ h.2) g.0)
+            g.1 ∙ ap (add g.0) h.7 ∙ add_add (before ++ (y ∷ h.2)) g.0 start_state.events ∙ ap (λ zs. add zs start_state.events) (append_assoc before (y ∷ h.2) g.0)
                 ∙ ap (add (before ++ (y ∷ (h.2 ++ g.0)))) (with_one (Enters p) s.events) ∙ add_add (Enters p ∷ []) (before ++ (y ∷ (h.2 ++ g.0))) s.events,
             (h.8.0, h.8.1, h.8.2, (λ z. h.8.3 refl), h.8.4, h.8.5, h.8.6),
           )
 
-      one_out : (E : Type 0) (most : ℕ) (before : List Event') (y : Event') (rest : List Event') → IsOne ns bodies p E begun.events begun.text begun.routine run most before y rest → IsOne ns bodies r E s.events s.text s.routine whole most (Enters p ∷ before) y rest
+      one_out : (E : Type 0) (most : ℕ) (before : List Event') (y : Event') (rest : List Event') → IsOne ns bodies p E start_state.events start_state.text start_state.routine run most before y rest → IsOne ns bodies r E s.events s.text s.routine whole most (Enters p ∷ before) y rest
       one_out E most before (Searches i k n c) rest h = moment_out E most before i k n c rest h
       one_out E most before (Enters i) rest h = tt
       one_out E most before (Leaves c) rest h = tt
       one_out E most before (Finds k end_search) rest h = tt
       one_out E most before (Puts from to put) rest h = tt
 
-      each_out : (E : Type 0) (most : ℕ) (before ys es : List Event') → Each ns bodies p E begun.events begun.text begun.routine run most before ys es → Each ns bodies r E s.events s.text s.routine whole most (Enters p ∷ before) ys es
+      each_out : (E : Type 0) (most : ℕ) (before ys es : List Event') → Each ns bodies p E start_state.events start_state.text start_state.routine run most before ys es → Each ns bodies r E s.events s.text s.routine whole most (Enters p ∷ before) ys es
       each_out E most before [] es h = tt
       each_out E most before (y ∷ ys) es h = (one_out E most before y (ys ++ es) h.0, each_out E most (before ++ (y ∷ [])) ys es h.1)
 
@@ -90,10 +90,10 @@ module _ (ns : DeclaredNames) (class : List ℕ → ℕ → Bool) (bodies : List
       call_is false = ap (call_of ns bodies x false) e
 
       -- the body ends, and the routine is left
-      left : (most : ℕ) (c : Bool) (t : State) → whole most ≡ Signals c (back_in s.routine s.choices c t)
-          → (h : PartBy ns bodies p (Some_end ns bodies p) (Any_refusal ns bodies p) begun.events begun.text begun.routine run most (Signals c t)) → ((n : ℕ) → n ≤ t.steps → whole (h.6 + n) ≡ Signals c (at n (back_in s.routine s.choices c t)))
+      body_leaves : (most : ℕ) (c : Bool) (t : State) → whole most ≡ Signals c (back_in s.routine s.choices c t)
+          → (h : PartBy ns bodies p (Some_end ns bodies p) (Any_refusal ns bodies p) start_state.events start_state.text start_state.routine run most (Signals c t)) → ((n : ℕ) → n ≤ t.steps → whole (h.6 + n) ≡ Signals c (at n (back_in s.routine s.choices c t)))
           → PartX ns bodies r (Called ns bodies r x s) (Unended ns bodies r) s whole most
-      left most c t end h shift =
+      body_leaves most c t end h shift =
           let ys : List Event' = Enters p ∷ (h.0 ++ (Leaves c ∷ [])) in
           let inside : (j d : ℕ) (es : List Event') → within ((h.0 ++ (Leaves c ∷ [])) ++ es) j d ≡ within (Leaves c ∷ es) j d =
           λ j d es. ap (λ zs. within zs j d) (append_assoc h.0 (Leaves c ∷ []) es) ∙ h.4 j d (Leaves c ∷ es) in
@@ -107,9 +107,9 @@ module _ (ns : DeclaredNames) (class : List ℕ → ℕ → Bool) (bodies : List
             (ys, events, text, refl, (λ j d es. inside j (suc d) es), each, h.6, h.7, shift, (refl, (λ es. inside p 0 es ∙ ap (λ cs. with_calls cs (course es)) (sym (call_is c))))),
           )
 
-      back_called : (most : ℕ) → Part ns bodies p begun run most → PartX ns bodies r (Called ns bodies r x s) (Unended ns bodies r) s whole most
-      back_called most (Signals true t, end, h) = left most true t (ap (leave s.routine s.choices) end) h (λ n l. ap (leave s.routine s.choices) (h.8 n l))
-      back_called most (Signals false t, end, h) = left most false t (ap (leave s.routine s.choices) end) h (λ n l. ap (leave s.routine s.choices) (h.8 n l))
+      back_called : (most : ℕ) → Part ns bodies p start_state run most → PartX ns bodies r (Called ns bodies r x s) (Unended ns bodies r) s whole most
+      back_called most (Signals true t, end, h) = body_leaves most true t (ap (leave s.routine s.choices) end) h (λ n l. ap (leave s.routine s.choices) (h.8 n l))
+      back_called most (Signals false t, end, h) = body_leaves most false t (ap (leave s.routine s.choices) end) h (λ n l. ap (leave s.routine s.choices) (h.8 n l))
       back_called most (Stops fault t, end, h) = (
         Stops fault t,
         ap (leave s.routine s.choices) end,
@@ -128,7 +128,7 @@ module _ (ns : DeclaredNames) (class : List ℕ → ℕ → Bool) (bodies : List
     body_called : (o : Option Body) → bodies x ≡ o → PartX ns bodies r (Called ns bodies r x s) (Unended ns bodies r) s (λ k. meaning.body_does ns class call x o m (at k s)) s.steps
     body_called None e =
         here_with ns bodies r (Called ns bodies r x s) (Unended ns bodies r) s s false s.steps refl refl refl (refl, (λ es. with_none (course es) ∙ ap (λ o. with_calls (call_of ns bodies x false o) (course es)) (sym e)))
-    body_called (Some b) e = back_called b e s.steps (row_paid b e m (begun b e))
+    body_called (Some b) e = back_called b e s.steps (row_paid b e m (start_state b e))
 
   pub calls_are : (levels r : ℕ) → CallsAre ns bodies r (meaning.calls ns class bodies levels)
   calls_are zero r x m s = stop_with ns bodies r (Called ns bodies r x s) (Unended ns bodies r) s s faults.Depth s.steps refl refl

@@ -182,21 +182,21 @@ module _ (ns : DeclaredNames) (bodies : List ℕ → Option Body) (r : ℕ) wher
       abbrev takes_it : State → Ending
       takes_it b = then_on (place_after m (saved_cursor from) (length o.string) b) (λ t. Signals true (take_string k (length o.string) o.group t))
 
-      taken : Finds_by (refusals ns bodies passed ++ condition_calls ns bodies true o.condition) takes_it
-      taken =
+      string_taken : Finds_by (refusals ns bodies passed ++ condition_calls ns bodies true o.condition) takes_it
+      string_taken =
           placed_then (refusals ns bodies passed ++ condition_calls ns bodies true o.condition) (λ t. Signals true (take_string k (length o.string) o.group t)) (one_good passed o others split c) m (saved_cursor from) (length o.string)
 
-      conditioned : (x : Option (List ℕ)) → o.condition ≡ x → Finds_by (refusals ns bodies passed) (λ a. after (meaning.condition_does call x m a) takes_it next)
-      conditioned None e =
-          subst (λ cs. Finds_by cs takes_it) (ap (λ x. refusals ns bodies passed ++ condition_calls ns bodies true x) e ∙ append-nil (refusals ns bodies passed)) taken
-      conditioned (Some n) e =
+      condition_finds : (x : Option (List ℕ)) → o.condition ≡ x → Finds_by (refusals ns bodies passed) (λ a. after (meaning.condition_does call x m a) takes_it next)
+      condition_finds None e =
+          subst (λ cs. Finds_by cs takes_it) (ap (λ x. refusals ns bodies passed ++ condition_calls ns bodies true x) e ∙ append-nil (refusals ns bodies passed)) string_taken
+      condition_finds (Some n) e =
           let more : refusals ns bodies (passed ++ (o ∷ [])) ≡ refusals ns bodies passed ++ condition_calls ns bodies false (Some n) =
           refused_more passed o ∙ ap (λ x. refusals ns bodies passed ++ condition_calls ns bodies false x) e in
-          called_then (refusals ns bodies passed) n takes_it next (subst (λ x. Finds_by (refusals ns bodies passed ++ condition_calls ns bodies true x) takes_it) e taken)
+          called_then (refusals ns bodies passed) n takes_it next (subst (λ x. Finds_by (refusals ns bodies passed ++ condition_calls ns bodies true x) takes_it) e string_taken)
           (subst (λ cs. Finds_by cs next) more (go (ap is_conditional e))) m
 
       one_tried : Finds_by (refusals ns bodies passed) (λ t. takes call k (Some o) m from t next)
-      one_tried = placed_then (refusals ns bodies passed) (λ a. after (meaning.condition_does call o.condition m a) takes_it next) (conditioned o.condition refl) m (saved_cursor from) (length o.string)
+      one_tried = placed_then (refusals ns bodies passed) (λ a. after (meaning.condition_does call o.condition m a) takes_it next) (condition_finds o.condition refl) m (saved_cursor from) (length o.string)
 
     -- the entries that fit, one length after another
     module _ (offers : List Offer) (w m : Mode) (from : State) (x : List ℕ) where
@@ -226,8 +226,8 @@ module _ (ns : DeclaredNames) (bodies : List ℕ → Option Body) (r : ℕ) wher
     tried_same i os w m from n x zero t = refl
     tried_same i os w m from n x (suc l) t = take_same i (offering w (take l x) os) m from n _ _ t (fun_ext (tried_same i os w m from n x l))
 
-    abbrev pub begun : State
-    begun = touch_among a.number m s
+    abbrev pub after_touch : State
+    after_touch = touch_among a.number m s
 
     bound_same : (m : Mode) (n : ℕ) → bound_of m (touch_among a.number m (at n s)) ≡ bound_of m s
     bound_same Forward n = refl
@@ -241,32 +241,32 @@ module _ (ns : DeclaredNames) (bodies : List ℕ → Option Body) (r : ℕ) wher
     text_ahead = ahead_at a.mode s.text s.cursor (bound_of m s)
 
     abbrev trying : List ℕ → State → ℕ → Ending
-    trying x from n = try_each call a.number (offers 0 a.groups) a.mode m from x (suc (length x)) (at n begun)
+    trying x from n = try_each call a.number (offers 0 a.groups) a.mode m from x (suc (length x)) (at n after_touch)
 
-    search_at : (n : ℕ) → trying text_ahead begun n ≡ search call a m (at n s)
+    search_at : (n : ℕ) → trying text_ahead after_touch n ≡ search call a m (at n s)
     search_at n =
-        sym (tried_same a.number (offers 0 a.groups) a.mode m begun n text_ahead (suc (length text_ahead)) (at n begun))
-        ∙ ap (λ b. trying (ahead_at a.mode s.text s.cursor b) (at n begun) n) (sym (bound_same m n))
+        sym (tried_same a.number (offers 0 a.groups) a.mode m after_touch n text_ahead (suc (length text_ahead)) (at n after_touch))
+        ∙ ap (λ b. trying (ahead_at a.mode s.text s.cursor b) (at n after_touch) n) (sym (bound_same m n))
 
     abbrev pub FoundHere : Ends ns bodies r
     FoundHere b u ys = (es : List Event') → EndsWith ns bodies a.number s.choices (fits a text_ahead) (course (ys ++ es)) (Signals b u)
 
     -- what it adds after its first event
-    pub search_found : (most : ℕ) → PartX ns bodies r FoundHere (Unended ns bodies r) begun (λ n. search call a m (at n s)) most
+    pub search_found : (most : ℕ) → PartX ns bodies r FoundHere (Unended ns bodies r) after_touch (λ n. search call a m (at n s)) most
     unfolding fitting
     search_found most =
-        let found = tries_all call calls s.choices a.number (fits a text_ahead) (offers 0 a.groups) a.mode m begun text_ahead (suc (length text_ahead)) [] refl refl (at most begun) in
-        part_same ns bodies r FoundHere (Unended ns bodies r) begun (trying text_ahead begun) (λ n. search call a m (at n s)) most (λ n l. search_at n)
-        (conv ns bodies r (Found call calls s.choices a.number (fits a text_ahead) [] (at most begun)) FoundHere (Unended ns bodies r) (Unended ns bodies r) (at most begun) (trying text_ahead begun) most (λ b u ys q es. q refl es) (λ ys q. q) found)
+        let found = tries_all call calls s.choices a.number (fits a text_ahead) (offers 0 a.groups) a.mode m after_touch text_ahead (suc (length text_ahead)) [] refl refl (at most after_touch) in
+        part_same ns bodies r FoundHere (Unended ns bodies r) after_touch (trying text_ahead after_touch) (λ n. search call a m (at n s)) most (λ n l. search_at n)
+        (conv ns bodies r (Found call calls s.choices a.number (fits a text_ahead) [] (at most after_touch)) FoundHere (Unended ns bodies r) (Unended ns bodies r) (at most after_touch) (trying text_ahead after_touch) most (λ b u ys q es. q refl es) (λ ys q. q) found)
 
     ends_by : (c : Course) (e : Ending) → EndsWith ns bodies a.number s.choices (fits a text_ahead) c e → EndsBy ns bodies a.number (fits a text_ahead) c.calls c.end
     ends_by c (Signals true t) h = subst (EndsBy ns bodies a.number (fits a text_ahead) c.calls) (sym h.1) (refl, h.2)
     ends_by c (Signals false t) h = subst (EndsBy ns bodies a.number (fits a text_ahead) c.calls) (sym h.0) (refl, h.1)
     ends_by c (Stops fault t) h = subst (EndsBy ns bodies a.number (fits a text_ahead) c.calls) (sym h) tt
 
-    ended : (c : Course) (b : Bool) (t : State) → EndsWith ns bodies a.number s.choices (fits a text_ahead) c (Signals b t) → (y : Event') × (c.end ≡ Some y)
-    ended c true t h = (Finds a.number (Some h.0), h.1)
-    ended c false t h = (Finds a.number None, h.0)
+    end_event : (c : Course) (b : Bool) (t : State) → EndsWith ns bodies a.number s.choices (fits a text_ahead) c (Signals b t) → (y : Event') × (c.end ≡ Some y)
+    end_event c true t h = (Finds a.number (Some h.0), h.1)
+    end_event c false t h = (Finds a.number None, h.0)
 
     abbrev x : Event'
     x = Searches s.routine a.number m s.cursor
@@ -280,7 +280,7 @@ module _ (ns : DeclaredNames) (bodies : List ℕ → Option Body) (r : ℕ) wher
 
       first_here : (E : Type 0) (rest : List Event') → EndsBy ns bodies a.number (fits a text_ahead) (course rest).calls (course rest).end → (E → (y : Event') × ((course rest).end ≡ Some y)) → Moment ns bodies r E s.events s.text s.routine paying (suc c) [] s.routine a.number m s.cursor rest
       first_here E rest h end =
-          let later = added_by ns bodies r FoundHere (Unended ns bodies r) begun (λ n. search call a m (at n s)) 0 (search_found 0) in
+          let later = added_by ns bodies r FoundHere (Unended ns bodies r) after_touch (λ n. search call a m (at n s)) 0 (search_found 0) in
           let begins : recorded_events (paying 1) ≡ add (x ∷ later.0) s.events = later.1 ∙ ap (add later.0) (with_one x s.events) ∙ add_add (x ∷ []) later.0 s.events in (
             0,
             at 0 s,
@@ -293,11 +293,11 @@ module _ (ns : DeclaredNames) (bodies : List ℕ → Option Body) (r : ℕ) wher
             (refl, refl, a, has, refl, subst (λ b. TakesFirst ns bodies a s.text s.cursor b rest) (sym (bound_at m 0)) h, end),
           )
 
-      others_here : (E : Type 0) (ys es : List Event') → Each ns bodies r E begun.events begun.text begun.routine (λ n. search call a m (at n s)) c [] ys es → Each ns bodies r E s.events s.text s.routine paying (suc c) (x ∷ []) ys es
-      others_here E ys es h = each_shifts ns bodies r E s.events begun.events s.text begun.text s.routine begun.routine (x ∷ []) (with_one x s.events) refl refl paying (λ n. search call a m (at n s)) (suc c) c 1 (omega arith) (λ n l. one_less n) ys es h
+      others_here : (E : Type 0) (ys es : List Event') → Each ns bodies r E after_touch.events after_touch.text after_touch.routine (λ n. search call a m (at n s)) c [] ys es → Each ns bodies r E s.events s.text s.routine paying (suc c) (x ∷ []) ys es
+      others_here E ys es h = each_shifts ns bodies r E s.events after_touch.events s.text after_touch.text s.routine after_touch.routine (x ∷ []) (with_one x s.events) refl refl paying (λ n. search call a m (at n s)) (suc c) c 1 (omega arith) (λ n l. one_less n) ys es h
 
-      searched : PartX ns bodies r FoundHere (Unended ns bodies r) begun (λ n. search call a m (at n s)) c → Part ns bodies r s paying (suc c)
-      searched (Signals b t, e, h) = (
+      search_part : PartX ns bodies r FoundHere (Unended ns bodies r) after_touch (λ n. search call a m (at n s)) c → Part ns bodies r s paying (suc c)
+      search_part (Signals b t, e, h) = (
         Signals b t,
         e,
         (
@@ -306,7 +306,7 @@ module _ (ns : DeclaredNames) (bodies : List ℕ → Option Body) (r : ℕ) wher
           h.2,
           h.3,
           (λ i d es. h.4 i d es),
-          (λ es. (first_here ⊤ (h.0 ++ es) (ends_by (course (h.0 ++ es)) (Signals b t) (h.9 es)) (λ z. ended (course (h.0 ++ es)) b t (h.9 es)), others_here ⊤ h.0 es (h.5 es))),
+          (λ es. (first_here ⊤ (h.0 ++ es) (ends_by (course (h.0 ++ es)) (Signals b t) (h.9 es)) (λ z. end_event (course (h.0 ++ es)) b t (h.9 es)), others_here ⊤ h.0 es (h.5 es))),
           1 + h.6,
           (omega (arith, h.7)),
           (λ n l.
@@ -315,7 +315,7 @@ module _ (ns : DeclaredNames) (bodies : List ℕ → Option Body) (r : ℕ) wher
           tt,
         ),
       )
-      searched (Stops fault t, e, h) = (
+      search_part (Stops fault t, e, h) = (
         Stops fault t,
         e,
         (
@@ -329,11 +329,11 @@ module _ (ns : DeclaredNames) (bodies : List ℕ → Option Body) (r : ℕ) wher
 
     pub search_paid : (s.routine ≡ r → HasAmong ns bodies s.routine a) → (most : ℕ) → Part ns bodies r s paying most
     search_paid has zero = (Stops faults.Steps (at 0 s), refl, ([], add_none s.events, (λ i d. refl), tt, tt))
-    search_paid has (suc c) = searched has c (search_found c)
+    search_paid has (suc c) = search_part has c (search_found c)
 
     -- ---- the search alone
 
-    pub first_in : (e : Ending) (run : Family) (most : ℕ) → PartBy ns bodies r FoundHere (Unended ns bodies r) begun.events begun.text begun.routine run most e
+    pub first_in : (e : Ending) (run : Family) (most : ℕ) → PartBy ns bodies r FoundHere (Unended ns bodies r) after_touch.events after_touch.text after_touch.routine run most e
         → (rest : List Event') × (recorded_events e ≡ add (x ∷ rest) s.events) × EndsWith ns bodies a.number s.choices (fits a text_ahead) (course rest) e
     first_in (Signals b t) run most h =
         (h.0, h.1 ∙ ap (add h.0) (with_one x s.events) ∙ add_add (x ∷ []) h.0 s.events, subst (λ ys. EndsWith ns bodies a.number s.choices (fits a text_ahead) (course ys) (Signals b t)) (append-nil h.0) (h.9 []))

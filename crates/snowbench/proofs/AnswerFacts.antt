@@ -131,18 +131,18 @@ answer_work v e a h is = subst (λ (k : Verb). IsAnswer k e a a h h (Ok 0)) (sym
 -- ---- the report of an answer
 
 module _ {E : Type 0} (held : E → Option (List ℕ)) (tally : E → Tally) where
-  pub reported : (e : E) (status n : ℕ) (r : Result ℕ LoadFault) → r ≡ Ok n → status ≡ (if n == 0 then 0 else 1) → IsReported held tally e e status r
-  reported e status n r is so = subst (λ (x : Result ℕ LoadFault). IsReported held tally e e status x) (sym is) (so, Appends-nil (held e))
+  pub reports_status : (e : E) (status n : ℕ) (r : Result ℕ LoadFault) → r ≡ Ok n → status ≡ (if n == 0 then 0 else 1) → IsReported held tally e e status r
+  reports_status e status n r is so = subst (λ (x : Result ℕ LoadFault). IsReported held tally e e status x) (sym is) (so, Appends-nil (held e))
 
-  written : (e v : E) (bytes line : List ℕ) (r : Result (Unit {0}) ServeFault) → bytes ≡ line → OnOk r (Appends (held e) (held v) bytes)
+  writes_line : (e v : E) (bytes line : List ℕ) (r : Result (Unit {0}) ServeFault) → bytes ≡ line → OnOk r (Appends (held e) (held v) bytes)
       → ((n : ℕ) × Appends (held e) (held v) (take n bytes)) → IfErr r (λ f. (f ≡ fault.Write) × HasStopped tally e v)
       → IsWritten held tally e v line
-  written e v bytes line (Ok u) is all prefix why = inl (subst (λ (t : List ℕ). Appends (held e) (held v) t) is all)
-  written e v bytes line (Err f) is all prefix why =
+  writes_line e v bytes line (Ok u) is all prefix why = inl (subst (λ (t : List ℕ). Appends (held e) (held v) t) is all)
+  writes_line e v bytes line (Err f) is all prefix why =
       inr (prefix.0, subst (λ (t : List ℕ). Appends (held e) (held v) (take prefix.0 t)) is prefix.1, why.1)
 
   pub reported_fault : (e v : E) (f : LoadFault) (a : Result ℕ LoadFault) (text bytes : List ℕ) (r : Result (Unit {0}) ServeFault) → a ≡ Err f
       → bytes ≡ fault_line text → OnOk r (Appends (held e) (held v) bytes) → ((n : ℕ) × Appends (held e) (held v) (take n bytes))
       → IfErr r (λ f. (f ≡ fault.Write) × HasStopped tally e v) → IsReported held tally e v 1 a
   reported_fault e v f a text bytes r is line all prefix why =
-      subst (λ (x : Result ℕ LoadFault). IsReported held tally e v 1 x) (sym is) (refl, text, written e v bytes (fault_line text) r line all prefix why)
+      subst (λ (x : Result ℕ LoadFault). IsReported held tally e v 1 x) (sym is) (refl, text, writes_line e v bytes (fault_line text) r line all prefix why)

@@ -11,7 +11,7 @@ use Rattle.sbl_semantics.specs.declared.item.Item.TheVariants as code
 use Rattle.sbl_semantics.specs.TouchedItems as items
 use Rattle.sbl_semantics.specs.TouchedItems.{item_of}
 use Rattle.sbl_bench.specs.Changes.{IsTaken}
-use Rattle.sbl_bench.proofs.Replacing.{nothing_made, passes, refused}
+use Rattle.sbl_bench.proofs.Replacing.{nothing_made, passes, refusal_edits}
 use Rattle.sbl_bench.proofs.bench.Bench.replace_grouping.Goals as goal
 
 pub returns-in_err-script-clause-edits : goal.returns-in_err-script-clause-edits
@@ -20,7 +20,7 @@ returns-in_err-script-clause-edits c =
     let g = c.in_err-script.field-0.0 in
     let p = err_from_is_err_and c.from_residual.result c.from_residual.ensures.1 in
     rw (p.1, p.2) (subst (λ (k : KeptRuns). Edits (Err (fault_of_script g)) (contents_of k) (Grouping c.args.name.now c.args.text.now) (contents_of k)) c.self.view_is
-    (refused s (terms c.args.name.now) c.args.text.now c.with_grouping.result c.with_grouping.ensures.missing g c.in_err-script.was c.in_err-script.ensures.fault))
+    (refusal_edits s (terms c.args.name.now) c.args.text.now c.with_grouping.result c.with_grouping.ensures.missing g c.in_err-script.was c.in_err-script.ensures.fault))
 
 pub returns-in_err-from_str-clause-edits : goal.returns-in_err-from_str-clause-edits
 returns-in_err-from_str-clause-edits c =

@@ -16,7 +16,7 @@ use Rattle.sbl_bench.specs.Setting.{under}
 use Rattle.sbl_bench.proofs.Bringing.{limit_brings}
 use Rattle.sbl_bench.proofs.LastChanges.{apart, edit_changes}
 use Rattle.sbl_bench.proofs.Meeting.{anew, still}
-use Rattle.sbl_bench.proofs.Reruns.{made, stopped}
+use Rattle.sbl_bench.proofs.Reruns.{commit_edits, stop_edits}
 use Rattle.sbl_bench.proofs.bench.Bench.set_limit.Goals as goal
 
 words_length : (es : List KeptWord) → length (words_in es) ≡ length es
@@ -42,7 +42,7 @@ returns-in_err-changes-clause-edits c =
     let after : Contents = record { setting = under p l; words = words_in es; count = c.rerun.new.meter } in
     rw (f.1, f.2) (subst (λ (m : ℕ). Edits (Err g) (contents_of c.args.self.now) (Limit m) after) c.in-Some.ensures.0
     (subst (λ (k : KeptRuns). Edits (Err g) (contents_of k) e after) c.self.view_is
-    (stopped s e t a es b refl c.self.invariant.1.fresh g c.rerun.new.meter c.in_err-changes.ensures.stop)))
+    (stop_edits s e t a es b refl c.self.invariant.1.fresh g c.rerun.new.meter c.in_err-changes.ensures.stop)))
 
 pub make_changes-before-requires-clause-changes : goal.make_changes-before-requires-clause-changes
 make_changes-before-requires-clause-changes c =
@@ -101,7 +101,7 @@ returns-clause-edits c =
     let after : Contents = record { setting = t; words = words_in c.make_changes-before.new.traces.entries; count = c.rerun.new.meter } in
     subst (λ (m : ℕ). Edits (Ok tt) (contents_of c.args.self.now) (Limit m) after) c.in-Some.ensures.0
     (subst (λ (k : KeptRuns). Edits (Ok tt) (contents_of k) e after) c.self.view_is
-    (made s e t a es b refl c.self.invariant.1.fresh c.make_changes-before.new.traces.entries c.rerun.new.meter c.make_changes-before.ensures.words c.in_ok-changes.ensures.room c.in_ok-changes.ensures.counted))
+    (commit_edits s e t a es b refl c.self.invariant.1.fresh c.make_changes-before.new.traces.entries c.rerun.new.meter c.make_changes-before.ensures.words c.in_ok-changes.ensures.room c.in_ok-changes.ensures.counted))
 
 pub returns-clause-changes : goal.returns-clause-changes
 returns-clause-changes c =

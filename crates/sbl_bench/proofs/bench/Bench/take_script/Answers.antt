@@ -16,7 +16,7 @@ use Rattle.sbl_bench.specs.Rows.{rows_of}
 use Rattle.sbl_bench.specs.Setting.{under}
 use Rattle.sbl_bench.proofs.LastChanges.{apart, edit_changes}
 use Rattle.sbl_bench.proofs.Meeting.{anew, still}
-use Rattle.sbl_bench.proofs.Reruns.{made, stopped}
+use Rattle.sbl_bench.proofs.Reruns.{commit_edits, stop_edits}
 use Rattle.sbl_bench.proofs.bench.Bench.take_script.Goals as goal
 
 words_length : (es : List KeptWord) → length (words_in es) ≡ length es
@@ -41,7 +41,7 @@ returns-in_err-changes-clause-edits c e brings =
     let f = err_from_is_err_and c.from_residual-in_err-changes.result c.from_residual-in_err-changes.ensures.1 in
     let after : Contents = record { setting = under p l; words = words_in es; count = c.rerun.new.meter } in
     rw (f.1, f.2) (subst (λ (k : KeptRuns). Edits (Err g) (contents_of k) e after) c.self.view_is
-    (stopped s e t a es b refl c.self.invariant.1.fresh g c.rerun.new.meter c.in_err-changes.ensures.stop))
+    (stop_edits s e t a es b refl c.self.invariant.1.fresh g c.rerun.new.meter c.in_err-changes.ensures.stop))
 
 pub make_changes-last-requires-clause-changes : goal.make_changes-last-requires-clause-changes
 make_changes-last-requires-clause-changes c =
@@ -98,7 +98,7 @@ returns-clause-edits c e brings =
     let after : Contents = record { setting = t; words = words_in fs; count = c.rerun.new.meter } in
     subst (λ (x : ParsedScript). Edits (Ok tt) (contents_of c.args.self.now) e (record { setting = under (source_of x) l; words = words_in fs; count = c.rerun.new.meter })) (sym c.swap.ensures.x_after)
     (subst (λ (k : KeptRuns). Edits (Ok tt) (contents_of k) e after) c.self.view_is
-    (made s e t a es b refl c.self.invariant.1.fresh c.make_changes-last.new.traces.entries c.rerun.new.meter c.make_changes-last.ensures.words c.in_ok-changes.ensures.room c.in_ok-changes.ensures.counted))
+    (commit_edits s e t a es b refl c.self.invariant.1.fresh c.make_changes-last.new.traces.entries c.rerun.new.meter c.make_changes-last.ensures.words c.in_ok-changes.ensures.room c.in_ok-changes.ensures.counted))
 
 pub returns-clause-changes : goal.returns-clause-changes
 returns-clause-changes c =
