@@ -54,19 +54,23 @@ pub(crate) fn advice_on(alloc: Global, script: &[u8], name: &str) -> Option<&'st
     Some(advice)
 }
 
-/// Returns what is wrong with a character that begins nothing of the language, and what to write.
-pub(crate) fn foreign_character(character: char) -> &'static str {
+/// Returns what to write in place of a character that begins no token, if that is sure.
+pub(crate) fn foreign_character(character: char) -> Option<&'static str> {
     match character {
-        ',' | ';' => "Names and commands have only white space between them",
+        ',' | ';' => Some("Names and commands have only white space between them"),
         '"' | '`' | '\u{2018}' | '\u{2019}' | '\u{201C}' | '\u{201D}' => {
-            "A literal is in straight single quotes: 'abc'"
+            Some("A literal is in straight single quotes: 'abc'")
         }
-        '#' | '%' => "A comment is from // to the end of the line, or from /* to */",
-        '{' | '}' => "Commands and names are in round parentheses",
-        '|' => "Between two commands write or",
-        '&' => "Between two commands write and",
-        '!' => "Before a command write not",
-        '\u{A0}' | '\u{2007}' | '\u{202F}' => "This is a no-break space: put a blank in its place",
-        _ => "In a literal it would be a character",
+        '#' | '%' => Some("A comment is from // to the end of the line, or from /* to */"),
+        '{' | '}' => Some("Commands and names are in round parentheses"),
+        '|' => Some("Between two commands write or"),
+        '&' => Some("Between two commands write and"),
+        '!' => Some("Before a command write not"),
+        '\u{A0}' | '\u{2007}' | '\u{202F}' => {
+            Some("This is a no-break space: put a blank in its place")
+        }
+        '\u{2000}'..='\u{206F}' => None,
+        '\u{80}'..='\u{10FFFF}' => Some("Names have only a to z, A to Z, 0 to 9 and _"),
+        _ => None,
     }
 }

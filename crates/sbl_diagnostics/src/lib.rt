@@ -5,6 +5,7 @@ mod block_faults;
 mod characters;
 mod constructs;
 mod declarations;
+mod definitions;
 mod encodings;
 mod expectations;
 mod foreign;

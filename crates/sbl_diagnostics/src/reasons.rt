@@ -26,9 +26,7 @@ pub(crate) fn begins_sentence(fault: ScriptFault) -> bool {
 /// Returns what is wrong, and what to do.
 pub(crate) fn reason(fault: ScriptFault) -> &'static str {
     match fault {
-        ScriptFault::BadCharacter { .. } => {
-            "begins nothing of the language. In a literal it would be a character"
-        }
+        ScriptFault::BadCharacter { .. } => { "can only be in a literal or a comment" }
         ScriptFault::UnclosedString { .. } => {
             "the literal that begins here has no closing quote. Look for a missing quote before \
              it, too"
@@ -51,11 +49,11 @@ pub(crate) fn reason(fault: ScriptFault) -> &'static str {
         ScriptFault::WrongKind { .. } => "is declared as something that cannot be used here",
         ScriptFault::DefinedTwice { .. } => "is defined twice: take one of the two away",
         ScriptFault::Undefined { .. } => {
-            "is declared, but not defined before it is used: add its define"
+            "is declared, but not defined here: add its define, or move it before this"
         }
         ScriptFault::WrongMode { .. } => {
-            "is defined in another mode than it is used in: write backwards before it, or move it \
-             into or out of backwardmode"
+            "is defined in another mode than it is used in: move its define into or out of \
+             backwardmode"
         }
         ScriptFault::Substring { .. } => {
             "a substring here has no among after it in its routine or parentheses"

@@ -2,6 +2,7 @@
 
 use crate::characters::{push_hexadecimal, push_named};
 use crate::declarations::{DeclaredName, declaration_of, declared_in, kind_text, names_of};
+use crate::definitions::{push_no_definition, push_undefined, push_wrong_mode};
 use crate::encodings::push_conversion;
 use crate::expectations::{push_expectation, push_use};
 use crate::foreign::{advice_on, foreign_character, left_out_text};
@@ -79,7 +80,7 @@ fn open_in(alloc: Global, tokens: &[Token<'_>]) -> Result<Option<usize>, AllocEr
 }
 
 /// Returns the tokens before an offset in a text, or `None` if they cannot be read.
-fn tokens_before(alloc: Global, text: &[u8], offset: usize) -> Option<Vec<Token<'_>>> {
+pub(crate) fn tokens_before(alloc: Global, text: &[u8], offset: usize) -> Option<Vec<Token<'_>>> {
     let prefix = text.get(..offset).unwrap_or(text);
     let Ok(prefix) = str::from_utf8(prefix) else {
         return None;
@@ -313,6 +314,10 @@ fn push_undeclared(
     if push_near(alloc, shown, name, &names)? {
         return Ok(());
     }
+    if matches!(faulty.part, Some(Part::Terms(_))) {
+        let text = format!(in alloc; " Declare it, or put characters in quotes: '{name}'")?;
+        return shown.push_str(text.as_str());
+    }
     if let Some(advice) = advice_on(alloc, script, name) {
         shown.push_str(" ")?;
         return shown.push_str(advice);
@@ -339,10 +344,7 @@ pub(crate) fn push_external(
         return push_named(shown, text.as_str());
     };
     if there.contains(&wanted) {
-        let text = format!(in alloc;
-            "{wanted} is declared in externals, but not defined outside backwardmode: add define {wanted} as .."
-        )?;
-        return push_named(shown, text.as_str());
+        return push_no_definition(alloc, shown, faulty);
     }
     shown.push_str("the script has no external ")?;
     push_named(shown, wanted)?;
@@ -368,16 +370,42 @@ fn is_insert_fault(character: char) -> bool {
     matches!(character, '\t'..='\r' | ' ' | '\'' | '\u{FEFF}')
 }
 
-/// Appends what is wrong with a character that begins nothing of the language.
-fn push_character(shown: &mut String, spot: Spot<'_>) -> Result<(), AllocError> {
-    match spot.token.chars().next() {
-        Some(character) if !is_insert_fault(character) => {
-            push_thing(shown, spot)?;
-            shown.push_str(" begins nothing of the language. ")?;
-            shown.push_str(foreign_character(character))
-        }
-        _ => shown.push_str(INSERTS),
+/// Returns whether a point at this offset is the first character of its line, and only blanks follow it there.
+fn is_end_line(text: &[u8], begin: usize) -> bool {
+    let (prefix, rest) = text.split_at_checked(begin).unwrap_or((text, &[]));
+    if !rest.starts_with(b".") || !(prefix.is_empty() || prefix.ends_with(b"\n")) {
+        return false;
     }
+    for byte in rest.get(1..).unwrap_or(&[]) {
+        if *byte == b'\n' {
+            return true;
+        }
+        if !byte.is_ascii_whitespace() {
+            return false;
+        }
+    }
+    true
+}
+
+/// Appends what is wrong with a character that begins no token.
+fn push_character(shown: &mut String, place: Place<'_>) -> Result<(), AllocError> {
+    let Place { faulty, spot } = place;
+    let character = match spot.token.chars().next() {
+        Some(character) if !is_insert_fault(character) => character,
+        _ => return shown.push_str(INSERTS),
+    };
+    push_thing(shown, spot)?;
+    shown.push_str(" can only be in a literal or a comment")?;
+    let advice = if is_end_line(faulty.text, spot.begin) {
+        Some("The line that ends a text has a point and no blank after it")
+    } else {
+        foreign_character(character)
+    };
+    if let Some(advice) = advice {
+        shown.push_str(". ")?;
+        shown.push_str(advice)?;
+    }
+    Ok(())
 }
 
 /// Appends that something is left out here, or that a sign is missing after the name of an integer.
@@ -430,8 +458,16 @@ pub(crate) fn push_sentence(
             push_thing(shown, spot)?;
             push_name(alloc, shown, place)
         }
+        ScriptFault::Undefined { .. } => {
+            push_thing(shown, spot)?;
+            push_undefined(alloc, shown, place)
+        }
+        ScriptFault::WrongMode { .. } => {
+            push_thing(shown, spot)?;
+            push_wrong_mode(alloc, shown, place)
+        }
         ScriptFault::NotUtf8 => push_byte(shown, faulty, spot.begin),
-        ScriptFault::BadCharacter { .. } => push_character(shown, spot),
+        ScriptFault::BadCharacter { .. } => push_character(shown, place),
         ScriptFault::OutOfProfile { .. } => push_left_out(alloc, shown, place),
         fault => {
             if !begins_sentence(fault) {

@@ -1,6 +1,6 @@
 //! Runs code.
 
-ghost use Rattle.std.specs.Prelude.{◌<◌, ◌≤◌, suc, IfOk};
+ghost use Rattle.std.specs.Prelude.{◌<◌, ◌≤◌, false, suc, IfOk};
 ghost use Rattle.sbl_program.specs.ProgramOf.{program_of, view_number};
 ghost use Rattle.sbl_interpreter.specs.Arithmetic.{value};
 ghost use Rattle.sbl_interpreter.specs.Endings.{Follows, Leads};

@@ -1,0 +1,150 @@
+//! Faults of names whose definition is missing, comes too late or is in the other mode.
+
+use crate::characters::push_named;
+use crate::sentences::{Faulty, Place, tokens_before};
+use sbl_places::Part;
+use sbl_text::{Kind, Sign, Token, Word, tokens};
+use std::alloc::{AllocError, Global};
+
+/// In which mode a script defines a name.
+#[derive(Clone, Copy, PartialEq, Eq)]
+enum Definition {
+    /// Outside of `backwardmode`.
+    Forward,
+    /// Inside of `backwardmode`.
+    Backward,
+}
+
+/// Returns the definition of this name in these tokens, if there is one. It is the last one: a name with two has another fault.
+fn definition_in(tokens: &[Token<'_>], name: &str) -> Option<Definition> {
+    let mut found = None;
+    let mut depth: usize = 0;
+    let mut backward_depth = None;
+    let mut previous = None;
+    for token in tokens {
+        match token.kind {
+            Kind::Sign(Sign::Open) => {
+                if previous == Some(Kind::Word(Word::BackwardMode)) {
+                    backward_depth = Some(depth);
+                }
+                depth = depth.saturating_add(1);
+            }
+            Kind::Sign(Sign::Close) => {
+                depth = depth.saturating_sub(1);
+                if backward_depth == Some(depth) {
+                    backward_depth = None;
+                }
+            }
+            Kind::Name if previous == Some(Kind::Word(Word::Define)) && token.text == name => {
+                found = Some(match backward_depth {
+                    Some(_) => Definition::Backward,
+                    None => Definition::Forward,
+                });
+            }
+            _ => {}
+        }
+        previous = Some(token.kind);
+    }
+    found
+}
+
+/// Returns the definition of this name in a script, if there is one and the tokens of the script can be read.
+fn definition_of(alloc: Global, script: &[u8], name: &str) -> Option<Definition> {
+    let Ok(text) = str::from_utf8(script) else {
+        return None;
+    };
+    match tokens(alloc, text) {
+        Ok(tokens) => definition_in(&tokens, name),
+        Err(_) => None,
+    }
+}
+
+/// Returns the name whose definition is the last that begins in these tokens, if one does.
+fn last_defined<'a>(tokens: &[Token<'a>]) -> Option<&'a str> {
+    let mut name = None;
+    let mut previous = None;
+    for token in tokens {
+        if token.kind == Kind::Name && previous == Some(Kind::Word(Word::Define)) {
+            name = Some(token.text);
+        }
+        previous = Some(token.kind);
+    }
+    name
+}
+
+/// Returns whether the place of a fault is inside the definition of the name that is there.
+fn is_in_itself(alloc: Global, place: Place<'_>) -> bool {
+    let Place { faulty, spot } = place;
+    match faulty.part {
+        Some(Part::Terms(name)) => name == spot.token,
+        Some(_) => false,
+        None => match tokens_before(alloc, faulty.text, spot.begin) {
+            Some(before) => last_defined(&before) == Some(spot.token),
+            None => false,
+        },
+    }
+}
+
+/// Appends that a name has no definition, or has none that counts at this place, and what to do.
+pub(crate) fn push_undefined(
+    alloc: Global,
+    shown: &mut String,
+    place: Place<'_>,
+) -> Result<(), AllocError> {
+    let Place { faulty, spot } = place;
+    if is_in_itself(alloc, place) {
+        return shown.push_str(" cannot be part of its own definition");
+    }
+    if definition_of(alloc, faulty.script, spot.token).is_some() {
+        return shown.push_str(
+            " is a grouping that is defined after this one: move its define before it",
+        );
+    }
+    shown.push_str(" is declared, but not defined: add define ")?;
+    push_named(shown, spot.token)?;
+    shown.push_str(" ..")
+}
+
+/// Appends that a name is used in another mode than it is defined in, and what to do.
+pub(crate) fn push_wrong_mode(
+    alloc: Global,
+    shown: &mut String,
+    place: Place<'_>,
+) -> Result<(), AllocError> {
+    let Place { faulty, spot } = place;
+    let before = tokens_before(alloc, faulty.text, spot.begin);
+    let is_condition = match &before {
+        Some(before) => matches!(before.last(), Some(token) if token.kind == Kind::Literal),
+        None => false,
+    };
+    shown.push_str(match definition_of(alloc, faulty.script, spot.token) {
+        Some(Definition::Forward) => {
+            " is defined in forward mode, but used in backward mode: move its define into backwardmode"
+        }
+        Some(Definition::Backward) if is_condition => {
+            " is defined in backward mode, but used in forward mode: move its define out of backwardmode"
+        }
+        Some(Definition::Backward) => {
+            " is defined in backward mode, but used in forward mode: write backwards before it, or move its define out of backwardmode"
+        }
+        None => " is defined in another mode than it is used in",
+    })
+}
+
+/// Appends that an external is declared, but has no definition that a run can begin with, and what to do.
+pub(crate) fn push_no_definition(
+    alloc: Global,
+    shown: &mut String,
+    faulty: Faulty<'_>,
+) -> Result<(), AllocError> {
+    let wanted = faulty.external;
+    let text = match definition_of(alloc, faulty.script, wanted) {
+        Some(Definition::Backward) => format!(in alloc;
+            "{wanted} is defined in backward mode, but a run begins in forward mode: move its define out of backwardmode"
+        )?,
+        _ => format!(in alloc;
+            "{wanted} is declared in externals, but not defined: add define {wanted} as .."
+        )?,
+    };
+    push_named(shown, text.as_str())
+}
