@@ -42,13 +42,13 @@ class Advice:
         if of_code:
             return of_code(word, argument, command)
         if code in (47, 48):
-            return [self.nothing_changed(word)]
+            return [self.nothing_changed(word, has_lines=len(command) > 2)]
         return [SENTENCES[code].replace("COMMAND", named(word)).replace("THE_WORD", named(argument))] if code in SENTENCES else []
 
-    def nothing_changed(self, word):
+    def nothing_changed(self, word, has_lines):
         if word == "reload":
             return "Nothing changed. " + correct_in(self.desk.script, self.desk.is_save_enough)
-        return "Nothing changed. The up arrow brings the lines of the block back."
+        return "Nothing changed." + " The up arrow brings the lines of the block back." * has_lines
 
     def lines_41(self, word, argument, command):
         words = self.words()

@@ -178,6 +178,12 @@ class Child:
             with contextlib.suppress(BrokenPipeError):
                 pipe.close()
 
+    def break_sentence(self):
+        """Returns the sentence on what follows when Ctrl-C has broken a command off."""
+        if self.accepted:
+            return "Breaking off. The program starts again and repeats the earlier edits, which may take as long as they took."
+        return "Breaking off. The program starts again, which may take as long as the start took."
+
     def bring_back(self):
         """Starts the program anew, and brings it to where it was after the last accepted command."""
         self.stop()

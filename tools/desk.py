@@ -153,6 +153,9 @@ class Desk:
         write(answer)
         cut = self.files.put_back(argument, former) if word == "save" else None
         say_program(self.child.said())
+        # (of a text that is not UTF-8 the program has said what it may be)
+        if word == "reload" and answer != ["no 48 NotUtf8"]:
+            self.warn([self.script])
         say([cut] if cut else self.advice.lines(code, lines))
 
     def show_changes(self, text):
@@ -257,6 +260,7 @@ class Desk:
 
     def bring_back(self):
         """Has the program begin anew and go to where it was, after an edit that Ctrl-C broke off."""
+        say([self.child.break_sentence()])
         try:
             self.child.bring_back()
             is_back = digest(self.query(["script"]) or []) == self.history.script

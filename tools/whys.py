@@ -3,6 +3,14 @@ from itertools import groupby
 
 from plain import named
 
+# What to look for if a run was refused.
+REFUSALS = {
+    "Slice": "delete, <- or -> found the left end of the slice right of its right end, or the right end beyond the limit. "
+    "Look for a [ or ] that is missing before it, or in the wrong order: forwards [ sets the left end, backwards the right end.",
+    "Cursor": "the cursor would be outside the text, or insert, <+ or attach found it beyond the limit. Look for a delete or <- that makes "
+    "the text shorter before a command puts the cursor back (do, test, not, try, or, and, repeat, goto, backwards) or sends it to a limit.",
+    "TooLong": "the text would have more than 1,024 characters. Look for <+, insert, attach or <- in a repeat or a loop.",
+}
 # How many rows are shown at most, before those that are left out and after them; and how many characters of a text.
 FIRST, LAST, LONGEST = 40, 19, 60
 
@@ -19,7 +27,7 @@ def lay_out_why(rows, word, figures, notes):
     so signalled f, and one for the outcome, with the steps and the values of the integer variables, which are the rows `figures` of `integers WORD`.
     A refused run has the routine in which it was refused.
     `notes` are, by the numbers of the rows, the tests without a name that were false when a routine signalled f: their texts and places; and
-    the places of the strings that were taken."""
+    the places of the strings that were taken. After a refusal of REFUSALS comes what it means."""
     text, lines, calls = word, [], []
     for i, row in enumerate(rows):
         kind = row[0]
@@ -50,7 +58,12 @@ def lay_out_why(rows, word, figures, notes):
     lines = most_of(folded(lines), word)
     column = max(len(name) for name, _ in lines)
     more = "  nothing took a string or changed the text: \"events %s\" shows the searches, \"tests %s\" the tests" % (named(word), named(word))
-    return [more] * is_one + [("  %-*s  %s" % (column, name, what)).rstrip() for name, what in lines]
+    return [more] * is_one + [("  %-*s  %s" % (column, name, what)).rstrip() for name, what in lines] + meaning_of(rows[-1])
+
+
+def meaning_of(row):
+    """Returns the line on what the refusal of a run means, if it is one of REFUSALS."""
+    return ["  %s: %s" % (row[1], REFUSALS[row[1]])] if row[0] == "refused" and row[1] in REFUSALS else []
 
 
 def folded(lines):
