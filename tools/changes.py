@@ -1,4 +1,4 @@
-"""Lays out for people what `changes`, `largest` and `stats` write."""
+"""Lays out for people what `changes`, `largest`, `stats` and `families` write."""
 import csv
 
 from plain import named
@@ -103,3 +103,16 @@ def lay_out_largest(answer):
 
 def lay_out_stats(answer):
     return ["%-10s %s" % tuple(row) for row in csv.reader(answer)]
+
+
+def lay_out_families(answer):
+    """Lays out families that have several stems, stems that several families have, and the pairs of words."""
+    *rows, (_, within, apart, across, joined) = rows_of(answer)
+    if within == across == "0":
+        return ["the vocabulary has no two words of these families with a stem"]
+    under = ["  understemmed  %s: %s" % (named(row[1]), stems(row[2:])) for row in rows if row[0] == "under"]
+    over = ["  overstemmed   %s: %s" % (stem(row[1]), ", ".join(map(named, row[2:]))) for row in rows if row[0] == "over"]
+    return under + over + [
+        "different stems: %s of %s within a family" % (apart, counted(int(within), "pair", "pairs")),
+        "the same stem:   %s of %s across families" % (joined, counted(int(across), "pair", "pairs")),
+    ]

@@ -15,7 +15,7 @@ import sys
 
 from added import Added
 from advice import Advice
-from changes import Changes, added_words, lay_out_largest, lay_out_stats
+from changes import Changes, added_words, lay_out_families, lay_out_largest, lay_out_stats
 from child import Child
 from conditions import Conditions
 from files import Files
@@ -177,6 +177,8 @@ class Desk:
             return lay_out_stats(answer)
         if command.startswith("largest "):
             return lay_out_largest(answer)
+        if command.partition(" ")[0] == "families":
+            return lay_out_families(answer)
         if command == "script":
             return self.shows.script(answer)
         if command.startswith("show "):
