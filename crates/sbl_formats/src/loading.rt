@@ -23,7 +23,6 @@ use sbl_io::{Lines, ServeFault, Source};
 use sbl_script::{Script, ScriptFault};
 use std::alloc::Global;
 use std::hash::RandomState;
-use std::mem::forget;
 
 /// Reads the text of the script block: its lines up to a line `.`, each followed by a line feed. The block is read to its end
 /// before it is checked.
@@ -210,8 +209,8 @@ fn rows_of_words(
 }
 
 /// Returns the text of the rows of an input, as `rows_text` has them for the bench that `load` makes of it. Makes no bench, so that
-/// less is kept of each word. The keys are those of the hash by which words are found. Does not free the script, the words and what runs
-/// them: a program ends after it has written their rows.
+/// less is kept of each word. The keys are those of the hash by which words are found. Does not free the words: a program ends after it
+/// has written their rows.
 ///
 /// # Errors
 ///
@@ -232,7 +231,7 @@ pub fn load_rows<R: Source + Drop>(
 {
     let ParsedInput { script, words } = read_input(lines, keys, external)?;
     let rows = rows_of_words(lines.alloc(), keys, &script, words);
-    forget(script);
+    script.discard();
     match rows {
         Ok(rows) => Ok(rows),
         Err(fault) => Err(LoadFault::Open(fault)),

@@ -105,8 +105,7 @@ impl VocabularyRows {
         records.into_text()
     }
 
-    /// Frees the text of the rows, but not the words. The crate would have to prove the destructor of a meter again to drop
-    /// the whole value.
+    /// Frees the text of the rows, but not the words.
     fn discard(self) {
         let VocabularyRows {
             alloc: _,
@@ -143,7 +142,7 @@ fn write_row(
 }
 
 /// Returns the text of the rows of the vocabulary of these words. Returns `WordTooLong`, `Full` or `OutOfMemory` as
-/// `Bench::open` does. Does not free the machine and the words: a program ends after it has written their rows.
+/// `Bench::open` does. Does not free the words: a program ends after it has written their rows.
 pub(crate) fn vocabulary_rows(
     alloc: Global,
     keys: RandomState,
@@ -155,7 +154,7 @@ pub(crate) fn vocabulary_rows(
     let machine = Machine::new(alloc, script)?;
     let mut rows = VocabularyRows::new(alloc, keys);
     let result = rows.push_all(&machine, words);
-    forget(machine);
+    machine.discard();
     if let Err(fault) = result {
         rows.discard();
         return Err(fault);
