@@ -36,7 +36,8 @@ class Child:
         self.terminal = open_terminal()
         # Ctrl-C rings it.
         self.bell = os.pipe()
-        os.set_blocking(self.bell[0], False)
+        for end in self.bell:
+            os.set_blocking(end, False)
         # The program saves the text of the script in force into it.
         self.paper = os.pipe()
         os.set_blocking(self.paper[0], False)
@@ -161,7 +162,9 @@ class Child:
             os.read(self.bell[0], 65536)
         except BlockingIOError:
             pass
-        signal.signal(signal.SIGINT, lambda number, frame: os.write(self.bell[1], b"!"))
+        # (a handler may run only after `select` has returned, but what rings here is the signal itself)
+        signal.set_wakeup_fd(self.bell[1])
+        signal.signal(signal.SIGINT, lambda number, frame: None)
         keys = keys_of(self.terminal)
         if keys:
             # (with NOFLSH the signal drops no output that is on its way)
