@@ -1,6 +1,7 @@
 //! Faults of names whose definition is missing, comes too late or is in the other mode.
 
 use crate::characters::push_named;
+use crate::declarations::{declaration_of, declared_in};
 use crate::sentences::{Faulty, Place, tokens_before};
 use sbl_places::Part;
 use sbl_text::{Kind, Sign, Token, Word, tokens};
@@ -97,12 +98,37 @@ pub(crate) fn push_undefined(
     }
     if definition_of(alloc, faulty.script, spot.token).is_some() {
         return shown.push_str(
-            " is a grouping that is defined after this one: move its define before it",
+            " is defined after this grouping: a grouping can use only those that are defined before it",
         );
     }
     shown.push_str(" is declared, but not defined: add define ")?;
     push_named(shown, spot.token)?;
-    shown.push_str(" ..")
+    let declared = declared_in(alloc, faulty.script)?;
+    shown.push_str(match declaration_of(&declared, spot.token) {
+        Some(declaration) if declaration.word == Word::Groupings => " '..'",
+        _ => " as ..",
+    })
+}
+
+/// Returns whether the last of these tokens are `define` and a name.
+fn end_with_define(tokens: &[Token<'_>]) -> bool {
+    match tokens {
+        [.., word, name] => word.kind == Kind::Word(Word::Define) && name.kind == Kind::Name,
+        _ => false,
+    }
+}
+
+/// Returns whether a name at this place is one of the terms of a grouping, so that it may be meant as characters.
+pub(crate) fn is_at_terms(alloc: Global, place: Place<'_>) -> bool {
+    let Place { faulty, spot } = place;
+    match faulty.part {
+        Some(Part::Terms(_)) => true,
+        Some(_) => false,
+        None => match tokens_before(alloc, faulty.text, spot.begin) {
+            Some(before) => end_with_define(&before),
+            None => false,
+        },
+    }
 }
 
 /// Appends that a name is used in another mode than it is defined in, and what to do.
@@ -117,18 +143,21 @@ pub(crate) fn push_wrong_mode(
         Some(before) => matches!(before.last(), Some(token) if token.kind == Kind::Literal),
         None => false,
     };
-    shown.push_str(match definition_of(alloc, faulty.script, spot.token) {
-        Some(Definition::Forward) => {
-            " is defined in forward mode, but used in backward mode: move its define into backwardmode"
-        }
+    match definition_of(alloc, faulty.script, spot.token) {
+        Some(Definition::Forward) => shown.push_str(
+            " is defined in forward mode, but used in backward mode: move its define into backwardmode. If forward mode uses it, too, define another one there",
+        ),
         Some(Definition::Backward) if is_condition => {
-            " is defined in backward mode, but used in forward mode: move its define out of backwardmode"
+            shown.push_str(
+                " is defined in backward mode, but used in forward mode: take a routine that is defined outside of backwardmode as backwards ",
+            )?;
+            push_named(shown, spot.token)
         }
-        Some(Definition::Backward) => {
-            " is defined in backward mode, but used in forward mode: write backwards before it, or move its define out of backwardmode"
-        }
-        None => " is defined in another mode than it is used in",
-    })
+        Some(Definition::Backward) => shown.push_str(
+            " is defined in backward mode, but used in forward mode: write backwards before it. If it is to run forwards, move its define out of backwardmode",
+        ),
+        None => shown.push_str(" is defined in another mode than it is used in"),
+    }
 }
 
 /// Appends that an external is declared, but has no definition that a run can begin with, and what to do.
@@ -140,7 +169,7 @@ pub(crate) fn push_no_definition(
     let wanted = faulty.external;
     let text = match definition_of(alloc, faulty.script, wanted) {
         Some(Definition::Backward) => format!(in alloc;
-            "{wanted} is defined in backward mode, but a run begins in forward mode: move its define out of backwardmode"
+            "{wanted} is defined in backward mode, but a run begins in forward mode: outside of backwardmode write define {wanted} as backwards ( .. )"
         )?,
         _ => format!(in alloc;
             "{wanted} is declared in externals, but not defined: add define {wanted} as .."

@@ -74,3 +74,23 @@ pub(crate) fn foreign_character(character: char) -> Option<&'static str> {
         _ => None,
     }
 }
+
+/// Returns whether a point at this offset is the first character of its line, and blanks follow it there, and nothing else.
+pub(crate) fn is_end_line(text: &[u8], begin: usize) -> bool {
+    let (prefix, rest) = text.split_at_checked(begin).unwrap_or((text, &[]));
+    if !(prefix.is_empty() || prefix.ends_with(b"\n")) {
+        return false;
+    }
+    if !(rest.starts_with(b". ") || rest.starts_with(b".\t")) {
+        return false;
+    }
+    for byte in rest.get(1..).unwrap_or(&[]) {
+        if *byte == b'\n' {
+            return true;
+        }
+        if !byte.is_ascii_whitespace() {
+            return false;
+        }
+    }
+    true
+}

@@ -2,10 +2,10 @@
 
 use crate::characters::{push_hexadecimal, push_named};
 use crate::declarations::{DeclaredName, declaration_of, declared_in, kind_text, names_of};
-use crate::definitions::{push_no_definition, push_undefined, push_wrong_mode};
+use crate::definitions::{is_at_terms, push_no_definition, push_undefined, push_wrong_mode};
 use crate::encodings::push_conversion;
 use crate::expectations::{push_expectation, push_use};
-use crate::foreign::{advice_on, foreign_character, left_out_text};
+use crate::foreign::{advice_on, foreign_character, is_end_line, left_out_text};
 use crate::near::{push_listed, push_near, push_near_reserved, push_near_word};
 use crate::reasons::{begins_sentence, reason};
 use crate::sites::{Site, push_advice};
@@ -276,9 +276,7 @@ fn push_name(alloc: Global, shown: &mut String, place: Place<'_>) -> Result<(), 
     let name = spot.token;
     let declared = declared_in(alloc, faulty.script)?;
     match (faulty.fault, declaration_of(&declared, name)) {
-        (ScriptFault::Undeclared { .. }, _) => {
-            push_undeclared(alloc, shown, &declared, faulty, name)
-        }
+        (ScriptFault::Undeclared { .. }, _) => { push_undeclared(alloc, shown, &declared, place) }
         (_, Some(declaration)) => {
             shown.push_str(" is declared as ")?;
             shown.push_str(kind_text(declaration.word))?;
@@ -301,10 +299,10 @@ fn push_undeclared(
     alloc: Global,
     shown: &mut String,
     declared: &[DeclaredName<'_>],
-    faulty: Faulty<'_>,
-    name: &str,
+    place: Place<'_>,
 ) -> Result<(), AllocError> {
-    let (script, external) = (faulty.script, faulty.external);
+    let (script, external) = (place.faulty.script, place.faulty.external);
+    let name = place.spot.token;
     shown.push_str(" is not declared.")?;
     if name == external && names_of(alloc, declared, true)?.is_empty() {
         let text = format!(in alloc; " Declare it: externals ( {name} )")?;
@@ -314,7 +312,7 @@ fn push_undeclared(
     if push_near(alloc, shown, name, &names)? {
         return Ok(());
     }
-    if matches!(faulty.part, Some(Part::Terms(_))) {
+    if is_at_terms(alloc, place) {
         let text = format!(in alloc; " Declare it, or put characters in quotes: '{name}'")?;
         return shown.push_str(text.as_str());
     }
@@ -370,23 +368,6 @@ fn is_insert_fault(character: char) -> bool {
     matches!(character, '\t'..='\r' | ' ' | '\'' | '\u{FEFF}')
 }
 
-/// Returns whether a point at this offset is the first character of its line, and only blanks follow it there.
-fn is_end_line(text: &[u8], begin: usize) -> bool {
-    let (prefix, rest) = text.split_at_checked(begin).unwrap_or((text, &[]));
-    if !rest.starts_with(b".") || !(prefix.is_empty() || prefix.ends_with(b"\n")) {
-        return false;
-    }
-    for byte in rest.get(1..).unwrap_or(&[]) {
-        if *byte == b'\n' {
-            return true;
-        }
-        if !byte.is_ascii_whitespace() {
-            return false;
-        }
-    }
-    true
-}
-
 /// Appends what is wrong with a character that begins no token.
 fn push_character(shown: &mut String, place: Place<'_>) -> Result<(), AllocError> {
     let Place { faulty, spot } = place;
@@ -395,9 +376,16 @@ fn push_character(shown: &mut String, place: Place<'_>) -> Result<(), AllocError
         _ => return shown.push_str(INSERTS),
     };
     push_thing(shown, spot)?;
+    if character == '_' {
+        return shown.push_str(
+            " cannot begin a name: a name begins with a letter from a to z or A to Z",
+        );
+    }
     shown.push_str(" can only be in a literal or a comment")?;
     let advice = if is_end_line(faulty.text, spot.begin) {
         Some("The line that ends a text has a point and no blank after it")
+    } else if character > '\u{7F}' && matches!(faulty.part, Some(Part::Terms(_))) {
+        Some("Characters are in quotes")
     } else {
         foreign_character(character)
     };
