@@ -14,7 +14,7 @@ import re
 import sys
 
 from added import Added
-from advice import Advice
+from advice import Advice, correct_in
 from changes import Changes, added_words, lay_out_families, lay_out_largest, lay_out_stats
 from child import Child
 from conditions import Conditions
@@ -26,7 +26,7 @@ from rows import rows_of
 from screen import say, say_program, write
 from shows import Shows
 from whys import lay_out_why
-from warn import read, warnings_on
+from warn import BOM, read, warnings_on
 from watch import watch
 
 REFUSAL = re.compile(r"^no (\d\d) ([A-Za-z0-9]+)$")
@@ -91,6 +91,8 @@ class Desk:
             return self.show_tests(argument)
         if word == "append":
             return self.append(argument)
+        if word == "families" and (read(argument) or b"").startswith(BOM):
+            say(["%s begins with a byte order mark, which is part of its first word." % named(argument)])
         if word == "save" and self.files.is_script(argument):
             lines = ["save " + self.script]
         verdict = self.run(word, argument, lines, is_edit)
@@ -110,7 +112,7 @@ class Desk:
             say(list(filter(None, [word == "save" and self.files.put_back(argument, former)])))
             return self.end()
         if answer is False:
-            return self.bring_back()
+            return self.bring_back(word == "reload")
         refusal = REFUSAL.match(answer[0]) if len(answer) == 1 else None
         if refusal:
             self.refuse(answer, int(refusal[1]), lines, former)
@@ -260,8 +262,8 @@ class Desk:
         self.files.look()
         return self.definitions(), read(self.script)
 
-    def bring_back(self):
-        """Has the program begin anew and go to where it was, after an edit that Ctrl-C broke off."""
+    def bring_back(self, is_reload):
+        """Has the program begin anew and go to where it was, after an edit that Ctrl-C broke off. The script's file keeps its text."""
         say([self.child.break_sentence()])
         try:
             self.child.bring_back()
@@ -273,7 +275,7 @@ class Desk:
             self.child.stop()
             self.status = 1
             return "ended"
-        say(["The command was broken off. Nothing changed."])
+        say(["The command was broken off. Nothing changed.", *([correct_in(self.script, self.is_save_enough)] if is_reload else [])])
         return "refused"
 
     def definitions(self):

@@ -24,7 +24,7 @@ def reason(number):
 
 def replacing(name):
     """Returns the end of a command that converts a file to another one, which then takes its place."""
-    return "%s > NEW; then, if NEW is right, mv NEW %s" % (shlex.quote(name), shlex.quote(name))
+    return "%s > NEW. Then, if NEW is right: mv NEW %s" % (shlex.quote(name), shlex.quote(name))
 
 
 def with_files(lines, path):

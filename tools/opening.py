@@ -90,8 +90,11 @@ class Opening:
     def explain_refused(self):
         rows = [row for row in rows_of(self.desk.query(["stems"])) if row[1:2] == ["refused"]]
         word, name = rows[0][0], rows[0][2]
-        loops = ": the script loops on it, or needs more than 100,000 steps" if name == "Steps" else ""
-        say(['The first refused word is %s (%s%s). "tests %s" shows the tests of its run, "trace %s" its routines.' % (named(word), name, loops, named(word), named(word))])
+        loops = name == "Steps"
+        reason = ": the script loops on it, or needs more than 100,000 steps" if loops else ""
+        shows = '"tests %s" shows the tests of its run' if loops else '"why %s" shows where its run ends'
+        said = "The first refused word is %s (%s%s). " + shows + ', "trace %s" its routines.'
+        say([said % (named(word), name, reason, named(word), named(word))])
 
 
 def how_to_go_on(path, is_save_enough, may_be_option=False):

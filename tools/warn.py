@@ -52,7 +52,7 @@ def on_encoding(name, data, lines):
     text = "\n".join(lines)
     if is_not_utf8(text):
         found = lines_that(lines, is_not_utf8)
-        said.append(name + from_line(found, "not UTF-8", "lines") + ". If it is Latin-1: iconv -f latin1 -t utf-8 " + name + " > NEW; then, if NEW is right, mv NEW " + name)
+        said.append(name + from_line(found, "not UTF-8", "lines") + ". If it is Latin-1: iconv -f latin1 -t utf-8 " + name + " > NEW. Then, if NEW is right: mv NEW " + name)
     elif not text.isascii() and is_decomposed(text):
         found = lines_that(lines, is_decomposed)
         said.append(
@@ -96,7 +96,7 @@ def warnings_on(script, words=""):
             said.append(named(path) + ": compressed by gzip. To unpack it: gzip -d < " + named(path) + " > NEW")
             continue
         if data.startswith(UTF16):
-            said.append(named(path) + ": UTF-16. To make it UTF-8: iconv -f utf-16 -t utf-8 " + named(path) + " > NEW; then, if NEW is right, mv NEW " + named(path))
+            said.append(named(path) + ": UTF-16. To make it UTF-8: iconv -f utf-16 -t utf-8 " + named(path) + " > NEW. Then, if NEW is right: mv NEW " + named(path))
             continue
         if b"\r" in data[:-1] and b"\n" not in data:
             said.append(named(path) + ": no line feed, so all of it is one line. To make each carriage return one: tr '\\r' '\\n' < " + named(path) + " > NEW")
