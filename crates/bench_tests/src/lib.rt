@@ -1,4 +1,4 @@
-//! Tests of a vocabulary's refusals and edits. Nothing but tests stands here.
+//! Tests of runs, of what runs touch, and of a vocabulary's refusals and edits. This crate has only tests.
 #![tactic(auto)]
 
 #[cfg(test)]
