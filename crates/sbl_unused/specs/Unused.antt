@@ -4,13 +4,12 @@ use Rattle.std.specs.List.{flat_map, list_any}
 use Rattle.std.specs.Str.{bytes_eq, encode_utf8_all}
 use Rattle.sbl_bench.specs.Setting.{Setting}
 use Rattle.sbl_machine.specs.BuiltFrom.{meets}
-use Rattle.sbl_semantics.specs.TouchedItems.{Item', Routine, Among, Grouping, same_item}
+use Rattle.sbl_semantics.specs.TouchedItems.{Item', Routine, Among, Grouping, names_of, same_item}
 use Rattle.sbl_semantics.specs.Outcome.{events_of}
 use Rattle.sbl_io.specs.Records.{records_text}
 use Rattle.sbl_semantics.specs.Events.{Event', Finds}
 use Rattle.sbl_unused.specs.Parts.{Part, parts_of}
-use Rattle.sbl_why.specs.Moments.{Moment, after, at_start, routine_of, string_taken}
-use Rattle.sbl_why.specs.WhyRows.{routine_names}
+use Rattle.sbl_moments.specs.Moments.{Moment, after, at_start, routine_of, string_taken}
 
 -- ---- what the runs of the words use
 
@@ -37,7 +36,7 @@ takes_from names m (e ∷ events) = takes_at names m e ++ takes_from names (afte
 
 -- what the run of a word takes, up to its end or to where it is refused
 abbrev pub takes_of : Setting → List ℕ → List Take
-takes_of s word = takes_from (routine_names s) (at_start word) (events_of s.script word s.limit)
+takes_of s word = takes_from (names_of s.script).routines (at_start word) (events_of s.script word s.limit)
 
 -- some word's run takes this string at this among
 abbrev pub is_taken : Setting → List (List ℕ) → Take → Bool

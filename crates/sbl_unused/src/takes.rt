@@ -3,17 +3,16 @@
 ghost use Rattle.std.specs.Prelude.{◌≡◌, ◌||◌, Bool, List, ℕ, map, OnOk, IfOk};
 ghost use Rattle.std.specs.List.{list_any};
 ghost use Rattle.sbl_bench.specs.KeptRuns.{setting_of};
-ghost use Rattle.sbl_semantics.specs.TouchedItems.{item_of};
+ghost use Rattle.sbl_semantics.specs.TouchedItems.{item_of, names_of};
 ghost use Rattle.sbl_semantics.specs.Events.{event_of};
 ghost use Rattle.sbl_unused.specs.Unused.{Take, same_take, takes_at, takes_from, takes_of};
 ghost use Rattle.sbl_unused.specs.Views.{HasTaken, takes_in, texts_of};
-ghost use Rattle.sbl_why.specs.Moments.{at_start};
-ghost use Rattle.sbl_why.specs.WhyRows.{routine_names};
+ghost use Rattle.sbl_moments.specs.Moments.{at_start};
 
 use sbl_bench::Bench;
 use sbl_interpreter::Event;
 use sbl_machine::Item;
-use sbl_why::Moment;
+use sbl_moments::Moment;
 use std::alloc::{AllocError, Global};
 use std::collections::BTreeSet;
 
@@ -38,7 +37,7 @@ fn add_event(
     moment: &Moment,
     event: &Event,
 ) -> Result<(), AllocError>
-    ensures { OnOk result ((test : Take → Bool) → list_any test (takes_in takes.new) ≡ (list_any test (takes_at (routine_names (setting_of bench.now)) moment.now (event_of event.now)) || list_any test (takes_in takes.old))) }
+    ensures { OnOk result ((test : Take → Bool) → list_any test (takes_in takes.new) ≡ (list_any test (takes_at (names_of (setting_of bench.now).script).routines moment.now (event_of event.now)) || list_any test (takes_in takes.old))) }
 {
     let Event::Finds(among, Some(length)) = event else {
         return Ok(());
@@ -59,7 +58,7 @@ fn add_events(
     word: &[char],
     events: &[Event],
 ) -> Result<(), AllocError>
-    ensures { OnOk result ((test : Take → Bool) → list_any test (takes_in takes.new) ≡ (list_any test (takes_from (routine_names (setting_of bench.now)) (at_start word.now) (map event_of events.now)) || list_any test (takes_in takes.old))) }
+    ensures { OnOk result ((test : Take → Bool) → list_any test (takes_in takes.new) ≡ (list_any test (takes_from (names_of (setting_of bench.now).script).routines (at_start word.now) (map event_of events.now)) || list_any test (takes_in takes.old))) }
 {
     let mut moment = Moment::new(alloc, word)?;
     for event in events {

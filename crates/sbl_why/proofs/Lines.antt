@@ -6,7 +6,7 @@ use Rattle.sbl_semantics.specs.Outcome.{Outcome'}
 use Rattle.sbl_io.specs.Records.{record_line, records_text}
 use Rattle.sbl_semantics.specs.Events.{Event', event_of}
 use Rattle.sbl_semantics.specs.declared.event.Event.{Event}
-use Rattle.sbl_why.specs.Moments.{at_start}
+use Rattle.sbl_moments.specs.Moments.{at_start}
 use Rattle.sbl_why.specs.WhyRows.{max_events, more_rows, outcome_row, rows_from, why_rows}
 
 -- the three parts, given the events that have a row and the number of the others

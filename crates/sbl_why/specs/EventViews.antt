@@ -1,13 +1,9 @@
--- What the code's values of a walk over events stand for, and the two parts of a row.
+-- The two parts of a row: what is known before its event, and what after it.
 use Rattle.std.specs.Prelude.{ℕ, List, [], ◌∷◌, ◌++◌, codes, decimal}
 use Rattle.std.specs.Str.{encode_utf8_all}
 use Rattle.sbl_semantics.specs.Events.{Event', Enters, Leaves, Searches, Finds, Puts}
-use Rattle.sbl_why.specs.Moments as spec
+use Rattle.sbl_moments.specs.Moments as spec
 use Rattle.sbl_why.specs.WhyRows.{place_fields, row_of}
-use Rattle.sbl_why.specs.declared.moment.OpenSearch.{OpenSearch}
-
-abbrev pub view_search : OpenSearch → spec.OpenSearch
-view_search s = record { mode = s.mode; ahead = s.ahead.items }
 
 -- what the row of an event has of the time before it
 abbrev pub fields_before : List (List ℕ) → spec.Moment → Event' → List (List ℕ)

@@ -1,5 +1,4 @@
 -- definitions that public contracts depend on
-pub mod Moments
 pub mod WhyRows
 pub mod Integers
 pub mod RoutineAmongs

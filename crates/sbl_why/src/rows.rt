@@ -5,17 +5,17 @@ ghost use Rattle.sbl_bench.specs.KeptRuns.{setting_of};
 ghost use Rattle.sbl_semantics.specs.Outcome.{outcome_of};
 ghost use Rattle.sbl_io.specs.Records.{record_line, records_text};
 ghost use Rattle.sbl_semantics.specs.Events.{Finds, event_of};
-ghost use Rattle.sbl_why.specs.Moments.{after};
+ghost use Rattle.sbl_moments.specs.Moments.{after};
 ghost use Rattle.sbl_why.specs.Places.{names_at};
 ghost use Rattle.sbl_why.specs.EventViews.{fields_after, fields_before};
 ghost use Rattle.sbl_why.specs.WhyRows as spec;
 
-use crate::moment::Moment;
 use csv::ByteRecord;
 use sbl_bench::Bench;
 use sbl_interpreter::Event;
 use sbl_io::{push_line, push_text};
 use sbl_machine::Outcome;
+use sbl_moments::Moment;
 use std::alloc::{AllocError, Global};
 
 /// Appends a number to a record, as one field. Returns `AllocError` if an allocation fails.

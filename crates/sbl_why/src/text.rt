@@ -6,15 +6,14 @@ ghost use Rattle.sbl_bench.specs.declared.fault.EditFault.{EditFault as AnyFault
 ghost use Rattle.sbl_semantics.specs.Outcome.{outcome_of};
 ghost use Rattle.sbl_io.specs.Records.{records_text};
 ghost use Rattle.sbl_semantics.specs.Events.{event_of};
-ghost use Rattle.sbl_why.specs.Moments.{at_start};
+ghost use Rattle.sbl_moments.specs.Moments.{at_start};
 ghost use Rattle.sbl_why.specs.WhyRows as spec;
 
-use crate::moment::Moment;
 use crate::rows::{push_event, push_more, push_outcome};
-use crate::slices::first;
 use sbl_bench::{Bench, EditFault};
 use sbl_interpreter::Event;
 use sbl_machine::Why;
+use sbl_moments::{Moment, first};
 use std::alloc::{AllocError, Global};
 
 /// No more events than this have a row.

@@ -2,7 +2,7 @@ use Rattle.std.proofs.Common.{◌≡◌, ◌++◌, map, drop}
 use Rattle.sbl_bench.specs.KeptRuns.{setting_of}
 use Rattle.sbl_io.specs.Records.{records_text}
 use Rattle.sbl_semantics.specs.Events.{event_of}
-use Rattle.sbl_why.specs.Moments.{at_start}
+use Rattle.sbl_moments.specs.Moments.{at_start}
 use Rattle.sbl_why.specs.WhyRows as spec
 use Rattle.sbl_why.proofs.text.event_lines.Given as goal
 

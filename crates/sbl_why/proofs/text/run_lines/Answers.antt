@@ -4,7 +4,7 @@ use Rattle.sbl_semantics.specs.Outcome.{outcome_of}
 use Rattle.sbl_io.specs.Records.{records_text}
 use Rattle.sbl_semantics.specs.Events.{event_of}
 use Rattle.sbl_semantics.specs.declared.event.Event.{Event}
-use Rattle.sbl_why.specs.Moments.{at_start}
+use Rattle.sbl_moments.specs.Moments.{at_start}
 use Rattle.sbl_why.specs.WhyRows.{max_events, more_rows, routine_names, rows_from}
 use Rattle.sbl_why.proofs.Lines.{lines_are_rows}
 use Rattle.sbl_why.proofs.text.run_lines.Goals as goal

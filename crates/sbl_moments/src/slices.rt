@@ -2,7 +2,7 @@
 ghost use Rattle.std.specs.Prelude.{◌≡◌, take};
 
 /// Returns the first items, at most `number`.
-pub(crate) fn first<T>(items: &[T], number: usize) -> &[T]
+pub fn first<T>(items: &[T], number: usize) -> &[T]
     ensures { result.now ≡ take number items.now }
 {
     if number < items.len() {

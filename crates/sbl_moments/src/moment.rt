@@ -2,8 +2,8 @@
 ghost use Rattle.std.specs.Prelude.{◌≡◌, ◌-◌, IfOk, OnOk, length, take, drop};
 ghost use Rattle.std.specs.List.{splice};
 ghost use Rattle.sbl_semantics.specs.Events.{event_of};
-ghost use Rattle.sbl_why.specs.Moments as spec;
-ghost use Rattle.sbl_why.specs.EventViews.{view_search};
+ghost use Rattle.sbl_moments.specs.Moments as spec;
+ghost use Rattle.sbl_moments.specs.OpenSearches.{view_search};
 
 use crate::slices::first;
 use sbl_ast::Mode;
@@ -33,8 +33,8 @@ pub struct Moment {
 
 impl Model for Moment {
     ghost use Rattle.std.specs.Prelude.{map};
-    ghost use Rattle.sbl_why.specs.Moments as spec;
-    ghost use Rattle.sbl_why.specs.EventViews.{view_search};
+    ghost use Rattle.sbl_moments.specs.Moments as spec;
+    ghost use Rattle.sbl_moments.specs.OpenSearches.{view_search};
 
     ghost Value = { spec.Moment };
 
@@ -135,14 +135,14 @@ impl Moment {
     }
 
     /// Returns how many calls deep the run is; the external is 0 deep.
-    pub(crate) fn depth(&self) -> usize
+    pub fn depth(&self) -> usize
         ensures { result ≡ spec.depth_of self.now }
     {
         self.routines.len().saturating_sub(1)
     }
 
     /// Returns the text.
-    pub(crate) fn text(&self) -> &[char]
+    pub fn text(&self) -> &[char]
         ensures { result.now ≡ self.now.text }
     {
         &self.text
