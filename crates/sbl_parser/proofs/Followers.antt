@@ -3,7 +3,6 @@ use Rattle.std.proofs.Common.{◌≡◌, ℕ, Bool, true, false, List, [], ◌�
 use Rattle.std.specs.Prelude.{if◌then◌else◌, ◌&&◌}
 use Rattle.sbl_ast.specs.Terminal.{Terminal}
 use Rattle.sbl_ast.specs.Terminal as t
-use Rattle.sbl_ast.specs.Tree.{expression, row}
 use Rattle.sbl_ast.specs.TerminalPlaces.{AtDepth}
 use Rattle.sbl_parser.specs.Steps.{Symbol, Stack, Step, goes, stuck, unassigned, is_optional, is_done, following, after_sums, after_scales, after_others, after_terms, after_plain, after_item, or_else, step}
 use Rattle.sbl_parser.specs.Steps as s

@@ -4,7 +4,7 @@ use Rattle.sbl_ast.specs.declared.tree.Base.{Base}
 use Rattle.sbl_ast.specs.Tree.{QuotedText, Argument, written_out, by_name, Entry, Command, bracket, simple_, literal_, name_, non_, prefixed, counted, move_, named, splice_, setlimit_, assign_, compare_, compare_values_, among_, Rows, no_rows, row, Others, no_others, joined, Starter, no_starter, starter, Groups, bare, group, Term, term, Plain, declaration, escapes, macro, routine, grouping, Item, plain, backward}
 use Rattle.sbl_ast.specs.Terminal as t
 use Rattle.sbl_ast.specs.Spelled.{argument_terminal, spelled_expression, spelled_entries, spelled_command, spelled_rows, spelled_others, spelled_starter, spelled_groups, spelled_names, spelled_base, spelled_terms, spelled_plain, spelled_plains, spelled_item, spelled_items, script_tokens}
-use Rattle.sbl_parser.proofs.TokenStarts.{Ts, items, other, sort, is_adds, is_joins, is_begin, is_name, is_string, is_open, is_item, Never, Ends, EndsRow, differ, same_argument, tail, calm, same_expression, entry_string, entry_no_open, EndsEntries, same_entries}
+use Rattle.sbl_parser.proofs.TokenStarts.{Ts, sort, is_adds, is_joins, is_begin, is_name, is_string, is_open, is_item, Never, Ends, EndsRow, differ, same_argument, tail, calm, same_expression, entry_string, entry_no_open, EndsEntries, same_entries}
 
 -- ---- commands
 

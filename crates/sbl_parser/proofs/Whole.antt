@@ -11,7 +11,6 @@ use Rattle.sbl_token.specs.Lexemes.{lexeme_of}
 use Rattle.sbl_ast.specs.Tree.{Item, Command, Others, Starter, Groups, among_, Argument, Term}
 use Rattle.sbl_ast.specs.Spelled.{argument_terminal, spelled_command, spelled_terms, spelled_others, spelled_items}
 use Rattle.sbl_ast.specs.Texts.{Text, TreeOf}
-use Rattle.sbl_ast.specs.TerminalPlaces.{tokens_of}
 use Rattle.sbl_parser.specs.FirstStack.{first_stack}
 use Rattle.sbl_ast.specs.Texts as texts
 use Rattle.sbl_parser.specs.Steps.{Stack, Fault, items, fault, syntax, too_deep, no_operator}

@@ -99,14 +99,23 @@ fn command_of(cursor: &mut Cursor<'_, '_>, depth: u8, role: Role) -> ReadResult<
     }
 }
 
+/// Parses a command and puts it into a box.
+#[cycle(commands)]
+fn inner_command(cursor: &mut Cursor<'_, '_>, depth: u8) -> ReadResult<Box<Command>>
+    requires { depth ≤ max_depth + 1 }
+    ensures { Reads (wanted.command depth ∷ []) (λ b. spelled_command (view_command b.value)) (ahead cursor.old) result (ahead cursor.new) }
+{
+    let inner = command(cursor, depth)?;
+    box_command(cursor.alloc, inner)
+}
+
 /// Parses `C`, after a `not` or a similar word.
 #[cycle(commands)]
 fn prefix_command(cursor: &mut Cursor<'_, '_>, depth: u8, prefix: Prefix) -> ReadResult<Command>
     requires { depth ≤ max_depth }
     ensures { Reads (wanted.command depth ∷ []) (λ x. spelled_command (view_command x)) (t.prefix prefix ∷ ahead cursor.old) result (ahead cursor.new) }
 {
-    let inner = box_command(cursor.alloc, command(cursor, depth + 1)?)?;
-    Ok(Command::Prefixed(prefix, inner))
+    Ok(Command::Prefixed(prefix, inner_command(cursor, depth + 1)?))
 }
 
 /// Parses `E C`, after a `loop` or `atleast`.
@@ -116,8 +125,13 @@ fn count_command(cursor: &mut Cursor<'_, '_>, depth: u8, count: Count) -> ReadRe
     ensures { Reads (wanted.command depth ∷ []) (λ x. spelled_command (view_command x)) (t.count count ∷ ahead cursor.old) result (ahead cursor.new) }
 {
     let times = expression(cursor, depth)?;
-    let inner = box_command(cursor.alloc, command(cursor, depth + 1)?)?;
-    Ok(Command::Counted(count, times, inner))
+    match inner_command(cursor, depth + 1) {
+        Ok(inner) => Ok(Command::Counted(count, times, inner)),
+        Err(error) => {
+            drop(times);
+            Err(error)
+        }
+    }
 }
 
 /// Parses `setlimit C1 for C2`.
@@ -128,9 +142,9 @@ fn set_limit(cursor: &mut Cursor<'_, '_>, depth: u8) -> ReadResult<Command>
     ensures { Reads (wanted.command depth ∷ []) (λ x. spelled_command (view_command x)) (ahead cursor.old) result (ahead cursor.new) }
 {
     cursor.skip();
-    let limit = box_command(cursor.alloc, command(cursor, depth + 1)?)?;
+    let limit = inner_command(cursor, depth + 1)?;
     cursor.take(Delimiter::For, depth)?;
-    let inner = box_command(cursor.alloc, command(cursor, depth + 1)?)?;
+    let inner = inner_command(cursor, depth + 1)?;
     Ok(Command::SetLimit(limit, inner))
 }
 

@@ -162,10 +162,21 @@ macro_rules! chain {
         let mut others = Vec::new($cursor.alloc);
         while let Role::$role($operator) = $cursor.role() {
             $cursor.skip();
-            others.push($other {
-                $operator,
-                $operand: $read($cursor, $depth)?,
-            })?;
+            match $read($cursor, $depth) {
+                Ok($operand) => match others.push($other { $operator, $operand }) {
+                    Ok(()) => {}
+                    Err(error) => {
+                        drop(others);
+                        drop(first);
+                        return Err(ReadError::from(error));
+                    }
+                },
+                Err(error) => {
+                    drop(others);
+                    drop(first);
+                    return Err(error);
+                }
+            }
         }
         (first, others)
     }};

@@ -17,7 +17,7 @@ impl From<AllocError> for ReadError {
 pub const MAX_DEPTH: u8 = 64;
 
 /// Why parsing failed. The number of a fault counts the tokens from its own on.
-#[derive(Clone, Copy, Debug, PartialEq, Eq)]
+#[derive(Clone, Copy)]
 pub enum ReadError {
     /// An allocation failed.
     Memory,

@@ -129,7 +129,7 @@ fn role_of_kind(kind: Kind) -> Role
 pub fn is_left_out(token: &Token<'_>) -> bool
     ensures { result ≡ profile.is_left_out (lexeme_of token.now) }
 {
-    role_of_kind(token.kind) == Role::Other
+    matches!(role_of_kind(token.kind), Role::Other)
 }
 
 /// Returns the role of the first token, or `End` if there is none.

@@ -153,8 +153,13 @@ fn backward_mode(cursor: &mut Cursor<'_, '_>) -> ReadResult<ScriptItem>
     while begins_plain(cursor.role()) {
         plains.push(plain(cursor)?)?;
     }
-    cursor.take(Delimiter::Close, 0)?;
-    Ok(ScriptItem::BackwardMode(plains))
+    match cursor.take(Delimiter::Close, 0) {
+        Ok(()) => Ok(ScriptItem::BackwardMode(plains)),
+        Err(error) => {
+            drop(plains);
+            Err(error)
+        }
+    }
 }
 
 /// Parses an item.

@@ -4,8 +4,8 @@
 ghost use Rattle.std.specs.Prelude.{◌≡◌, ◌≤◌, ◌∷◌, []};
 ghost use Rattle.sbl_ast.specs.Places.{max_depth};
 ghost use Rattle.sbl_ast.specs.Terminal as t;
-ghost use Rattle.sbl_ast.specs.Spelled.{spelled_command};
-ghost use Rattle.sbl_ast.specs.View.{view_command};
+ghost use Rattle.sbl_ast.specs.Spelled.{spelled_command, spelled_expression};
+ghost use Rattle.sbl_ast.specs.View.{view_command, view_expression};
 ghost use Rattle.sbl_parser.specs.Gives.{ahead, Reads};
 ghost use Rattle.sbl_parser.specs.Roles.{role_of};
 ghost use Rattle.sbl_parser.specs.Steps as wanted;
@@ -15,7 +15,7 @@ use crate::cursor::{Cursor, Delimiter};
 use crate::error::{ReadError, ReadResult};
 use crate::role::Role;
 use crate::tokens::{comparison, name};
-use sbl_ast::{Additive, Command};
+use sbl_ast::{Additive, Command, Comparison, Expression};
 
 /// Parses `G` and `- G`, after a `non`.
 pub fn non(cursor: &mut Cursor<'_, '_>, depth: u8) -> ReadResult<Command>
@@ -94,8 +94,27 @@ fn values_compared(cursor: &mut Cursor<'_, '_>, depth: u8) -> ReadResult<Command
 {
     cursor.skip();
     let left = expression(cursor, depth)?;
+    match right_value(cursor, depth) {
+        Ok((operator, right)) => Ok(Command::CompareValues(left, operator, right)),
+        Err(error) => {
+            drop(left);
+            Err(error)
+        }
+    }
+}
+
+/// Parses `== E2 )` and similar ends of a comparison.
+fn right_value(cursor: &mut Cursor<'_, '_>, depth: u8) -> ReadResult<(Comparison, Expression)>
+    requires { depth ≤ max_depth }
+    ensures { Reads (wanted.comparison depth ∷ wanted.expression depth (wanted.closing depth ∷ [])) (λ x rest. t.compares x.0 ∷ spelled_expression (view_expression x.1) (t.close_ ∷ rest)) (ahead cursor.old) result (ahead cursor.new) }
+{
     let operator = comparison(cursor, depth)?;
     let right = expression(cursor, depth)?;
-    cursor.take(Delimiter::Close, depth)?;
-    Ok(Command::CompareValues(left, operator, right))
+    match cursor.take(Delimiter::Close, depth) {
+        Ok(()) => Ok((operator, right)),
+        Err(error) => {
+            drop(right);
+            Err(error)
+        }
+    }
 }

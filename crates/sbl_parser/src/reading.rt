@@ -88,8 +88,13 @@ fn all_items(alloc: Global, tokens: &[Token<'_>]) -> Result<Vec<ScriptItem>, Rea
 {
     let mut cursor = Cursor::new(alloc, tokens);
     let found = items(&mut cursor)?;
-    cursor.end()?;
-    Ok(found)
+    match cursor.end() {
+        Ok(()) => Ok(found),
+        Err(error) => {
+            drop(found);
+            Err(error)
+        }
+    }
 }
 
 /// Parses all tokens as the body of a routine. `end` is the length of the text in bytes.
@@ -116,8 +121,13 @@ fn whole_body(alloc: Global, tokens: &[Token<'_>]) -> Result<RowOfCommands, Read
 {
     let mut cursor = Cursor::new(alloc, tokens);
     let found = row(&mut cursor, 1)?;
-    cursor.end()?;
-    Ok(found)
+    match cursor.end() {
+        Ok(()) => Ok(found),
+        Err(error) => {
+            drop(found);
+            Err(error)
+        }
+    }
 }
 
 /// Parses all tokens as an among at nesting depth `depth`. `end` is the length of the text in bytes.
@@ -151,8 +161,13 @@ fn whole_among(alloc: Global, tokens: &[Token<'_>], depth: u8) -> Result<Among, 
         return Err(ReadError::Syntax(cursor.count_ahead()));
     };
     let found = among(&mut cursor, depth)?;
-    cursor.end()?;
-    Ok(found)
+    match cursor.end() {
+        Ok(()) => Ok(found),
+        Err(error) => {
+            drop(found);
+            Err(error)
+        }
+    }
 }
 
 /// Parses all tokens as the terms of a grouping and returns the first one and those after it. `end` is the length of
@@ -180,8 +195,13 @@ fn whole_terms(alloc: Global, tokens: &[Token<'_>]) -> Result<(Argument, Vec<Ter
 {
     let mut cursor = Cursor::new(alloc, tokens);
     let found = terms(&mut cursor)?;
-    cursor.end()?;
-    Ok(found)
+    match cursor.end() {
+        Ok(()) => Ok(found),
+        Err(error) => {
+            drop(found);
+            Err(error)
+        }
+    }
 }
 
 /// Two trees with the same tokens are equal. The same holds for the trees of each text that replaces a part of a

@@ -6,7 +6,7 @@ use sbl_ast::{
 };
 
 /// The role of a token in the grammar, without its text or its value.
-#[derive(Clone, Copy, Debug, PartialEq, Eq)]
+#[derive(Clone, Copy)]
 pub enum Role {
     /// `(`
     Open,

@@ -51,17 +51,17 @@ rows-loop-rows-smaller t_ c =
     subst (λ (r : List Terminal). length (ahead c.row.new.cursor) < length r) (sym c.in_ok-row.ensures.0) (turns.through (written.spelled_command row.0 (written.spelled_others row.1 next)) (written.spelled_others row.1 next) next (lengths.tree_length row.0 (written.spelled_others row.1 next)) (lengths.others_length row.1 next))
 
 pub row-loop-joiner-smaller : goal.row-loop-joiner-smaller
-row-loop-joiner-smaller t_ c = turns.shorter (ahead c.loop-joiner.cursor) (ahead c.command-in-Joiner.new.cursor) (ahead c.skip.new.self) c.skip.ensures (subst (λ (r : List Terminal). length (ahead c.command-in-Joiner.new.cursor) < length r) (sym c.in_ok-command.ensures.gives.0) (lengths.tree_length (view.view_command c.in_ok-command.field-0) (ahead c.command-in-Joiner.new.cursor)))
+row-loop-joiner-smaller t_ c = turns.shorter (ahead c.loop-joiner.cursor) (ahead c.command-in-Joiner.new.cursor) (ahead c.skip.new.self) c.skip.ensures (subst (λ (r : List Terminal). length (ahead c.command-in-Joiner.new.cursor) < length r) (sym c.in-Ok.ensures.gives.0) (lengths.tree_length (view.view_command c.in-Ok.command) (ahead c.command-in-Joiner.new.cursor)))
 
 pub row-loop-joiner-preserved : goal.row-loop-joiner-preserved
 row-loop-joiner-preserved t_ c =
     let first : ahead c.loop-joiner.cursor ≡ t.joiner c.in-Joiner.joiner ∷ ahead c.skip.new.self = d.head_of_drop (ahead c.loop-joiner.cursor) (ahead c.skip.new.self) (t.joiner c.in-Joiner.joiner) (of_role.as_terminal (ahead c.loop-joiner.cursor) (t.joiner c.in-Joiner.joiner) refl (sym c.role.ensures ∙ c.in-Joiner.is)) c.skip.ensures in
-    let last : view.NextCommandView = (c.in-Joiner.joiner, view.view_command c.in_ok-command.field-0) in
-    let more : map view.view_next_command c.push.new.self.items ≡ map view.view_next_command c.loop-joiner.others.items ++ last ∷ [] = ap (λ (xs : List NextCommand). map view.view_next_command xs) c.in_ok-push.ensures.items ∙ map_push view.view_next_command c.loop-joiner.others.items _ ∙ ap (λ (x : view.NextCommandView). map view.view_next_command c.loop-joiner.others.items ++ x ∷ []) (views.view_of_next_command (record { joiner = c.in-Joiner.joiner; command = c.in_ok-command.field-0 })) in
+    let last : view.NextCommandView = (c.in-Joiner.joiner, view.view_command c.in-Ok.command) in
+    let more : map view.view_next_command c.push.new.self.items ≡ map view.view_next_command c.loop-joiner.others.items ++ last ∷ [] = ap (λ (xs : List NextCommand). map view.view_next_command xs) c.in-Ok-push.ensures.items ∙ map_push view.view_next_command c.loop-joiner.others.items _ ∙ ap (λ (x : view.NextCommandView). map view.view_next_command c.loop-joiner.others.items ++ x ∷ []) (views.view_of_next_command (record { joiner = c.in-Joiner.joiner; command = c.in-Ok.command })) in
     record {
       shallow = c.loop-joiner.invariant.shallow;
-      spelled = turns.next_joined (written.spelled_command (view.view_command _)) (map view.view_next_command c.loop-joiner.others.items) (map view.view_next_command c.push.new.self.items) last _ (ahead c.loop-joiner.cursor) (ahead c.command-in-Joiner.new.cursor) c.loop-joiner.invariant.spelled (first ∙ ap (λ (r : List Terminal). t.joiner c.in-Joiner.joiner ∷ r) c.in_ok-command.ensures.gives.0) more;
-      faults = λ k. c.loop-joiner.invariant.faults k ∙ d.goes_on (ahead c.loop-joiner.cursor) (t.joiner c.in-Joiner.joiner) (ahead c.skip.new.self) (s.others c.args.depth ∷ k) (s.command c.args.depth ∷ s.others c.args.depth ∷ k) c.args.depth first refl c.loop-joiner.invariant.shallow ∙ c.in_ok-command.ensures.gives.1 (s.others c.args.depth ∷ k);
+      spelled = turns.next_joined (written.spelled_command (view.view_command _)) (map view.view_next_command c.loop-joiner.others.items) (map view.view_next_command c.push.new.self.items) last _ (ahead c.loop-joiner.cursor) (ahead c.command-in-Joiner.new.cursor) c.loop-joiner.invariant.spelled (first ∙ ap (λ (r : List Terminal). t.joiner c.in-Joiner.joiner ∷ r) c.in-Ok.ensures.gives.0) more;
+      faults = λ k. c.loop-joiner.invariant.faults k ∙ d.goes_on (ahead c.loop-joiner.cursor) (t.joiner c.in-Joiner.joiner) (ahead c.skip.new.self) (s.others c.args.depth ∷ k) (s.command c.args.depth ∷ s.others c.args.depth ∷ k) c.args.depth first refl c.loop-joiner.invariant.shallow ∙ c.in-Ok.ensures.gives.1 (s.others c.args.depth ∷ k);
     }
 
 pub groups-loop-cursor-preserved : goal.groups-loop-cursor-preserved

@@ -24,6 +24,9 @@ decreases-count_command l = 10 * (70 - l.depth) + 1
 abbrev pub decreases-groups : goal.decreases-groups
 decreases-groups l = 10 * (70 - l.depth) + 0
 
+abbrev pub decreases-inner_command : goal.decreases-inner_command
+decreases-inner_command l = 10 * (70 - l.depth) + 4
+
 abbrev pub decreases-prefix_command : goal.decreases-prefix_command
 decreases-prefix_command l = 10 * (70 - l.depth) + 1
 

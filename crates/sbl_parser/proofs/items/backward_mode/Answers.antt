@@ -36,8 +36,7 @@ loop-plains-preserved c =
       faults = λ k. c.loop-plains.invariant.faults k ∙ d.plain_first (ahead c.loop-plains.cursor) (s.closing 0 ∷ k) begun ∙ c.in_ok-plain.ensures.1 (s.plains ∷ s.closing 0 ∷ k);
     }
 
-pub returns-in_err-take-2 : goal.returns-in_err-take-2
-returns-in_err-take-2 c =
+pub returns-in-Err : goal.returns-in-Err
+returns-in-Err c =
     let none : begins_plain (role_of (ahead c.loop-plains.cursor)) ≡ false = sym (c.begins_plain.ensures ∙ ap (λ (r : Role). begins_plain r) c.role.ensures) ∙ c.loop-plains-test.false in
-    let p = err_from_is_err_and c.from_residual-in_err-take-2.result c.from_residual-in_err-take-2.ensures.1 in
-    rw (p.1, p.2) (λ k. d.fails_along _ _ _ (c.loop-plains.invariant.faults k ∙ d.skips_plains (ahead c.loop-plains.cursor) (s.closing 0 ∷ k) none) (c.in_err-take-2.ensures k))
+    λ k. d.fails_along _ _ _ (c.loop-plains.invariant.faults k ∙ d.skips_plains (ahead c.loop-plains.cursor) (s.closing 0 ∷ k) none) (c.in-Err.ensures k)

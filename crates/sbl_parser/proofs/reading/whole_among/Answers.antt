@@ -6,5 +6,5 @@ use Rattle.sbl_parser.specs.Steps as s
 use Rattle.sbl_parser.proofs.Whole.{read_among}
 use Rattle.sbl_parser.proofs.reading.whole_among.Goals as goal
 
-pub returns-clause-read : goal.returns-clause-read
-returns-clause-read c = read_among c.args.tokens.now (ahead c.among.new.cursor) c.args.depth (view_among c.in_ok-found.found) c.in_ok-end.ensures.done (sym c.new-cursor.ensures ∙ c.in_ok-found.ensures.0) (λ k. ap (λ (r : List Terminal). s.fault r (s.among c.args.depth ∷ k)) (sym c.new-cursor.ensures) ∙ c.in_ok-found.ensures.1 k)
+pub returns-in-Ok-clause-read : goal.returns-in-Ok-clause-read
+returns-in-Ok-clause-read c = read_among c.args.tokens.now (ahead c.among.new.cursor) c.args.depth (view_among c.in_ok-found.found) c.in-Ok.ensures.done (sym c.new-cursor.ensures ∙ c.in_ok-found.ensures.0) (λ k. ap (λ (r : List Terminal). s.fault r (s.among c.args.depth ∷ k)) (sym c.new-cursor.ensures) ∙ c.in_ok-found.ensures.1 k)

@@ -6,5 +6,5 @@ use Rattle.sbl_parser.specs.Steps as s
 use Rattle.sbl_parser.proofs.Whole.{read_body}
 use Rattle.sbl_parser.proofs.reading.whole_body.Goals as goal
 
-pub returns-clause-read : goal.returns-clause-read
-returns-clause-read c = read_body c.args.tokens.now (ahead c.row.new.cursor) (view_row c.in_ok-found.found) c.in_ok-end.ensures.done (sym c.new-cursor.ensures ∙ c.in_ok-found.ensures.0) (λ k. ap (λ (r : List Terminal). s.fault r (s.command 1 ∷ s.others 1 ∷ k)) (sym c.new-cursor.ensures) ∙ c.in_ok-found.ensures.1 k)
+pub returns-in-Ok-clause-read : goal.returns-in-Ok-clause-read
+returns-in-Ok-clause-read c = read_body c.args.tokens.now (ahead c.row.new.cursor) (view_row c.in_ok-found.found) c.in-Ok.ensures.done (sym c.new-cursor.ensures ∙ c.in_ok-found.ensures.0) (λ k. ap (λ (r : List Terminal). s.fault r (s.command 1 ∷ s.others 1 ∷ k)) (sym c.new-cursor.ensures) ∙ c.in_ok-found.ensures.1 k)
