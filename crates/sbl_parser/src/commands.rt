@@ -12,7 +12,7 @@ ghost use Rattle.sbl_parser.specs.Gives.{ahead, Reads};
 ghost use Rattle.std.specs.Prelude.{map};
 
 use crate::arithmetic::expression;
-use crate::cursor::{Cursor, Delimiter, chain};
+use crate::cursor::{Cursor, Delimiter, chain, push_read};
 use crate::entries::{entries, entry};
 use crate::error::{MAX_DEPTH, ReadError, ReadResult};
 use crate::leaves::{dollar, non};
@@ -238,7 +238,7 @@ fn rows(cursor: &mut Cursor<'_, '_>, depth: u8) -> ReadResult<Vec<RowOfCommands>
 {
     let mut rows = Vec::new(cursor.alloc);
     while begins_command(cursor.role()) {
-        rows.push(row(cursor, depth)?)?;
+        push_read!(rows, row(cursor, depth));
     }
     Ok(rows)
 }

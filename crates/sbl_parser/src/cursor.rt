@@ -182,4 +182,24 @@ macro_rules! chain {
     }};
 }
 
+/// Reads an item and puts it behind the others. They are dropped by a call if this fails, which is cheap to prove.
+macro_rules! push_read {
+    ($items:ident, $read:expr) => {
+        match $read {
+            Ok(item) => match $items.push(item) {
+                Ok(()) => {}
+                Err(error) => {
+                    drop($items);
+                    return Err(ReadError::from(error));
+                }
+            },
+            Err(error) => {
+                drop($items);
+                return Err(error);
+            }
+        }
+    };
+}
+
 pub(crate) use chain;
+pub(crate) use push_read;

@@ -126,6 +126,7 @@ fn role_of_kind(kind: Kind) -> Role
 }
 
 /// Returns whether the token belongs to a part of the language that is not supported: it occurs in no tree.
+#[tactic(auto, using(crate::proofs::LeftOut::left_out_if_other, crate::proofs::LeftOut::kept_if_not_other))]
 pub fn is_left_out(token: &Token<'_>) -> bool
     ensures { result ≡ profile.is_left_out (lexeme_of token.now) }
 {

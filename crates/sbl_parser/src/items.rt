@@ -9,7 +9,7 @@ ghost use Rattle.sbl_ast.specs.View.{view_argument, view_literal, view_term, vie
 ghost use Rattle.sbl_parser.specs.Gives.{ahead, Reads};
 
 use crate::commands::row;
-use crate::cursor::{Cursor, Delimiter, chain};
+use crate::cursor::{Cursor, Delimiter, chain, push_read};
 use crate::error::{ReadError, ReadResult};
 use crate::role::Role;
 use crate::starts::{begins_item, begins_plain};
@@ -151,7 +151,7 @@ fn backward_mode(cursor: &mut Cursor<'_, '_>) -> ReadResult<ScriptItem>
     cursor.take(Delimiter::Open, 0)?;
     let mut plains = Vec::new(cursor.alloc);
     while begins_plain(cursor.role()) {
-        plains.push(plain(cursor)?)?;
+        push_read!(plains, plain(cursor));
     }
     match cursor.take(Delimiter::Close, 0) {
         Ok(()) => Ok(ScriptItem::BackwardMode(plains)),
@@ -178,7 +178,7 @@ pub fn items(cursor: &mut Cursor<'_, '_>) -> ReadResult<Vec<ScriptItem>>
 {
     let mut items = Vec::new(cursor.alloc);
     while begins_item(cursor.role()) {
-        items.push(item(cursor)?)?;
+        push_read!(items, item(cursor));
     }
     Ok(items)
 }

@@ -28,27 +28,26 @@ command_of-returns-in_err-among-in-Among t_ c =
     let p = err_from_is_err_and c.from_residual-in_err-among-in-Among.result c.from_residual-in_err-among-in-Among.ensures.1 in
     rw (p.1, p.2) (λ k. d.fails_along _ _ _ (d.among_first (ahead c.args.cursor.now) c.args.depth k (c.requires.first ∙ c.in-Among.is)) (c.in_err-among-in-Among.ensures k))
 
-pub rows-returns-in_err-row : goal.rows-returns-in_err-row
-rows-returns-in_err-row t_ c =
-    let begun : begins_command (role_of (ahead c.loop-rows.cursor)) ≡ true = sym (c.begins_command.ensures ∙ ap (λ (r : Role). begins_command r) c.role.ensures) ∙ c.loop-rows-test.true in
-    let p = err_from_is_err_and c.from_residual.result c.from_residual.ensures.1 in
-    rw (p.1, p.2) (λ k. d.fails_along _ _ _ (c.loop-rows.invariant.faults k ∙ d.row_first (ahead c.loop-rows.cursor) c.args.depth k begun) (c.in_err-row.ensures (s.rows c.args.depth ∷ k)))
+pub rows-returns-in-Err : goal.rows-returns-in-Err
+rows-returns-in-Err t_ c =
+    let begun : begins_command (role_of (ahead c.loop-cursor.cursor)) ≡ true = sym (c.begins_command.ensures ∙ ap (λ (r : Role). begins_command r) c.role.ensures) ∙ c.loop-cursor-test.true in
+    λ k. d.fails_along _ _ _ (c.loop-cursor.invariant.faults k ∙ d.row_first (ahead c.loop-cursor.cursor) c.args.depth k begun) (c.in-Err.ensures (s.rows c.args.depth ∷ k))
 
-pub rows-loop-rows-preserved : goal.rows-loop-rows-preserved
-rows-loop-rows-preserved t_ c =
-    let begun : begins_command (role_of (ahead c.loop-rows.cursor)) ≡ true = sym (c.begins_command.ensures ∙ ap (λ (r : Role). begins_command r) c.role.ensures) ∙ c.loop-rows-test.true in
-    let last : view.RowView = view.view_row c.in_ok-row.field-0 in
-    let more : map view.view_row c.push.new.self.items ≡ map view.view_row c.loop-rows.rows.items ++ last ∷ [] = ap (λ (xs : List Row). map view.view_row xs) c.in_ok-push.ensures.items ∙ map_push view.view_row c.loop-rows.rows.items _ in
+pub rows-loop-cursor-preserved : goal.rows-loop-cursor-preserved
+rows-loop-cursor-preserved t_ c =
+    let begun : begins_command (role_of (ahead c.loop-cursor.cursor)) ≡ true = sym (c.begins_command.ensures ∙ ap (λ (r : Role). begins_command r) c.role.ensures) ∙ c.loop-cursor-test.true in
+    let last : view.RowView = view.view_row c.in-Ok.item in
+    let more : map view.view_row c.push.new.self.items ≡ map view.view_row c.loop-cursor.rows.items ++ last ∷ [] = ap (λ (xs : List Row). map view.view_row xs) c.in-Ok-push.ensures.items ∙ map_push view.view_row c.loop-cursor.rows.items _ in
     record {
-      spelled = c.loop-rows.invariant.spelled ∙ ap (λ (r : List Terminal). written.spelled_rows (view.rows_of (map view.view_row c.loop-rows.rows.items)) r) c.in_ok-row.ensures.0 ∙ sym (turns.rows_push (map view.view_row c.loop-rows.rows.items) last (ahead c.row.new.cursor)) ∙ ap (λ (xs : List view.RowView). written.spelled_rows (view.rows_of xs) (ahead c.row.new.cursor)) (sym more);
-      faults = λ k. c.loop-rows.invariant.faults k ∙ d.row_first (ahead c.loop-rows.cursor) c.args.depth k begun ∙ c.in_ok-row.ensures.1 (s.rows c.args.depth ∷ k);
+      spelled = c.loop-cursor.invariant.spelled ∙ ap (λ (r : List Terminal). written.spelled_rows (view.rows_of (map view.view_row c.loop-cursor.rows.items)) r) c.in-Ok.ensures.0 ∙ sym (turns.rows_push (map view.view_row c.loop-cursor.rows.items) last (ahead c.row.new.cursor)) ∙ ap (λ (xs : List view.RowView). written.spelled_rows (view.rows_of xs) (ahead c.row.new.cursor)) (sym more);
+      faults = λ k. c.loop-cursor.invariant.faults k ∙ d.row_first (ahead c.loop-cursor.cursor) c.args.depth k begun ∙ c.in-Ok.ensures.1 (s.rows c.args.depth ∷ k);
     }
 
-pub rows-loop-rows-smaller : goal.rows-loop-rows-smaller
-rows-loop-rows-smaller t_ c =
-    let row : view.RowView = view.view_row c.in_ok-row.field-0 in
+pub rows-loop-cursor-smaller : goal.rows-loop-cursor-smaller
+rows-loop-cursor-smaller t_ c =
+    let row : view.RowView = view.view_row c.in-Ok.item in
     let next : List Terminal = ahead c.row.new.cursor in
-    subst (λ (r : List Terminal). length (ahead c.row.new.cursor) < length r) (sym c.in_ok-row.ensures.0) (turns.through (written.spelled_command row.0 (written.spelled_others row.1 next)) (written.spelled_others row.1 next) next (lengths.tree_length row.0 (written.spelled_others row.1 next)) (lengths.others_length row.1 next))
+    subst (λ (r : List Terminal). length (ahead c.row.new.cursor) < length r) (sym c.in-Ok.ensures.0) (turns.through (written.spelled_command row.0 (written.spelled_others row.1 next)) (written.spelled_others row.1 next) next (lengths.tree_length row.0 (written.spelled_others row.1 next)) (lengths.others_length row.1 next))
 
 pub row-loop-joiner-smaller : goal.row-loop-joiner-smaller
 row-loop-joiner-smaller t_ c = turns.shorter (ahead c.loop-joiner.cursor) (ahead c.command-in-Joiner.new.cursor) (ahead c.skip.new.self) c.skip.ensures (subst (λ (r : List Terminal). length (ahead c.command-in-Joiner.new.cursor) < length r) (sym c.in-Ok.ensures.gives.0) (lengths.tree_length (view.view_command c.in-Ok.command) (ahead c.command-in-Joiner.new.cursor)))

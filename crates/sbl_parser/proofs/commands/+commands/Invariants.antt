@@ -42,14 +42,14 @@ decreases-set_limit l = 10 * (70 - l.depth) + 1
 abbrev pub decreases-starter : goal.decreases-starter
 decreases-starter l = 10 * (70 - l.depth) + 0
 
-abbrev pub invariant-rows-loop-rows : goal.invariant-rows-loop-rows
-invariant-rows-loop-rows l = record {
+abbrev pub invariant-rows-loop-cursor : goal.invariant-rows-loop-cursor
+invariant-rows-loop-cursor l = record {
   spelled : ahead l.fn.cursor ≡ written.spelled_rows (view.view_rows l.rows.items) (ahead l.cursor);
   faults : (k : wanted.Stack) → wanted.fault (ahead l.fn.cursor) (wanted.rows l.depth ∷ k) ≡ wanted.fault (ahead l.cursor) (wanted.rows l.depth ∷ k);
 }
 
-abbrev pub decreases-rows-loop-rows : goal.decreases-rows-loop-rows
-decreases-rows-loop-rows l = length (ahead l.cursor)
+abbrev pub decreases-rows-loop-cursor : goal.decreases-rows-loop-cursor
+decreases-rows-loop-cursor l = length (ahead l.cursor)
 
 abbrev pub invariant-row-loop-joiner : goal.invariant-row-loop-joiner
 invariant-row-loop-joiner l = record {
