@@ -1,6 +1,8 @@
-use Rattle.std.proofs.Common.{◌≡◌, ◌<◌, ◌≤◌, ◌∷◌, ◌++◌, ◌+◌, List, [], length, map, drop, true, arith, ap, sym, refl, subst, ◌∙◌}
+use Rattle.std.specs.Prelude.{Result}
+use Rattle.std.proofs.Common.{◌≡◌, ℕ, ◌<◌, ◌≤◌, ◌∷◌, ◌++◌, ◌+◌, List, [], length, map, drop, true, arith, ap, sym, refl, subst, ◌∙◌}
 use Rattle.std.proofs.lemmas.List.{map_push}
 use Rattle.std.proofs.lemmas.Result.{err_from_is_err_and}
+use Rattle.sbl_ast.specs.declared.tree.Command.{Command}
 use Rattle.sbl_ast.specs.declared.tree.Entry.{Entry}
 use Rattle.sbl_ast.specs.declared.tree.Group.{Group}
 use Rattle.sbl_ast.specs.declared.tree.NextCommand.{NextCommand}
@@ -12,8 +14,9 @@ use Rattle.sbl_ast.specs.Spelled as written
 use Rattle.sbl_ast.specs.View as view
 use Rattle.sbl_parser.specs.declared.role.Role.{Role}
 use Rattle.sbl_parser.specs.First.{first_literal}
-use Rattle.sbl_parser.specs.Gives.{ahead}
-use Rattle.sbl_parser.specs.Roles.{role_of}
+use Rattle.sbl_parser.specs.declared.error.ReadError.{ReadError}
+use Rattle.sbl_parser.specs.Gives.{ahead, Reads}
+use Rattle.sbl_parser.specs.Roles.{role_of, role_as}
 use Rattle.sbl_parser.specs.Starts.{begins_command}
 use Rattle.sbl_parser.specs.Steps as s
 use Rattle.sbl_parser.proofs.Descent as d
@@ -22,6 +25,78 @@ use Rattle.sbl_parser.proofs.Lengths as lengths
 use Rattle.sbl_parser.proofs.Turns as turns
 use Rattle.sbl_ast.proofs.Views as views
 use Rattle.sbl_parser.proofs.commands.+commands.Goals as goal
+
+-- the first token of a command is this one
+takes_first : (ts next : List Terminal) (x : Terminal) → of_role.is_determined x ≡ true → role_of ts ≡ role_as x → next ≡ drop 1 ts → ts ≡ x ∷ next
+takes_first ts next x determined e is = d.head_of_drop ts next x (of_role.as_terminal ts x determined e) is
+
+-- what is read after the first token is read after it
+read_after : (ts next rest : List Terminal) (x : Terminal) (depth : ℕ) (result : Result Command ReadError) → ts ≡ x ∷ next → Reads (s.command depth ∷ []) (λ (c : Command). written.spelled_command (view.view_command c)) (x ∷ next) result rest → Reads (s.command depth ∷ []) (λ (c : Command). written.spelled_command (view.view_command c)) ts result rest
+read_after ts next rest x depth result e h = subst (λ (r : List Terminal). Reads (s.command depth ∷ []) (λ (c : Command). written.spelled_command (view.view_command c)) r result rest) (sym e) h
+
+pub command_of-returns-in-Non : goal.command_of-returns-in-Non
+command_of-returns-in-Non t_ c = read_after _ _ _ t.non _ _ (takes_first (ahead c.args.cursor.now) (ahead c.skip-in-Non.new.self) t.non refl (c.requires.first ∙ c.in-Non.is) c.skip-in-Non.ensures) c.non.ensures
+
+pub command_of-returns-in-Prefix : goal.command_of-returns-in-Prefix
+command_of-returns-in-Prefix t_ c = read_after _ _ _ (t.prefix c.in-Prefix.prefix) _ _ (takes_first (ahead c.args.cursor.now) (ahead c.skip-in-Prefix.new.self) (t.prefix c.in-Prefix.prefix) refl (c.requires.first ∙ c.in-Prefix.is) c.skip-in-Prefix.ensures) c.prefix_command.ensures
+
+pub command_of-returns-in-Count : goal.command_of-returns-in-Count
+command_of-returns-in-Count t_ c = read_after _ _ _ (t.count c.in-Count.count) _ _ (takes_first (ahead c.args.cursor.now) (ahead c.skip-in-Count.new.self) (t.count c.in-Count.count) refl (c.requires.first ∙ c.in-Count.is) c.skip-in-Count.ensures) c.count_command.ensures
+
+pub command_of-returns-in-Dollar : goal.command_of-returns-in-Dollar
+command_of-returns-in-Dollar t_ c = read_after _ _ _ t.dollar _ _ (takes_first (ahead c.args.cursor.now) (ahead c.skip-in-Dollar.new.self) t.dollar refl (c.requires.first ∙ c.in-Dollar.is) c.skip-in-Dollar.ensures) c.dollar.ensures
+
+pub command_of-returns-in_ok-block-in-Open : goal.command_of-returns-in_ok-block-in-Open
+command_of-returns-in_ok-block-in-Open t_ c =
+    let first : ahead c.args.cursor.now ≡ t.open_ ∷ ahead c.skip.new.self = takes_first (ahead c.args.cursor.now) (ahead c.skip.new.self) t.open_ refl (c.requires.first ∙ c.in-Open.is) c.skip.ensures in (
+      first ∙ ap (λ (r : List Terminal). t.open_ ∷ r) c.in_ok-block-in-Open.ensures.0 ∙ ap (λ (x : trees.Command). written.spelled_command x (ahead c.block.new.cursor)) (sym (views.command_Bracket c.in_ok-block-in-Open.field-0)),
+      λ k. d.goes_on (ahead c.args.cursor.now) t.open_ (ahead c.skip.new.self) (s.command c.args.depth ∷ k) (s.rows (c.args.depth + 1) ∷ s.closing c.args.depth ∷ k) c.args.depth first refl c.requires.shallow ∙ c.in_ok-block-in-Open.ensures.1 k,
+    )
+
+pub command_of-returns-in_err-block-in-Open : goal.command_of-returns-in_err-block-in-Open
+command_of-returns-in_err-block-in-Open t_ c =
+    let first : ahead c.args.cursor.now ≡ t.open_ ∷ ahead c.skip.new.self = takes_first (ahead c.args.cursor.now) (ahead c.skip.new.self) t.open_ refl (c.requires.first ∙ c.in-Open.is) c.skip.ensures in
+    let p = err_from_is_err_and c.from_residual.result c.from_residual.ensures.1 in
+    rw (p.1, p.2) (λ k. d.fails_along _ _ _ (d.goes_on (ahead c.args.cursor.now) t.open_ (ahead c.skip.new.self) (s.command c.args.depth ∷ k) (s.rows (c.args.depth + 1) ∷ s.closing c.args.depth ∷ k) c.args.depth first refl c.requires.shallow) (c.in_err-block-in-Open.ensures k))
+
+pub command_of-returns-in_ok-expression-in-Move : goal.command_of-returns-in_ok-expression-in-Move
+command_of-returns-in_ok-expression-in-Move t_ c =
+    let first : ahead c.args.cursor.now ≡ t.move c.in-Move.word ∷ ahead c.skip-in-Move.new.self = takes_first (ahead c.args.cursor.now) (ahead c.skip-in-Move.new.self) (t.move c.in-Move.word) refl (c.requires.first ∙ c.in-Move.is) c.skip-in-Move.ensures in (
+      first ∙ ap (λ (r : List Terminal). t.move c.in-Move.word ∷ r) c.in_ok-expression-in-Move.ensures.0 ∙ ap (λ (x : trees.Command). written.spelled_command x (ahead c.expression.new.cursor)) (sym (views.command_Move c.in-Move.word c.in_ok-expression-in-Move.field-0)),
+      λ k. d.goes_on (ahead c.args.cursor.now) (t.move c.in-Move.word) (ahead c.skip-in-Move.new.self) (s.command c.args.depth ∷ k) (s.expression c.args.depth k) c.args.depth first refl c.requires.shallow ∙ c.in_ok-expression-in-Move.ensures.1 k,
+    )
+
+pub command_of-returns-in_err-expression-in-Move : goal.command_of-returns-in_err-expression-in-Move
+command_of-returns-in_err-expression-in-Move t_ c =
+    let first : ahead c.args.cursor.now ≡ t.move c.in-Move.word ∷ ahead c.skip-in-Move.new.self = takes_first (ahead c.args.cursor.now) (ahead c.skip-in-Move.new.self) (t.move c.in-Move.word) refl (c.requires.first ∙ c.in-Move.is) c.skip-in-Move.ensures in
+    let p = err_from_is_err_and c.from_residual-in_err-expression-in-Move.result c.from_residual-in_err-expression-in-Move.ensures.1 in
+    rw (p.1, p.2) (λ k. d.fails_along _ _ _ (d.goes_on (ahead c.args.cursor.now) (t.move c.in-Move.word) (ahead c.skip-in-Move.new.self) (s.command c.args.depth ∷ k) (s.expression c.args.depth k) c.args.depth first refl c.requires.shallow) (c.in_err-expression-in-Move.ensures k))
+
+pub command_of-returns-in_ok-name-in-Naming : goal.command_of-returns-in_ok-name-in-Naming
+command_of-returns-in_ok-name-in-Naming t_ c =
+    let first : ahead c.args.cursor.now ≡ t.naming c.in-Naming.word ∷ ahead c.skip-in-Naming.new.self = takes_first (ahead c.args.cursor.now) (ahead c.skip-in-Naming.new.self) (t.naming c.in-Naming.word) refl (c.requires.first ∙ c.in-Naming.is) c.skip-in-Naming.ensures in (
+      first ∙ ap (λ (r : List Terminal). t.naming c.in-Naming.word ∷ r) c.in_ok-name-in-Naming.ensures.0 ∙ ap (λ (x : trees.Command). written.spelled_command x (ahead c.name.new.cursor)) (sym (views.command_Named c.in-Naming.word c.in_ok-name-in-Naming.field-0)),
+      λ k. d.goes_on (ahead c.args.cursor.now) (t.naming c.in-Naming.word) (ahead c.skip-in-Naming.new.self) (s.command c.args.depth ∷ k) (s.name c.args.depth ∷ k) c.args.depth first refl c.requires.shallow ∙ c.in_ok-name-in-Naming.ensures.1 k,
+    )
+
+pub command_of-returns-in_err-name-in-Naming : goal.command_of-returns-in_err-name-in-Naming
+command_of-returns-in_err-name-in-Naming t_ c =
+    let first : ahead c.args.cursor.now ≡ t.naming c.in-Naming.word ∷ ahead c.skip-in-Naming.new.self = takes_first (ahead c.args.cursor.now) (ahead c.skip-in-Naming.new.self) (t.naming c.in-Naming.word) refl (c.requires.first ∙ c.in-Naming.is) c.skip-in-Naming.ensures in
+    let p = err_from_is_err_and c.from_residual-in_err-name-in-Naming.result c.from_residual-in_err-name-in-Naming.ensures.1 in
+    rw (p.1, p.2) (λ k. d.fails_along _ _ _ (d.goes_on (ahead c.args.cursor.now) (t.naming c.in-Naming.word) (ahead c.skip-in-Naming.new.self) (s.command c.args.depth ∷ k) (s.name c.args.depth ∷ k) c.args.depth first refl c.requires.shallow) (c.in_err-name-in-Naming.ensures k))
+
+pub command_of-returns-in_ok-argument-in-Splice : goal.command_of-returns-in_ok-argument-in-Splice
+command_of-returns-in_ok-argument-in-Splice t_ c =
+    let first : ahead c.args.cursor.now ≡ t.edit c.in-Splice.word ∷ ahead c.skip-in-Splice.new.self = takes_first (ahead c.args.cursor.now) (ahead c.skip-in-Splice.new.self) (t.edit c.in-Splice.word) refl (c.requires.first ∙ c.in-Splice.is) c.skip-in-Splice.ensures in (
+      first ∙ ap (λ (r : List Terminal). t.edit c.in-Splice.word ∷ r) c.in_ok-argument-in-Splice.ensures.0 ∙ ap (λ (x : trees.Command). written.spelled_command x (ahead c.argument.new.cursor)) (sym (views.command_Edit c.in-Splice.word c.in_ok-argument-in-Splice.field-0)),
+      λ k. d.goes_on (ahead c.args.cursor.now) (t.edit c.in-Splice.word) (ahead c.skip-in-Splice.new.self) (s.command c.args.depth ∷ k) (s.argument c.args.depth ∷ k) c.args.depth first refl c.requires.shallow ∙ c.in_ok-argument-in-Splice.ensures.1 k,
+    )
+
+pub command_of-returns-in_err-argument-in-Splice : goal.command_of-returns-in_err-argument-in-Splice
+command_of-returns-in_err-argument-in-Splice t_ c =
+    let first : ahead c.args.cursor.now ≡ t.edit c.in-Splice.word ∷ ahead c.skip-in-Splice.new.self = takes_first (ahead c.args.cursor.now) (ahead c.skip-in-Splice.new.self) (t.edit c.in-Splice.word) refl (c.requires.first ∙ c.in-Splice.is) c.skip-in-Splice.ensures in
+    let p = err_from_is_err_and c.from_residual-in_err-argument-in-Splice.result c.from_residual-in_err-argument-in-Splice.ensures.1 in
+    rw (p.1, p.2) (λ k. d.fails_along _ _ _ (d.goes_on (ahead c.args.cursor.now) (t.edit c.in-Splice.word) (ahead c.skip-in-Splice.new.self) (s.command c.args.depth ∷ k) (s.argument c.args.depth ∷ k) c.args.depth first refl c.requires.shallow) (c.in_err-argument-in-Splice.ensures k))
 
 pub command_of-returns-in_err-among-in-Among : goal.command_of-returns-in_err-among-in-Among
 command_of-returns-in_err-among-in-Among t_ c =
