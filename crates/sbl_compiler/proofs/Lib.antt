@@ -6,3 +6,4 @@ pub mod Own
 pub mod NamesNumbered
 pub mod ClassAt
 pub mod Again
+pub mod Loops

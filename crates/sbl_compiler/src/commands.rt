@@ -12,21 +12,13 @@ ghost use Rattle.sbl_program.specs.Chains.{join_all};
 ghost use Rattle.sbl_program.specs.ProgramOf.{view_action, view_number, view_text};
 
 use crate::compiler::{CompileResult, Compiler, collect, whole};
-use crate::place::{CommandPosition, begin_region, end_waiting, inside, left_of, past_rows};
+use crate::place::{CommandPosition, begin_region, end_waiting, inside, past_rows};
 use sbl_ast::{
     Among, Argument, Assignment, Command, Comparison, Count, Expression, Group, Joiner, Literal,
     Move, Naming, NextCommand, Prefix, RowOfCommands, Simple, Splice,
 };
-use sbl_program::{Action, Arithmetic, Candidate, Change, JoinedNode, Node, Relation, StringTerm};
+use sbl_program::{Action, Arithmetic, Change, JoinedNode, Node, Relation, StringTerm};
 use std::alloc::{AllocError, Global};
-
-fn copied_entries(alloc: Global, entries: &[Candidate]) -> Result<Vec<Candidate>, AllocError>
-    ensures { IfOk result (λ v. v.items ≡ entries.now) }
-{
-    let mut copy = Vec::with_capacity(alloc, entries.len())?;
-    copy.extend_from_slice(entries)?;
-    Ok(copy)
-}
 
 fn move_action(movement: Move, number: Arithmetic) -> Action
     ensures { view_action result ≡ spec.move movement (view_number number) }
@@ -68,61 +60,7 @@ fn relation_of(comparison: Comparison) -> Relation
     }
 }
 
-// Returns the number of commands before the command of the chosen group: the search and the starter. If a `substring`
-// makes the search, there are none.
-fn count_before(waits: bool, among: &Among) -> usize {
-    match (waits, &among.starter) {
-        (true, _) => 0,
-        (false, None) => 1,
-        (false, Some(_)) => 2,
-    }
-}
-
 impl Compiler<'_> {
-    // Returns the number of the next among in its routine.
-    fn next_number(&self, place: CommandPosition) -> usize
-        ensures { result ≡ (spec.next_of (place_in self.now place).coming).number }
-    {
-        match self.amongs.get(place.next) {
-            None => 0,
-            Some(found) => found.number,
-        }
-    }
-
-    // Returns the candidates of the next among, one for each string. Returns `AllocError` if an allocation fails.
-    fn next_entries(&self, place: CommandPosition) -> CompileResult<Vec<Candidate>>
-        ensures { IfOk result (λ v. v.items ≡ (spec.next_of (place_in self.now place).coming).entries) }
-    {
-        match self.amongs.get(place.next) {
-            None => Ok(Vec::new(self.alloc)),
-            Some(found) => copied_entries(self.alloc, &found.entries),
-        }
-    }
-
-    // Returns the search of the next among. Returns `AllocError` if an allocation fails.
-    fn search_next(&self, place: CommandPosition) -> CompileResult<Node>
-        ensures { IfOk result (λ n. node_in self.now n ≡ spec.search_next (place_in self.now place)) }
-    {
-        let entries = self.next_entries(place)?;
-        Ok(Node::Search {
-            among: self.next_number(place),
-            table: place.next,
-            entries,
-        })
-    }
-
-    // Returns the search for a `substring`: f if its region has no among ahead. Returns `AllocError` if an allocation
-    // fails.
-    fn search_ahead(&self, place: CommandPosition) -> CompileResult<Node>
-        ensures { IfOk result (λ n. node_in self.now n ≡ spec.search_ahead (place_in self.now place)) }
-    {
-        if place.following < left_of(self.amongs, place) {
-            self.search_next(place)
-        } else {
-            Ok(Node::Act(Action::False))
-        }
-    }
-
     fn simple(&self, word: Simple, place: &mut CommandPosition) -> CompileResult<Node>
         ensures made { IfOk result (λ n. node_in self.now n ≡ spec.simple word (place_in self.now place.old)) }
         ensures following { OnOk result (place_in self.now place.new ≡ spec.past_simple word (place_in self.now place.old)) }
@@ -214,9 +152,19 @@ impl Compiler<'_> {
     fn set_limit(&self, first: Node, second: Node) -> CompileResult<Node>
         ensures { IfOk result (λ n. node_in self.now n ≡ programs.setlimit (node_in self.now first) (node_in self.now second)) }
     {
-        let first = Box::new(self.alloc, first)?;
-        let second = Box::new(self.alloc, second)?;
-        Ok(Node::SetLimit(first, second))
+        match Box::new(self.alloc, first) {
+            Ok(first) => match Box::new(self.alloc, second) {
+                Ok(second) => Ok(Node::SetLimit(first, second)),
+                Err(refused) => {
+                    drop(first);
+                    Err(refused.into())
+                }
+            },
+            Err(refused) => {
+                drop(second);
+                Err(refused.into())
+            }
+        }
     }
 
     fn move_to(&self, movement: Move, number: &Expression) -> CompileResult<Action>
@@ -301,8 +249,13 @@ impl Compiler<'_> {
             }
             Command::Counted(count, number, inner) => {
                 let number = self.number_of_expression(number)?;
-                let inner = self.node_of(inner, place)?;
-                self.after_count(*count, number, inner)
+                match self.node_of(inner, place) {
+                    Ok(inner) => self.after_count(*count, number, inner),
+                    Err(refused) => {
+                        drop(number);
+                        Err(refused)
+                    }
+                }
             }
             Command::Move(movement, number) => Ok(Node::Act(self.move_to(*movement, number)?)),
             Command::Named(naming, name) => Ok(Node::Act(self.change_named(
@@ -312,8 +265,13 @@ impl Compiler<'_> {
             Command::Splice(edit, string) => Ok(Node::Act(self.edit_text(*edit, string)?)),
             Command::SetLimit(limit, inner) => {
                 let limit = self.node_of(limit, place)?;
-                let inner = self.node_of(inner, place)?;
-                self.set_limit(limit, inner)
+                match self.node_of(inner, place) {
+                    Ok(inner) => self.set_limit(limit, inner),
+                    Err(refused) => {
+                        drop(limit);
+                        Err(refused)
+                    }
+                }
             }
             Command::Assign(name, assignment, number) => {
                 Ok(Node::Act(self.assign(name.as_str(), *assignment, number)?))
@@ -337,7 +295,7 @@ impl Compiler<'_> {
         ensures made { IfOk result (λ ns. map (node_in self.now) ns.items ≡ spec.numbered_rows (names_in self.now) (view_rows rows.now.items) (place_in self.now place.old)) }
         ensures following { OnOk result (place_in self.now place.new ≡ spec.past_rows (view_rows rows.now.items) (place_in self.now place.old)) }
     {
-        collect!(self.alloc; nodes: row in rows => self.row_of(row, place)?)
+        collect!(self.alloc; nodes: row in rows => node: self.row_of(row, place) => node)
     }
 
     /// Compiles a row, and moves `place` to the position after it. Returns `AllocError` if an allocation fails.
@@ -347,8 +305,13 @@ impl Compiler<'_> {
         ensures following { OnOk result (place_in self.now place.new ≡ spec.past_others (view_row row.now).1 (spec.past (view_row row.now).0 (place_in self.now place.old))) }
     {
         let first = self.node_of(&row.first, place)?;
-        let others = self.others_of(&row.others, place)?;
-        self.whole_row(first, others)
+        match self.others_of(&row.others, place) {
+            Ok(others) => self.whole_row(first, others),
+            Err(refused) => {
+                drop(first);
+                Err(refused)
+            }
+        }
     }
 
     #[cycle(commands)]
@@ -360,8 +323,8 @@ impl Compiler<'_> {
         ensures made { IfOk result (λ v. map (joined_in self.now) v.items ≡ spec.joins_in (names_in self.now) (view_others others.now.items) (place_in self.now place.old)) }
         ensures following { OnOk result (place_in self.now place.new ≡ spec.past_others (view_others others.now.items) (place_in self.now place.old)) }
     {
-        collect!(self.alloc; joins: other in others => {
-            self.joined_command(other.joiner, self.node_of(&other.command, place)?)
+        collect!(self.alloc; joins: other in others => command: self.node_of(&other.command, place) => {
+            self.joined_command(other.joiner, command)
         })
     }
 
@@ -371,25 +334,43 @@ impl Compiler<'_> {
         ensures following { OnOk result (place_in self.now place.new ≡ spec.past (trees.among_ (view_among among.now).0 (view_among among.now).1) (place_in self.now place.old)) }
     {
         let number = self.next_number(*place);
-        let waits = place.waits;
-        let mut before = Vec::with_capacity(self.alloc, count_before(waits, among))?;
-        if !waits {
-            before.push(self.search_next(*place)?)?;
-        }
-        *place = inside(self.amongs, *place);
-        if let Some(rows) = &among.starter {
-            let nodes = self.region(rows, place)?;
-            if !waits {
-                before.push(Node::Sequence(nodes))?;
+        let before = self.before_of(among, place)?;
+        match self.bodies_of(&among.groups, place) {
+            Ok(bodies) => {
+                place.waits = false;
+                Ok(Node::Among {
+                    among: number,
+                    before,
+                    bodies,
+                })
+            }
+            Err(refused) => {
+                drop(before);
+                Err(refused)
             }
         }
-        let bodies = self.bodies_of(&among.groups, place)?;
-        place.waits = false;
-        Ok(Node::Among {
-            among: number,
-            before,
-            bodies,
-        })
+    }
+
+    // Compiles the starter of an among, and moves `place` past it. Returns what the among does before the command of the
+    // chosen group. Returns `AllocError` if an allocation fails.
+    #[cycle(commands)]
+    fn before_of(&self, among: &Among, place: &mut CommandPosition) -> CompileResult<Vec<Node>>
+        ensures made { IfOk result (λ ns. map (node_in self.now) ns.items ≡ spec.search_first (place_in self.now place.old) (spec.numbered_starter (names_in self.now) (view_among among.now).0 (spec.inside (place_in self.now place.old)))) }
+        ensures following { OnOk result (place_in self.now place.new ≡ spec.past_starter (view_among among.now).0 (spec.inside (place_in self.now place.old))) }
+    {
+        let beginning = *place;
+        let before = self.search_first(among, beginning)?;
+        *place = inside(self.amongs, beginning);
+        match &among.starter {
+            None => Ok(before),
+            Some(rows) => match self.region(rows, place) {
+                Ok(nodes) => self.with_starter(beginning, before, nodes),
+                Err(refused) => {
+                    drop(before);
+                    Err(refused)
+                }
+            },
+        }
     }
 
     // Compiles the rows in parentheses that are a region of their own, and moves `place` to the position after them.
@@ -418,8 +399,8 @@ impl Compiler<'_> {
         ensures made { IfOk result (λ ns. (bare : List trees.Entry) → map (node_in self.now) ns.items ≡ spec.numbered_groups (names_in self.now) (view_groups groups.now.items bare) (place_in self.now place.old)) }
         ensures following { OnOk result ((bare : List trees.Entry) → place_in self.now place.new ≡ spec.past_groups (view_groups groups.now.items bare) (place_in self.now place.old)) }
     {
-        collect!(self.alloc; bodies: group in groups => {
-            Node::Sequence(self.region(&group.rows, place)?)
+        collect!(self.alloc; bodies: group in groups => nodes: self.region(&group.rows, place) => {
+            Node::Sequence(nodes)
         })
     }
 }

@@ -18,12 +18,25 @@ pub struct Compiler<'a> {
     pub amongs: &'a Vec<AmongStrings>,
 }
 
-/// Makes a vector of one value for each item of a list.
+/// Makes a vector of one value for each item of a list. The values so far are dropped by a call, which the prover does not
+/// take apart.
 macro_rules! collect {
-    ($alloc:expr; $values:ident: $item:ident in $items:ident => $value:expr) => {{
+    ($alloc:expr; $values:ident: $item:ident in $items:ident => $part:ident: $made:expr => $value:expr) => {{
         let mut $values = Vec::with_capacity($alloc, $items.len())?;
         for $item in $items {
-            $values.push($value)?;
+            match $made {
+                Ok($part) => match $values.push($value) {
+                    Ok(()) => (),
+                    Err(refused) => {
+                        drop($values);
+                        return Err(refused.into());
+                    }
+                },
+                Err(refused) => {
+                    drop($values);
+                    return Err(refused);
+                }
+            }
         }
         Ok($values)
     }};

@@ -11,6 +11,7 @@ mod names;
 mod numbers;
 mod place;
 mod program;
+mod searches;
 
 pub use name_list::NameList;
 pub use program::{Compilation, compile_items};

@@ -26,6 +26,26 @@ pub struct SymbolTable {
     pub routines: NameList,
 }
 
+impl SymbolTable {
+    /// Returns the names of the routines and those of the groupings.
+    pub fn into_lists(self) -> (Vec<String>, Vec<String>)
+        ensures routines { map string_bytes result.0.items ≡ self.routines }
+        ensures groupings { map string_bytes result.1.items ≡ self.groupings }
+    {
+        let SymbolTable {
+            strings,
+            integers,
+            booleans,
+            groupings,
+            routines,
+        } = self;
+        drop(strings);
+        drop(integers);
+        drop(booleans);
+        (routines.into_names(), groupings.into_names())
+    }
+}
+
 // Adds names after the others. Returns `AllocError` if an allocation fails.
 fn add_names(alloc: Global, more: &Vec<String>, names: &mut NameList) -> Result<(), AllocError>
     ensures { OnOk result (names.new ≡ names.old ++ map string_bytes more.now.items) }
@@ -78,7 +98,10 @@ pub fn names_of(alloc: Global, items: &[ItemInMode]) -> Result<SymbolTable, Allo
         routines: NameList::new(alloc),
     };
     for item in items {
-        name_item(alloc, item.plain, &mut names)?;
+        if let Err(refused) = name_item(alloc, item.plain, &mut names) {
+            drop(names);
+            return Err(refused);
+        }
     }
     Ok(names)
 }

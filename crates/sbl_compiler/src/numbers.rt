@@ -92,8 +92,8 @@ impl Compiler<'_> {
     fn sums_of(&self, others: &Vec<NextProduct>) -> CompileResult<Vec<Addend>>
         ensures { IfOk result (λ v. map view_next_product v.items ≡ spec.sums_in (names_in self.now) (view_sums others.now.items)) }
     {
-        collect!(self.alloc; sums: other in others => {
-            added_number(other.operator, self.number_of_product(&other.product)?)
+        collect!(self.alloc; sums: other in others => number: self.number_of_product(&other.product) => {
+            added_number(other.operator, number)
         })
     }
 
@@ -101,8 +101,8 @@ impl Compiler<'_> {
     fn scales_of(&self, others: &Vec<NextFactor>) -> CompileResult<Vec<Multiplicand>>
         ensures { IfOk result (λ v. map view_next_factor v.items ≡ spec.scales_in (names_in self.now) (view_scales others.now.items)) }
     {
-        collect!(self.alloc; scales: other in others => {
-            scaled_number(other.operator, self.number_of_factor(&other.factor)?)
+        collect!(self.alloc; scales: other in others => number: self.number_of_factor(&other.factor) => {
+            scaled_number(other.operator, number)
         })
     }
 

@@ -7,7 +7,7 @@ ghost use Rattle.sbl_semantics.specs.Items.{known_in};
 ghost use Rattle.sbl_ast.specs.declared.tree.DeclarationKind.TheVariants as kinds;
 ghost use Rattle.sbl_compiler.specs.NumberedItems as spec;
 ghost use Rattle.sbl_program.specs.FoundView.{strings_at};
-ghost use Rattle.sbl_compiler.specs.NumberedView.{names_in, place_in, routine_in, view_found};
+ghost use Rattle.sbl_compiler.specs.NumberedView.{names_in, place_in, routine_in, view_found, view_names};
 ghost use Rattle.sbl_program.specs.ProgramOf.{program_of};
 
 use crate::amongs::amongs_of;
@@ -98,6 +98,61 @@ pub struct Compilation {
     pub groupings: Vec<String>,
 }
 
+// Compiles items with these names and amongs. Returns `AllocError` if an allocation fails.
+fn compile_named(
+    alloc: Global,
+    names: SymbolTable,
+    amongs: Vec<AmongStrings>,
+    items: &[ItemInMode],
+    external: &str,
+) -> Result<Compilation, AllocError>
+    ensures program { IfOk result (λ n. program_of (strings_at n.amongs.items) n.program ≡ spec.program_by (view_names names) (map view_in_mode items.now) (map view_found amongs.items) external.now) }
+    ensures routines { IfOk result (λ n. map string_bytes n.routines.items ≡ names.routines) }
+    ensures groupings { IfOk result (λ n. map string_bytes n.groupings.items ≡ names.groupings) }
+{
+    let compiler = Compiler {
+        alloc,
+        names: &names,
+        amongs: &amongs,
+    };
+    match compiler.program_by(items, external) {
+        Ok(program) => {
+            let (routines, groupings) = names.into_lists();
+            Ok(Compilation {
+                program,
+                amongs,
+                routines,
+                groupings,
+            })
+        }
+        Err(refused) => {
+            drop(names);
+            drop(amongs);
+            Err(refused)
+        }
+    }
+}
+
+// Compiles the items of a script, in their order. Returns `AllocError` if an allocation fails.
+fn compile_in_order(
+    alloc: Global,
+    items: &[ItemInMode],
+    external: &str,
+) -> Result<Compilation, AllocError>
+    ensures program { IfOk result (λ n. program_of (strings_at n.amongs.items) n.program ≡ spec.plan_in (map view_in_mode items.now) external.now) }
+    ensures routines { IfOk result (λ n. map string_bytes n.routines.items ≡ known_in (map view_in_mode items.now) kinds.Routines) }
+    ensures groupings { IfOk result (λ n. map string_bytes n.groupings.items ≡ known_in (map view_in_mode items.now) kinds.Groupings) }
+{
+    let names = names_of(alloc, items)?;
+    match amongs_of(alloc, &names, items) {
+        Ok(amongs) => compile_named(alloc, names, amongs, items, external),
+        Err(refused) => {
+            drop(names);
+            Err(refused)
+        }
+    }
+}
+
 /// Compiles a script's items to a program that runs this external. Returns `AllocError` if an allocation fails.
 pub fn compile_items(
     alloc: Global,
@@ -109,23 +164,7 @@ pub fn compile_items(
     ensures groupings { IfOk result (λ n. map string_bytes n.groupings.items ≡ known_in (in_order (view_items items.now)) kinds.Groupings) }
 {
     let in_order = items_in_order(alloc, items)?;
-    let names = names_of(alloc, &in_order)?;
-    let amongs = amongs_of(alloc, &names, &in_order)?;
-    let compiler = Compiler {
-        alloc,
-        names: &names,
-        amongs: &amongs,
-    };
-    let program = compiler.program_by(&in_order, external)?;
-    let SymbolTable {
-        routines,
-        groupings,
-        ..
-    } = names;
-    Ok(Compilation {
-        program,
-        amongs,
-        routines: routines.into_names(),
-        groupings: groupings.into_names(),
-    })
+    let compilation = compile_in_order(alloc, &in_order, external);
+    drop(in_order);
+    compilation
 }

@@ -1,29 +1,40 @@
-use Rattle.std.proofs.Common.{◌≡◌, rules, map, ap, ◌∙◌}
-use Rattle.sbl_ast.specs.Order.{in_order, view_in_mode}
+use Rattle.std.proofs.Common.{◌≡◌, ◌∙◌, List, ap, map, rules, string_bytes}
+use Rattle.std.proofs.lemmas.Result.{IfOk-weaker}
+use Rattle.sbl_ast.specs.Order.{ItemInMode, in_order, view_in_mode}
 use Rattle.sbl_ast.specs.View.{view_items}
-use Rattle.sbl_compiler.specs.NumberedItems.{numbered_items}
-use Rattle.sbl_compiler.specs.NumberedNames.{Names, names_after, no_names}
-use Rattle.sbl_compiler.proofs.SoundItems.{groupings_are, routines_are}
+use Rattle.sbl_ast.specs.declared.tree.DeclarationKind.TheVariants as kinds
+use Rattle.sbl_program.specs.FoundView.{strings_at}
+use Rattle.sbl_program.specs.ProgramOf.{program_of}
+use Rattle.sbl_semantics.specs.Items.{known_in}
+use Rattle.sbl_compiler.specs.NumberedItems.{numbered_items, plan_in}
+use Rattle.sbl_compiler.specs.declared.program.Compilation.{Compilation}
 use Rattle.sbl_compiler.proofs.program.compile_items.Goals as goal
 
 pub returns-clause-program : goal.returns-clause-program
 unfolding numbered_items
-returns-clause-program c = search rules
+returns-clause-program c =
+    let external = c.args.external.now in
+    let ordered : map view_in_mode c.deref.result.now ≡ in_order (view_items c.args.items.now) = search rules in
+    IfOk-weaker c.compile_in_order-compilation.result
+    (λ (n : Compilation). program_of (strings_at n.amongs.items) n.program ≡ plan_in (map view_in_mode c.deref.result.now) external)
+    (λ (n : Compilation). program_of (strings_at n.amongs.items) n.program ≡ plan_in (in_order (view_items c.args.items.now)) external)
+    (λ n p. p ∙ ap (λ (xs : List ItemInMode). plan_in xs external) ordered)
+    c.compile_in_order-compilation.ensures.program
 
 pub returns-clause-routines : goal.returns-clause-routines
 returns-clause-routines c =
-    let items = view_items c.args.items.now in
-    let ordered : map view_in_mode c.deref.result.now ≡ in_order items = search rules in
-    c.into_names.ensures
-    ∙ ap (λ (ns : Names). ns.routines) c.in_ok-names.ensures
-    ∙ ap (λ xs. (names_after xs no_names).routines) ordered
-    ∙ routines_are (in_order items) no_names
+    let ordered : map view_in_mode c.deref.result.now ≡ in_order (view_items c.args.items.now) = search rules in
+    IfOk-weaker c.compile_in_order-compilation.result
+    (λ (n : Compilation). map string_bytes n.routines.items ≡ known_in (map view_in_mode c.deref.result.now) kinds.Routines)
+    (λ (n : Compilation). map string_bytes n.routines.items ≡ known_in (in_order (view_items c.args.items.now)) kinds.Routines)
+    (λ n p. p ∙ ap (λ (xs : List ItemInMode). known_in xs kinds.Routines) ordered)
+    c.compile_in_order-compilation.ensures.routines
 
 pub returns-clause-groupings : goal.returns-clause-groupings
 returns-clause-groupings c =
-    let items = view_items c.args.items.now in
-    let ordered : map view_in_mode c.deref.result.now ≡ in_order items = search rules in
-    c.into_names-2.ensures
-    ∙ ap (λ (ns : Names). ns.groupings) c.in_ok-names.ensures
-    ∙ ap (λ xs. (names_after xs no_names).groupings) ordered
-    ∙ groupings_are (in_order items) no_names
+    let ordered : map view_in_mode c.deref.result.now ≡ in_order (view_items c.args.items.now) = search rules in
+    IfOk-weaker c.compile_in_order-compilation.result
+    (λ (n : Compilation). map string_bytes n.groupings.items ≡ known_in (map view_in_mode c.deref.result.now) kinds.Groupings)
+    (λ (n : Compilation). map string_bytes n.groupings.items ≡ known_in (in_order (view_items c.args.items.now)) kinds.Groupings)
+    (λ n p. p ∙ ap (λ (xs : List ItemInMode). known_in xs kinds.Groupings) ordered)
+    c.compile_in_order-compilation.ensures.groupings

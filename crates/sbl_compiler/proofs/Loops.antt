@@ -1,0 +1,27 @@
+-- The next value of a loop over a part of a tree. A loop has its list as `seen`.
+use Rattle.std.proofs.Common.{◌≡◌, ◌∙◌, ◌∷◌, ◌+◌, ◌<◌, ℕ, List, sym, ap, drop, get_or, length, map}
+use Rattle.std.proofs.lemmas.List.{drop_more}
+use Rattle.sbl_ast.specs.Tree as trees
+use Rattle.sbl_ast.specs.View.{GroupView, NextCommandView, view_command, view_entry, view_groups, view_others, view_row, view_rows}
+use Rattle.sbl_ast.specs.declared.tree.Group.{Group, out-Group}
+use Rattle.sbl_ast.specs.declared.tree.NextCommand.{NextCommand}
+use Rattle.sbl_ast.specs.declared.tree.RowOfCommands.{RowOfCommands}
+use Rattle.sbl_ast.proofs.Views.{seen_group, seen_next_command}
+
+pub at_rest : {X : Type 0} (xs seen : List X) (i : ℕ) (x : X) → seen ≡ xs → i < length seen → x ≡ get_or seen i x → drop i xs ≡ x ∷ drop (i + 1) xs
+at_rest xs seen i x same lt is = ap (drop i) (sym same) ∙ drop_more seen i x lt ∙ ap (λ y. y ∷ drop (i + 1) seen) (sym is) ∙ ap (λ ys. x ∷ drop (i + 1) ys) same
+
+pub rows_at : (rs seen : List RowOfCommands) (i : ℕ) (r : RowOfCommands) → seen ≡ rs → i < length seen → r ≡ get_or seen i r
+    → view_rows (drop i rs) ≡ trees.row (view_row r).0 (view_row r).1 (view_rows (drop (i + 1) rs))
+rows_at rs seen i r same lt is = ap view_rows (at_rest rs seen i r same lt is)
+
+pub others_at : (os seen : List NextCommand) (i : ℕ) (o : NextCommand) → seen ≡ os → i < length seen → o ≡ get_or seen i o
+    → view_others (drop i os) ≡ trees.joined o.joiner (view_command o.command) (view_others (drop (i + 1) os))
+others_at os seen i o same lt is =
+    ap view_others (at_rest os seen i o same lt is) ∙ ap (λ (v : NextCommandView). trees.joined v.0 v.1 (view_others (drop (i + 1) os))) (seen_next_command o)
+
+pub groups_at : (gs seen : List Group) (i : ℕ) (g : Group) (bare : List trees.Entry) → seen ≡ gs → i < length seen → g ≡ get_or seen i g
+    → view_groups (drop i gs) bare ≡ trees.group (view_entry (out-Group g).first) (map view_entry (out-Group g).others.items) (view_rows (out-Group g).rows.items) (view_groups (drop (i + 1) gs) bare)
+groups_at gs seen i g bare same lt is =
+    ap (λ (xs : List Group). view_groups xs bare) (at_rest gs seen i g same lt is)
+    ∙ ap (λ (v : GroupView). trees.group v.first v.others v.rows (view_groups (drop (i + 1) gs) bare)) (seen_group g)
