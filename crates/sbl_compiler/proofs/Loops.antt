@@ -1,6 +1,6 @@
 -- The next value of a loop over a part of a tree. A loop has its list as `seen`.
-use Rattle.std.proofs.Common.{◌≡◌, ◌∙◌, ◌∷◌, ◌+◌, ◌<◌, ℕ, List, sym, ap, drop, get_or, length, map}
-use Rattle.std.proofs.lemmas.List.{drop_more}
+use Rattle.std.proofs.Common.{◌≡◌, ◌∙◌, ◌∷◌, ◌++◌, [], ◌+◌, ◌<◌, ℕ, List, append_assoc, sym, ap, drop, get_or, length, map}
+use Rattle.std.proofs.lemmas.List.{drop_more, map_push}
 use Rattle.sbl_ast.specs.Tree as trees
 use Rattle.sbl_ast.specs.View.{GroupView, NextCommandView, view_command, view_entry, view_groups, view_others, view_row, view_rows}
 use Rattle.sbl_ast.specs.declared.tree.Group.{Group, out-Group}
@@ -25,3 +25,8 @@ pub groups_at : (gs seen : List Group) (i : ℕ) (g : Group) (bare : List trees.
 groups_at gs seen i g bare same lt is =
     ap (λ (xs : List Group). view_groups xs bare) (at_rest gs seen i g same lt is)
     ∙ ap (λ (v : GroupView). trees.group v.first v.others v.rows (view_groups (drop (i + 1) gs) bare)) (seen_group g)
+
+-- what one value more adds to those that were made
+pub one_more : {X Y : Type 0} (f : X → Y) (old new : List X) (x : X) (y : Y) (rest : List Y) → new ≡ old ++ x ∷ [] → f x ≡ y → map f new ++ rest ≡ map f old ++ y ∷ rest
+one_more f old new x y rest more same =
+    ap (λ l. map f l ++ rest) more ∙ ap (λ l. l ++ rest) (map_push f old x) ∙ append_assoc (map f old) (f x ∷ []) rest ∙ ap (λ z. map f old ++ z ∷ rest) same
