@@ -2,10 +2,13 @@
 use Rattle.std.proofs.Common.{◌≡◌, ◌∙◌, ◌∷◌, ◌++◌, [], ◌+◌, ◌<◌, ℕ, List, append_assoc, sym, ap, drop, get_or, length, map}
 use Rattle.std.proofs.lemmas.List.{drop_more, map_push}
 use Rattle.sbl_ast.specs.Tree as trees
-use Rattle.sbl_ast.specs.View.{GroupView, NextCommandView, view_command, view_entry, view_groups, view_others, view_row, view_rows}
+use Rattle.sbl_ast.specs.View.{GroupView, NextCommandView, NextFactorView, NextProductView, expression_step, factor_step, next_factor_step, next_product_step, product_step, view_command, view_entry, view_factor, view_groups, view_others, view_product, view_row, view_rows, view_scales, view_sums}
 use Rattle.sbl_ast.specs.declared.tree.Group.{Group, out-Group}
 use Rattle.sbl_ast.specs.declared.tree.NextCommand.{NextCommand}
+use Rattle.sbl_ast.specs.declared.tree.NextFactor.{NextFactor}
+use Rattle.sbl_ast.specs.declared.tree.NextProduct.{NextProduct, out-NextProduct}
 use Rattle.sbl_ast.specs.declared.tree.RowOfCommands.{RowOfCommands}
+use Rattle.sbl_ast.specs.declared.tree.Factor.TheFolds.{fold_out-NextFactor, fold_out-NextProduct}
 use Rattle.sbl_ast.proofs.Views.{seen_group, seen_next_command}
 
 pub at_rest : {X : Type 0} (xs seen : List X) (i : ℕ) (x : X) → seen ≡ xs → i < length seen → x ≡ get_or seen i x → drop i xs ≡ x ∷ drop (i + 1) xs
@@ -25,6 +28,20 @@ pub groups_at : (gs seen : List Group) (i : ℕ) (g : Group) (bare : List trees.
 groups_at gs seen i g bare same lt is =
     ap (λ (xs : List Group). view_groups xs bare) (at_rest gs seen i g same lt is)
     ∙ ap (λ (v : GroupView). trees.group v.first v.others v.rows (view_groups (drop (i + 1) gs) bare)) (seen_group g)
+
+pub sums_at : (ss seen : List NextProduct) (i : ℕ) (s : NextProduct) → seen ≡ ss → i < length seen → s ≡ get_or seen i s
+    → view_sums (drop i ss) ≡ trees.sum (out-NextProduct s).operator (view_product (out-NextProduct s).product) (view_sums (drop (i + 1) ss))
+sums_at ss seen i s same lt is =
+    ap view_sums (at_rest ss seen i s same lt is)
+    ∙ ap (λ (v : NextProductView). trees.sum v.0 v.1 (view_sums (drop (i + 1) ss)))
+    (fold_out-NextProduct trees.Factor trees.Expression NextFactorView NextProductView trees.Product factor_step expression_step next_factor_step next_product_step product_step s)
+
+pub scales_at : (ss seen : List NextFactor) (i : ℕ) (s : NextFactor) → seen ≡ ss → i < length seen → s ≡ get_or seen i s
+    → view_scales (drop i ss) ≡ trees.scale s.operator (view_factor s.factor) (view_scales (drop (i + 1) ss))
+scales_at ss seen i s same lt is =
+    ap view_scales (at_rest ss seen i s same lt is)
+    ∙ ap (λ (v : NextFactorView). trees.scale v.0 v.1 (view_scales (drop (i + 1) ss)))
+    (fold_out-NextFactor trees.Factor trees.Expression NextFactorView NextProductView trees.Product factor_step expression_step next_factor_step next_product_step product_step s)
 
 -- what one value more adds to those that were made
 pub one_more : {X Y : Type 0} (f : X → Y) (old new : List X) (x : X) (y : Y) (rest : List Y) → new ≡ old ++ x ∷ [] → f x ≡ y → map f new ++ rest ≡ map f old ++ y ∷ rest

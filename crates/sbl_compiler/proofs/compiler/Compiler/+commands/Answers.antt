@@ -26,9 +26,9 @@ rows_of-loop-row-preserved t c =
     let made = join_all (joins_in ns parts.1 (past parts.0 at)) (numbered_command ns parts.0 at) in
     let seen = rows_at rows _ i c.row-item.result c.deref-row-items.ensures.value c.loop-row-test.true c.row-item.is in (
       one_more (node_in self) c.loop-row.nodes.items c.push.new.self.items c.in-Ok.node made (numbered_rows ns rest (place_in self c.row_of.new.place)) c.in-Ok-push.ensures.items c.in-Ok.ensures.made
-      ∙ ap (λ (p : Position). sofar ++ made ∷ numbered_rows ns rest p) c.in-Ok.ensures.following
-      ∙ ap (λ (rs : trees.Rows). sofar ++ numbered_rows ns rs at) (sym seen)
-      ∙ c.loop-row.invariant.0,
+          ∙ ap (λ (p : Position). sofar ++ made ∷ numbered_rows ns rest p) c.in-Ok.ensures.following
+          ∙ ap (λ (rs : trees.Rows). sofar ++ numbered_rows ns rs at) (sym seen)
+          ∙ c.loop-row.invariant.0,
       ap (past_rows rest) c.in-Ok.ensures.following ∙ ap (λ (rs : trees.Rows). past_rows rs at) (sym seen) ∙ c.loop-row.invariant.1,
     )
 
@@ -46,9 +46,9 @@ others_of-loop-other-preserved t c =
     let is_made = c.joined_command.ensures ∙ ap (λ (n : programs.Node). let v : JoinedView = (other.joiner, n) in v) c.in-Ok.ensures.made in
     let seen = others_at others _ i other c.deref-other-items.ensures.value c.loop-other-test.true c.other-item.is in (
       one_more (joined_in self) c.loop-other.joins.items c.push.new.self.items c.joined_command.result made (joins_in ns rest (place_in self c.node_of.new.place)) c.in-Ok-push.ensures.items is_made
-      ∙ ap (λ (p : Position). sofar ++ made ∷ joins_in ns rest p) c.in-Ok.ensures.following
-      ∙ ap (λ (os : trees.Others). sofar ++ joins_in ns os at) (sym seen)
-      ∙ c.loop-other.invariant.0,
+          ∙ ap (λ (p : Position). sofar ++ made ∷ joins_in ns rest p) c.in-Ok.ensures.following
+          ∙ ap (λ (os : trees.Others). sofar ++ joins_in ns os at) (sym seen)
+          ∙ c.loop-other.invariant.0,
       ap (past_others rest) c.in-Ok.ensures.following ∙ ap (λ (os : trees.Others). past_others os at) (sym seen) ∙ c.loop-other.invariant.1,
     )
 
@@ -67,8 +67,8 @@ bodies_of-loop-group-preserved t c = λ bare.
     let is_made = sequence_view (strings_at self.amongs.now.items) c.in-Ok.nodes ∙ ap (λ (ls : List programs.Node). programs.sequence (commands_of ls)) c.in-Ok.ensures.made in
     let seen = groups_at groups _ i group bare c.deref-group-items.ensures.value c.loop-group-test.true c.group-item.is in (
       one_more (node_in self) c.loop-group.bodies.items c.push.new.self.items (Sequence c.in-Ok.nodes) made (numbered_groups ns rest (place_in self c.region.new.place)) c.in-Ok-push.ensures.items is_made
-      ∙ ap (λ (p : Position). sofar ++ made ∷ numbered_groups ns rest p) c.in-Ok.ensures.following
-      ∙ ap (λ (gs : trees.Groups). sofar ++ numbered_groups ns gs at) (sym seen)
-      ∙ (c.loop-group.invariant bare).0,
+          ∙ ap (λ (p : Position). sofar ++ made ∷ numbered_groups ns rest p) c.in-Ok.ensures.following
+          ∙ ap (λ (gs : trees.Groups). sofar ++ numbered_groups ns gs at) (sym seen)
+          ∙ (c.loop-group.invariant bare).0,
       ap (past_groups rest) c.in-Ok.ensures.following ∙ ap (λ (gs : trees.Groups). past_groups gs at) (sym seen) ∙ (c.loop-group.invariant bare).1,
     )
