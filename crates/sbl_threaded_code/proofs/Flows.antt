@@ -36,12 +36,16 @@ paid_of (Signals true v) pay_own u d f g h = ap (λ r. after (then_on r d) f g) 
 paid_of (Signals false v) pay_own u d f g h = let no : ⊥ = cc in absurd no
 paid_of (Stops fault v) pay_own u d f g h = let no : ⊥ = cc in absurd no
 
-after_paid : (cost : ℕ) (s u : State) (d f g : State → Ending) → IsPaid cost s u → then_on (pays cost s) (λ v. after (then_on (pay v.steps v) d) f g) ≡ after (d u) f g
+pub after_paid : (cost : ℕ) (s u : State) (d f g : State → Ending) → IsPaid cost s u → then_on (pays cost s) (λ v. after (then_on (pay v.steps v) d) f g) ≡ after (d u) f g
 after_paid cost s u d f g h = paid_of (pays cost s) (λ v. pay v.steps v) u d f g h
 
 -- a command that ends early
 pub ends_early : (r : Result Bool Halt) (halt : Halt) (new : State) (w e : Ending) (f g : State → Ending) → r ≡ Err halt → w ≡ after e f g → Follows (Err halt) new e → Follows r new w
 ends_early r halt new w e f g is p h = rw is (follows_at (Err halt) new w (after e f g) p (after_halts halt new e f g h))
+
+-- the steps of a cost are not left
+pub unpaid : (r : Result Bool Halt) (halt : Halt) (new s : State) (cost : ℕ) (x w : Ending) (k : State → Ending) → r ≡ Err halt → x ≡ w → x ≡ then_on (pays cost s) k → Follows (Err halt) new (pays cost s) → Follows r new w
+unpaid r halt new s cost x w k is inv flows h = ends_early r halt new w (pays cost s) k (Signals false) is (sym inv ∙ flows) h
 
 -- the group's command, if there is one
 picked_at : (f : GroupCode → Flow) (xs : List GroupCode) (g : ℕ) (x : GroupCode) (next fail : Flow) → g < length xs → x ≡ get_or xs g x → chosen_flow (Some g) (map f xs) next fail ≡ f x

@@ -6,3 +6,4 @@ pub mod Rests
 pub mod ProgramViews
 pub mod Codes
 pub mod Flows
+pub mod Inners

@@ -11,6 +11,7 @@ ghost use Rattle.sbl_semantics.specs.Numbers.{continue_with};
 ghost use Rattle.sbl_semantics.specs.State.{Signals, after, pay, then_on};
 ghost use Rattle.sbl_threaded_code.specs.Slots.{no_cursors};
 ghost use Rattle.sbl_threaded_code.specs.Flow.{flow, alone, turns_of, backwards_of, limited_of};
+ghost use Rattle.sbl_threaded_code.specs.Inner.{inner_of};
 
 mod searching;
 
@@ -84,12 +85,54 @@ impl<'a, T: Tables> Runner<'a, T> {
                 }
                 Instruction::Nested {
                     cost,
-                    body,
                     next,
                     fail,
+                    ..
+                }
+                | Instruction::Loop {
+                    cost,
+                    next,
+                    fail,
+                    ..
+                }
+                | Instruction::AtLeast {
+                    cost,
+                    next,
+                    fail,
+                    ..
+                }
+                | Instruction::Seek {
+                    cost,
+                    next,
+                    fail,
+                    ..
+                }
+                | Instruction::Backwards {
+                    cost,
+                    next,
+                    fail,
+                    ..
+                }
+                | Instruction::SetLimit {
+                    cost,
+                    next,
+                    fail,
+                    ..
+                }
+                | Instruction::Call {
+                    cost,
+                    next,
+                    fail,
+                    ..
+                }
+                | Instruction::Search {
+                    cost,
+                    next,
+                    fail,
+                    ..
                 } => {
                     pay_all(*cost, state)?;
-                    at = if self.run_from(body, state)? {
+                    at = if self.run_inner(at, state)? {
                         next
                     } else {
                         fail
@@ -99,48 +142,6 @@ impl<'a, T: Tables> Runner<'a, T> {
                     pay_all(*cost, state)?;
                     self.run_turns(body, state)?;
                     at = next;
-                }
-                Instruction::Loop {
-                    cost,
-                    count,
-                    body,
-                    next,
-                    fail,
-                } => {
-                    pay_all(*cost, state)?;
-                    at = if self.run_times(count, body, state)? {
-                        next
-                    } else {
-                        fail
-                    };
-                }
-                Instruction::AtLeast {
-                    cost,
-                    count,
-                    body,
-                    next,
-                    fail,
-                } => {
-                    pay_all(*cost, state)?;
-                    at = if self.run_at_least(count, body, state)? {
-                        next
-                    } else {
-                        fail
-                    };
-                }
-                Instruction::Seek {
-                    cost,
-                    past,
-                    body,
-                    next,
-                    fail,
-                } => {
-                    pay_all(*cost, state)?;
-                    at = if self.run_tries(*past, body, state)? {
-                        next
-                    } else {
-                        fail
-                    };
                 }
                 Instruction::SeekGrouping {
                     next,
@@ -158,60 +159,6 @@ impl<'a, T: Tables> Runner<'a, T> {
                         *grouping,
                         *wanted,
                     )? {
-                        next
-                    } else {
-                        fail
-                    };
-                }
-                Instruction::Backwards {
-                    cost,
-                    body,
-                    next,
-                    fail,
-                } => {
-                    pay_all(*cost, state)?;
-                    at = if self.run_backwards(body, state)? {
-                        next
-                    } else {
-                        fail
-                    };
-                }
-                Instruction::SetLimit {
-                    cost,
-                    first,
-                    second,
-                    next,
-                    fail,
-                } => {
-                    pay_all(*cost, state)?;
-                    at = if self.run_limited(first, second, state)? {
-                        next
-                    } else {
-                        fail
-                    };
-                }
-                Instruction::Call {
-                    cost,
-                    routine,
-                    next,
-                    fail,
-                } => {
-                    pay_all(*cost, state)?;
-                    at = if self.run_call(*routine, state)? {
-                        next
-                    } else {
-                        fail
-                    };
-                }
-                Instruction::Search {
-                    next,
-                    fail,
-                    cost,
-                    among,
-                    site,
-                } => {
-                    pay_all(*cost, state)?;
-                    at = if self.run_search_all(*among, site, state)? {
                         next
                     } else {
                         fail
@@ -315,6 +262,26 @@ impl<'a, T: Tables> Runner<'a, T> {
                     };
                 }
             }
+        }
+    }
+
+    /// Does what an instruction does that runs others, and returns its signal. Does nothing at any other, and returns t.
+    #[cycle(run)]
+    #[inline(always)]
+    fn run_inner(&self, at: &Instruction, state: &mut State) -> Result<bool, Halt>
+        ensures follows { Follows result state.new (inner_of (program_of (T.listed self.now.tables.now) self.now.code.now) self.now.levels (T.listed self.now.tables.now) at.now self.now.mode state.old) }
+        ensures no_more { IfOk result (λ _. state.new.steps ≤ state.old.steps) }
+    {
+        match at {
+            Instruction::Nested { body, .. } => self.run_from(body, state),
+            Instruction::Loop { count, body, .. } => self.run_times(count, body, state),
+            Instruction::AtLeast { count, body, .. } => self.run_at_least(count, body, state),
+            Instruction::Seek { past, body, .. } => self.run_tries(*past, body, state),
+            Instruction::Backwards { body, .. } => self.run_backwards(body, state),
+            Instruction::SetLimit { first, second, .. } => self.run_limited(first, second, state),
+            Instruction::Call { routine, .. } => self.run_call(*routine, state),
+            Instruction::Search { among, site, .. } => self.run_search_all(*among, site, state),
+            _ => Ok(true),
         }
     }
 

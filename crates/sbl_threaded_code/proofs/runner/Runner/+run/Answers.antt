@@ -2,67 +2,32 @@
 mod Instructions
 mod Choices
 mod Calls
+mod Inner
+mod Payments
 use Rattle.sbl_threaded_code.proofs.runner.Runner.+run.Goals as goal
 use Rattle.sbl_threaded_code.proofs.runner.Runner.+run.Answers.Instructions as instructions
 use Rattle.sbl_threaded_code.proofs.runner.Runner.+run.Answers.Choices as choices
 use Rattle.sbl_threaded_code.proofs.runner.Runner.+run.Answers.Calls as calls
-
-pub run_from-returns-in_err-run_from-in-Nested-clause-follows : goal.run_from-returns-in_err-run_from-in-Nested-clause-follows
-run_from-returns-in_err-run_from-in-Nested-clause-follows = instructions.run_from-returns-in_err-run_from-in-Nested-clause-follows
-
-pub run_from-loop-at-preserved-then-branch-2 : goal.run_from-loop-at-preserved-then-branch-2
-run_from-loop-at-preserved-then-branch-2 = instructions.run_from-loop-at-preserved-then-branch-2
+use Rattle.sbl_threaded_code.proofs.runner.Runner.+run.Answers.Inner as inner
+use Rattle.sbl_threaded_code.proofs.runner.Runner.+run.Answers.Payments as payments
 
 pub run_from-returns-in_err-run_turns-in-Repeat-clause-follows : goal.run_from-returns-in_err-run_turns-in-Repeat-clause-follows
 run_from-returns-in_err-run_turns-in-Repeat-clause-follows = instructions.run_from-returns-in_err-run_turns-in-Repeat-clause-follows
 
-pub run_from-loop-at-preserved-in-Repeat : goal.run_from-loop-at-preserved-in-Repeat
-run_from-loop-at-preserved-in-Repeat = instructions.run_from-loop-at-preserved-in-Repeat
+pub run_from-loop-at-preserved-in-Repeat-1 : goal.run_from-loop-at-preserved-in-Repeat-1
+run_from-loop-at-preserved-in-Repeat-1 = instructions.run_from-loop-at-preserved-in-Repeat-1
 
-pub run_from-returns-in_err-run_times-in-Loop-clause-follows : goal.run_from-returns-in_err-run_times-in-Loop-clause-follows
-run_from-returns-in_err-run_times-in-Loop-clause-follows = instructions.run_from-returns-in_err-run_times-in-Loop-clause-follows
+pub run_from-returns-in_err-pay_all-in-Nested-clause-follows : goal.run_from-returns-in_err-pay_all-in-Nested-clause-follows
+run_from-returns-in_err-pay_all-in-Nested-clause-follows = instructions.run_from-returns-in_err-pay_all-in-Nested-clause-follows
 
-pub run_from-loop-at-preserved-then-branch-3 : goal.run_from-loop-at-preserved-then-branch-3
-run_from-loop-at-preserved-then-branch-3 = instructions.run_from-loop-at-preserved-then-branch-3
-
-pub run_from-loop-at-preserved-else-branch-3 : goal.run_from-loop-at-preserved-else-branch-3
-run_from-loop-at-preserved-else-branch-3 = instructions.run_from-loop-at-preserved-else-branch-3
-
-pub run_from-returns-in_err-run_at_least-in-AtLeast-clause-follows : goal.run_from-returns-in_err-run_at_least-in-AtLeast-clause-follows
-run_from-returns-in_err-run_at_least-in-AtLeast-clause-follows = instructions.run_from-returns-in_err-run_at_least-in-AtLeast-clause-follows
+pub run_from-returns-in_err-run_inner-in-Nested-clause-follows : goal.run_from-returns-in_err-run_inner-in-Nested-clause-follows
+run_from-returns-in_err-run_inner-in-Nested-clause-follows = instructions.run_from-returns-in_err-run_inner-in-Nested-clause-follows
 
 pub run_from-loop-at-preserved-then-branch-4 : goal.run_from-loop-at-preserved-then-branch-4
 run_from-loop-at-preserved-then-branch-4 = instructions.run_from-loop-at-preserved-then-branch-4
 
-pub run_from-loop-at-preserved-else-branch-4 : goal.run_from-loop-at-preserved-else-branch-4
-run_from-loop-at-preserved-else-branch-4 = instructions.run_from-loop-at-preserved-else-branch-4
-
-pub run_from-returns-in_err-run_tries-in-Seek-clause-follows : goal.run_from-returns-in_err-run_tries-in-Seek-clause-follows
-run_from-returns-in_err-run_tries-in-Seek-clause-follows = instructions.run_from-returns-in_err-run_tries-in-Seek-clause-follows
-
-pub run_from-loop-at-preserved-then-branch-5 : goal.run_from-loop-at-preserved-then-branch-5
-run_from-loop-at-preserved-then-branch-5 = instructions.run_from-loop-at-preserved-then-branch-5
-
-pub run_from-loop-at-preserved-else-branch-5 : goal.run_from-loop-at-preserved-else-branch-5
-run_from-loop-at-preserved-else-branch-5 = instructions.run_from-loop-at-preserved-else-branch-5
-
-pub run_from-returns-in_err-run_limited-in-SetLimit-clause-follows : goal.run_from-returns-in_err-run_limited-in-SetLimit-clause-follows
-run_from-returns-in_err-run_limited-in-SetLimit-clause-follows = instructions.run_from-returns-in_err-run_limited-in-SetLimit-clause-follows
-
-pub run_from-loop-at-preserved-then-branch-8 : goal.run_from-loop-at-preserved-then-branch-8
-run_from-loop-at-preserved-then-branch-8 = instructions.run_from-loop-at-preserved-then-branch-8
-
-pub run_from-loop-at-preserved-else-branch-8 : goal.run_from-loop-at-preserved-else-branch-8
-run_from-loop-at-preserved-else-branch-8 = instructions.run_from-loop-at-preserved-else-branch-8
-
-pub run_from-returns-in_err-run_search_all-in-Search-clause-follows : goal.run_from-returns-in_err-run_search_all-in-Search-clause-follows
-run_from-returns-in_err-run_search_all-in-Search-clause-follows = instructions.run_from-returns-in_err-run_search_all-in-Search-clause-follows
-
-pub run_from-loop-at-preserved-then-branch-10 : goal.run_from-loop-at-preserved-then-branch-10
-run_from-loop-at-preserved-then-branch-10 = instructions.run_from-loop-at-preserved-then-branch-10
-
-pub run_from-loop-at-preserved-else-branch-10 : goal.run_from-loop-at-preserved-else-branch-10
-run_from-loop-at-preserved-else-branch-10 = instructions.run_from-loop-at-preserved-else-branch-10
+pub run_from-loop-at-preserved : goal.run_from-loop-at-preserved
+run_from-loop-at-preserved = instructions.run_from-loop-at-preserved
 
 pub run_from-loop-at-preserved-in-None-get : goal.run_from-loop-at-preserved-in-None-get
 run_from-loop-at-preserved-in-None-get = choices.run_from-loop-at-preserved-in-None-get
@@ -70,11 +35,11 @@ run_from-loop-at-preserved-in-None-get = choices.run_from-loop-at-preserved-in-N
 pub run_from-loop-at-preserved-in-Some-get : goal.run_from-loop-at-preserved-in-Some-get
 run_from-loop-at-preserved-in-Some-get = choices.run_from-loop-at-preserved-in-Some-get
 
-pub run_from-loop-at-preserved-then-branch-11 : goal.run_from-loop-at-preserved-then-branch-11
-run_from-loop-at-preserved-then-branch-11 = choices.run_from-loop-at-preserved-then-branch-11
+pub run_from-loop-at-preserved-then-branch-3 : goal.run_from-loop-at-preserved-then-branch-3
+run_from-loop-at-preserved-then-branch-3 = choices.run_from-loop-at-preserved-then-branch-3
 
-pub run_from-loop-at-preserved-else-branch-11 : goal.run_from-loop-at-preserved-else-branch-11
-run_from-loop-at-preserved-else-branch-11 = choices.run_from-loop-at-preserved-else-branch-11
+pub run_from-loop-at-preserved-else-branch-3 : goal.run_from-loop-at-preserved-else-branch-3
+run_from-loop-at-preserved-else-branch-3 = choices.run_from-loop-at-preserved-else-branch-3
 
 pub run_search-loop-place-init : goal.run_search-loop-place-init
 run_search-loop-place-init = calls.run_search-loop-place-init
@@ -99,3 +64,51 @@ run_times-loop-left-preserved = calls.run_times-loop-left-preserved
 
 pub run_times-returns-in_err-run_from-clause-follows : goal.run_times-returns-in_err-run_from-clause-follows
 run_times-returns-in_err-run_from-clause-follows = calls.run_times-returns-in_err-run_from-clause-follows
+
+pub run_inner-returns-in-Loop-clause-follows : goal.run_inner-returns-in-Loop-clause-follows
+run_inner-returns-in-Loop-clause-follows = inner.run_inner-returns-in-Loop-clause-follows
+
+pub run_inner-returns-in-AtLeast-clause-follows : goal.run_inner-returns-in-AtLeast-clause-follows
+run_inner-returns-in-AtLeast-clause-follows = inner.run_inner-returns-in-AtLeast-clause-follows
+
+pub run_inner-returns-in-SetLimit-clause-follows : goal.run_inner-returns-in-SetLimit-clause-follows
+run_inner-returns-in-SetLimit-clause-follows = inner.run_inner-returns-in-SetLimit-clause-follows
+
+pub run_inner-returns-in-Search-clause-follows : goal.run_inner-returns-in-Search-clause-follows
+run_inner-returns-in-Search-clause-follows = inner.run_inner-returns-in-Search-clause-follows
+
+pub run_from-returns-in_err-pay_for-in-Pay-clause-follows : goal.run_from-returns-in_err-pay_for-in-Pay-clause-follows
+run_from-returns-in_err-pay_for-in-Pay-clause-follows = payments.run_from-returns-in_err-pay_for-in-Pay-clause-follows
+
+pub run_from-returns-in_err-pay_for-in-Act-clause-follows : goal.run_from-returns-in_err-pay_for-in-Act-clause-follows
+run_from-returns-in_err-pay_for-in-Act-clause-follows = payments.run_from-returns-in_err-pay_for-in-Act-clause-follows
+
+pub run_from-returns-in_err-pay_for-in-Save-clause-follows : goal.run_from-returns-in_err-pay_for-in-Save-clause-follows
+run_from-returns-in_err-pay_for-in-Save-clause-follows = payments.run_from-returns-in_err-pay_for-in-Save-clause-follows
+
+pub run_from-returns-in_err-pay_for-in-SeekGrouping-clause-follows : goal.run_from-returns-in_err-pay_for-in-SeekGrouping-clause-follows
+run_from-returns-in_err-pay_for-in-SeekGrouping-clause-follows = payments.run_from-returns-in_err-pay_for-in-SeekGrouping-clause-follows
+
+pub run_from-returns-in_err-pay_for-in-Choose-clause-follows : goal.run_from-returns-in_err-pay_for-in-Choose-clause-follows
+run_from-returns-in_err-pay_for-in-Choose-clause-follows = payments.run_from-returns-in_err-pay_for-in-Choose-clause-follows
+
+pub run_from-returns-in_err-pay_for-in-Character-clause-follows : goal.run_from-returns-in_err-pay_for-in-Character-clause-follows
+run_from-returns-in_err-pay_for-in-Character-clause-follows = payments.run_from-returns-in_err-pay_for-in-Character-clause-follows
+
+pub run_from-returns-in_err-pay_for-in-Literal-clause-follows : goal.run_from-returns-in_err-pay_for-in-Literal-clause-follows
+run_from-returns-in_err-pay_for-in-Literal-clause-follows = payments.run_from-returns-in_err-pay_for-in-Literal-clause-follows
+
+pub run_from-returns-in_err-pay_for-in-Grouping-clause-follows : goal.run_from-returns-in_err-pay_for-in-Grouping-clause-follows
+run_from-returns-in_err-pay_for-in-Grouping-clause-follows = payments.run_from-returns-in_err-pay_for-in-Grouping-clause-follows
+
+pub run_from-returns-in_err-pay_for-in-LeftBracket-clause-follows : goal.run_from-returns-in_err-pay_for-in-LeftBracket-clause-follows
+run_from-returns-in_err-pay_for-in-LeftBracket-clause-follows = payments.run_from-returns-in_err-pay_for-in-LeftBracket-clause-follows
+
+pub run_from-returns-in_err-pay_for-in-RightBracket-clause-follows : goal.run_from-returns-in_err-pay_for-in-RightBracket-clause-follows
+run_from-returns-in_err-pay_for-in-RightBracket-clause-follows = payments.run_from-returns-in_err-pay_for-in-RightBracket-clause-follows
+
+pub run_from-returns-in_err-pay_for-in-Boolean-clause-follows : goal.run_from-returns-in_err-pay_for-in-Boolean-clause-follows
+run_from-returns-in_err-pay_for-in-Boolean-clause-follows = payments.run_from-returns-in_err-pay_for-in-Boolean-clause-follows
+
+pub run_from-returns-in_err-pay_for-in-Next-clause-follows : goal.run_from-returns-in_err-pay_for-in-Next-clause-follows
+run_from-returns-in_err-pay_for-in-Next-clause-follows = payments.run_from-returns-in_err-pay_for-in-Next-clause-follows

@@ -15,6 +15,9 @@ use Rattle.sbl_threaded_code.proofs.runner.Runner.+run.Given as goal
 abbrev pub decreases-run_from : goal.decreases-run_from
 decreases-run_from g l = 6 * l.state.now.steps
 
+abbrev pub decreases-run_inner : goal.decreases-run_inner
+decreases-run_inner g l = 6 * l.state.now.steps + 5
+
 abbrev pub decreases-run_turns : goal.decreases-run_turns
 decreases-run_turns g l = 6 * l.state.now.steps + 1
 

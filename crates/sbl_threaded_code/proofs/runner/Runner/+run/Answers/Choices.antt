@@ -64,8 +64,8 @@ run_from-loop-at-preserved-in-Some-get g t c =
     let first : y ≡ (out-GroupCode body).first.value = c.deref-in-Some-get.ensures in
     (sym (whole ∙ group_does P levels T m slots u body y first), steps)
 
-pub run_from-loop-at-preserved-then-branch-11 : goal.run_from-loop-at-preserved-then-branch-11
-run_from-loop-at-preserved-then-branch-11 g t c =
+pub run_from-loop-at-preserved-then-branch-3 : goal.run_from-loop-at-preserved-then-branch-3
+run_from-loop-at-preserved-then-branch-3 g t c =
     let T = g.T.Tables.listed c.args.self.now.tables.now in
     let P = program_of T c.args.self.now.code.now in
     let levels = c.args.self.now.levels in
@@ -86,10 +86,10 @@ run_from-loop-at-preserved-then-branch-11 g t c =
     let same : new.steps ≡ u.steps = c.in_ok-take_grouping-in-Grouping.ensures.same_steps in
     let no_more : u.steps ≤ s.steps = c.in_ok-pay_for-in-Grouping.ensures.no_more in
     let steps : new.steps ≤ c.args.state.now.steps = omega (arith, same, no_more, inv.1) in
-    (ap (λ x. flow P levels T x m slots new) c.deref-at-then-branch-11.ensures ∙ sym h, steps)
+    (ap (λ x. flow P levels T x m slots new) c.deref-at-then-branch-3.ensures ∙ sym h, steps)
 
-pub run_from-loop-at-preserved-else-branch-11 : goal.run_from-loop-at-preserved-else-branch-11
-run_from-loop-at-preserved-else-branch-11 g t c =
+pub run_from-loop-at-preserved-else-branch-3 : goal.run_from-loop-at-preserved-else-branch-3
+run_from-loop-at-preserved-else-branch-3 g t c =
     let T = g.T.Tables.listed c.args.self.now.tables.now in
     let P = program_of T c.args.self.now.code.now in
     let levels = c.args.self.now.levels in
@@ -110,6 +110,6 @@ run_from-loop-at-preserved-else-branch-11 g t c =
     let same : new.steps ≡ u.steps = c.in_ok-take_grouping-in-Grouping.ensures.same_steps in
     let no_more : u.steps ≤ s.steps = c.in_ok-pay_for-in-Grouping.ensures.no_more in
     let steps : new.steps ≤ c.args.state.now.steps = omega (arith, same, no_more, inv.1) in
-    let inside : new.cursor ≤ length new.text = omega (arith, c.place-else-branch-11.ensures.value, c.place-else-branch-11.ensures.within) in
+    let inside : new.cursor ≤ length new.text = omega (arith, c.place-else-branch-3.ensures.value, c.place-else-branch-3.ensures.within) in
     let stayed = grouping_stays a.wanted (class_at P.groupings a.grouping) a.grouping m u new (ap (λ cs. test cs u) (sym classes) ∙ c.in_ok-take_grouping-in-Grouping.ensures.follows ∙ ap (λ v. Signals v new) b) in
-    (ap (λ x. flow P levels T x m slots new) c.deref-at-else-branch-11.ensures ∙ sym (h ∙ back_stays a.back m u new e stayed inside), steps)
+    (ap (λ x. flow P levels T x m slots new) c.deref-at-else-branch-3.ensures ∙ sym (h ∙ back_stays a.back m u new e stayed inside), steps)
