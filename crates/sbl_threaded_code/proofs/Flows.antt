@@ -3,26 +3,21 @@ use Rattle.std.proofs.Common.{◌≡◌, ℕ, zero, suc, ◌<◌, ◌≤◌, Boo
 use Rattle.std.specs.declared.rc.Rc.{Rc}
 use Rattle.sbl_program.specs.AmongStrings.{Listing}
 use Rattle.sbl_program.specs.Program as programs
-use Rattle.sbl_program.specs.ProgramOf.{view_number}
-use Rattle.sbl_program.specs.declared.action.Arithmetic.{Arithmetic}
 use Rattle.sbl_interpreter.specs.declared.halt.Halt.{Halt}
 use Rattle.sbl_interpreter.specs.Endings.{Follows}
 use Rattle.sbl_interpreter.specs.Rows.{pays}
-use Rattle.sbl_interpreter.specs.Run.{calls}
-use Rattle.sbl_interpreter.specs.Search.{search_all}
 use Rattle.sbl_interpreter.proofs.Arms.{follows_at, after_halts}
 use Rattle.sbl_semantics.specs.Choices.{choice}
 use Rattle.sbl_semantics.specs.State.{State, Ending, Signals, Stops, after, pay, then_on}
 use Rattle.sbl_semantics.specs.declared.cursor.SavedCursor.{SavedCursor}
 use Rattle.sbl_ast.specs.declared.mode.Mode.{Mode}
 use Rattle.sbl_threaded_code.specs.declared.instruction.GroupCode.{GroupCode, out-GroupCode}
-use Rattle.sbl_threaded_code.specs.declared.instruction.SearchSite.{SearchSite}
 use Rattle.sbl_threaded_code.specs.declared.instruction.Instruction.{Instruction}
-use Rattle.sbl_threaded_code.specs.declared.instruction.Instruction.TheVariants.{Nested, Repeat, Loop, AtLeast, Seek, SetLimit, Search, Choose}
+use Rattle.sbl_threaded_code.specs.declared.instruction.Instruction.TheVariants.{Repeat, Choose}
 use Rattle.sbl_threaded_code.specs.declared.instruction.Instruction.TheFolds.{fold_out-GroupCode}
 use Rattle.sbl_threaded_code.specs.declared.instruction.Instruction.TheViews.{the_lemmas}
-use Rattle.sbl_threaded_code.specs.Flow.{Flow, flow, group_flow, alone, chosen_flow, turns_of, loop_of, at_least_of, seek_of, limited_of}
-use Rattle.sbl_threaded_code.proofs.Instructions.{flow_nested, flow_repeat, flow_loop, flow_at_least, flow_seek, flow_set_limit, flow_search, flow_choose}
+use Rattle.sbl_threaded_code.specs.Flow.{Flow, flow, group_flow, alone, chosen_flow, turns_of}
+use Rattle.sbl_threaded_code.proofs.Instructions.{flow_repeat, flow_choose}
 
 abbrev I : Type 0
 I = Rc Instruction Global
@@ -47,6 +42,10 @@ ends_early r halt new w e f g is p h = rw is (follows_at (Err halt) new w (after
 pub unpaid : (r : Result Bool Halt) (halt : Halt) (new s : State) (cost : ℕ) (x w : Ending) (k : State → Ending) → r ≡ Err halt → x ≡ w → x ≡ then_on (pays cost s) k → Follows (Err halt) new (pays cost s) → Follows r new w
 unpaid r halt new s cost x w k is inv flows h = ends_early r halt new w (pays cost s) k (Signals false) is (sym inv ∙ flows) h
 
+-- they are, and it goes on
+pub then_paid : (x w : Ending) (s u : State) (cost : ℕ) (k : State → Ending) → x ≡ w → x ≡ then_on (pays cost s) k → pays cost s ≡ Signals true u → w ≡ k u
+then_paid x w s u cost k inv flows h = sym inv ∙ flows ∙ ap (λ r. then_on r k) h
+
 -- the group's command, if there is one
 picked_at : (f : GroupCode → Flow) (xs : List GroupCode) (g : ℕ) (x : GroupCode) (next fail : Flow) → g < length xs → x ≡ get_or xs g x → chosen_flow (Some g) (map f xs) next fail ≡ f x
 picked_at f [] g x next fail l e = absurd (omega arith)
@@ -69,57 +68,12 @@ module _ (p : programs.Program) (levels : ℕ) (tables : ℕ → Listing) (m : M
   abbrev F : Instruction → Flow
   F = flow p levels tables
 
-  pub nested_paid : (cost : ℕ) (body next fail : I) (x : Instruction) (u : State) → at ≡ Nested cost body next fail → IsPaid cost s u → x ≡ body.value → F at m slots s ≡ after (alone (F x) m u) (F next.value m slots) (F fail.value m slots)
-  nested_paid cost body next fail x u is h hx =
-      ap (λ (i : Instruction). F i m slots s) is
-      ∙ flow_nested p levels tables m slots s cost body next fail
-      ∙ after_paid cost s u (alone (F body.value) m) (F next.value m slots) (F fail.value m slots) h
-      ∙ ap (λ (z : Instruction). after (alone (F z) m u) (F next.value m slots) (F fail.value m slots)) (sym hx)
-
   pub repeat_paid : (cost : ℕ) (body next : I) (x : Instruction) (u : State) → at ≡ Repeat cost body next → IsPaid cost s u → x ≡ body.value → F at m slots s ≡ after (turns_of (alone (F x)) m u) (F next.value m slots) (Signals false)
   repeat_paid cost body next x u is h hx =
       ap (λ (i : Instruction). F i m slots s) is
       ∙ flow_repeat p levels tables m slots s cost body next
       ∙ after_paid cost s u (turns_of (alone (F body.value)) m) (F next.value m slots) (Signals false) h
       ∙ ap (λ (z : Instruction). after (turns_of (alone (F z)) m u) (F next.value m slots) (Signals false)) (sym hx)
-
-  pub loop_paid : (cost : ℕ) (count : Box Arithmetic Global) (body next fail : I) (k : Arithmetic) (x : Instruction) (u : State) → at ≡ Loop cost count body next fail → IsPaid cost s u → k ≡ count.value → x ≡ body.value → F at m slots s ≡ after (loop_of (view_number k) (alone (F x)) m u) (F next.value m slots) (F fail.value m slots)
-  loop_paid cost count body next fail k x u is h hk hx =
-      ap (λ (i : Instruction). F i m slots s) is
-      ∙ flow_loop p levels tables m slots s cost count body next fail
-      ∙ after_paid cost s u (loop_of (view_number count.value) (alone (F body.value)) m) (F next.value m slots) (F fail.value m slots) h
-      ∙ ap (λ (z : Instruction). after (loop_of (view_number count.value) (alone (F z)) m u) (F next.value m slots) (F fail.value m slots)) (sym hx)
-      ∙ ap (λ (z : Arithmetic). after (loop_of (view_number z) (alone (F x)) m u) (F next.value m slots) (F fail.value m slots)) (sym hk)
-
-  pub at_least_paid : (cost : ℕ) (count : Box Arithmetic Global) (body next fail : I) (k : Arithmetic) (x : Instruction) (u : State) → at ≡ AtLeast cost count body next fail → IsPaid cost s u → k ≡ count.value → x ≡ body.value → F at m slots s ≡ after (at_least_of (view_number k) (alone (F x)) m u) (F next.value m slots) (F fail.value m slots)
-  at_least_paid cost count body next fail k x u is h hk hx =
-      ap (λ (i : Instruction). F i m slots s) is
-      ∙ flow_at_least p levels tables m slots s cost count body next fail
-      ∙ after_paid cost s u (at_least_of (view_number count.value) (alone (F body.value)) m) (F next.value m slots) (F fail.value m slots) h
-      ∙ ap (λ (z : Instruction). after (at_least_of (view_number count.value) (alone (F z)) m u) (F next.value m slots) (F fail.value m slots)) (sym hx)
-      ∙ ap (λ (z : Arithmetic). after (at_least_of (view_number z) (alone (F x)) m u) (F next.value m slots) (F fail.value m slots)) (sym hk)
-
-  pub seek_paid : (cost : ℕ) (past : Bool) (body next fail : I) (x : Instruction) (u : State) → at ≡ Seek cost past body next fail → IsPaid cost s u → x ≡ body.value → F at m slots s ≡ after (seek_of past (alone (F x)) m u) (F next.value m slots) (F fail.value m slots)
-  seek_paid cost past body next fail x u is h hx =
-      ap (λ (i : Instruction). F i m slots s) is
-      ∙ flow_seek p levels tables m slots s cost past body next fail
-      ∙ after_paid cost s u (seek_of past (alone (F body.value)) m) (F next.value m slots) (F fail.value m slots) h
-      ∙ ap (λ (z : Instruction). after (seek_of past (alone (F z)) m u) (F next.value m slots) (F fail.value m slots)) (sym hx)
-
-  pub set_limit_paid : (cost : ℕ) (first second next fail : I) (x : Instruction) (y : Instruction) (u : State) → at ≡ SetLimit cost first second next fail → IsPaid cost s u → x ≡ first.value → y ≡ second.value → F at m slots s ≡ after (limited_of (alone (F x)) (alone (F y)) m u) (F next.value m slots) (F fail.value m slots)
-  set_limit_paid cost first second next fail x y u is h hx hy =
-      ap (λ (i : Instruction). F i m slots s) is
-      ∙ flow_set_limit p levels tables m slots s cost first second next fail
-      ∙ after_paid cost s u (limited_of (alone (F first.value)) (alone (F second.value)) m) (F next.value m slots) (F fail.value m slots) h
-      ∙ ap (λ (z : Instruction). after (limited_of (alone (F z)) (alone (F second.value)) m u) (F next.value m slots) (F fail.value m slots)) (sym hx)
-      ∙ ap (λ (z : Instruction). after (limited_of (alone (F x)) (alone (F z)) m u) (F next.value m slots) (F fail.value m slots)) (sym hy)
-
-  pub search_paid : (cost among : ℕ) (site : Box SearchSite Global) (next fail : I) (x : SearchSite) (u : State) → at ≡ Search cost among site next fail → IsPaid cost s u → x ≡ site.value → F at m slots s ≡ after (search_all (calls p levels) among x.entries.items (tables x.table) m u) (F next.value m slots) (F fail.value m slots)
-  search_paid cost among site next fail x u is h hx =
-      ap (λ (i : Instruction). F i m slots s) is
-      ∙ flow_search p levels tables m slots s cost among site next fail
-      ∙ after_paid cost s u (search_all (calls p levels) among site.value.entries.items (tables site.value.table) m) (F next.value m slots) (F fail.value m slots) h
-      ∙ ap (λ (z : SearchSite). after (search_all (calls p levels) among z.entries.items (tables z.table) m u) (F next.value m slots) (F fail.value m slots)) (sym hx)
 
   choose_paid : (cost among : ℕ) (bodies : Box (Vec GroupCode Global) Global) (next fail : I) (u : State) (g : ℕ) → at ≡ Choose cost among bodies next fail → pays cost s ≡ Signals true u → choice among u ≡ Some g → F at m slots s ≡ chosen_flow (Some g) (map (group_flow p levels tables) bodies.value.items) (F next.value) (F fail.value) m slots u
   choose_paid cost among bodies next fail u g is h k =

@@ -4,12 +4,14 @@ mod Choices
 mod Calls
 mod Inner
 mod Payments
+mod Tests
 use Rattle.sbl_threaded_code.proofs.runner.Runner.+run.Goals as goal
 use Rattle.sbl_threaded_code.proofs.runner.Runner.+run.Answers.Instructions as instructions
 use Rattle.sbl_threaded_code.proofs.runner.Runner.+run.Answers.Choices as choices
 use Rattle.sbl_threaded_code.proofs.runner.Runner.+run.Answers.Calls as calls
 use Rattle.sbl_threaded_code.proofs.runner.Runner.+run.Answers.Inner as inner
 use Rattle.sbl_threaded_code.proofs.runner.Runner.+run.Answers.Payments as payments
+use Rattle.sbl_threaded_code.proofs.runner.Runner.+run.Answers.Tests as tests
 
 pub run_from-returns-in_err-run_turns-in-Repeat-clause-follows : goal.run_from-returns-in_err-run_turns-in-Repeat-clause-follows
 run_from-returns-in_err-run_turns-in-Repeat-clause-follows = instructions.run_from-returns-in_err-run_turns-in-Repeat-clause-follows
@@ -112,3 +114,30 @@ run_from-returns-in_err-pay_for-in-Boolean-clause-follows = payments.run_from-re
 
 pub run_from-returns-in_err-pay_for-in-Next-clause-follows : goal.run_from-returns-in_err-pay_for-in-Next-clause-follows
 run_from-returns-in_err-pay_for-in-Next-clause-follows = payments.run_from-returns-in_err-pay_for-in-Next-clause-follows
+
+pub run_from-loop-at-preserved-in-Pay-1 : goal.run_from-loop-at-preserved-in-Pay-1
+run_from-loop-at-preserved-in-Pay-1 = tests.run_from-loop-at-preserved-in-Pay-1
+
+pub run_from-loop-at-preserved-in-LeftBracket-1 : goal.run_from-loop-at-preserved-in-LeftBracket-1
+run_from-loop-at-preserved-in-LeftBracket-1 = tests.run_from-loop-at-preserved-in-LeftBracket-1
+
+pub run_from-loop-at-preserved-in-RightBracket-1 : goal.run_from-loop-at-preserved-in-RightBracket-1
+run_from-loop-at-preserved-in-RightBracket-1 = tests.run_from-loop-at-preserved-in-RightBracket-1
+
+pub run_from-loop-at-preserved-then-take_character : goal.run_from-loop-at-preserved-then-take_character
+run_from-loop-at-preserved-then-take_character = tests.run_from-loop-at-preserved-then-take_character
+
+pub run_from-loop-at-preserved-else-take_character : goal.run_from-loop-at-preserved-else-take_character
+run_from-loop-at-preserved-else-take_character = tests.run_from-loop-at-preserved-else-take_character
+
+pub run_from-loop-at-preserved-then-test_boolean : goal.run_from-loop-at-preserved-then-test_boolean
+run_from-loop-at-preserved-then-test_boolean = tests.run_from-loop-at-preserved-then-test_boolean
+
+pub run_from-loop-at-preserved-else-test_boolean : goal.run_from-loop-at-preserved-else-test_boolean
+run_from-loop-at-preserved-else-test_boolean = tests.run_from-loop-at-preserved-else-test_boolean
+
+pub run_from-loop-at-preserved-then-take_next : goal.run_from-loop-at-preserved-then-take_next
+run_from-loop-at-preserved-then-take_next = tests.run_from-loop-at-preserved-then-take_next
+
+pub run_from-loop-at-preserved-else-take_next : goal.run_from-loop-at-preserved-else-take_next
+run_from-loop-at-preserved-else-take_next = tests.run_from-loop-at-preserved-else-take_next
