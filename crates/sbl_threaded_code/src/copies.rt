@@ -1,9 +1,10 @@
 //! Copies of commands that contain no command.
 
 ghost use Rattle.std.specs.Prelude.{◌≡◌, map, IfOk};
+ghost use Rattle.sbl_program.specs.Program.{compare};
 ghost use Rattle.sbl_program.specs.ProgramOf.{view_text, view_number, view_next_product, view_next_factor, view_action};
 
-use sbl_program::{Action, Addend, Arithmetic, Multiplicand, StringTerm};
+use sbl_program::{Action, Addend, Arithmetic, Multiplicand, Relation, StringTerm};
 use std::alloc::{AllocError, Global};
 
 // Copies each of some numbers with the sign before it. The names of the loop are the caller's, so that its proof has them.
@@ -45,27 +46,31 @@ pub fn copy_number(alloc: Global, number: &Arithmetic) -> Result<Arithmetic, All
         Arithmetic::LengthOf(term) => Ok(Arithmetic::LengthOf(copy_term(alloc, term)?)),
         Arithmetic::Greatest => Ok(Arithmetic::Greatest),
         Arithmetic::Least => Ok(Arithmetic::Least),
-        Arithmetic::Negative(inner) => {
-            let copy = copy_number(alloc, inner)?;
-            Ok(Arithmetic::Negative(Box::new(alloc, copy)?))
-        }
+        Arithmetic::Negative(inner) => Ok(Arithmetic::Negative(copy_box(alloc, inner)?)),
         Arithmetic::Sum { first, others } => {
-            let copy = copy_number(alloc, first)?;
             let rest = copy_addends(alloc, others)?;
             Ok(Arithmetic::Sum {
-                first: Box::new(alloc, copy)?,
+                first: copy_box(alloc, first)?,
                 others: rest,
             })
         }
         Arithmetic::Product { first, others } => {
-            let copy = copy_number(alloc, first)?;
             let rest = copy_factors(others, alloc)?;
             Ok(Arithmetic::Product {
                 others: rest,
-                first: Box::new(alloc, copy)?,
+                first: copy_box(alloc, first)?,
             })
         }
     }
+}
+
+// Copies a number into a box.
+#[cycle(copy)]
+fn copy_box(alloc: Global, number: &Arithmetic) -> Result<Box<Arithmetic>, AllocError>
+    ensures { IfOk result (λ copy. view_number copy.value ≡ view_number number.now) }
+{
+    let copy = copy_number(alloc, number)?;
+    Ok(Box::new(alloc, copy)?)
 }
 
 // Copies the terms after the first one of a sum.
@@ -112,12 +117,27 @@ pub fn copy_action(alloc: Global, action: &Action) -> Result<Action, AllocError>
         Action::Assign(number, change, value) => {
             Ok(Action::Assign(*number, *change, copy_number(alloc, value)?))
         }
-        Action::Compare(left, relation, right) => {
-            let x = copy_number(alloc, left)?;
-            let y = copy_number(alloc, right)?;
-            Ok(Action::Compare(x, *relation, y))
-        }
+        Action::Compare(left, relation, right) => copy_compare(alloc, left, *relation, right),
         Action::True => Ok(Action::True),
         Action::False => Ok(Action::False),
+    }
+}
+
+// Copies the comparison of two numbers.
+fn copy_compare(
+    alloc: Global,
+    left: &Arithmetic,
+    relation: Relation,
+    right: &Arithmetic,
+) -> Result<Action, AllocError>
+    ensures { IfOk result (λ copy. view_action copy ≡ compare (view_number left.now) relation (view_number right.now)) }
+{
+    let x = copy_number(alloc, left)?;
+    match copy_number(alloc, right) {
+        Ok(y) => Ok(Action::Compare(x, relation, y)),
+        Err(error) => {
+            drop(x);
+            Err(error)
+        }
     }
 }
