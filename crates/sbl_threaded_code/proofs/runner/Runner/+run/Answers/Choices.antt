@@ -1,5 +1,5 @@
 -- What the loop over instructions owes at the choice of a group and at a grouping.
-use Rattle.std.proofs.Common.{◌≡◌, ℕ, Bool, List, map, Some, ◌≤◌, ◌<◌, true, false, sym, ap, ◌∙◌, arith, rules, length, get_or, Vec, Global}
+use Rattle.std.proofs.Common.{◌≡◌, ℕ, Bool, List, map, Some, ◌≤◌, ◌<◌, true, false, sym, ap, ◌∙◌, arith, length, get_or, Vec, Global}
 use Rattle.sbl_char_class.specs.CharacterClasses.{members}
 use Rattle.sbl_char_class.specs.Terms.{class_at}
 use Rattle.sbl_program.specs.ProgramOf.{program_of}
@@ -33,7 +33,7 @@ run_from-loop-at-preserved-in-None-get g t c =
     let is : choice a.among u ≡ Some group = sym c.choice.ensures ∙ c.in-Some.is in
     let no_more : u.steps ≤ s.steps = c.in_ok-pay_for-in-Choose.ensures.no_more in
     let steps : u.steps ≤ c.args.state.now.steps = omega (arith, no_more, inv.1) in
-    let l : length ds ≤ group = search rules in
+    let l : length ds ≤ group = c.in-None-get.ensures.lookup.3 in
     let whole = sym inv.0 ∙ chosen_past P levels T m slots s at a.cost a.among a.bodies a.next a.fail u group ds a.is c.in_ok-pay_for-in-Choose.ensures.leads is ds_is l in
     (ap (λ x. flow P levels T x m slots u) c.deref-in-None-get.ensures ∙ sym whole, steps)
 
@@ -57,8 +57,8 @@ run_from-loop-at-preserved-in-Some-get g t c =
     let no_more : u.steps ≤ s.steps = c.in_ok-pay_for-in-Choose.ensures.no_more in
     let steps : u.steps ≤ c.args.state.now.steps = omega (arith, no_more, inv.1) in
     let body = c.in-Some-get.body.now in
-    let l : group < length ds = search rules in
-    let r : body ≡ get_or ds group body = search rules in
+    let l : group < length ds = c.in-Some-get.ensures.lookup.3.0 in
+    let r : body ≡ get_or ds group body = c.in-Some-get.ensures.lookup.1 in
     let whole = sym inv.0 ∙ chosen_at P levels T m slots s at a.cost a.among a.bodies a.next a.fail u group ds body a.is c.in_ok-pay_for-in-Choose.ensures.leads is ds_is l r in
     let y = c.deref-in-Some-get.result.now in
     let first : y ≡ (out-GroupCode body).first.value = c.deref-in-Some-get.ensures in
@@ -81,7 +81,7 @@ run_from-loop-at-preserved-then-branch-3 g t c =
     let test = λ (cs : List (ℕ → Bool)) (u : State). test_grouping a.wanted (class_at cs a.grouping) a.grouping m u in
     let whole = sym inv.0 ∙ ap (λ x. flow P levels T x m slots s) a.is ∙ flow_grouping P levels T m slots s a.cost a.wanted a.grouping a.back a.next a.fail ∙ ap (λ r. then_on r (λ u. after (test P.groupings u) f (back_if a.back m u e))) c.in_ok-pay_for-in-Grouping.ensures.leads in
     let classes : map members c.deref-in-Grouping.result.now ≡ P.groupings = ap (map members) c.deref-in-Grouping.ensures.value ∙ ap (λ (x : Program). map members x.groupings.items) c.program-in-Grouping.ensures in
-    let b : c.in_ok-take_grouping-in-Grouping.field-0 ≡ true = search rules in
+    let b : c.in_ok-take_grouping-in-Grouping.field-0 ≡ true = c.if-branch-3.true in
     let h = whole ∙ ap (λ r. after r f (back_if a.back m u e)) (ap (λ cs. test cs u) (sym classes) ∙ c.in_ok-take_grouping-in-Grouping.ensures.follows ∙ ap (λ v. Signals v new) b) in
     let same : new.steps ≡ u.steps = c.in_ok-take_grouping-in-Grouping.ensures.same_steps in
     let no_more : u.steps ≤ s.steps = c.in_ok-pay_for-in-Grouping.ensures.no_more in
@@ -105,7 +105,7 @@ run_from-loop-at-preserved-else-branch-3 g t c =
     let test = λ (cs : List (ℕ → Bool)) (u : State). test_grouping a.wanted (class_at cs a.grouping) a.grouping m u in
     let whole = sym inv.0 ∙ ap (λ x. flow P levels T x m slots s) a.is ∙ flow_grouping P levels T m slots s a.cost a.wanted a.grouping a.back a.next a.fail ∙ ap (λ r. then_on r (λ u. after (test P.groupings u) f (back_if a.back m u e))) c.in_ok-pay_for-in-Grouping.ensures.leads in
     let classes : map members c.deref-in-Grouping.result.now ≡ P.groupings = ap (map members) c.deref-in-Grouping.ensures.value ∙ ap (λ (x : Program). map members x.groupings.items) c.program-in-Grouping.ensures in
-    let b : c.in_ok-take_grouping-in-Grouping.field-0 ≡ false = search rules in
+    let b : c.in_ok-take_grouping-in-Grouping.field-0 ≡ false = c.if-branch-3.false in
     let h = whole ∙ ap (λ r. after r f (back_if a.back m u e)) (ap (λ cs. test cs u) (sym classes) ∙ c.in_ok-take_grouping-in-Grouping.ensures.follows ∙ ap (λ v. Signals v new) b) in
     let same : new.steps ≡ u.steps = c.in_ok-take_grouping-in-Grouping.ensures.same_steps in
     let no_more : u.steps ≤ s.steps = c.in_ok-pay_for-in-Grouping.ensures.no_more in
