@@ -18,7 +18,6 @@ use Rattle.sbl_ast.specs.declared.mode.Mode.{Mode}
 use Rattle.sbl_threaded_code.specs.declared.instruction.SearchSite.{SearchSite}
 use Rattle.sbl_threaded_code.specs.declared.instruction.Instruction.{Instruction}
 use Rattle.sbl_threaded_code.specs.declared.instruction.Instruction.TheVariants.{Nested, Loop, AtLeast, Seek, Backwards, SetLimit, Call, Search}
-use Rattle.sbl_threaded_code.specs.declared.instruction.Instruction.TheFolds.{fold_out-Instruction}
 use Rattle.sbl_threaded_code.specs.declared.instruction.Instruction.TheViews.{the_lemmas}
 use Rattle.sbl_threaded_code.specs.Flow.{Flow, flow, alone, loop_of, at_least_of, seek_of, backwards_of, limited_of}
 use Rattle.sbl_threaded_code.specs.Inner.{inner_of}
