@@ -1,4 +1,4 @@
--- What an instruction does that runs others, before its exits. You need not believe anything here: it is what two
+-- What an instruction does that runs others, except a call, before its exits. You need not believe anything here: it is what two
 -- functions of the runner promise each other.
 use Rattle.std.specs.Prelude.{ℕ, true}
 use Rattle.sbl_program.specs.AmongStrings.{Listing}
@@ -20,7 +20,6 @@ inner_step p levels tables (code.AtLeast cost count body next fail) = at_least_o
 inner_step p levels tables (code.Seek cost past body next fail) = seek_of past (alone (flow p levels tables body.value))
 inner_step p levels tables (code.Backwards cost body next fail) = backwards_of (alone (flow p levels tables body.value))
 inner_step p levels tables (code.SetLimit cost first second next fail) = limited_of (alone (flow p levels tables first.value)) (alone (flow p levels tables second.value))
-inner_step p levels tables (code.Call cost routine next fail) = calls p levels routine
 inner_step p levels tables (code.Search cost among site next fail) = search_all (calls p levels) among site.value.entries.items (tables site.value.table)
 inner_step p levels tables i = λ m s. Signals true s
 

@@ -119,12 +119,6 @@ impl<'a, T: Tables> Runner<'a, T> {
                     fail,
                     ..
                 }
-                | Instruction::Call {
-                    cost,
-                    next,
-                    fail,
-                    ..
-                }
                 | Instruction::Search {
                     cost,
                     next,
@@ -261,11 +255,25 @@ impl<'a, T: Tables> Runner<'a, T> {
                         fail
                     };
                 }
+                Instruction::Call {
+                    cost,
+                    routine,
+                    next,
+                    fail,
+                } => {
+                    pay_all(*cost, state)?;
+                    at = if self.run_call(*routine, state)? {
+                        next
+                    } else {
+                        fail
+                    };
+                }
             }
         }
     }
 
-    /// Does what an instruction does that runs others, and returns its signal. Does nothing at any other, and returns t.
+    /// Does what an instruction does that runs others, and returns its signal. Does nothing at any other, and returns t. A call is
+    /// in the loop: scripts make many.
     #[cycle(run)]
     #[inline(always)]
     fn run_inner(&self, at: &Instruction, state: &mut State) -> Result<bool, Halt>
@@ -279,7 +287,6 @@ impl<'a, T: Tables> Runner<'a, T> {
             Instruction::Seek { past, body, .. } => self.run_tries(*past, body, state),
             Instruction::Backwards { body, .. } => self.run_backwards(body, state),
             Instruction::SetLimit { first, second, .. } => self.run_limited(first, second, state),
-            Instruction::Call { routine, .. } => self.run_call(*routine, state),
             Instruction::Search { among, site, .. } => self.run_search_all(*among, site, state),
             _ => Ok(true),
         }
