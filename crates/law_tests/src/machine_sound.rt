@@ -2,7 +2,7 @@
 
 ghost use Rattle.std.specs.Prelude.{◌≡◌, ℕ, List};
 ghost use Rattle.sbl_semantics.specs.Meaning.{ending};
-ghost use Rattle.sbl_interpreter.specs.Start.{ending_of};
+ghost use Rattle.sbl_program.specs.Start.{ending_of};
 ghost use Rattle.sbl_machine.specs.NumberedScript.{numbered_script};
 ghost use Rattle.sbl_ast.specs.Source.{Source};
 

@@ -23,7 +23,7 @@ use Rattle.sbl_bench.specs.AffectedWords.{AffectedWords, AreMet, Touching, Above
 use Rattle.sbl_bench.specs.Changes.{Brings, IsExchange, IsTaken}
 use Rattle.sbl_bench.specs.Contents.{Contents}
 use Rattle.sbl_bench.specs.Edits.{Edit, Install, Replace, Limit, Whole, is_limit, meets_listed}
-use Rattle.sbl_bench.specs.Setting.{RunsSame, under}
+use Rattle.sbl_rows.specs.Setting.{RunsSame, under}
 
 -- ---- items
 

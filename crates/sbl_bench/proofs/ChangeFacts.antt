@@ -10,8 +10,8 @@ use Rattle.std.proofs.lemmas.List.Folds.{list_any_at}
 use Rattle.sbl_bench.specs.KeptRuns.{KeptWord, AreFresh, IsFresh, words_in}
 use Rattle.sbl_bench.specs.Last.{AreApart, AreThere, word_found, word_run}
 use Rattle.sbl_bench.specs.Pairs.{Text, find}
-use Rattle.sbl_bench.specs.Changes.{AreAllFresh, AreAnew, AreRun, is_changed}
-use Rattle.sbl_bench.specs.Setting.{Setting}
+use Rattle.sbl_bench.specs.Changes.{AreAllFresh, AreAnew, is_changed}
+use Rattle.sbl_rows.specs.Setting.{Setting}
 use Rattle.sbl_machine.specs.declared.outcome.RunTrace.{RunTrace}
 use Rattle.sbl_bench.specs.declared.change.Change.{Change}
 

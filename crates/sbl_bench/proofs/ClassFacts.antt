@@ -14,19 +14,19 @@ use Rattle.std.proofs.lemmas.List.Elements.{All-head, All-tail, All-cons, All-ma
 use Rattle.std.proofs.lemmas.Map.Views.{All-insert_key}
 use Rattle.std.proofs.lemmas.Slice.Eq.{bytes_eq-Decides}
 use Rattle.std.proofs.lemmas.Map.Text.{is_eq-slice_cmp}
-use Rattle.sbl_bench.specs.Setting.{Setting}
+use Rattle.sbl_rows.specs.Setting.{Setting}
 use Rattle.sbl_semantics.specs.Outcome.{Outcome', Stem, Refused, outcome_of}
 use Rattle.sbl_semantics.specs.declared.outcome.Outcome.{Outcome}
 use Rattle.sbl_machine.specs.declared.outcome.RunTrace.{RunTrace}
 use Rattle.sbl_semantics.specs.declared.outcome.Outcome.TheVariants as code
-use Rattle.sbl_bench.specs.Classes.{class_of, class_with, in_order, is_stem, stem_of, words_with}
-use Rattle.sbl_bench.specs.Grouping.{Pair, pair_cmp, pairs_in_order, stem_pairs, with_pair, words_paired}
+use Rattle.sbl_rows.specs.Classes.{class_of, class_with, in_order, is_stem, stem_of, words_with}
+use Rattle.sbl_rows.specs.Grouping.{Pair, pair_cmp, pairs_in_order, stem_pairs, with_pair, words_paired}
 use Rattle.sbl_bench.specs.KeptRuns.{KeptWord, AreFresh, words_in}
 use Rattle.sbl_bench.specs.Pairs.{ArePaired, Key, Text, find, has, has_stem, key_cmp, plain}
-use Rattle.sbl_bench.specs.Rows.{Row, rows_of}
-use Rattle.sbl_bench.proofs.PairFacts.{then_eq}
-use Rattle.sbl_bench.proofs.OrderFacts.{exact, sorted-sorted, total, words-rows}
-use Rattle.sbl_bench.proofs.Sorting.{mem, mem-inserted, mem-stays, from_mem, one_list}
+use Rattle.sbl_rows.specs.Rows.{Row, rows_of}
+use Rattle.sbl_rows.proofs.PairFacts.{then_eq}
+use Rattle.sbl_rows.proofs.OrderFacts.{exact, sorted-sorted, total, words-rows}
+use Rattle.sbl_rows.proofs.Sorting.{mem, mem-inserted, mem-stays, from_mem, one_list}
 use Rattle.sbl_bench.proofs.MapEntries.{is_key, key_found, row_shown, rows_shown}
 
 abbrev is_in : Pair → List Pair → Bool

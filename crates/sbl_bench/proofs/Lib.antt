@@ -4,14 +4,8 @@ pub mod Opening
 pub mod Taking
 pub mod TouchFacts
 pub mod PairFacts
-pub mod Sorting
-pub mod OrderFacts
 pub mod Following
-pub mod Ranging
-pub mod GroupFacts
 pub mod ClassFacts
-pub mod ClassLaws
-pub mod LastFacts
 pub mod ChangeFacts
 pub mod Meeting
 pub mod Tracing

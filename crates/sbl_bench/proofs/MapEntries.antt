@@ -8,13 +8,13 @@ use Rattle.std.specs.declared.alloc.Global.{Global}
 use Rattle.std.specs.List.{AllByRecursion, IsDistinct}
 use Rattle.std.specs.Map.{keys_of, lookup, lookup_key, remove_entry}
 use Rattle.std.proofs.lemmas.Slice.Eq.{bytes_eq-Decides}
-use Rattle.sbl_bench.specs.Setting.{Setting}
+use Rattle.sbl_rows.specs.Setting.{Setting}
 use Rattle.sbl_machine.specs.declared.outcome.RunTrace.{RunTrace}
 use Rattle.sbl_semantics.specs.Outcome.{outcome_of}
 use Rattle.sbl_bench.specs.declared.fault.EditFault.{EditFault}
 use Rattle.sbl_bench.specs.KeptRuns.{KeptWord, words_in, AreFresh, IsFresh, IsWord, IsKept}
 use Rattle.sbl_bench.specs.Pairs.{IsOneMore, Text, find}
-use Rattle.sbl_bench.specs.Rows.{Row, rows_of}
+use Rattle.sbl_rows.specs.Rows.{Row, rows_of}
 use Rattle.sbl_bench.specs.Vocabulary.{is_word, without}
 
 bytes_eq-back : (x y : List ℕ) → bytes_eq x y ≡ bytes_eq y x

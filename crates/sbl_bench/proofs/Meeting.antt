@@ -15,7 +15,7 @@ use Rattle.sbl_bench.specs.Contents.{Contents}
 use Rattle.sbl_bench.specs.Edits.{Edit, needs_run, runs_needed}
 use Rattle.sbl_bench.specs.KeptRuns.{KeptWord, AreFresh, IsFresh, IsWord, words_in}
 use Rattle.sbl_bench.specs.Pairs.{Text, find}
-use Rattle.sbl_bench.specs.Setting.{Setting, RunsSame}
+use Rattle.sbl_rows.specs.Setting.{Setting, RunsSame}
 use Rattle.sbl_bench.specs.declared.change.Change.{Change}
 
 -- ---- which words are met

@@ -4,7 +4,7 @@ use Rattle.std.proofs.lemmas.Bool.{true≢false}
 use Rattle.std.proofs.lemmas.Option.{none-some, same_Some}
 use Rattle.sbl_script.specs.OneEdit.{EditFaultIsOne, EditIsOne, EditOrFault}
 use Rattle.sbl_script.specs.OneReading.{FaultIsOne, ScriptIsOne, ScriptOrFault}
-use Rattle.sbl_bench.specs.Setting.{Setting}
+use Rattle.sbl_rows.specs.Setting.{Setting}
 use Rattle.sbl_bench.specs.declared.fault.EditFault.{EditFault}
 use Rattle.sbl_bench.specs.declared.fault.EditFault.TheVariants as fault
 use Rattle.sbl_bench.specs.Edits.{Edit, Add, Remove, Replace, Whole, Install, Limit, IsAccepted, IsMeterFull, IsRefused, IsSettingAfter, IsVerdict, contents_after, fault_of_script, lacks_counts}

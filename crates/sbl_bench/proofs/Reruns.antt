@@ -7,7 +7,7 @@ use Rattle.sbl_bench.specs.Changes.{Brings, met_words}
 use Rattle.sbl_bench.specs.Contents.{Contents, max_runs}
 use Rattle.sbl_bench.specs.Edits.{Edit, Edits, runs_needed}
 use Rattle.sbl_bench.specs.KeptRuns.{AreFresh, KeptWord, words_in}
-use Rattle.sbl_bench.specs.Setting.{Setting}
+use Rattle.sbl_rows.specs.Setting.{Setting}
 use Rattle.sbl_bench.specs.Stops.{IsStopOf}
 use Rattle.sbl_bench.proofs.Meeting.{needed_is}
 use Rattle.sbl_bench.proofs.Refusals.{replaces, replaces_never, replaces_nothing}

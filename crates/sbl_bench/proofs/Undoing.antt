@@ -9,12 +9,12 @@ use Rattle.sbl_semantics.specs.Differs.{differs}
 use Rattle.sbl_machine.specs.DifferLaws.{AlikeDifferNowhere}
 use Rattle.sbl_semantics.specs.Outcome.{touches_of}
 use Rattle.sbl_semantics.specs.TouchedItems.{Item', item_of_touch, names_of}
-use Rattle.sbl_bench.specs.Classes.{classes_of}
+use Rattle.sbl_rows.specs.Classes.{classes_of}
 use Rattle.sbl_bench.specs.Contents.{Contents}
 use Rattle.sbl_bench.specs.Edits.{Edit, Add, Remove, Replace, Whole, Install, Limit, IsSettingAfter, is_of_script, meets_listed, runs_needed}
 use Rattle.sbl_bench.specs.EqualScripts.{EqualScriptRunsNothing, InstalledAgainRunsNothing}
-use Rattle.sbl_bench.specs.Rows.{rows_of}
-use Rattle.sbl_bench.specs.Setting.{Setting}
+use Rattle.sbl_rows.specs.Rows.{rows_of}
+use Rattle.sbl_rows.specs.Setting.{Setting}
 use Rattle.sbl_bench.specs.Traces.{trace_of}
 use Rattle.sbl_bench.specs.Undo.{Shows, UndoOfLimit, UndoOfScript}
 use Rattle.sbl_bench.proofs.OneVerdict.{both}

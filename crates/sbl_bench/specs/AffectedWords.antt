@@ -12,7 +12,7 @@ pub use Rattle.sbl_machine.specs.MachineOf.{IsLinkedMachineOf}
 pub use Rattle.sbl_script.specs.ParsedScript.{source_of}
 use Rattle.sbl_ast.specs.Source.{Source}
 use Rattle.sbl_bench.specs.Edits.{meets_listed}
-use Rattle.sbl_bench.specs.Setting.{Setting, under}
+use Rattle.sbl_rows.specs.Setting.{Setting, under}
 
 abbrev pub smaller : ℕ → ℕ → ℕ
 smaller m n = if nat_le m n then m else n

@@ -12,7 +12,7 @@ use Rattle.sbl_semantics.specs.declared.touch.Touch.{Touch}
 use Rattle.sbl_semantics.specs.Outcome.{Outcome', outcome_of, run_of, touches_of, used_of}
 use Rattle.sbl_bench.specs.KeptRuns.{KeptWord, IsFresh, words_in}
 use Rattle.sbl_bench.specs.Pairs.{Text, find}
-use Rattle.sbl_bench.specs.Setting.{Setting, RunsSame, under}
+use Rattle.sbl_rows.specs.Setting.{Setting, RunsSame, under}
 use Rattle.sbl_bench.specs.AffectedWords.{AffectedWords, Touching, Above, Every, is_affected, is_affected_run}
 use Rattle.sbl_bench.specs.Contents.{Contents}
 use Rattle.sbl_bench.specs.Edits.{Edit, Remove, Replace, IsSettingAfter, PassesTests, meets_listed, needs_run, words_after}

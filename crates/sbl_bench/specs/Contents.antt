@@ -3,7 +3,8 @@ use Rattle.std.specs.Prelude.{◌≡◌, ℕ, ◌-◌, ◌^◌, Bool, List, [], 
 use Rattle.std.specs.Option.{option_or}
 use Rattle.sbl_ast.specs.Source.{Source}
 use Rattle.sbl_semantics.specs.Limit.{max_word_length, default_limit}
-use Rattle.sbl_bench.specs.Setting.{Setting}
+use Rattle.sbl_rows.specs.Rows.{Row, rows_of}
+use Rattle.sbl_rows.specs.Setting.{Setting}
 use Rattle.sbl_bench.specs.declared.fault.EditFault.{EditFault}
 use Rattle.sbl_bench.specs.declared.fault.EditFault.TheVariants as fault
 use Rattle.sbl_bench.specs.Vocabulary.{is_skipped, with_word, vocabulary}
@@ -13,6 +14,10 @@ pub record Contents : Type 0 where
   pub setting : Setting
   pub words : List (List ℕ)
   pub count : ℕ
+
+-- the rows of the current script for the current vocabulary, under the current limit
+abbrev pub rows_now : Contents → List Row
+rows_now s = rows_of s.setting s.words
 
 abbrev pub max_words : ℕ
 max_words = 100000

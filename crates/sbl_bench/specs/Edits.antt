@@ -11,7 +11,7 @@ use Rattle.sbl_script.specs.Reading.{IsScriptOf, IsFaultOf}
 use Rattle.sbl_text.specs.declared.fault.ScriptFault.{ScriptFault}
 use Rattle.sbl_semantics.specs.Limit.{max_word_length}
 use Rattle.sbl_bench.specs.Contents.{Contents, max_runs, max_words}
-use Rattle.sbl_bench.specs.Setting.{Setting}
+use Rattle.sbl_rows.specs.Setting.{Setting}
 use Rattle.sbl_bench.specs.Vocabulary.{is_word, without}
 use Rattle.sbl_machine.specs.BuiltFrom.{meets_one}
 use Rattle.sbl_semantics.specs.Differs.{differs}

@@ -5,8 +5,8 @@ use Rattle.std.specs.declared.alloc.Global.{Global}
 use Rattle.sbl_script.specs.ParsedScript.{ParsedScript, source_of}
 use Rattle.sbl_machine.specs.declared.outcome.RunTrace.{RunTrace}
 use Rattle.sbl_semantics.specs.Outcome.{outcome_of, run_of, touches_of, used_of}
-use Rattle.sbl_bench.specs.ChangedRows.{ChangedRow}
-use Rattle.sbl_bench.specs.Setting.{Setting}
+use Rattle.sbl_rows.specs.ChangedRows.{ChangedRow}
+use Rattle.sbl_rows.specs.Setting.{Setting}
 use Rattle.sbl_semantics.specs.Limit.{max_word_length}
 use Rattle.sbl_bench.specs.Contents.{Contents, max_words}
 

@@ -4,11 +4,11 @@ use Rattle.std.specs.List.{All, AllPairs, filter_map}
 use Rattle.std.specs.Option.{option_and_then}
 use Rattle.sbl_semantics.specs.Outcome.{outcome_of, run_of}
 use Rattle.sbl_machine.specs.declared.outcome.RunTrace.{RunTrace}
-use Rattle.sbl_bench.specs.ChangedRows.{ChangedRow, if_changed}
+use Rattle.sbl_rows.specs.ChangedRows.{ChangedRow, if_changed}
 use Rattle.sbl_bench.specs.KeptRuns.{KeptWord}
 use Rattle.sbl_bench.specs.Changes.{is_changed}
 use Rattle.sbl_bench.specs.Pairs.{Text, find}
-use Rattle.sbl_bench.specs.Setting.{Setting}
+use Rattle.sbl_rows.specs.Setting.{Setting}
 use Rattle.sbl_bench.specs.declared.change.Change.{Change}
 
 -- what is changed for a word that was run again, by the run before and the run now

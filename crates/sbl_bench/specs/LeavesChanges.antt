@@ -1,8 +1,8 @@
 -- What an edit leaves as the changes of the last edit.
 use Rattle.std.specs.Prelude.{◌≡◌, List, Result, Ok, Err}
-use Rattle.sbl_bench.specs.ChangedRows.{changed_rows}
+use Rattle.sbl_rows.specs.ChangedRows.{changed_rows}
 use Rattle.sbl_bench.specs.KeptRuns.{KeptRuns, setting_of}
-use Rattle.sbl_bench.specs.Rows.{Row, rows_of}
+use Rattle.sbl_rows.specs.Rows.{Row, rows_of}
 use Rattle.sbl_bench.specs.declared.fault.EditFault.{EditFault}
 
 -- the rows of a bench

@@ -1,28 +1,14 @@
 -- The set of pairs of a stem and a word that has it, next to the words and their runs.
-use Rattle.std.specs.Prelude.{◌≡◌, ◌&&◌, ◌⊎◌, ℕ, Bool, true, false, List, Option, Some, None, ⊤}
-use Rattle.std.specs.declared.vec.Vec.{Vec}
-use Rattle.std.specs.declared.alloc.Global.{Global}
-use Rattle.std.specs.declared.cmp.Ordering.{Ordering}
-use Rattle.std.specs.Ordering.{nat_cmp, ordering_then}
-use Rattle.std.specs.Cmp.Lexicographic.{slice_cmp}
+use Rattle.std.specs.Prelude.{◌≡◌, ℕ, Bool, false, List, Option, Some, None, ⊤}
 use Rattle.std.specs.Str.{bytes_eq}
 use Rattle.std.specs.Map.{lookup}
-use Rattle.std.specs.BTreeSet.{BTreeSet, contains}
+use Rattle.std.specs.BTreeSet.{BTreeSet}
 use Rattle.sbl_machine.specs.declared.outcome.RunTrace.{RunTrace}
-use Rattle.sbl_semantics.specs.Outcome.{Outcome', outcome_of}
-use Rattle.sbl_bench.specs.Classes.{is_stem}
+use Rattle.sbl_semantics.specs.Outcome.{outcome_of}
+use Rattle.sbl_rows.specs.Classes.{is_stem}
 use Rattle.sbl_bench.specs.KeptRuns.{KeptWord}
 pub use Rattle.indexmap.specs.IndexMap.{IsUnique, keys}
-
-abbrev pub Text : Type 0
-Text = Vec ℕ Global
-
-abbrev pub same_text : Text → Text → Bool
-same_text x y = bytes_eq x.items y.items
-
--- a stem, and a word that has it
-abbrev pub Key : Type 0
-Key = Text × Text
+pub use Rattle.sbl_rows.specs.Pairs.{IsFollowed, Key, Text, has, is_pair_of, key_cmp, plain, same_text}
 
 -- the word's last run
 abbrev pub find : List ℕ → List KeptWord → Option RunTrace
@@ -32,24 +18,9 @@ abbrev pub has_stem : List ℕ → Option RunTrace → Bool
 has_stem s None = false
 has_stem s (Some t) = is_stem s (outcome_of t.outcome)
 
--- by the stem, then by the word, both in code point order; a prefix comes first
-abbrev pub key_cmp : Key → Key → Ordering
-key_cmp x y = ordering_then (slice_cmp nat_cmp x.0.items y.0.items) (slice_cmp nat_cmp x.1.items y.1.items)
-
--- whether q is the pair of this word and its outcome
-abbrev pub is_pair_of : List ℕ → Outcome' → Key → Bool
-is_pair_of word o q = is_stem q.0.items o && bytes_eq word q.1.items
-
-abbrev pub has : BTreeSet Key → Key → Bool
-has set q = contains key_cmp set q
-
 -- the set has exactly the pairs of the words that have a stem
 abbrev pub ArePaired : List KeptWord → BTreeSet Key → Type 0
 ArePaired entries set = (q : Key) → has set q ≡ has_stem q.0.items (find q.1.items entries)
-
--- a pair without memory addresses
-abbrev pub plain : Key → List ℕ × List ℕ
-plain k = (k.0.items, k.1.items)
 
 -- the pairs that are kept, if any, are those of the words
 abbrev pub IsIndexed : List KeptWord → Option (BTreeSet Key) → Type 0
@@ -60,9 +31,3 @@ IsIndexed entries (Some set) = ArePaired entries set
 pub record IsOneMore (word : List ℕ) (more entries : List KeptWord) : Type 0 where
   pub absent : find word entries ≡ None
   pub others : (w : Text) → bytes_eq word w.items ≡ false → find w.items more ≡ find w.items entries
-
--- A pair of this word is in the second set exactly if it is that of its outcome now, if the first set has the pair of either
--- outcome. A pair of another word is in both or in none.
-pub record IsFollowed (word : List ℕ) (before now : Outcome') (old new : Key → Bool) (q : Key) : Type 0 where
-  pub others : bytes_eq word q.1.items ≡ false → new q ≡ old q
-  pub own : bytes_eq word q.1.items ≡ true → (old q ≡ is_stem q.0.items before) ⊎ (old q ≡ is_stem q.0.items now) → new q ≡ is_stem q.0.items now

@@ -1,6 +1,6 @@
 -- The items that the run of a word touches.
 use Rattle.std.specs.Prelude.{ℕ, List, Option, Some, None, if◌then◌else◌}
-use Rattle.sbl_bench.specs.Setting.{Setting}
+use Rattle.sbl_rows.specs.Setting.{Setting}
 use Rattle.sbl_bench.specs.Vocabulary.{is_word}
 use Rattle.sbl_semantics.specs.TouchedItems.{Item', touched_items}
 

@@ -1,10 +1,10 @@
 -- Taking an edit back.
 use Rattle.std.specs.Prelude.{◌≡◌, ℕ, true, List}
-use Rattle.sbl_bench.specs.Classes.{classes_of}
+use Rattle.sbl_rows.specs.Classes.{classes_of}
 use Rattle.sbl_bench.specs.Contents.{Contents}
 use Rattle.sbl_bench.specs.Edits.{Edit, Install, Limit, IsAccepted, is_of_script}
-use Rattle.sbl_bench.specs.Rows.{rows_of}
-use Rattle.sbl_bench.specs.Setting.{Setting}
+use Rattle.sbl_rows.specs.Rows.{rows_of}
+use Rattle.sbl_rows.specs.Setting.{Setting}
 use Rattle.sbl_bench.specs.Traces.{trace_of}
 
 -- a bench shows what a setting gives for these words

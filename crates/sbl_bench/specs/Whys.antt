@@ -1,6 +1,6 @@
 -- Why a word has its stem: what a run of a word does, whether the word is in the vocabulary or not.
 use Rattle.std.specs.Prelude.{◌≡◌, ℕ, List, [], length, map, nat_lt, if◌then◌else◌, Option, Some, None, slice_index_or}
-use Rattle.sbl_bench.specs.Setting.{Setting}
+use Rattle.sbl_rows.specs.Setting.{Setting}
 use Rattle.sbl_bench.specs.declared.fault.EditFault.{EditFault}
 use Rattle.sbl_bench.specs.declared.fault.EditFault.TheVariants as fault
 use Rattle.sbl_machine.specs.declared.outcome.Why.{Why}

@@ -4,11 +4,10 @@ ghost use Rattle.std.specs.Prelude.{◌≡◌, ◌≤◌, ◌+◌, ◌^◌, ◌�
 
 use crate::change::Change;
 use crate::fault::EditFault;
-use crate::pairs::Pairs;
-use crate::row::Row;
 use crate::traces::Traces;
 use sbl_interpreter::MAX_WORD_LENGTH;
 use sbl_machine::{Item, Machine, Meter, Table, Why};
+use sbl_rows::{Pairs, Row};
 use sbl_script::Script;
 use std::alloc::{AllocError, Global};
 use std::collections::BTreeSet;
@@ -46,7 +45,7 @@ impl Model for Bench {
     ghost use Rattle.sbl_bench.specs.KeptRuns.{KeptRuns, words_in, IsKept};
     ghost use Rattle.sbl_bench.specs.Last.{last_changes};
     ghost use Rattle.sbl_bench.specs.Pairs.{IsIndexed};
-    ghost use Rattle.sbl_bench.specs.Setting.{under};
+    ghost use Rattle.sbl_rows.specs.Setting.{under};
 
     ghost Value = { KeptRuns };
 
@@ -64,7 +63,7 @@ impl Bench {
     ghost use Rattle.sbl_bench.specs.KeptRuns.{setting_of};
     ghost use Rattle.sbl_semantics.specs.TouchedItems.{items_in};
     ghost use Rattle.sbl_bench.specs.Vocabulary.{is_word};
-    ghost use Rattle.sbl_bench.specs.Rows.{rows_of, view_row};
+    ghost use Rattle.sbl_rows.specs.Rows.{rows_of, view_row};
     ghost use Rattle.sbl_bench.specs.Traces.{trace_of};
     ghost use Rattle.sbl_bench.specs.Whys.{IsWhy, refusal_of_why, routine_name};
 

@@ -12,7 +12,7 @@ ghost use Rattle.sbl_bench.specs.KeptRuns.{words_in, AreFresh, IsWord};
 ghost use Rattle.sbl_bench.specs.Last.{change_of, last_changes, word_found, word_run, AreApart, AreThere, Follows};
 ghost use Rattle.sbl_bench.specs.Pairs.{IsUnique, Text, find, keys, same_text};
 ghost use Rattle.sbl_bench.specs.Contents.{max_runs};
-ghost use Rattle.sbl_bench.specs.Setting.{Setting, under};
+ghost use Rattle.sbl_rows.specs.Setting.{Setting, under};
 ghost use Rattle.sbl_bench.specs.Stops.{IsStopOf};
 
 use crate::affected_words::{AffectedWords, is_affected};

@@ -2,28 +2,15 @@
 
 ghost use Rattle.std.specs.Prelude.{◌≡◌, ◌++◌, map, OnOk, IfOk};
 ghost use Rattle.std.specs.Option.{option_map, option_to_list};
-ghost use Rattle.sbl_semantics.specs.Outcome.{outcome_of};
-ghost use Rattle.sbl_bench.specs.ChangedRows as spec;
-ghost use Rattle.sbl_bench.specs.ChangedRows.{view_changed_row};
+ghost use Rattle.sbl_rows.specs.ChangedRows.{view_changed_row};
 ghost use Rattle.sbl_bench.specs.Last.{changed_since, last_changes};
 
 use crate::bench::Bench;
 use crate::change::Change;
 use crate::last_run::LastRun;
 use crate::traces::Traces;
-use sbl_machine::Outcome;
+use sbl_rows::{ChangedRow, is_same};
 use std::alloc::{AllocError, Global};
-
-/// A word with two outcomes.
-#[derive(Debug, Drop)]
-pub struct ChangedRow<'a> {
-    /// The word's characters.
-    pub word: &'a [char],
-    /// Its stem before the edit, or the fault of its run.
-    pub before: &'a Outcome,
-    /// Its stem after the edit, or the fault of its run.
-    pub after: &'a Outcome,
-}
 
 impl Bench {
     /// Returns the words whose outcome the last accepted edit changed, in vocabulary order, each with its outcomes before and after
@@ -75,15 +62,4 @@ fn push_changed<'a>(
         after,
     };
     changes.push(row).map_err(|_| AllocError)
-}
-
-/// Returns whether two outcomes are the same stem, or refusals for the same reason. Does not allocate.
-pub(crate) fn is_same(one: &Outcome, other: &Outcome) -> bool
-    ensures { result ≡ spec.same_outcome (outcome_of one.now) (outcome_of other.now) }
-{
-    match (one, other) {
-        (Outcome::Stem(a), Outcome::Stem(b)) => a.as_slice() == b.as_slice(),
-        (Outcome::Refused(a), Outcome::Refused(b)) => a == b,
-        _ => false,
-    }
 }

@@ -26,7 +26,7 @@ impl Bench {
     ghost use Rattle.sbl_bench.specs.Changes.{Brings, IsExchange, IsTaken, affected_of};
     ghost use Rattle.sbl_bench.specs.Edits.{Edit, Edits, Add, Grouping, Install, Limit, Remove, Replace, Routine, Among, Whole};
     ghost use Rattle.sbl_bench.specs.LeavesChanges.{LeavesChanges};
-    ghost use Rattle.sbl_bench.specs.Setting.{under};
+    ghost use Rattle.sbl_rows.specs.Setting.{under};
     ghost use Rattle.sbl_semantics.specs.TouchedItems.{item_of};
     ghost use Rattle.sbl_script.specs.Edits.{ScriptEdit};
     ghost use Rattle.sbl_script.specs.ParsedScript.{source_of};

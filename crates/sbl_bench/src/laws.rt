@@ -1,7 +1,6 @@
-//! Laws of the edits, the classes and the words.
+//! Laws of the edits and the words.
 
 ghost use Rattle.std.specs.Prelude.{All};
-ghost use Rattle.sbl_bench.specs.ClassesAreSound.{ClassesAreOfRows, ClassesRise};
 ghost use Rattle.sbl_bench.specs.KeptRuns.{IsWord};
 ghost use Rattle.sbl_bench.specs.EqualScripts.{EqualScriptRunsNothing, InstalledAgainRunsNothing};
 ghost use Rattle.sbl_bench.specs.OneVerdict.{VerdictIsOne};
@@ -42,11 +41,3 @@ pub fn words_fit(bench: &Bench)
 {
     let _words = &bench.traces;
 }
-
-/// The stems of the classes are in strictly ascending code point order, a prefix first, and so are the words of each class.
-/// Each class has at least one word. There is a class of a stem with a word in it exactly if there is a row of that word with
-/// that stem.
-pub fn classes_are_sound()
-    ensures rise { ClassesRise }
-    ensures of_rows { ClassesAreOfRows }
-{}

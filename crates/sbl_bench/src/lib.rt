@@ -15,15 +15,12 @@ mod last_run;
 pub mod laws;
 mod open;
 mod pairs;
-mod row;
 mod traces;
 mod word_hash;
 
 pub use bench::{Bench, MAX_LIMIT, MAX_WORDS};
-pub use changed_row::ChangedRow;
-pub use class::Class;
 pub use fault::EditFault;
-pub use row::Row;
 pub use sbl_interpreter::MAX_WORD_LENGTH;
+pub use sbl_rows::{ChangedRow, Class, Row};
 pub use sbl_script::ScriptFault;
 pub use word_hash::{WordHasher, WordKeys};

@@ -5,11 +5,11 @@ ghost use Rattle.sbl_ast.specs.Source.{Source};
 ghost use Rattle.sbl_machine.specs.MachineOf.{IsLinkedMachineOf};
 ghost use Rattle.indexmap.specs.declared.map.entry.Entry.TheVariants.{Occupied};
 ghost use Rattle.indexmap.specs.Entry.{entry_map};
-ghost use Rattle.sbl_bench.specs.Vocabulary.{is_word, with_word};
-ghost use Rattle.sbl_bench.specs.Contents.{is_full, word_fault, IsFaultOrMemory};
+ghost use Rattle.sbl_bench.specs.Vocabulary.{is_word, vocabulary, with_word};
+ghost use Rattle.sbl_bench.specs.Contents.{is_full, opening_fault, word_fault, IsFaultOrMemory};
 ghost use Rattle.sbl_bench.specs.KeptRuns.{words_in, IsKept};
 ghost use Rattle.sbl_semantics.specs.Limit.{default_limit};
-ghost use Rattle.sbl_bench.specs.Setting.{under};
+ghost use Rattle.sbl_rows.specs.Setting.{under};
 
 use crate::bench::{Bench, MAX_WORDS};
 use crate::fault::EditFault;
@@ -47,25 +47,57 @@ impl Bench {
         ensures opens { Opens (source_of script) (map (λ w. w.items) words.items) (λ b. contents_of b) result }
         ensures changes { IfOk result (λ b. b.changes ≡ []) }
     {
-        let machine = Machine::new(alloc, &script)?;
-        let mut meter = Meter::new();
-        let mut traces = IndexMap::with_hasher(alloc, WordKeys::new(keys));
-        traces.reserve(words.len().min(MAX_WORDS))?;
-        let mut lists = SharedLists::new(alloc);
-        for word in words {
-            take_word(alloc, &machine, &mut meter, &mut lists, &mut traces, word)?;
+        let machine = match Machine::new(alloc, &script) {
+            Ok(machine) => machine,
+            Err(refused) => {
+                drop(words);
+                script.discard();
+                return Err(refused.into());
+            }
+        };
+        match first_runs(alloc, keys, &machine, words) {
+            Ok((traces, meter)) => Ok(Bench {
+                alloc,
+                script,
+                machine,
+                limit: DEFAULT_LIMIT,
+                traces,
+                meter,
+                last: Vec::new(alloc),
+                pairs: None,
+            }),
+            Err(fault) => {
+                drop(machine);
+                script.discard();
+                Err(fault)
+            }
         }
-        Ok(Bench {
-            alloc,
-            script,
-            machine,
-            limit: DEFAULT_LIMIT,
-            traces,
-            meter,
-            last: Vec::new(alloc),
-            pairs: None,
-        })
     }
+}
+
+/// Runs each word of a list once, as `Bench::open` does. Returns the words of the vocabulary with their runs, and the count of
+/// these; or a fault as `Bench::open` does.
+fn first_runs(
+    alloc: Global,
+    keys: RandomState,
+    machine: &Machine<Table>,
+    words: Vec<Vec<char>>,
+) -> Result<(Traces, Meter), EditFault>
+    requires linked { (s : Source) × IsLinkedMachineOf machine.now s }
+    ensures words { IfOk result (λ runs. words_in runs.0.entries ≡ vocabulary (map (λ w. w.items) words.items)) }
+    ensures kept { (s : Source) → IsLinkedMachineOf machine.now s → IfOk result (λ runs. IsKept (under s default_limit) runs.0.entries) }
+    ensures counted { IfOk result (λ runs. runs.1 ≡ length runs.0.entries) }
+    ensures ok { OnOk result (opening_fault [] (map (λ w. w.items) words.items) ≡ None) }
+    ensures fault { IfErr result (λ f. IsFaultOrMemory (opening_fault [] (map (λ w. w.items) words.items)) f) }
+{
+    let mut meter = Meter::new();
+    let mut traces = IndexMap::with_hasher(alloc, WordKeys::new(keys));
+    traces.reserve(words.len().min(MAX_WORDS))?;
+    let mut lists = SharedLists::new(alloc);
+    for word in words {
+        take_word(alloc, machine, &mut meter, &mut lists, &mut traces, word)?;
+    }
+    Ok((traces, meter))
 }
 
 // Whether the vocabulary is full and the word is not in it.

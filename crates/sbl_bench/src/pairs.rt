@@ -2,23 +2,18 @@
 //! classes are asked for, and each edit changes it with the rows. If memory for that is refused, the set is given up, and made
 //! anew when it is wanted next; so no edit fails for it.
 
-ghost use Rattle.std.specs.Prelude.{◌≡◌, ◌||◌, ◌&&◌, List, Some, not, IfOk, OnOk, OnErr};
-ghost use Rattle.std.specs.Str.{bytes_eq};
-ghost use Rattle.sbl_semantics.specs.Outcome.{outcome_of};
+ghost use Rattle.std.specs.Prelude.{◌≡◌, List, Some, IfOk, OnOk};
 ghost use Rattle.sbl_bench.specs.KeptRuns.{KeptWord};
-ghost use Rattle.sbl_bench.specs.Pairs.{ArePaired, IsFollowed, IsIndexed, IsOneMore, Key, find, has, is_pair_of};
+ghost use Rattle.sbl_bench.specs.Pairs.{ArePaired, IsIndexed, IsOneMore, find};
 ghost use Rattle.sbl_bench.specs.Last.{Follows};
 
 use crate::change::Change;
-use crate::changed_row::is_same;
 use crate::last_run::LastRun;
 use crate::traces::{Traces, words_are_unique};
 use sbl_machine::Outcome;
+use sbl_rows::{Pairs, follow_one, insert_pair, remove_key};
 use std::alloc::{AllocError, Global};
 use std::collections::BTreeSet;
-
-/// Pairs of a stem and a word that has it, by stem and then by word.
-pub(crate) type Pairs = BTreeSet<(Vec<char>, Vec<char>)>;
 
 /// Returns the pairs of the words that have a stem. Returns `AllocError` if an allocation fails.
 pub(crate) fn pairs_of(alloc: Global, traces: &Traces) -> Result<Pairs, AllocError>
@@ -30,86 +25,6 @@ pub(crate) fn pairs_of(alloc: Global, traces: &Traces) -> Result<Pairs, AllocErr
         insert_pair(alloc, &mut pairs, word.as_slice(), last.outcome())?;
     }
     Ok(pairs)
-}
-
-/// Inserts the pair of this word into the set, if the word has a stem. Returns `AllocError` if an allocation fails; the set is
-/// unchanged then.
-fn insert_pair(
-    alloc: Global,
-    pairs: &mut Pairs,
-    word: &[char],
-    outcome: &Outcome,
-) -> Result<(), AllocError>
-    ensures ok { OnOk result ((q : Key) → has pairs.new q ≡ (is_pair_of word.now (outcome_of outcome.now) q || has pairs.old q)) }
-    ensures err { OnErr result ((q : Key) → has pairs.new q ≡ has pairs.old q) }
-{
-    let Outcome::Stem(stem) = outcome else {
-        return Ok(());
-    };
-    let stem = Vec::from_slice(alloc, stem.as_slice())?;
-    let word = Vec::from_slice(alloc, word)?;
-    match pairs.insert((stem, word)) {
-        Ok(_) => Ok(()),
-        Err(_) => Err(AllocError),
-    }
-}
-
-/// Removes the pair of this stem and this word from the set. Does not allocate.
-fn remove_key(pairs: &mut Pairs, stem: Vec<char>, word: Vec<char>)
-    ensures { (q : Key) → has pairs.new q ≡ (not (bytes_eq stem.items q.0.items && bytes_eq word.items q.1.items) && has pairs.old q) }
-{
-    let pair = (stem, word);
-    pairs.remove(&pair);
-}
-
-/// Removes the pair of this word from the set, if the word has a stem. Returns `AllocError` if an allocation fails.
-fn remove_pair(
-    alloc: Global,
-    pairs: &mut Pairs,
-    word: &[char],
-    outcome: &Outcome,
-) -> Result<(), AllocError>
-    ensures { OnOk result ((q : Key) → has pairs.new q ≡ (not (is_pair_of word.now (outcome_of outcome.now) q) && has pairs.old q)) }
-{
-    let Outcome::Stem(stem) = outcome else {
-        return Ok(());
-    };
-    let stem = Vec::from_slice(alloc, stem.as_slice())?;
-    let word = Vec::from_slice(alloc, word)?;
-    remove_key(pairs, stem, word);
-    Ok(())
-}
-
-/// Exchanges the pair of a word for that of its outcome now. Returns `AllocError` if an allocation fails.
-fn exchange_pair(
-    alloc: Global,
-    pairs: &mut Pairs,
-    word: &[char],
-    before: &Outcome,
-    now: &Outcome,
-) -> Result<(), AllocError>
-    ensures { OnOk result ((q : Key) → has pairs.new q ≡ (is_pair_of word.now (outcome_of now.now) q || (not (is_pair_of word.now (outcome_of before.now) q) && has pairs.old q))) }
-{
-    remove_pair(alloc, pairs, word, before)?;
-    insert_pair(alloc, pairs, word, now)
-}
-
-/// Brings the set up to date for a word that ran again, if its outcome is another one. Returns whether it is. Returns
-/// `AllocError` if an allocation fails.
-fn follow_one(
-    alloc: Global,
-    pairs: &mut Pairs,
-    word: &[char],
-    before: &Outcome,
-    now: &Outcome,
-) -> Result<bool, AllocError>
-    ensures { OnOk result ((q : Key) → IsFollowed word.now (outcome_of before.now) (outcome_of now.now) (has pairs.old) (has pairs.new) q) }
-{
-    if is_same(before, now) {
-        return Ok(false);
-    }
-    exchange_pair(alloc, pairs, word, before, now)?;
-    Ok(true)
 }
 
 /// Brings the set up to date for the words of an edit. Returns `AllocError` if an allocation fails, or if more than `most` words

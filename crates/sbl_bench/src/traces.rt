@@ -6,7 +6,7 @@ ghost use Rattle.sbl_machine.specs.MachineOf.{IsLinkedMachineOf};
 ghost use Rattle.sbl_bench.specs.Vocabulary.{is_word};
 ghost use Rattle.sbl_bench.specs.KeptRuns.{words_in, IsWord, IsKept};
 ghost use Rattle.sbl_bench.specs.Pairs.{IsOneMore, IsUnique, same_text};
-ghost use Rattle.sbl_bench.specs.Setting.{under};
+ghost use Rattle.sbl_rows.specs.Setting.{under};
 ghost use Rattle.sbl_bench.specs.Stops.{IsStop};
 
 use crate::fault::EditFault;

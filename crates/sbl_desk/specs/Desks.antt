@@ -3,7 +3,7 @@ use Rattle.std.specs.Prelude.{◌≡◌, ℕ, List, [], ◌∷◌, ◌++◌, Opt
 use Rattle.std.specs.Option.{option_map}
 use Rattle.sbl_bench.specs.Contents.{Contents}
 use Rattle.sbl_bench.specs.Edits.{Edits}
-use Rattle.sbl_bench.specs.Rows.{Row, rows_of}
+use Rattle.sbl_rows.specs.Rows.{Row}
 use Rattle.sbl_semantics.specs.Outcome.{outcome_of}
 use Rattle.sbl_print.specs.Canonical.{canonical}
 use Rattle.sbl_desk.specs.History.{Past, ToLimit, ToText, Turn, edit_of}
@@ -38,10 +38,6 @@ view_text text = option_map (λ t. t.items) text
 
 abbrev pub state_of : Desk → State
 state_of d = record { text = view_text d.text; past = past_of d.history; marked = map view_marked d.marked.items }
-
--- the rows of a bench
-abbrev pub rows_now : Contents → List Row
-rows_now s = rows_of s.setting s.words
 
 -- the text of the script in force: the one that is kept, or else its canonical text
 abbrev pub text_in : Contents → Option (List ℕ) → List ℕ

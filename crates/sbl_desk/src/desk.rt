@@ -1,16 +1,19 @@
 //! A desk: what is kept beside a bench at work, so that its edits can be undone and its rows compared with those at a mark.
 ghost use Rattle.std.specs.Prelude.{◌≡◌, ◌⊎◌, ℕ, List, [], IfOk, IfSome, OnErr, OnOk, None, Some, map, string_bytes, true};
+ghost use Rattle.sbl_bench.specs.Contents.{rows_now};
 ghost use Rattle.sbl_bench.specs.Edits.{Edits, Replace, Whole};
 ghost use Rattle.sbl_bench.specs.KeptRuns.{contents_of};
 ghost use Rattle.sbl_print.specs.Canonical.{canonical};
-ghost use Rattle.sbl_desk.specs.Desks.{Redoes, Undoes, rows_now, state_of, text_in, view_marked, view_text};
-ghost use Rattle.sbl_desk.specs.{Editing.NotesLimit, Editing.Replaces, Editing.ReplacesPart, History.ToText, History.remember_turn, Parts.view_part, Splicing.Reads};
+ghost use Rattle.sbl_rows.specs.Rows.{view_row};
+ghost use Rattle.sbl_desk.specs.Desks.{Redoes, Undoes, state_of, text_in, view_text};
+ghost use Rattle.sbl_desk.specs.{Editing.NotesLimit, Editing.Replaces, Editing.ReplacesPart, History.ToText, History.remember_turn, Splicing.Reads};
+ghost use Rattle.sbl_places.specs.Parts.{view_part};
 
 use crate::history::{HistoryFault, text_of, turn};
-use crate::marks::{MarkedRow, copy_rows};
+use crate::marks::{MarkedRow, copy_rows, views_of};
 use crate::splice::{SplicedText, splice};
 use crate::steps::{History, Step};
-use sbl_bench::{Bench, EditFault};
+use sbl_bench::{Bench, EditFault, Row};
 use sbl_places::Part;
 use std::alloc::{AllocError, Global};
 
@@ -51,11 +54,15 @@ impl Desk {
         })
     }
 
-    /// Returns the rows at the mark, in vocabulary order.
-    pub fn marked_rows(&self) -> &[MarkedRow]
-        ensures { map view_marked result.now ≡ (state_of self.now).marked }
+    /// Returns the rows at the mark, in the order of the vocabulary then.
+    ///
+    /// # Errors
+    ///
+    /// Returns `AllocError` if an allocation fails.
+    pub fn marked_rows(&self) -> Result<Vec<Row<'_>>, AllocError>
+        ensures { IfOk result (λ rows. map view_row rows.items ≡ (state_of self.now).marked) }
     {
-        self.marked.as_slice()
+        views_of(self.alloc, &self.marked)
     }
 
     /// Sets the mark: remembers the rows of the bench as they are.

@@ -1,21 +1,20 @@
 //! The rows at the mark.
 ghost use Rattle.std.specs.Prelude.{◌≡◌, IfOk, map};
+ghost use Rattle.sbl_bench.specs.Contents.{rows_now};
 ghost use Rattle.sbl_bench.specs.KeptRuns.{contents_of};
-ghost use Rattle.sbl_bench.specs.Rows.{view_row};
+ghost use Rattle.sbl_rows.specs.Rows.{view_row};
 ghost use Rattle.sbl_semantics.specs.Outcome.{outcome_of};
-ghost use Rattle.sbl_desk.specs.Desks.{rows_now, view_marked};
+ghost use Rattle.sbl_desk.specs.Desks.{view_marked};
 
 use sbl_bench::{Bench, Row};
 use sbl_machine::Outcome;
 use std::alloc::{AllocError, Global};
 
 /// A row that is kept: a word and the outcome of its run.
-#[derive(Debug, Drop)]
-pub struct MarkedRow {
-    /// The word.
-    pub word: Vec<char>,
-    /// The outcome of its run.
-    pub outcome: Outcome,
+#[derive(Drop)]
+pub(crate) struct MarkedRow {
+    word: Vec<char>,
+    outcome: Outcome,
 }
 
 /// Returns a copy of an outcome. Returns `AllocError` if an allocation fails.
@@ -56,4 +55,18 @@ pub(crate) fn copy_rows(alloc: Global, bench: &Bench) -> Result<Vec<MarkedRow>, 
 {
     let rows = bench.rows()?;
     copy_all(alloc, &rows)
+}
+
+/// Returns the rows that are kept. Returns `AllocError` if an allocation fails.
+pub(crate) fn views_of(alloc: Global, marked: &[MarkedRow]) -> Result<Vec<Row<'_>>, AllocError>
+    ensures { IfOk result (λ rows. map view_row rows.items ≡ map view_marked marked.now) }
+{
+    let mut rows = Vec::with_capacity(alloc, marked.len())?;
+    for row in marked {
+        rows.push(Row {
+            word: row.word.as_slice(),
+            outcome: &row.outcome,
+        })?;
+    }
+    Ok(rows)
 }

@@ -10,8 +10,8 @@ use Rattle.std.specs.Option.{option_or}
 use Rattle.std.specs.Prelude.{⊤}
 use Rattle.std.specs.Str.{bytes_eq, chars}
 use Rattle.sbl_bench.specs.Contents.{Contents, is_full, opening_contents, opening_fault, word_fault}
-use Rattle.sbl_bench.specs.Rows.{rows_of}
-use Rattle.sbl_bench.specs.Setting.{under}
+use Rattle.sbl_rows.specs.Rows.{rows_of}
+use Rattle.sbl_rows.specs.Setting.{under}
 use Rattle.sbl_bench.specs.Vocabulary.{is_skipped, is_word, with_all, with_word}
 use Rattle.sbl_bench.specs.declared.fault.EditFault.{EditFault}
 use Rattle.sbl_bench.specs.declared.fault.EditFault.TheVariants as edit
@@ -21,11 +21,12 @@ use Rattle.sbl_filter.proofs.RowFacts.{filtered-append}
 use Rattle.sbl_semantics.specs.Limit.{default_limit}
 use Rattle.sbl_io.specs.Records.{records_text}
 use Rattle.sbl_ast.specs.Source.{Source}
-use Rattle.sbl_formats.specs.Loading.{IsInput, IsLoaded}
-use Rattle.sbl_formats.specs.OneLoading.{IsToldByBytes, LoadingIsOne}
-use Rattle.sbl_formats.specs.RowRecords.{row_fields, stems_text}
-use Rattle.sbl_formats.specs.declared.faults.LoadFault.{LoadFault}
-use Rattle.sbl_formats.specs.declared.faults.LoadFault.TheVariants.{Open}
+use Rattle.sbl_loading.specs.Loading.{IsInput, IsLoaded}
+use Rattle.sbl_loading.specs.OneLoading.{IsToldByBytes, LoadingIsOne}
+use Rattle.sbl_formats.specs.RowRecords.{row_fields}
+use Rattle.sbl_listings.specs.Listings.{stems_text}
+use Rattle.sbl_loading.specs.declared.faults.LoadFault.{LoadFault}
+use Rattle.sbl_loading.specs.declared.faults.LoadFault.TheVariants.{Open}
 
 pub parts : PartsMakeWhole
 parts s first rest = filtered-append s first rest

@@ -6,8 +6,8 @@ use Rattle.std.proofs.lemmas.List.Elements.{filter-append}
 use Rattle.std.proofs.lemmas.Str.{encodes-chars}
 use Rattle.std.specs.List.{filter}
 use Rattle.std.specs.Str.{IsUtf8, chars, encode_utf8_all}
-use Rattle.sbl_bench.specs.Rows.{Row, row_of, rows_of}
-use Rattle.sbl_bench.specs.Setting.{under}
+use Rattle.sbl_rows.specs.Rows.{Row, row_of, rows_of}
+use Rattle.sbl_rows.specs.Setting.{under}
 use Rattle.sbl_filter.specs.Filter.{filter_output, is_filled}
 use Rattle.sbl_semantics.specs.Limit.{default_limit}
 use Rattle.sbl_semantics.specs.Outcome.{Outcome', run_of}

@@ -3,8 +3,8 @@ use Rattle.std.specs.Prelude.{◌≡◌, ◌≢◌, ◌⊎◌, ◌<◌, ◌≤�
 use Rattle.std.specs.List.{filter}
 use Rattle.std.specs.Str.{chars, is_utf8}
 use Rattle.std.specs.Io.KnownBytes.{Appends}
-use Rattle.sbl_bench.specs.Rows.{rows_of}
-use Rattle.sbl_bench.specs.Setting.{under}
+use Rattle.sbl_rows.specs.Rows.{rows_of}
+use Rattle.sbl_rows.specs.Setting.{under}
 use Rattle.sbl_bench.specs.declared.fault.EditFault.TheVariants as edit
 use Rattle.sbl_io.specs.HeldInput.{BeginsLong, BreaksOff, Took}
 use Rattle.sbl_io.specs.LinesOf.{max_line}
@@ -13,10 +13,10 @@ use Rattle.sbl_semantics.specs.Limit.{default_limit, max_word_length}
 use Rattle.sbl_io.specs.Records.{records_text}
 use Rattle.sbl_ast.specs.Source.{Source}
 use Rattle.sbl_formats.specs.Block.{point}
-use Rattle.sbl_formats.specs.Loading.{IsInput, ReadsScript, TookFault, TookSource, TookWords, WordLines}
+use Rattle.sbl_loading.specs.Loading.{IsInput, ReadsScript, TookFault, TookSource, TookWords, WordLines}
 use Rattle.sbl_formats.specs.RowRecords.{row_fields}
-use Rattle.sbl_formats.specs.declared.faults.LoadFault.{LoadFault}
-use Rattle.sbl_formats.specs.declared.faults.LoadFault.TheVariants.{Input, Script, Open}
+use Rattle.sbl_loading.specs.declared.faults.LoadFault.{LoadFault}
+use Rattle.sbl_loading.specs.declared.faults.LoadFault.TheVariants.{Input, Script, Open}
 
 -- ---- the rows
 

@@ -1,8 +1,8 @@
 //! The row of one word.
 ghost use Rattle.std.specs.Prelude.{◌≡◌, ◌≤◌, length, IfOk, OnOk};
 ghost use Rattle.std.specs.Str.{chars};
-ghost use Rattle.sbl_bench.specs.Rows.{row_of};
-ghost use Rattle.sbl_bench.specs.Setting.{under};
+ghost use Rattle.sbl_rows.specs.Rows.{row_of};
+ghost use Rattle.sbl_rows.specs.Setting.{under};
 ghost use Rattle.sbl_semantics.specs.Limit.{default_limit, max_word_length};
 ghost use Rattle.sbl_machine.specs.MachineOf.{IsLinkedMachineOf};
 ghost use Rattle.sbl_io.specs.Records as texts;

@@ -8,8 +8,8 @@ use Rattle.csv.specs.declared.writer.Writer.{Writer}
 use Rattle.std.proofs.lemmas.List.{flat_map_more, map-append, take_more}
 use Rattle.std.proofs.lemmas.Option.{get_or_from_slice_get, slice_get_within}
 use Rattle.std.specs.Str.{encode_utf8_all}
-use Rattle.sbl_bench.specs.Classes.{words_of}
-use Rattle.sbl_bench.specs.Rows.{Row}
+use Rattle.sbl_rows.specs.Classes.{words_of}
+use Rattle.sbl_rows.specs.Rows.{Row}
 use Rattle.sbl_io.specs.Records.{record_line, records_text}
 use Rattle.sbl_formats.specs.RowRecords.{row_fields}
 use Rattle.sbl_formats.specs.RowWriter.{Writes}
@@ -35,13 +35,3 @@ pub records_more : {X : Type 0} (fields : X → List (List ℕ)) (xs : List X) (
 records_more {X} fields xs i x lt is =
     let one : take i xs ++ x ∷ [] ≡ take (i + 1) xs = ap (λ (y : X). take i xs ++ y ∷ []) is ∙ sym (take_more xs i x lt) in
     flat_map_more record_line [] (map fields (take i xs)) (fields x) ∙ ap records_text (sym (map-append fields (take i xs) (x ∷ [])) ∙ ap (map fields) one)
-
--- one more row
-pub row_more : (rows : List Row) (i : ℕ) (row : Row) → slice_get rows i ≡ Some row
-    → records_text (map row_fields (take i rows)) ++ record_line (row_fields row) ≡ records_text (map row_fields (take (i + 1) rows))
-row_more rows i row at = records_more row_fields rows i row (slice_get_within rows i row at) (sym (get_or_from_slice_get rows i row row at))
-
-pub no_row : {X : Type 0} (xs : List X) (i : ℕ) → i < length xs → slice_get xs i ≡ None → ⊥
-no_row [] i inside none = omega (arith, inside)
-no_row (x ∷ xs) zero inside none = cc none
-no_row (x ∷ xs) (suc i) inside none = no_row xs i (omega (arith, inside)) none

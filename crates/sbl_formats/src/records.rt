@@ -1,21 +1,20 @@
 //! The text of rows, classes and items as records, written with `csv`.
-ghost use Rattle.sbl_bench.specs.Rows.{view_row};
+ghost use Rattle.sbl_rows.specs.Rows.{view_row};
 ghost use Rattle.std.specs.Prelude.{◌≡◌, ◌++◌, ◌∷◌, [], ℕ, List, IfOk, OnOk, map};
 ghost use Rattle.std.specs.Str.{encode_utf8_all};
-ghost use Rattle.sbl_formats.specs.Traces.{item_fields};
+ghost use Rattle.sbl_formats.specs.ItemRecords.{item_fields};
 ghost use Rattle.sbl_formats.specs.RowRecords as spec;
 ghost use Rattle.csv.specs.Records.{fields_of, partial_of};
-ghost use Rattle.sbl_bench.specs.Classes.{view_class, words_of};
+ghost use Rattle.sbl_rows.specs.Classes.{view_class, words_of};
 ghost use Rattle.sbl_io.specs.Records as texts;
 ghost use Rattle.sbl_semantics.specs.TouchedItems.{item_of};
 ghost use Rattle.sbl_formats.specs.RowWriter.{HasWritten, Writes};
 ghost use Rattle.sbl_semantics.specs.Outcome.{outcome_of};
-ghost use Rattle.sbl_bench.specs.KeptRuns.{contents_of};
 
 use csv::{ByteRecord, Writer, WriterBuilder};
-use sbl_bench::{Bench, Class, Row};
 use sbl_io::TextBuffer;
-use sbl_machine::{Item, Outcome};
+use sbl_rows::{Class, Row};
+use sbl_semantics::{Item, Outcome};
 use std::alloc::{AllocError, Global};
 
 /// A writer of records, and the buffers in which one after another is made.
@@ -30,7 +29,7 @@ pub struct RecordWriter {
 
 impl RecordWriter {
     /// Returns a writer that has written nothing. Does not allocate.
-    pub(crate) fn new(alloc: Global) -> RecordWriter
+    pub fn new(alloc: Global) -> RecordWriter
         ensures { HasWritten result.writer [] }
     {
         RecordWriter {
@@ -45,7 +44,7 @@ impl RecordWriter {
     }
 
     /// Returns the text of the records that were written. Returns `AllocError` if an allocation fails.
-    pub(crate) fn into_text(self) -> Result<Vec<u8>, AllocError>
+    pub fn into_text(self) -> Result<Vec<u8>, AllocError>
         ensures { (written : List ℕ) → HasWritten self.writer written → IfOk result (λ text. text.items ≡ written) }
     {
         match self.writer.into_inner() {
@@ -195,21 +194,6 @@ pub fn records_text<T: Record>(alloc: Global, records: &[T]) -> Result<Vec<u8>, 
     let mut writer = RecordWriter::new(alloc);
     for item in records {
         item.write(&mut writer)?;
-    }
-    writer.into_text()
-}
-
-/// Returns the text of the rows of a bench, in vocabulary order, as `records_text` has it. Takes the rows one at a time, so it
-/// needs no memory for a list of them. Returns `AllocError` if an allocation fails.
-pub fn rows_text(alloc: Global, bench: &Bench) -> Result<Vec<u8>, AllocError>
-    ensures { IfOk result (λ text. text.items ≡ spec.stems_text (contents_of bench.now)) }
-{
-    let mut writer = RecordWriter::new(alloc);
-    for i in 0..bench.len() {
-        // A bench has a row at each number below its length: the case without one is proved impossible.
-        if let Some(row) = bench.row(i) {
-            row.write(&mut writer)?;
-        }
     }
     writer.into_text()
 }

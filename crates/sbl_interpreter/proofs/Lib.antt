@@ -1,5 +1,4 @@
-pub mod Arms
-pub mod ChainRuns
+pub mod EarlyEnds
 pub mod Nothing
 pub mod NumberingTables
 pub mod Marked

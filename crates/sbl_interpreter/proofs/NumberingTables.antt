@@ -8,7 +8,7 @@ use Rattle.sbl_ast.specs.declared.mode.Mode.{Mode}
 use Rattle.sbl_ast.specs.declared.mode.Mode.TheVariants.{Forward}
 use Rattle.sbl_program.specs.declared.among.AmongStrings.{AmongStrings}
 use Rattle.sbl_program.specs.AmongStrings.{Listing, listing}
-use Rattle.sbl_interpreter.specs.Listing.{listed_by, listed_of}
+use Rattle.sbl_program.specs.Listing.{listed_by, listed_of}
 use Rattle.sbl_program.specs.FoundView.{listing_found, strings_at, strings_or}
 
 pub same_listing : (m n : Mode) (es fs : List (List ℕ)) → m ≡ n → es ≡ fs → listing m es ≡ listing n fs

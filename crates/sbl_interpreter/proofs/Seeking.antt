@@ -11,7 +11,7 @@ use Rattle.sbl_ast.specs.declared.mode.Mode.{Mode}
 use Rattle.sbl_ast.specs.declared.mode.Mode.TheVariants.{Forward, Backward}
 use Rattle.sbl_semantics.specs.declared.fault.RunFault.TheVariants.{Steps, Cursor}
 use Rattle.sbl_semantics.specs.declared.touch.Touch.TheVariants.{Tested}
-use Rattle.sbl_interpreter.specs.Actions.{test_grouping}
+use Rattle.sbl_program.specs.Actions.{test_grouping}
 use Rattle.sbl_interpreter.specs.Seeking.{count_before, seek_ending}
 use Rattle.sbl_semantics.specs.Moves.{next, next_is, one_of, touch_grouping}
 use Rattle.sbl_semantics.specs.Fitting.{read_as}

@@ -5,11 +5,11 @@ ghost use Rattle.sbl_semantics.specs.Fitting.{read_as};
 ghost use Rattle.sbl_semantics.specs.State.{State as RunState, pay, at_place, at_difference, to_limit, saved_cursor, put_back, step_over, place_after, ahead, room, note_event};
 ghost use Rattle.sbl_program.specs.AmongStrings.{Listing};
 ghost use Rattle.sbl_program.specs.ProgramOf.{program_of, view_text};
-ghost use Rattle.sbl_interpreter.specs.Arithmetic.{characters};
+ghost use Rattle.sbl_program.specs.Arithmetic.{characters};
 ghost use Rattle.sbl_semantics.specs.Events.{Event' as RunEvent, event_of, view_events, Puts};
 ghost use Rattle.sbl_interpreter.specs.Endings.{Leads, IsSaved};
-ghost use Rattle.sbl_interpreter.specs.Rows.{pays};
-ghost use Rattle.sbl_interpreter.specs.Start.{blank, start};
+ghost use Rattle.sbl_program.specs.Rows.{pays};
+ghost use Rattle.sbl_program.specs.Start.{blank, start};
 ghost use Rattle.sbl_semantics.specs.Limit.{max_word_length};
 
 mod actions;

@@ -4,7 +4,7 @@ ghost use Rattle.std.specs.Prelude.{◌≡◌, ◌≤◌, ◌++◌, ◌∷◌, L
 ghost use Rattle.sbl_semantics.specs.Fitting.{first};
 ghost use Rattle.sbl_program.specs.AmongStrings.{Listing};
 ghost use Rattle.sbl_program.specs.FoundView.{listing_found};
-ghost use Rattle.sbl_interpreter.specs.Listing.{fits_at, listed_by, listed_of};
+ghost use Rattle.sbl_program.specs.Listing.{fits_at, listed_by, listed_of};
 
 use sbl_among_search::AmongSearch;
 use sbl_program::AmongStrings;

@@ -25,7 +25,7 @@ use Rattle.sbl_compiler.specs.Ahead.{search_next, search_of, found_as, search_th
 use Rattle.sbl_semantics.specs.Items.{DeclaredNames, place_of, is_among}
 use Rattle.sbl_semantics.specs.Meaning.{prefixed_does, counted_does, joined_does, limited_does, simple_does, moved_does, named_does, edited_does, assigned_does, compared_does, begins, worth}
 use Rattle.sbl_semantics.specs.Meaning as meaning
-use Rattle.sbl_interpreter.specs.Arithmetic.{characters, value, changed_value, holds}
+use Rattle.sbl_program.specs.Arithmetic.{characters, value, changed_value, holds}
 use Rattle.sbl_semantics.specs.Moves.{one_of, touch_grouping, match, set_mark, set_boolean, test_boolean}
 use Rattle.sbl_compiler.specs.NumberedItems.{name_alone, after_prefix, after_count, move, change_named, edit, change_of, relation_of}
 use Rattle.sbl_program.specs.Chains.{join}
@@ -35,10 +35,10 @@ use Rattle.sbl_semantics.specs.Numbers.{Value, continue_with, integer_at, with_v
 use Rattle.sbl_program.specs.Program as programs
 use Rattle.sbl_char_class.specs.Terms.{class_at}
 use Rattle.sbl_semantics.specs.Regions.{Among, among_at, number_after, number_after_rows, number_after_others, number_after_starter, first, first_rows, first_others, mode_under, waits, waits_others}
-use Rattle.sbl_interpreter.specs.Run as run
+use Rattle.sbl_program.specs.Run as run
 use Rattle.sbl_semantics.specs.Control as control
 use Rattle.sbl_semantics.specs.Control.{pay_first}
-use Rattle.sbl_interpreter.specs.Run.{in_turn, nth_does}
+use Rattle.sbl_program.specs.Run.{in_turn, nth_does}
 use Rattle.sbl_semantics.specs.Choices.{choice}
 use Rattle.sbl_semantics.specs.Slices.{keep}
 use Rattle.sbl_semantics.specs.State.{State, Ending, Signals, Stops, Doing, after}

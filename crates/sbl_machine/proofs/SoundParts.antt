@@ -29,7 +29,7 @@ use Rattle.sbl_semantics.specs.Fitting.{below, fitting, onto, read_as, read_all,
 use Rattle.sbl_semantics.specs.Items.{DeclaredNames}
 use Rattle.sbl_semantics.specs.Meaning as meaning
 use Rattle.sbl_semantics.specs.Meaning.{Offer, offer, offers}
-use Rattle.sbl_interpreter.specs.Arithmetic.{characters, value, changed_value, holds}
+use Rattle.sbl_program.specs.Arithmetic.{characters, value, changed_value, holds}
 use Rattle.sbl_compiler.specs.NumberedItems.{change_of, relation_of}
 use Rattle.sbl_compiler.specs.NumberedAmongs.{strings_in, strings_after, condition_of, entries_in, entries_after}
 use Rattle.sbl_program.specs.Chains.{sum_or_difference, all_sums, product_or_quotient, all_products}
@@ -38,7 +38,7 @@ use Rattle.sbl_compiler.specs.NumberedNumbers.{text, constant, expression, sums_
 use Rattle.sbl_semantics.specs.Numbers.{Value, value_in_range, with_value, integer_at}
 use Rattle.sbl_program.specs.Program as programs
 use Rattle.sbl_semantics.specs.Regions.{Among}
-use Rattle.sbl_interpreter.specs.Search.{bound_in, condition_does, try_one, tries, search_strings, search_all}
+use Rattle.sbl_program.specs.Search.{bound_in, condition_does, try_one, tries, search_strings, search_all}
 use Rattle.sbl_semantics.specs.Choices.{take_string, touch_among}
 use Rattle.sbl_semantics.specs.State.{State, bound_of, Ending, Signals, Doing, after, saved_cursor, place_after, then_on, pay}
 use Rattle.sbl_compiler.proofs.SoundItems.{less_suc, placed_by}

@@ -8,12 +8,12 @@ use Rattle.sbl_semantics.specs.Meaning as meaning
 use Rattle.sbl_machine.specs.NumberedScript.{numbered_script}
 use Rattle.sbl_compiler.specs.NumberedItems.{numbered_items, plan_with}
 use Rattle.sbl_compiler.specs.NumberedNames.{Names, names_after, no_names, number_of}
-use Rattle.sbl_interpreter.specs.Start.{ending_of, start}
+use Rattle.sbl_program.specs.Start.{ending_of, start}
 use Rattle.sbl_program.specs.Program as programs
 use Rattle.sbl_semantics.specs.Regions.{number_after, number_after_others}
-use Rattle.sbl_interpreter.specs.Run as run
+use Rattle.sbl_program.specs.Run as run
 use Rattle.sbl_semantics.specs.Control.{enter, leave, pay_first}
-use Rattle.sbl_interpreter.specs.Run.{does}
+use Rattle.sbl_program.specs.Run.{does}
 use Rattle.sbl_semantics.specs.State.{State, Ending, Doing}
 use Rattle.sbl_machine.proofs.SoundActs.{row_sound}
 use Rattle.sbl_compiler.proofs.SoundItems.{strings_are, integers_are, booleans_are, groupings_are, routines_are, placed_by, as_made}

@@ -4,7 +4,7 @@ use Rattle.sbl_ast.specs.declared.mode.Mode.{Mode}
 use Rattle.sbl_machine.specs.declared.machine.Machine.{Machine}
 use Rattle.sbl_semantics.specs.TouchedItems.{names_of}
 use Rattle.sbl_program.specs.AmongStrings.{Listing}
-use Rattle.sbl_interpreter.specs.Listing.{listed_by}
+use Rattle.sbl_program.specs.Listing.{listed_by}
 use Rattle.sbl_among_search.specs.declared.linked.LinkedTable.{LinkedTable}
 use Rattle.sbl_machine.specs.NumberedScript.{numbered_script}
 use Rattle.sbl_program.specs.Program.{Program}

@@ -1,7 +1,7 @@
 -- The program of a script runs as the script does.
 use Rattle.std.specs.Prelude.{◌≡◌, ℕ, List}
 use Rattle.sbl_semantics.specs.Meaning.{ending}
-use Rattle.sbl_interpreter.specs.Start.{ending_of}
+use Rattle.sbl_program.specs.Start.{ending_of}
 use Rattle.sbl_machine.specs.NumberedScript.{numbered_script}
 use Rattle.sbl_ast.specs.Source.{Source}
 

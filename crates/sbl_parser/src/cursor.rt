@@ -182,7 +182,7 @@ macro_rules! chain {
     }};
 }
 
-/// Reads an item and puts it behind the others. They are dropped by a call if this fails, which is cheap to prove.
+/// Reads an item and appends it. The items are dropped by a call if this fails, which is cheap to prove.
 macro_rules! push_read {
     ($items:ident, $read:expr) => {
         match $read {

@@ -7,3 +7,4 @@ pub mod AtTokens
 pub mod NoPlaces
 pub mod FaultKinds
 pub mod InBlocks
+pub mod HeadFacts

@@ -4,6 +4,10 @@ pub mod FaultPlaces
 pub mod BlockPlaces
 pub mod Positions
 pub mod ItemWords
+pub mod Parts
+pub mod Definitions
+pub mod Heads
 -- what the functions inside the crate promise each other; no public contract depends on these
 pub mod Walks
+pub mod HeadReader
 pub mod FaultKinds

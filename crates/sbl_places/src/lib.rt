@@ -1,7 +1,8 @@
-//! Where in its text a script's fault is.
+//! Places in the text of a script: of a fault, of a part, and of a definition.
 #![tactic(auto)]
 
 mod block_places;
+mod definitions;
 mod fault_kinds;
 mod fault_places;
 pub mod laws;
@@ -10,6 +11,7 @@ mod positions;
 mod subject_tokens;
 
 pub use block_places::offset_in_block;
+pub use definitions::{definition_text, without_head};
 pub use fault_places::{FaultPlace, offset_of_fault, place_of_fault};
 pub use parts::{Excerpt, Part, begins_item, cut_at_part};
 pub use positions::{Position, position_of};

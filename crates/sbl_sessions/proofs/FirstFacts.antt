@@ -9,8 +9,8 @@ use Rattle.std.specs.Str.{bytes_eq}
 use Rattle.sbl_bench.specs.Contents.{Contents}
 use Rattle.sbl_bench.specs.Edits.{Edits, Remove, IsAccepted, IsMeterFull, IsOutOfMemory, IsRefused, IsVerdict}
 use Rattle.sbl_bench.specs.KeptRuns.{IsWord}
-use Rattle.sbl_bench.specs.Rows.{Row, rows_of}
-use Rattle.sbl_bench.specs.Setting.{Setting}
+use Rattle.sbl_rows.specs.Rows.{Row, rows_of}
+use Rattle.sbl_rows.specs.Setting.{Setting}
 use Rattle.sbl_bench.specs.Traces.{trace_of}
 use Rattle.sbl_bench.specs.Vocabulary.{is_word}
 use Rattle.sbl_bench.specs.declared.fault.EditFault.{EditFault}

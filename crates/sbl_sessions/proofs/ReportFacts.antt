@@ -5,11 +5,11 @@ use Rattle.std.specs.List.{find}
 use Rattle.std.specs.declared.vec.Vec.{Vec}
 use Rattle.std.specs.declared.alloc.Global.{Global}
 use Rattle.std.specs.declared.alloc.AllocError.{AllocError}
-use Rattle.sbl_bench.specs.Contents.{Contents}
+use Rattle.sbl_bench.specs.Contents.{Contents, rows_now}
 use Rattle.std.specs.Option.{option_and_then, option_map, option_map_or}
 use Rattle.std.specs.Str.{bytes_eq}
-use Rattle.sbl_bench.specs.Classes.{Class, class_of, class_with, stem_of}
-use Rattle.sbl_bench.specs.Rows.{Row}
+use Rattle.sbl_rows.specs.Classes.{Class, class_of, class_with, stem_of}
+use Rattle.sbl_rows.specs.Rows.{Row}
 use Rattle.sbl_bench.specs.Traces.{trace_of}
 use Rattle.sbl_bench.specs.Vocabulary.{is_word}
 use Rattle.sbl_bench.specs.declared.fault.EditFault.TheVariants as fault
@@ -17,8 +17,10 @@ use Rattle.sbl_semantics.specs.TouchedItems.{Item', touched_items}
 use Rattle.sbl_io.specs.Records.{records_text}
 use Rattle.sbl_sessions.specs.Answers.{Enough, IsReport, Memory, RefusedAfter, edit_text}
 use Rattle.sbl_sessions.specs.CommandViews.{IsReply}
-use Rattle.sbl_formats.specs.RowRecords.{class_fields, class_or_row_text, class_text, row_fields, rows_now}
-use Rattle.sbl_formats.specs.Traces.{items_text, trace_text}
+use Rattle.sbl_formats.specs.RowRecords.{class_fields, row_fields}
+use Rattle.sbl_listings.specs.Listings.{class_or_row_text, class_text}
+use Rattle.sbl_formats.specs.ItemRecords.{items_text}
+use Rattle.sbl_listings.specs.Listings.{trace_text}
 use Rattle.sbl_sessions.specs.declared.replies.Reply.{Reply}
 
 pub map_twice : {A B C : Type 0} (g : B → C) (f : A → B) (xs : List A) → map (λ (x : A). g (f x)) xs ≡ map g (map f xs)

@@ -4,8 +4,8 @@ use Rattle.std.specs.Option.{option_and_then, option_map_or, unwrap_or}
 use Rattle.std.specs.Str.{bytes_eq, chars, is_utf8}
 use Rattle.sbl_bench.specs.Contents.{Contents}
 use Rattle.sbl_bench.specs.Edits as edits
-use Rattle.sbl_formats.specs.RowRecords.{class_text, classes_text, stems_text}
-use Rattle.sbl_formats.specs.Traces.{trace_text}
+use Rattle.sbl_listings.specs.Listings.{class_text, classes_text, stems_text}
+use Rattle.sbl_listings.specs.Listings.{trace_text}
 use Rattle.sbl_print.specs.Canonical.{canonical}
 use Rattle.sbl_script.specs.Edits.{ScriptEdit}
 use Rattle.sbl_text.specs.declared.fault.ScriptFault.{ScriptFault}

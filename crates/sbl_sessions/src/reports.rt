@@ -3,18 +3,20 @@ ghost use Rattle.std.specs.Prelude.{◌≡◌, IfOk, decimal};
 ghost use Rattle.std.specs.List.{find};
 ghost use Rattle.std.specs.Option.{option_map};
 ghost use Rattle.std.specs.Str.{bytes_eq, chars};
-ghost use Rattle.sbl_bench.specs.{KeptRuns.contents_of, Rows.view_row};
+ghost use Rattle.sbl_bench.specs.{Contents.rows_now, KeptRuns.contents_of};
+ghost use Rattle.sbl_rows.specs.Rows.{view_row};
 ghost use Rattle.sbl_semantics.specs.TouchedItems.{items_in};
 ghost use Rattle.sbl_print.specs.Canonical.{canonical};
 ghost use Rattle.sbl_sessions.specs.{Answers.with_line_feed, CommandViews.IsAnswer, Commands.Class, Commands.Trace};
-ghost use Rattle.sbl_formats.specs.RowRecords as spec;
-ghost use Rattle.sbl_formats.specs.Traces as traces;
+ghost use Rattle.sbl_formats.specs.ItemRecords.{items_text};
+ghost use Rattle.sbl_listings.specs.Listings as spec;
 
 use crate::replies::{Reply, edit_text, report};
 use crate::session_edits::{MAX_LOOKED_AT, first_characters};
 use sbl_bench::laws::words_fit;
 use sbl_bench::{Bench, EditFault, Row};
-use sbl_formats::{records_text, rows_text};
+use sbl_formats::records_text;
+use sbl_listings::rows_text;
 use sbl_machine::Item;
 use std::alloc::{AllocError, Global};
 use std::collections::BTreeSet;
@@ -62,7 +64,7 @@ pub(crate) fn runs_text(alloc: Global, bench: &Bench) -> Result<Vec<u8>, AllocEr
 
 /// Returns the row of a word, if the word is in the vocabulary. Does not allocate.
 fn row_with<'b>(bench: &'b Bench, word: &[char]) -> Option<Row<'b>>
-    ensures { option_map view_row result ≡ find (λ row. bytes_eq word.now row.word) (spec.rows_now (contents_of bench.now)) }
+    ensures { option_map view_row result ≡ find (λ row. bytes_eq word.now row.word) (rows_now (contents_of bench.now)) }
 {
     bench.row_of(word)
 }
@@ -98,7 +100,7 @@ pub(crate) fn class_reply(alloc: Global, bench: &Bench, word: &str) -> Reply
 
 /// Returns the text of some items: a row for each, in their order. Returns `AllocError` if an allocation fails.
 fn items_text(alloc: Global, items: BTreeSet<Item>) -> Result<Vec<u8>, AllocError>
-    ensures { IfOk result (λ text. text.items ≡ traces.items_text (items_in items)) }
+    ensures { IfOk result (λ text. text.items ≡ items_text (items_in items)) }
 {
     let items: Vec<Item> = items.into_iter().collect(alloc)?;
     records_text(alloc, &items)

@@ -4,9 +4,8 @@ use Rattle.sbl_ast.specs.declared.mode.Mode.TheVariants.{Forward}
 use Rattle.sbl_program.specs.AmongStrings.{Listing}
 use Rattle.sbl_program.specs.ProgramOf.{view_routine}
 use Rattle.sbl_program.specs.declared.node.Routine.{Routine}
-use Rattle.sbl_program.specs.Program as programs
 use Rattle.sbl_threaded_code.specs.declared.code.RoutineCode.{RoutineCode}
-use Rattle.sbl_threaded_code.specs.CodeOf.{IsCodeOf, IsCodeOfAny, AreCodeOf}
+use Rattle.sbl_threaded_code.specs.CodeOf.{IsCodeOf, AreCodeOf}
 
 no_tables : ℕ → Listing
 no_tables n = record { mode = Forward; entries = [] }

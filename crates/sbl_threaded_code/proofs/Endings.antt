@@ -1,9 +1,9 @@
 -- How endings go on: laws of `after`, of steps and of putting a cursor back.
-use Rattle.std.proofs.Common.{◌≡◌, ℕ, ◌+◌, ◌-◌, ◌<◌, zero, suc, Bool, true, false, cond, refl, sym, ap, ◌∙◌, arith, length}
+use Rattle.std.proofs.Common.{◌≡◌, ℕ, ◌+◌, ◌-◌, zero, suc, Bool, true, false, refl, sym, ap, ◌∙◌, arith, length}
 use Rattle.std.specs.Prelude.{nat_le, nat_lt, if◌then◌else◌}
-use Rattle.sbl_interpreter.specs.Rows.{pays}
+use Rattle.sbl_program.specs.Rows.{pays}
 use Rattle.sbl_semantics.specs.Control.{pay_first}
-use Rattle.sbl_semantics.specs.State.{State, Ending, Signals, Stops, Doing, after, then_on, pay, at_place, at_difference, put_back}
+use Rattle.sbl_semantics.specs.State.{State, Ending, Signals, Stops, Doing, after, then_on, pay, at_place, put_back}
 use Rattle.sbl_semantics.specs.declared.fault.RunFault.TheVariants.{Cursor}
 use Rattle.sbl_semantics.specs.declared.cursor.SavedCursor.{SavedCursor}
 use Rattle.sbl_ast.specs.declared.mode.Mode.{Mode}

@@ -1,5 +1,5 @@
 -- What a run does from each kind of instruction on: the equations of `flow`.
-use Rattle.std.proofs.Common.{◌≡◌, ℕ, Bool, true, false, List, [], ◌∷◌, map, refl, rules, Box, Vec, Global}
+use Rattle.std.proofs.Common.{◌≡◌, ℕ, Bool, false, List, [], ◌∷◌, map, rules, Box, Vec, Global}
 use Rattle.std.specs.Prelude.{slice_set, slice_index_or}
 use Rattle.std.specs.declared.rc.Rc.{Rc}
 use Rattle.sbl_char_class.specs.Terms.{class_at}
@@ -8,10 +8,10 @@ use Rattle.sbl_program.specs.Program as programs
 use Rattle.sbl_program.specs.ProgramOf.{view_action, view_number}
 use Rattle.sbl_program.specs.declared.action.Action.{Action}
 use Rattle.sbl_program.specs.declared.action.Arithmetic.{Arithmetic}
-use Rattle.sbl_interpreter.specs.Actions.{acts, test_grouping}
-use Rattle.sbl_interpreter.specs.Rows.{pays}
-use Rattle.sbl_interpreter.specs.Run.{calls}
-use Rattle.sbl_interpreter.specs.Search.{search_all}
+use Rattle.sbl_program.specs.Actions.{acts, test_grouping}
+use Rattle.sbl_program.specs.Rows.{pays}
+use Rattle.sbl_program.specs.Run.{calls}
+use Rattle.sbl_program.specs.Search.{search_all}
 use Rattle.sbl_semantics.specs.Choices.{choice}
 use Rattle.sbl_semantics.specs.Control.{pay_first}
 use Rattle.sbl_semantics.specs.Moves.{match, test_boolean}
@@ -22,7 +22,7 @@ use Rattle.sbl_semantics.specs.declared.cursor.SavedCursor.{SavedCursor}
 use Rattle.sbl_ast.specs.declared.mode.Mode.{Mode}
 use Rattle.sbl_threaded_code.specs.declared.instruction.Instruction.{Instruction}
 use Rattle.sbl_threaded_code.specs.declared.instruction.Instruction.TheVariants.{End, Pay, Character, Literal, Grouping, LeftBracket, RightBracket, Boolean, Next, Act, Save, Restore, Nested, Repeat, Loop, AtLeast, Seek, SeekGrouping, Backwards, SetLimit, Call, Search, Choose}
-use Rattle.sbl_threaded_code.specs.declared.instruction.Instruction.TheFolds.{fold_out-Instruction, fold_out-GroupCode}
+use Rattle.sbl_threaded_code.specs.declared.instruction.Instruction.TheFolds.{fold_out-Instruction}
 use Rattle.sbl_threaded_code.specs.declared.instruction.Instruction.TheViews.{the_lemmas}
 use Rattle.sbl_threaded_code.specs.Slots.{no_cursor}
 use Rattle.sbl_threaded_code.specs.declared.instruction.GroupCode.{GroupCode}

@@ -5,5 +5,3 @@ pub mod PerformingAt
 pub mod Rests
 pub mod ProgramViews
 pub mod Codes
-pub mod Flows
-pub mod Inners

@@ -1,5 +1,5 @@
 -- What instructions perform, by what they do first and what those after them perform.
-use Rattle.std.proofs.Common.{◌≡◌, ◌≢◌, ℕ, ◌+◌, ◌-◌, ◌<◌, ◌≤◌, zero, suc, Bool, true, false, List, [], ◌∷◌, length, map, Option, Some, None, refl, sym, ap, subst, ◌∙◌, arith, rules, get_or-set_same, get_or-set_other}
+use Rattle.std.proofs.Common.{◌≡◌, ◌≢◌, ℕ, ◌+◌, ◌<◌, zero, suc, Bool, true, false, List, [], ◌∷◌, length, map, Option, Some, None, refl, sym, ap, subst, ◌∙◌, arith, rules, get_or-set_same, get_or-set_other}
 use Rattle.std.specs.Prelude.{slice_get, slice_set, slice_index_or}
 use Rattle.std.specs.Option.{option_map_or}
 use Rattle.std.proofs.Math.Path.{fun_ext}
@@ -8,8 +8,8 @@ use Rattle.sbl_program.specs.AmongStrings.{Listing}
 use Rattle.sbl_program.specs.Program as programs
 use Rattle.sbl_program.specs.ProgramOf.{view_node, view_nodes}
 use Rattle.sbl_program.specs.declared.node.Node.{Node}
-use Rattle.sbl_interpreter.specs.Rows.{pays}
-use Rattle.sbl_interpreter.specs.Run.{runs, runs_paid, nth_runs, group_runs}
+use Rattle.sbl_program.specs.Rows.{pays}
+use Rattle.sbl_program.specs.Run.{runs, runs_paid, nth_runs, group_runs}
 use Rattle.sbl_semantics.specs.Choices.{choice}
 use Rattle.sbl_semantics.specs.Control.{turns, pay_first}
 use Rattle.sbl_semantics.specs.State.{State, Ending, Signals, Doing, after, then_on, pay, saved_cursor, put_back}

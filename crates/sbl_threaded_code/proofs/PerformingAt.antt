@@ -1,6 +1,6 @@
 -- What instructions perform if the cursor is where it was saved.
-use Rattle.std.proofs.Common.{◌≡◌, ℕ, ◌+◌, ◌-◌, ◌<◌, ◌≤◌, zero, suc, Bool, true, false, List, length, drop, get_or, refl, sym, ap, subst, ◌∙◌, arith, rules}
-use Rattle.std.specs.Prelude.{nat_le, nat_lt, nat_eq, slice_get, slice_index_or, if◌then◌else◌}
+use Rattle.std.proofs.Common.{◌≡◌, ℕ, ◌+◌, ◌-◌, ◌<◌, ◌≤◌, zero, suc, Bool, true, false, List, length, drop, get_or, refl, sym, ap, subst, ◌∙◌, arith}
+use Rattle.std.specs.Prelude.{nat_le, nat_lt, nat_eq, slice_get, if◌then◌else◌}
 use Rattle.std.specs.List.{starts_with}
 use Rattle.std.proofs.lemmas.Bool.Decides.{nat_tests}
 use Rattle.std.proofs.Math.Path.{fun_ext}
@@ -11,23 +11,22 @@ use Rattle.sbl_program.specs.declared.action.Action.{Action}
 use Rattle.sbl_program.specs.declared.action.Action.TheVariants.{LeftBracket}
 use Rattle.sbl_program.specs.declared.node.Node.TheVariants.{Act}
 use Rattle.sbl_program.specs.declared.node.Node.{Node}
-use Rattle.sbl_interpreter.specs.Rows.{pays}
-use Rattle.sbl_interpreter.specs.Actions.{acts, test_grouping}
-use Rattle.sbl_interpreter.specs.Run.{runs, runs_paid, all_run}
-use Rattle.sbl_interpreter.proofs.Arms.{turn_is}
+use Rattle.sbl_program.specs.Rows.{pays}
+use Rattle.sbl_program.specs.Actions.{acts, test_grouping}
+use Rattle.sbl_program.specs.Run.{runs, runs_paid, all_run}
+use Rattle.sbl_program.proofs.Turns.{turn_is}
 use Rattle.sbl_semantics.specs.Fitting.{read_as}
 use Rattle.sbl_semantics.specs.Moves.{match, next_is, touch_grouping}
 use Rattle.sbl_semantics.specs.Control.{pay_first}
 use Rattle.sbl_semantics.specs.Slices.{left_bracket}
 use Rattle.sbl_semantics.specs.State.{State, Ending, Signals, Stops, after, then_on, pay, at_place, at_difference, saved_cursor, put_back, ahead, move_cursor}
-use Rattle.sbl_semantics.specs.declared.fault.RunFault.TheVariants.{Steps, Cursor}
+use Rattle.sbl_semantics.specs.declared.fault.RunFault.TheVariants.{Cursor}
 use Rattle.sbl_semantics.specs.declared.cursor.SavedCursor.{SavedCursor}
 use Rattle.sbl_ast.specs.declared.mode.Mode.{Mode}
 use Rattle.sbl_ast.specs.declared.mode.Mode.TheVariants.{Forward, Backward}
 use Rattle.sbl_threaded_code.specs.declared.instruction.Instruction.{Instruction}
-use Rattle.sbl_threaded_code.specs.Slots.{no_cursor}
-use Rattle.sbl_threaded_code.specs.Flow.{Flow, flow, back_if}
-use Rattle.sbl_threaded_code.specs.Performs.{Agree, GoesOn, IsAt, Meaning, Performs, PerformsAt, Restores, Tests}
+use Rattle.sbl_threaded_code.specs.Flow.{flow, back_if}
+use Rattle.sbl_threaded_code.specs.Performs.{IsAt, Meaning, Performs, PerformsAt, Restores, Tests}
 use Rattle.sbl_threaded_code.proofs.Endings.{after_after, after_same, then_same, own_step}
 use Rattle.sbl_threaded_code.proofs.Performing.{after_steps}
 use Rattle.sbl_threaded_code.proofs.ProgramViews.{act_does}

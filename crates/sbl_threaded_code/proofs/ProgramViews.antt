@@ -1,6 +1,5 @@
 -- Parts of a program without memory addresses: what the assembler reads of them.
 use Rattle.std.proofs.Common.{◌≡◌, ℕ, List, [], ◌∷◌, length, get_or, sym, ap, arith, rules}
-use Rattle.sbl_ast.specs.declared.tree.Joiner.{Joiner}
 use Rattle.sbl_ast.specs.declared.mode.Mode.{Mode}
 use Rattle.sbl_program.specs.AmongStrings.{Listing}
 use Rattle.sbl_program.specs.Program as programs
@@ -10,8 +9,8 @@ use Rattle.sbl_program.specs.declared.node.Node.TheVariants.{Act, Call}
 use Rattle.sbl_program.specs.declared.node.Node.TheFolds.{fold_out-Node, fold_out-JoinedNode}
 use Rattle.sbl_program.specs.declared.node.Node.TheViews.{the_lemmas}
 use Rattle.sbl_program.specs.declared.node.JoinedNode.{JoinedNode, out-JoinedNode}
-use Rattle.sbl_interpreter.specs.Actions.{acts}
-use Rattle.sbl_interpreter.specs.Run.{runs_paid, calls}
+use Rattle.sbl_program.specs.Actions.{acts}
+use Rattle.sbl_program.specs.Run.{runs_paid, calls}
 use Rattle.sbl_semantics.specs.State.{State}
 
 view_act : (T : ℕ → Listing) (a : Action) → view_node T (Act a) ≡ programs.act (view_action a)

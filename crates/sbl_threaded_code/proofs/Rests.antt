@@ -1,5 +1,5 @@
 -- Where a row goes on after its first command, and the groups of an among one after another.
-use Rattle.std.proofs.Common.{◌≡◌, ℕ, ◌+◌, ◌-◌, ◌<◌, ◌≤◌, zero, suc, Bool, true, false, List, [], ◌∷◌, ◌++◌, length, refl, sym, ap, subst, ◌∙◌, arith, get_or-set_same}
+use Rattle.std.proofs.Common.{◌≡◌, ℕ, ◌<◌, suc, Bool, true, false, List, [], ◌∷◌, ◌++◌, length, refl, sym, ap, subst, ◌∙◌, arith, get_or-set_same}
 use Rattle.std.proofs.lemmas.List.{length-set}
 use Rattle.std.specs.Prelude.{slice_index_or, slice_set, if◌then◌else◌}
 use Rattle.sbl_ast.specs.declared.tree.Joiner.TheVariants.{Or, And}
@@ -8,9 +8,9 @@ use Rattle.sbl_program.specs.Chains.{JoinedView}
 use Rattle.sbl_program.specs.Program as programs
 use Rattle.sbl_program.specs.ProgramOf.{view_node}
 use Rattle.sbl_program.specs.declared.node.Node.{Node}
-use Rattle.sbl_interpreter.specs.Rows.{pays, is_settled, joined_runs, others_run}
-use Rattle.sbl_interpreter.specs.Run.{runs}
-use Rattle.sbl_interpreter.proofs.ChainRuns.{others_stop}
+use Rattle.sbl_program.specs.Rows.{pays, is_settled, joined_runs, others_run}
+use Rattle.sbl_program.specs.Run.{runs}
+use Rattle.sbl_program.proofs.ChainRuns.{others_stop}
 use Rattle.sbl_semantics.specs.State.{State, Ending, Signals, Stops, after, then_on, saved_cursor, put_back}
 use Rattle.sbl_semantics.specs.declared.cursor.SavedCursor.{SavedCursor}
 use Rattle.sbl_ast.specs.declared.mode.Mode.{Mode}

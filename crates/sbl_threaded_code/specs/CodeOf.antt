@@ -4,7 +4,7 @@ use Rattle.sbl_program.specs.AmongStrings.{Listing}
 use Rattle.sbl_program.specs.ProgramOf.{view_routine}
 use Rattle.sbl_program.specs.Program as programs
 use Rattle.sbl_program.specs.declared.node.Routine.{Routine}
-use Rattle.sbl_interpreter.specs.Run.{runs}
+use Rattle.sbl_program.specs.Run.{runs}
 use Rattle.sbl_semantics.specs.State.{State}
 use Rattle.sbl_ast.specs.declared.mode.Mode.{Mode}
 use Rattle.sbl_threaded_code.specs.declared.code.RoutineCode.{RoutineCode}

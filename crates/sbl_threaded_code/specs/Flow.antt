@@ -1,16 +1,16 @@
 -- What a run does from an instruction on. You need not believe anything here: it is what the assembler and the runner
 -- promise each other.
-use Rattle.std.specs.Prelude.{ℕ, suc, Bool, true, false, List, [], ◌∷◌, Option, Some, None, replicate, slice_get, slice_set, slice_index_or}
+use Rattle.std.specs.Prelude.{ℕ, suc, Bool, true, false, List, [], ◌∷◌, Option, Some, None, slice_get, slice_set, slice_index_or}
 use Rattle.std.specs.Option.{option_map_or}
 use Rattle.sbl_char_class.specs.Terms.{class_at}
 use Rattle.sbl_program.specs.AmongStrings.{Listing}
 use Rattle.sbl_program.specs.ProgramOf.{view_action, view_number}
-use Rattle.sbl_interpreter.specs.Actions.{acts, test_grouping}
-use Rattle.sbl_interpreter.specs.Arithmetic.{value}
-use Rattle.sbl_interpreter.specs.Rows.{pays}
-use Rattle.sbl_interpreter.specs.Run.{calls}
+use Rattle.sbl_program.specs.Actions.{acts, test_grouping}
+use Rattle.sbl_program.specs.Arithmetic.{value}
+use Rattle.sbl_program.specs.Rows.{pays}
+use Rattle.sbl_program.specs.Run.{calls}
 use Rattle.sbl_program.specs.Program as programs
-use Rattle.sbl_interpreter.specs.Search.{search_all}
+use Rattle.sbl_program.specs.Search.{search_all}
 use Rattle.sbl_semantics.specs.Choices.{choice}
 use Rattle.sbl_semantics.specs.Control.{turns, times, count_of, seeks, limits, limit_here, restore_limit, backwards_from, backwards_end, pay_first}
 use Rattle.sbl_semantics.specs.Moves.{match, test_boolean}

@@ -4,4 +4,3 @@ pub mod Flow
 pub mod CodeOf
 -- what the functions inside the crate promise each other; no public contract depends on these
 pub mod Performs
-pub mod Inner

@@ -4,8 +4,8 @@ use Rattle.sbl_program.specs.AmongStrings.{Listing}
 use Rattle.sbl_program.specs.Chains.{JoinedView}
 use Rattle.sbl_program.specs.ProgramOf.{view_node}
 use Rattle.sbl_program.specs.declared.node.Node.{Node}
-use Rattle.sbl_interpreter.specs.Rows.{pays, others_run}
-use Rattle.sbl_interpreter.specs.Run.{runs}
+use Rattle.sbl_program.specs.Rows.{pays, others_run}
+use Rattle.sbl_program.specs.Run.{runs}
 use Rattle.sbl_program.specs.Program as programs
 use Rattle.sbl_semantics.specs.State.{State, Ending, Doing, Signals, after, then_on, saved_cursor, put_back}
 use Rattle.sbl_semantics.specs.declared.cursor.SavedCursor.{SavedCursor}

@@ -4,7 +4,7 @@ ghost use Rattle.std.specs.Prelude.{◌≡◌, ◌+◌, ◌≤◌, ℕ, false, l
 ghost use Rattle.sbl_program.specs.AmongStrings.{Listing};
 ghost use Rattle.sbl_program.specs.ProgramOf.{view_node, view_nodes, view_routine};
 ghost use Rattle.sbl_semantics.specs.Choices.{choice};
-ghost use Rattle.sbl_interpreter.specs.Run.{runs, all_run, group_runs};
+ghost use Rattle.sbl_program.specs.Run.{runs, all_run, group_runs};
 ghost use Rattle.sbl_semantics.specs.Control.{pay_first};
 ghost use Rattle.sbl_threaded_code.specs.Performs.{Meaning, PerformsWithExits, Runs};
 ghost use Rattle.sbl_threaded_code.specs.Flow.{fail_of};

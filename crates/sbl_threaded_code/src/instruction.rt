@@ -3,6 +3,9 @@
 use sbl_program::{Action, Arithmetic, Candidate};
 use std::rc::Rc;
 
+/// The number of cursors that the instructions of a routine can save. Commands that are nested deeper get a runner of their own.
+pub const SLOTS: usize = 4;
+
 /// An instruction of a routine. A run acts and goes on with `next` after t and with `fail` after f. Before it acts it uses
 /// the steps of `cost`: those of the commands that begin here and do nothing else.
 #[cycle(instruction)]

@@ -1,13 +1,10 @@
-//! Programs as threaded code: instructions that are linked to those after them. It is made once, and runs faster than a tree.
+//! Programs as threaded code: instructions that are linked to those after them. The code of a program is made once.
 #![tactic(auto)]
 
 mod assembler;
 mod code;
 mod copies;
 mod instruction;
-mod runner;
-mod slots;
 
 pub use code::{Code, RoutineCode};
-pub use instruction::{GroupCode, Instruction};
-pub use runner::Runner;
+pub use instruction::{GroupCode, Instruction, SLOTS, SearchSite};

@@ -1,8 +1,8 @@
 -- The words of rows.
 use Rattle.std.proofs.Common.{◌≡◌, ◌∙◌, ◌∷◌, ℕ, List, [], map, refl, ap}
-use Rattle.sbl_bench.specs.Rows.{Row, rows_of, view_row}
-use Rattle.sbl_bench.specs.Setting.{Setting}
-use Rattle.sbl_bench.specs.declared.row.Row as declared
+use Rattle.sbl_rows.specs.Rows.{Row, rows_of, view_row}
+use Rattle.sbl_rows.specs.Setting.{Setting}
+use Rattle.sbl_rows.specs.declared.row.Row as declared
 
 abbrev pub row_word : declared.Row → List ℕ
 row_word r = r.word.now

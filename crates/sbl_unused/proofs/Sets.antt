@@ -10,7 +10,7 @@ use Rattle.std.specs.declared.cmp.Ordering.TheVariants.{Less, Equal, Greater}
 use Rattle.std.proofs.lemmas.Map.Lookups.{exact_bytes}
 use Rattle.std.specs.Cmp.{unsigned_tied}
 use Rattle.std.proofs.lemmas.Map.Text.{is_eq-slice_cmp}
-use Rattle.sbl_bench.proofs.PairFacts.{then_eq}
+use Rattle.sbl_rows.proofs.PairFacts.{then_eq}
 use Rattle.sbl_machine.proofs.Order.{map_insert_key}
 use Rattle.sbl_machine.proofs.TouchedOrder.{item_exact}
 use Rattle.sbl_semantics.specs.TouchedItems.{Item', Routine, Among, Grouping, item_cmp, item_of, same_item}

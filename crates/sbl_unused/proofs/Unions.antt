@@ -3,7 +3,7 @@ use Rattle.std.proofs.Common.{◌≡◌, ◌∙◌, ◌||◌, ◌<◌, ℕ, zero
 use Rattle.std.specs.List.{list_any}
 use Rattle.std.specs.Str.{bytes_eq}
 use Rattle.std.proofs.lemmas.Slice.Eq.{bytes_eq-Decides}
-use Rattle.sbl_bench.specs.Setting.{Setting}
+use Rattle.sbl_rows.specs.Setting.{Setting}
 use Rattle.sbl_bench.specs.Vocabulary.{is_word}
 use Rattle.sbl_machine.specs.BuiltFrom.{is_affected_by, meets}
 use Rattle.sbl_semantics.specs.Outcome.{touches_of}

@@ -2,7 +2,7 @@
 use Rattle.std.specs.Prelude.{ℕ, suc, Bool, ◌&&◌, List, [], ◌∷◌, ◌++◌, Some, codes, decimal, slice_index_or, if◌then◌else◌}
 use Rattle.std.specs.List.{flat_map, list_any}
 use Rattle.std.specs.Str.{bytes_eq, encode_utf8_all}
-use Rattle.sbl_bench.specs.Setting.{Setting}
+use Rattle.sbl_rows.specs.Setting.{Setting}
 use Rattle.sbl_machine.specs.BuiltFrom.{meets}
 use Rattle.sbl_semantics.specs.TouchedItems.{Item', Routine, Among, Grouping, names_of, same_item}
 use Rattle.sbl_semantics.specs.Outcome.{events_of}

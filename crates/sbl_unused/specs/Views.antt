@@ -4,7 +4,7 @@ use Rattle.std.specs.Borrow.{Bor}
 use Rattle.std.specs.BTreeSet.{BTreeSet}
 use Rattle.std.specs.Global.{Vec}
 use Rattle.std.specs.List.{list_any}
-use Rattle.sbl_bench.specs.Setting.{Setting}
+use Rattle.sbl_rows.specs.Setting.{Setting}
 use Rattle.sbl_machine.specs.BuiltFrom.{built_on}
 use Rattle.sbl_semantics.specs.TouchedItems.{Item', Grouping, item_of, items_in, same_item}
 use Rattle.sbl_semantics.specs.declared.item.Item.{Item}

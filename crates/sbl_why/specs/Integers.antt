@@ -1,7 +1,7 @@
 -- The integer variables at the end of a run.
 use Rattle.std.specs.Prelude.{ℕ, ℤ, suc, List, [], ◌∷◌, codes, decimal, slice_index_or}
 use Rattle.std.specs.Fmt.{signed_decimal}
-use Rattle.sbl_bench.specs.Setting.{Setting}
+use Rattle.sbl_rows.specs.Setting.{Setting}
 use Rattle.sbl_semantics.specs.Outcome.{integers_of, used_of}
 use Rattle.sbl_semantics.specs.Items.{known_in}
 use Rattle.sbl_io.specs.Records.{records_text}

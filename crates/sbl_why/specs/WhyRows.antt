@@ -1,7 +1,7 @@
 -- The rows that tell why a word has its stem.
 use Rattle.std.specs.Prelude.{ℕ, zero, suc, ◌-◌, Bool, true, false, List, [], ◌∷◌, ◌++◌, Some, None, codes, decimal, length, slice_index_or, take}
 use Rattle.std.specs.Str.{encode_utf8_all}
-use Rattle.sbl_bench.specs.Setting.{Setting}
+use Rattle.sbl_rows.specs.Setting.{Setting}
 use Rattle.sbl_semantics.specs.Outcome.{Outcome', Stem, Refused, run_of, events_of}
 use Rattle.sbl_semantics.specs.TouchedItems.{names_of}
 use Rattle.sbl_io.specs.Records.{records_text}

@@ -1,7 +1,7 @@
 -- The replies of work: the text of the reply to a command, and the bench and the desk after it.
 use Rattle.std.specs.Prelude.{◌≡◌, ◌⊎◌, ℕ, List, [], codes, if◌then◌else◌, Option, Some, None, Result, Ok, Err}
 use Rattle.std.specs.Str.{chars, is_utf8}
-use Rattle.sbl_bench.specs.Contents.{Contents}
+use Rattle.sbl_bench.specs.Contents.{Contents, rows_now}
 use Rattle.sbl_bench.specs.Edits.{Whole}
 use Rattle.sbl_bench.specs.Whys.{refusal_of_why}
 use Rattle.sbl_bench.specs.declared.fault.EditFault.{EditFault}
@@ -14,12 +14,12 @@ use Rattle.sbl_unused.specs.Unused as unused
 use Rattle.sbl_why.specs.Integers as integers
 use Rattle.sbl_why.specs.WhyRows as rows
 use Rattle.sbl_work.specs.Commands.{WorkCommand, Nothing, Session, EditPart, EditWhole, Undo, Redo, Mark, Changes, Stats, Unused, Largest, Families, Why, Integers, Show, Saved, NoFile, Echo}
-use Rattle.sbl_desk.specs.Definitions.{definition_text}
-use Rattle.sbl_desk.specs.Desks.{Redoes, State, Undoes, rows_now}
+use Rattle.sbl_places.specs.Definitions.{definition_text}
+use Rattle.sbl_desk.specs.Desks.{Redoes, State, Undoes}
 use Rattle.sbl_desk.specs.Editing.{IsLimitNoted, Replaces, ReplacesPart}
-use Rattle.sbl_desk.specs.Families.{families_in, families_text}
-use Rattle.sbl_desk.specs.Heads.{IsWithoutHead}
-use Rattle.sbl_desk.specs.Reports.{changes_text, largest_text, stats_text}
+use Rattle.sbl_reports.specs.Families.{families_in, families_text}
+use Rattle.sbl_places.specs.Heads.{IsWithoutHead}
+use Rattle.sbl_reports.specs.Reports.{changes_text, largest_text, stats_text}
 use Rattle.sbl_desk.specs.declared.history.HistoryFault.{HistoryFault}
 use Rattle.sbl_desk.specs.declared.history.HistoryFault.TheVariants as fault
 
@@ -103,7 +103,7 @@ IsWorkReply s d (EditWhole bytes) text t e = IsWholeReply bytes s d text t e
 IsWorkReply s d Undo text t e = (result : Result (Unit {0}) HistoryFault) × Undoes result s d t e × (text ≡ undo_text result)
 IsWorkReply s d Redo text t e = (result : Result (Unit {0}) HistoryFault) × Redoes result s d t e × (text ≡ redo_text result)
 IsWorkReply s d Mark text t e = ((text ≡ edit_text None) × (t ≡ s) × (e ≡ record d { marked = rows_now s })) ⊎ TellsMemory s d text t e
-IsWorkReply s d Changes text t e = TellsReport (changes_text d s) s d text t e
+IsWorkReply s d Changes text t e = TellsReport (changes_text d.marked s) s d text t e
 IsWorkReply s d Stats text t e = TellsReport (stats_text s) s d text t e
 IsWorkReply s d Unused text t e = TellsReport (unused.unused_text s.setting s.words) s d text t e
 IsWorkReply s d (Largest number) text t e = IsLargestReply number s d text t e

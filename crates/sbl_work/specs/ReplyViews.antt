@@ -19,8 +19,8 @@ use Rattle.sbl_work.specs.Commands as command
 use Rattle.sbl_work.specs.Commands.{WorkCommand, alone_command, count_in, families_in_file, is_replace, with_file}
 use Rattle.sbl_desk.specs.Desks.{State}
 use Rattle.sbl_desk.specs.Editing.{ReplacesPart}
-use Rattle.sbl_desk.specs.Heads.{IsWithoutHead}
-use Rattle.sbl_desk.specs.Families.{families_in, families_text}
+use Rattle.sbl_places.specs.Heads.{IsWithoutHead}
+use Rattle.sbl_reports.specs.Families.{families_in, families_text}
 use Rattle.sbl_work.specs.Replies.{IsWorkReply, TellsReport}
 use Rattle.sbl_work.specs.declared.requests.BlockRequest.{BlockRequest}
 use Rattle.sbl_work.specs.declared.requests.BlockRequest.TheVariants as blocks

@@ -1,11 +1,11 @@
 -- What the whole of work reads and writes: the two files are read, and then the lines of the input get their replies.
 use Rattle.std.specs.Prelude.{◌≡◌, ◌⊎◌, ℕ, List, [], Option, Some, None, Result, Ok, Err}
-use Rattle.sbl_bench.specs.Contents.{Contents, opening_contents, opening_fault}
+use Rattle.sbl_bench.specs.Contents.{Contents, opening_contents, opening_fault, rows_now}
 use Rattle.sbl_io.specs.declared.faults.ServeFault.{ServeFault}
 use Rattle.sbl_io.specs.declared.faults.ServeFault.TheVariants as fault
 use Rattle.sbl_ast.specs.Source.{Source}
 use Rattle.sbl_script.specs.Reading.{IsScriptOf}
-use Rattle.sbl_desk.specs.Desks.{State, rows_now}
+use Rattle.sbl_desk.specs.Desks.{State}
 use Rattle.sbl_work.specs.Serving.{IsWork}
 
 -- A bench of a script that these bytes are with this external, and of some words. No definition says what a file has.

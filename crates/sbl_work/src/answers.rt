@@ -7,6 +7,7 @@ ghost use Rattle.sbl_formats.specs.Block.{made_text};
 ghost use Rattle.sbl_sessions.specs.{Answers.with_line_feed, Commands.line_command};
 ghost use Rattle.sbl_work.specs.Commands as spec;
 ghost use Rattle.sbl_desk.specs.Desks.{State, state_of};
+ghost use Rattle.sbl_reports.specs.Reports as reports;
 ghost use Rattle.sbl_work.specs.ReplyViews.{IsWorkAnswer, view_file};
 
 use crate::parts::families_reply;
@@ -14,8 +15,10 @@ use crate::replies::{BAD_NUMBER, NO_FILE, edit_reply, memory_reply, redo_reply, 
 use crate::requests::{Request, count_in, request_of};
 use crate::whys::{integers_reply, why_reply};
 use sbl_bench::{Bench, EditFault};
-use sbl_desk::{Desk, changes_text, definition_text, largest_text, stats_text};
+use sbl_desk::Desk;
 use sbl_io::first_line;
+use sbl_places::definition_text;
+use sbl_reports::{changes_text, largest_text, stats_text};
 use sbl_sessions::{Reply, report};
 use sbl_unused::unused_text;
 use std::alloc::{AllocError, Global};
@@ -51,11 +54,19 @@ fn mark(desk: &mut Desk, bench: &Bench) -> Reply
     memory_reply(desk.mark(bench))
 }
 
+/// Returns the report of what changed since the mark. Returns `AllocError` if an allocation fails.
+fn changes_since_mark(alloc: Global, desk: &Desk, bench: &Bench) -> Result<Vec<u8>, AllocError>
+    ensures { IfOk result (λ text. text.items ≡ reports.changes_text (state_of desk.now).marked (contents_of bench.now)) }
+{
+    let marked = desk.marked_rows()?;
+    changes_text(alloc, &marked, bench)
+}
+
 /// Returns the reply to `changes`.
 fn changes(alloc: Global, desk: &Desk, bench: &Bench) -> Reply
     ensures { IsWorkAnswer (contents_of bench.now) (state_of desk.now) spec.Changes result (contents_of bench.now) (state_of desk.now) }
 {
-    report(changes_text(alloc, desk, bench))
+    report(changes_since_mark(alloc, desk, bench))
 }
 
 /// Returns the reply to `stats`.

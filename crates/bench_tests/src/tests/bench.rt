@@ -1,4 +1,4 @@
-//! The words of a bench: refusals, and refused growths. What else is answered stands in tests/cases.
+//! The words of a bench: refusals, and refused growths. tests/cases has the replies.
 
 use sbl_bench::EditFault::{
     Absent, AmongCount, BadLimit, EmptyWord, Full, MeterFull, NoAmong, NoGrouping, NoRoutine,

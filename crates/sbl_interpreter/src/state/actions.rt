@@ -2,9 +2,9 @@
 
 ghost use Rattle.std.specs.Prelude.{◌≡◌, ◌<◌, map, IfOk};
 ghost use Rattle.sbl_char_class.specs.CharacterClasses.{members};
-ghost use Rattle.sbl_interpreter.specs.Actions.{acts};
+ghost use Rattle.sbl_program.specs.Actions.{acts};
 ghost use Rattle.sbl_semantics.specs.Numbers.{continue_with, natural};
-ghost use Rattle.sbl_interpreter.specs.Arithmetic.{value};
+ghost use Rattle.sbl_program.specs.Arithmetic.{value};
 ghost use Rattle.sbl_semantics.specs.Moves.{hop, at_mark, to_mark};
 ghost use Rattle.sbl_program.specs.ProgramOf.{view_action, view_number};
 ghost use Rattle.sbl_interpreter.specs.Endings.{Follows};

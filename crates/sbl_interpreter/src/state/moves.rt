@@ -7,7 +7,7 @@ ghost use Rattle.sbl_char_class.specs.Terms.{class_at};
 ghost use Rattle.sbl_semantics.specs.Fitting.{read_as};
 ghost use Rattle.sbl_semantics.specs.State.{Signals, ahead, room, move_cursor};
 ghost use Rattle.sbl_program.specs.ProgramOf.{view_text};
-ghost use Rattle.sbl_interpreter.specs.Arithmetic.{characters};
+ghost use Rattle.sbl_program.specs.Arithmetic.{characters};
 ghost use Rattle.sbl_semantics.specs.Moves.{match, next_is, one_of, next, hop, at_limit, set_mark, at_mark, to_mark, set_boolean, test_boolean};
 
 use crate::state::State;

@@ -2,10 +2,10 @@
 
 ghost use Rattle.std.specs.Prelude.{◌≡◌, ◌<◌, ℤ, pos, length, map, Ok, SomeIff, FitsSigned, IfOk};
 ghost use Rattle.std.specs.Int.{w32};
-ghost use Rattle.sbl_interpreter.specs.Arithmetic.{value, changed_value, holds, assign, compare};
+ghost use Rattle.sbl_program.specs.Arithmetic.{value, changed_value, holds, assign, compare};
 ghost use Rattle.sbl_semantics.specs.Numbers.{with_both, value_in_range, rounded_quotient, limit_value, integer_at, natural};
 ghost use Rattle.sbl_program.specs.ProgramOf.{view_next_product, view_number, view_next_factor};
-ghost use Rattle.sbl_interpreter.specs.Rows.{product_of, scales_to, sum_of, sums_to};
+ghost use Rattle.sbl_program.specs.Rows.{product_of, scales_to, sum_of, sums_to};
 ghost use Rattle.sbl_semantics.specs.Control.{count_of};
 ghost use Rattle.sbl_interpreter.specs.Endings.{Leads, Follows};
 

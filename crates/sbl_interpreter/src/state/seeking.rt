@@ -6,7 +6,7 @@ ghost use Rattle.sbl_char_class.specs.CharacterClasses.{members};
 ghost use Rattle.sbl_char_class.specs.Terms.{class_at};
 ghost use Rattle.sbl_semantics.specs.Control.{pay_first, seeks};
 ghost use Rattle.sbl_interpreter.specs.Endings.{Follows};
-ghost use Rattle.sbl_interpreter.specs.Actions.{test_grouping};
+ghost use Rattle.sbl_program.specs.Actions.{test_grouping};
 ghost use Rattle.sbl_interpreter.specs.Seeking.{count_before, seek_ending};
 ghost use Rattle.sbl_semantics.specs.Fitting.{read_as};
 ghost use Rattle.sbl_semantics.specs.Touches.{with_touch};

@@ -4,7 +4,7 @@ ghost use Rattle.std.specs.Prelude.{◌≡◌, ◌+◌, ◌≤◌, ◌<◌, ◌^
 ghost use Rattle.std.specs.List.{splice};
 ghost use Rattle.sbl_semantics.specs.Slices.{left_bracket, right_bracket, is_slice, cursor_after_splice, replace, keep, end_after_insertion, put_in, insert, attach};
 ghost use Rattle.sbl_program.specs.ProgramOf.{view_text};
-ghost use Rattle.sbl_interpreter.specs.Arithmetic.{characters};
+ghost use Rattle.sbl_program.specs.Arithmetic.{characters};
 ghost use Rattle.sbl_interpreter.specs.Endings.{Leads};
 
 use crate::halt::Halt;

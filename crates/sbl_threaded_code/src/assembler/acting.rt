@@ -7,7 +7,7 @@ ghost use Rattle.std.specs.Prelude.{ℕ, [], true, ◌∷◌, IfOk};
 ghost use Rattle.sbl_threaded_code.specs.Performs.{PerformsWithExits};
 ghost use Rattle.sbl_threaded_code.specs.Flow.{bracket_of};
 ghost use Rattle.sbl_semantics.specs.State.{Signals};
-ghost use Rattle.sbl_interpreter.specs.Actions.{acts, test_grouping};
+ghost use Rattle.sbl_program.specs.Actions.{acts, test_grouping};
 ghost use Rattle.sbl_program.specs.ProgramOf.{view_action};
 
 use crate::assembler::{Assembler, Exits};

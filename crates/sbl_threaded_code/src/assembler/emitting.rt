@@ -6,9 +6,9 @@ ghost use Rattle.sbl_threaded_code.specs.Performs.{PerformsWithExits, Ends, Rest
 ghost use Rattle.sbl_program.specs.AmongStrings.{Listing};
 ghost use Rattle.sbl_threaded_code.specs.Flow.{flow, alone, seek_of};
 ghost use Rattle.sbl_program.specs.ProgramOf.{view_nodes};
-ghost use Rattle.sbl_interpreter.specs.Run.{group_runs, calls};
-ghost use Rattle.sbl_interpreter.specs.Actions.{test_grouping};
-ghost use Rattle.sbl_interpreter.specs.Search.{search_all};
+ghost use Rattle.sbl_program.specs.Run.{group_runs, calls};
+ghost use Rattle.sbl_program.specs.Actions.{test_grouping};
+ghost use Rattle.sbl_program.specs.Search.{search_all};
 ghost use Rattle.sbl_semantics.specs.Choices.{choice};
 ghost use Rattle.sbl_semantics.specs.Control.{pay_first};
 ghost use Rattle.sbl_semantics.specs.State.{Signals};

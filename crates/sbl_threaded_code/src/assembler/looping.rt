@@ -6,7 +6,7 @@ ghost use Rattle.sbl_program.specs.ProgramOf.{view_number, view_node};
 ghost use Rattle.sbl_semantics.specs.Control.{pay_first};
 ghost use Rattle.sbl_threaded_code.specs.Performs.{PerformsWithExits};
 ghost use Rattle.sbl_threaded_code.specs.Flow.{flow, alone, turns_of, counted_of, seek_of, backwards_of, limited_of};
-ghost use Rattle.sbl_interpreter.specs.Run.{runs};
+ghost use Rattle.sbl_program.specs.Run.{runs};
 
 use crate::assembler::{Assembler, Exits, more};
 use crate::copies::copy_number;

@@ -3,8 +3,8 @@
 
 ghost use Rattle.std.specs.Prelude.{◌≡◌, ◌<◌, ◌≤◌, ℕ, length, drop, IfOk, IfSome};
 ghost use Rattle.sbl_char_class.specs.Terms.{class_at};
-ghost use Rattle.sbl_interpreter.specs.Actions.{acts, test_grouping};
-ghost use Rattle.sbl_interpreter.specs.Run.{runs, all_run};
+ghost use Rattle.sbl_program.specs.Actions.{acts, test_grouping};
+ghost use Rattle.sbl_program.specs.Run.{runs, all_run};
 ghost use Rattle.sbl_program.specs.AmongStrings.{Listing};
 ghost use Rattle.sbl_program.specs.ProgramOf.{view_action, view_node, view_nodes};
 ghost use Rattle.sbl_semantics.specs.Moves.{match};

@@ -2,7 +2,7 @@ use Rattle.std.proofs.Common.{◌≡◌, ◌+◌, ◌++◌, ◌≤◌, drop, len
 use Rattle.sbl_ast.specs.Source.{Source}
 use Rattle.sbl_machine.specs.MachineOf.{IsLinkedMachineOf}
 use Rattle.sbl_bench.specs.Changes.{reruns, view_change}
-use Rattle.sbl_bench.specs.Setting.{under}
+use Rattle.sbl_rows.specs.Setting.{under}
 use Rattle.sbl_bench.proofs.change.run_words.Given as goal
 
 -- the changes so far, and those of the words still to come; each word before these was run once

@@ -1,5 +1,5 @@
 use Rattle.std.proofs.Common.{◌≡◌, ◌++◌, drop, map}
-use Rattle.sbl_bench.specs.ChangedRows.{view_changed_row}
+use Rattle.sbl_rows.specs.ChangedRows.{view_changed_row}
 use Rattle.sbl_bench.specs.Last.{last_changes}
 use Rattle.sbl_bench.proofs.changed_row.changes_of.Given as goal
 

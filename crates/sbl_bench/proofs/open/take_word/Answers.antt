@@ -7,7 +7,7 @@ use Rattle.sbl_machine.specs.MachineOf.{IsLinkedMachineOf}
 use Rattle.sbl_semantics.specs.Outcome.{outcome_of, run_of, touches_of, used_of}
 use Rattle.sbl_bench.specs.KeptRuns.{words_in, IsKept, IsWord}
 use Rattle.sbl_semantics.specs.Limit.{default_limit}
-use Rattle.sbl_bench.specs.Setting.{under}
+use Rattle.sbl_rows.specs.Setting.{under}
 use Rattle.sbl_bench.specs.Vocabulary.{with_word}
 use Rattle.sbl_bench.proofs.MapEntries.{found_word, words-push, kept-push}
 use Rattle.sbl_bench.proofs.Taking.{comes_home, goes_last, skips, takes}

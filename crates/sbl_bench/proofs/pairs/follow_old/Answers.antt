@@ -1,4 +1,4 @@
-use Rattle.std.proofs.Common.{◌∙◌, ◌&&◌, not, ap, refl, sym, subst}
+use Rattle.std.proofs.Common.{◌∙◌, ◌&&◌, not, ap, sym, subst}
 use Rattle.sbl_semantics.specs.Outcome.{outcome_of}
 use Rattle.sbl_bench.specs.Pairs.{IsIndexed, has, is_pair_of}
 use Rattle.sbl_bench.proofs.Following.{one_less}

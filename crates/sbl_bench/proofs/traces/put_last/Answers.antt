@@ -6,7 +6,7 @@ use Rattle.std.specs.declared.alloc.Global.{Global}
 use Rattle.sbl_semantics.specs.Outcome.{outcome_of, run_of, touches_of, used_of}
 use Rattle.sbl_bench.specs.KeptRuns.{KeptWord, words_in, IsKept}
 use Rattle.sbl_bench.specs.Pairs.{IsOneMore}
-use Rattle.sbl_bench.specs.Setting.{under}
+use Rattle.sbl_rows.specs.Setting.{under}
 use Rattle.indexmap.proofs.CallerLemmas.{insert_entry-new}
 use Rattle.sbl_bench.proofs.MapEntries.{is_key, not_found, words-push, kept-push, put_more}
 use Rattle.sbl_bench.proofs.traces.put_last.Goals as goal

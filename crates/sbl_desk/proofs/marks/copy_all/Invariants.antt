@@ -1,5 +1,5 @@
 use Rattle.std.proofs.Common.{◌≡◌, map, take}
-use Rattle.sbl_bench.specs.Rows.{view_row}
+use Rattle.sbl_rows.specs.Rows.{view_row}
 use Rattle.sbl_desk.specs.Desks.{view_marked}
 use Rattle.sbl_desk.proofs.marks.copy_all.Given as goal
 

@@ -3,8 +3,8 @@ use Rattle.std.proofs.KnownBytes.{Appends-nil}
 use Rattle.std.proofs.lemmas.Result.{err_from_is_err_and}
 use Rattle.std.proofs.lemmas.Str.{IsUtf8-from_is_utf8, chars_from_encodes, is_utf8-from_IsUtf8}
 use Rattle.std.specs.Str.{IsUtf8, chars, is_utf8}
-use Rattle.sbl_bench.specs.Rows.{row_of}
-use Rattle.sbl_bench.specs.Setting.{under}
+use Rattle.sbl_rows.specs.Rows.{row_of}
+use Rattle.sbl_rows.specs.Setting.{under}
 use Rattle.sbl_semantics.specs.Limit.{default_limit}
 use Rattle.sbl_io.specs.Records.{record_line}
 use Rattle.sbl_formats.specs.RowRecords.{row_fields}

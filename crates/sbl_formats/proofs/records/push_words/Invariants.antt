@@ -1,7 +1,7 @@
 use Rattle.std.proofs.Common.{◌≡◌, ◌++◌, [], map, take}
 use Rattle.std.specs.Str.{encode_utf8_all}
 use Rattle.csv.specs.Records.{fields_of, partial_of}
-use Rattle.sbl_bench.specs.Classes.{words_of}
+use Rattle.sbl_rows.specs.Classes.{words_of}
 use Rattle.sbl_formats.proofs.records.push_words.Given as goal
 
 abbrev pub invariant-loop-word : goal.invariant-loop-word

@@ -1,6 +1,6 @@
 use Rattle.std.proofs.Common.{◌≤◌, ◌++◌, ◌∷◌, [], ℕ, length, map, sym, ap, ◌∙◌, arith, Vec, Global}
 use Rattle.std.proofs.lemmas.List.{map-append}
-use Rattle.sbl_interpreter.specs.Listing.{listed_of}
+use Rattle.sbl_program.specs.Listing.{listed_of}
 use Rattle.sbl_program.specs.FoundView.{listing_found}
 use Rattle.sbl_interpreter.proofs.NumberingTables.{same_listing, table_all, table_more}
 use Rattle.sbl_interpreter.proofs.table.tables_of.Goals as goal

@@ -1,5 +1,5 @@
 use Rattle.std.proofs.Common.{◌≡◌, map, take}
-use Rattle.sbl_interpreter.specs.Listing.{listed_of}
+use Rattle.sbl_program.specs.Listing.{listed_of}
 use Rattle.sbl_program.specs.FoundView.{listing_found}
 use Rattle.sbl_interpreter.proofs.table.tables_of.Given as goal
 

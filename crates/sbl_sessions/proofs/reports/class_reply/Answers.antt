@@ -1,11 +1,12 @@
 use Rattle.std.proofs.Common.{◌≡◌, ◌∙◌, List, ℕ, Option, Some, None, IfOk, length, refl, rules, subst, sym, take}
 use Rattle.std.specs.List.{find}
 use Rattle.std.specs.Str.{bytes_eq, chars}
+use Rattle.sbl_bench.specs.Contents.{rows_now}
 use Rattle.sbl_bench.specs.KeptRuns.{contents_of}
-use Rattle.sbl_bench.specs.Rows.{Row, view_row}
+use Rattle.sbl_rows.specs.Rows.{Row, view_row}
 use Rattle.sbl_sessions.specs.Answers.{Enough, IsReport, Memory}
 use Rattle.sbl_sessions.specs.CommandViews.{IsReply}
-use Rattle.sbl_formats.specs.RowRecords.{class_or_row_text, class_text, rows_now}
+use Rattle.sbl_listings.specs.Listings.{class_or_row_text, class_text}
 use Rattle.sbl_sessions.proofs.FirstFacts.{looks, row_first, whole_of}
 use Rattle.sbl_sessions.proofs.ReportFacts.{class_text_is, report_answer}
 use Rattle.sbl_sessions.proofs.reports.class_reply.Goals as goal

@@ -2,7 +2,7 @@ use Rattle.std.proofs.Common.{◌∙◌, ◌++◌, List, ap, map, sym}
 use Rattle.std.proofs.Math.ListN.{drop_of_length-le}
 use Rattle.std.proofs.lemmas.List.{append-nil}
 use Rattle.sbl_bench.specs.KeptRuns.{setting_of}
-use Rattle.sbl_bench.specs.declared.row.Row as declared
+use Rattle.sbl_rows.specs.declared.row.Row as declared
 use Rattle.sbl_unused.specs.Views.{texts_of}
 use Rattle.sbl_unused.proofs.RowWords.{row_word, words_are}
 use Rattle.sbl_unused.proofs.bench_words.words_of.Goals as goal

@@ -1,6 +1,6 @@
 use Rattle.std.proofs.Common.{◌≡◌, ◌++◌, ℕ, List, drop}
 use Rattle.std.specs.List.{flat_map}
-use Rattle.sbl_bench.specs.Setting.{Setting}
+use Rattle.sbl_rows.specs.Setting.{Setting}
 use Rattle.sbl_semantics.specs.TouchedItems.{item_of}
 use Rattle.sbl_io.specs.Records.{records_text}
 use Rattle.sbl_unused.specs.Unused as spec

@@ -3,14 +3,14 @@ use Rattle.std.proofs.lemmas.Result.{err_from_is_err_and}
 use Rattle.sbl_script.specs.ParsedScript.{source_of}
 use Rattle.sbl_bench.specs.declared.fault.EditFault.TheVariants.{OutOfMemory, MeterFull}
 use Rattle.sbl_bench.specs.KeptRuns.{KeptRuns, KeptWord, contents_of, words_in}
-use Rattle.sbl_bench.specs.ChangedRows.{changed_rows}
+use Rattle.sbl_rows.specs.ChangedRows.{changed_rows}
 use Rattle.sbl_bench.specs.LeavesChanges.{rows_now}
-use Rattle.sbl_bench.specs.Rows.{rows_of}
+use Rattle.sbl_rows.specs.Rows.{rows_of}
 use Rattle.sbl_bench.specs.Last.{last_changes}
 use Rattle.sbl_bench.proofs.LastChanges.{no_rows_change}
 use Rattle.sbl_bench.specs.Edits.{Edits, Add}
 use Rattle.sbl_bench.specs.Contents.{Contents}
-use Rattle.sbl_bench.specs.Setting.{under}
+use Rattle.sbl_rows.specs.Setting.{under}
 use Rattle.sbl_bench.proofs.Refusals.{accepted_among, adds, counts_no_more, edits_nothing}
 use Rattle.sbl_bench.proofs.bench.Bench.add.Goals as goal
 

@@ -1,14 +1,14 @@
-use Rattle.std.proofs.Common.{◌∙◌, List, [], ap, map, subst}
+use Rattle.std.proofs.Common.{◌∙◌, [], ap, subst}
 use Rattle.sbl_script.specs.ParsedScript.{source_of}
-use Rattle.sbl_bench.specs.Setting.{under}
-use Rattle.sbl_bench.specs.Classes.{classes_of}
-use Rattle.sbl_bench.specs.Grouping.{put_pairs}
+use Rattle.sbl_rows.specs.Setting.{under}
+use Rattle.sbl_rows.specs.Classes.{classes_of}
+use Rattle.sbl_rows.specs.Grouping.{put_pairs}
 use Rattle.sbl_bench.specs.KeptRuns.{setting_of, KeptRuns, words_in}
 use Rattle.sbl_bench.specs.Pairs.{IsIndexed}
-use Rattle.sbl_bench.specs.Rows.{rows_of}
+use Rattle.sbl_rows.specs.Rows.{rows_of}
 use Rattle.sbl_bench.proofs.ClassFacts.{kept_sorted}
-use Rattle.sbl_bench.proofs.GroupFacts.{grouped_rows}
-use Rattle.sbl_bench.proofs.Ranging.{if_ok_weaker, own_keys}
+use Rattle.sbl_rows.proofs.GroupFacts.{grouped_rows}
+use Rattle.sbl_rows.proofs.Ranging.{if_ok_weaker, own_keys}
 use Rattle.sbl_bench.proofs.bench.Bench.classes.Goals as goal
 
 pub returns-in-Some : goal.returns-in-Some

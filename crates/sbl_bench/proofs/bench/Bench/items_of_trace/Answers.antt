@@ -3,7 +3,7 @@ use Rattle.sbl_semantics.specs.TouchedItems.{items_in, items_of, names_of}
 use Rattle.sbl_semantics.specs.declared.touch.Touch.{Touch}
 use Rattle.sbl_script.specs.ParsedScript.{source_of}
 use Rattle.sbl_bench.specs.KeptRuns.{KeptRuns, setting_of}
-use Rattle.sbl_bench.specs.Setting.{under}
+use Rattle.sbl_rows.specs.Setting.{under}
 use Rattle.sbl_bench.specs.Traces.{trace_of}
 use Rattle.sbl_bench.proofs.Tracing.{no_trace, not_absent, trace_found}
 use Rattle.sbl_bench.proofs.bench.Bench.items_of_trace.Goals as goal

@@ -3,7 +3,7 @@ use Rattle.std.proofs.lemmas.Result.{err_from_is_err_and}
 use Rattle.sbl_script.specs.Edits.{ScriptEdit, terms}
 use Rattle.sbl_script.specs.ParsedScript.{source_of}
 use Rattle.sbl_bench.specs.Contents.{Contents}
-use Rattle.sbl_bench.specs.Setting.{under}
+use Rattle.sbl_rows.specs.Setting.{under}
 use Rattle.sbl_bench.specs.Edits.{Edits, Grouping, fault_of_script}
 use Rattle.sbl_bench.specs.KeptRuns.{KeptRuns, contents_of, words_in}
 use Rattle.sbl_bench.specs.declared.fault.EditFault.TheVariants.{OutOfMemory}

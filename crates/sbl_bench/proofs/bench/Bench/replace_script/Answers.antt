@@ -7,7 +7,7 @@ use Rattle.sbl_bench.specs.Changes.{IsExchange}
 use Rattle.sbl_bench.specs.Contents.{Contents}
 use Rattle.sbl_bench.specs.Edits.{Edits, Whole}
 use Rattle.sbl_bench.specs.KeptRuns.{KeptRuns, contents_of, words_in}
-use Rattle.sbl_bench.specs.Setting.{under}
+use Rattle.sbl_rows.specs.Setting.{under}
 use Rattle.sbl_bench.proofs.Bringing.{whole_exchange}
 use Rattle.sbl_bench.proofs.Replacing.{unread}
 use Rattle.sbl_bench.proofs.bench.Bench.replace_script.Goals as goal

@@ -2,11 +2,11 @@ use Rattle.std.proofs.Common.{◌∙◌, List, ℕ, Some, Option, slice_get, ap,
 use Rattle.std.specs.Option.{option_map}
 use Rattle.std.proofs.lemmas.Option.{slice_get-map}
 use Rattle.sbl_script.specs.ParsedScript.{source_of}
-use Rattle.sbl_bench.specs.Setting.{under}
+use Rattle.sbl_rows.specs.Setting.{under}
 use Rattle.sbl_semantics.specs.declared.outcome.Outcome.{Outcome}
 use Rattle.sbl_semantics.specs.Outcome.{outcome_of}
 use Rattle.sbl_bench.specs.KeptRuns.{setting_of, KeptRuns}
-use Rattle.sbl_bench.specs.Rows.{Row, rows_of}
+use Rattle.sbl_rows.specs.Rows.{Row, rows_of}
 use Rattle.sbl_bench.proofs.MapEntries.{row_shown, rows_shown}
 use Rattle.sbl_bench.proofs.bench.Bench.row.Goals as goal
 

@@ -1,6 +1,6 @@
 use Rattle.std.proofs.Common.{◌≡◌, ◌++◌, map}
 use Rattle.sbl_bench.specs.KeptRuns.{setting_of}
-use Rattle.sbl_bench.specs.Rows.{rows_of, view_row}
+use Rattle.sbl_rows.specs.Rows.{rows_of, view_row}
 use Rattle.sbl_bench.proofs.MapEntries.{row_shown}
 use Rattle.sbl_bench.proofs.bench.Bench.rows.Given as goal
 

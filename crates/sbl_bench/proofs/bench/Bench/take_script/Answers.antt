@@ -6,14 +6,14 @@ use Rattle.sbl_machine.specs.MachineOf.{IsLinkedMachineOf}
 use Rattle.sbl_bench.specs.Changes.{Brings, affected_of}
 use Rattle.sbl_bench.specs.Edits.{Edits}
 use Rattle.sbl_bench.specs.KeptRuns.{KeptWord, IsKept, IsWord, KeptRuns, contents_of, words_in}
-use Rattle.sbl_bench.specs.ChangedRows.{changed_rows}
+use Rattle.sbl_rows.specs.ChangedRows.{changed_rows}
 use Rattle.sbl_bench.specs.Contents.{Contents}
 use Rattle.sbl_bench.specs.Last.{Follows, last_changes}
 use Rattle.sbl_bench.specs.Pairs.{IsIndexed}
 use Rattle.sbl_bench.specs.declared.change.Change.{Change}
 use Rattle.sbl_bench.specs.LeavesChanges.{rows_now}
-use Rattle.sbl_bench.specs.Rows.{rows_of}
-use Rattle.sbl_bench.specs.Setting.{under}
+use Rattle.sbl_rows.specs.Rows.{rows_of}
+use Rattle.sbl_rows.specs.Setting.{under}
 use Rattle.sbl_bench.proofs.LastChanges.{apart, edit_changes}
 use Rattle.sbl_bench.proofs.Meeting.{anew, still}
 use Rattle.sbl_bench.proofs.Reruns.{commit_edits, stop_edits}

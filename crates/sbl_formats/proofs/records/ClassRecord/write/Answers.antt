@@ -3,7 +3,7 @@ use Rattle.std.specs.Str.{encode_utf8_all}
 use Rattle.std.specs.declared.vec.Vec.{Vec}
 use Rattle.std.specs.declared.alloc.Global.{Global}
 use Rattle.csv.specs.Records.{fields_of}
-use Rattle.sbl_bench.specs.Classes.{view_class, words_of}
+use Rattle.sbl_rows.specs.Classes.{view_class, words_of}
 use Rattle.sbl_formats.specs.RowRecords.{class_fields}
 use Rattle.sbl_formats.proofs.RecordFacts.{writes_same}
 use Rattle.sbl_formats.proofs.records.ClassRecord.write.Goals as goal

@@ -1,6 +1,6 @@
 use Rattle.std.proofs.Common.{rules, ◌≡◌, ◌∷◌, [], ℕ, List, ap₂, codes, decimal, string_bytes}
 use Rattle.sbl_semantics.specs.TouchedItems.{item_of}
-use Rattle.sbl_formats.specs.Traces.{item_fields}
+use Rattle.sbl_formats.specs.ItemRecords.{item_fields}
 use Rattle.sbl_formats.proofs.RecordFacts.{writes_same}
 use Rattle.sbl_formats.proofs.records.ItemRecord.write.Goals as goal
 

@@ -1,6 +1,6 @@
 use Rattle.std.proofs.Common.{rules, ◌≡◌, ◌∷◌, [], ℕ, List, ap₂}
 use Rattle.std.specs.Str.{encode_utf8_all}
-use Rattle.sbl_bench.specs.Rows.{view_row}
+use Rattle.sbl_rows.specs.Rows.{view_row}
 use Rattle.sbl_semantics.specs.Outcome.{outcome_of}
 use Rattle.sbl_formats.specs.RowRecords.{outcome_fields, row_fields}
 use Rattle.sbl_formats.proofs.RecordFacts.{writes_same}

@@ -1,9 +1,9 @@
 use Rattle.std.proofs.Common.{◌≡◌, ◌+◌, drop, map, Ok, Err, sym, ap, ◌∙◌, rules}
-use Rattle.sbl_interpreter.specs.Arithmetic.{value}
+use Rattle.sbl_program.specs.Arithmetic.{value}
 use Rattle.sbl_semantics.specs.Numbers.{with_both}
-use Rattle.sbl_interpreter.specs.Rows.{product_of, scales_to, sum_of, sums_to}
+use Rattle.sbl_program.specs.Rows.{product_of, scales_to, sum_of, sums_to}
 use Rattle.sbl_program.specs.ProgramOf.{view_next_product, view_number, view_next_factor}
-use Rattle.sbl_interpreter.proofs.ChainRuns.{part_is, product_value, scales_stop, sum_value, sums_stop}
+use Rattle.sbl_program.proofs.ChainRuns.{part_is, product_value, scales_stop, sum_value, sums_stop}
 use Rattle.sbl_interpreter.proofs.state.State.+value.Goals as goal
 
 pub value-returns-in_err-start-in-Sum : goal.value-returns-in_err-start-in-Sum

@@ -1,6 +1,6 @@
 use Rattle.std.proofs.Common.{◌≡◌, drop, map, Ok}
 use Rattle.sbl_program.specs.ProgramOf.{view_next_product, view_next_factor}
-use Rattle.sbl_interpreter.specs.Rows.{scales_to, sums_to}
+use Rattle.sbl_program.specs.Rows.{scales_to, sums_to}
 use Rattle.sbl_interpreter.proofs.state.State.+value.Given as goal
 
 -- the numbers that are left give from here what all of them give from the start

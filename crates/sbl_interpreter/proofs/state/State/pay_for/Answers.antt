@@ -1,7 +1,7 @@
 use Rattle.std.proofs.Common.{◌≡◌, ◌-◌, ◌<◌, ◌≤◌, true, sym, ap, ◌∙◌, arith}
 use Rattle.sbl_semantics.specs.declared.fault.RunFault.TheVariants.{Steps}
 use Rattle.sbl_semantics.specs.State.{State, Signals, Stops}
-use Rattle.sbl_interpreter.proofs.ChainRuns.{pays_all, pays_short}
+use Rattle.sbl_program.proofs.ChainRuns.{pays_all, pays_short}
 use Rattle.sbl_interpreter.proofs.state.State.pay_for.Goals as goal
 
 pub returns-then-count-self-clause-leads : goal.returns-then-count-self-clause-leads

@@ -2,7 +2,7 @@ use Rattle.std.proofs.Common.{◌≡◌, ◌≤◌, ◌<◌, ◌++◌, ◌∷◌
 use Rattle.std.specs.Prelude.{slice_get}
 use Rattle.std.proofs.lemmas.Option.{slice_get_read, slice_get_past}
 use Rattle.sbl_semantics.specs.Fitting.{ahead_at}
-use Rattle.sbl_interpreter.specs.Listing.{fits_at, listed_by}
+use Rattle.sbl_program.specs.Listing.{fits_at, listed_by}
 use Rattle.sbl_ast.specs.declared.mode.Mode.TheVariants.{Forward}
 use Rattle.sbl_interpreter.proofs.Nothing.{none_fits}
 use Rattle.sbl_interpreter.proofs.table.TableListTables.next_shorter.Goals as goal

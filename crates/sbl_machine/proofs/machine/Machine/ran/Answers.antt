@@ -2,9 +2,9 @@ use Rattle.std.proofs.Common.{ap, ◌∙◌}
 use Rattle.sbl_ast.specs.declared.mode.Mode.TheVariants.{Forward}
 use Rattle.sbl_machine.specs.MachineOf.{IsMachineOf, listed_in, machine_plan}
 use Rattle.sbl_semantics.specs.Outcome.{run_of, touches_of, used_of}
-use Rattle.sbl_interpreter.specs.Start.{ending_of}
+use Rattle.sbl_program.specs.Start.{ending_of}
 use Rattle.sbl_program.specs.Program.{Program}
-use Rattle.sbl_interpreter.specs.Run.{calls}
+use Rattle.sbl_program.specs.Run.{calls}
 use Rattle.sbl_machine.proofs.SoundRuns.{ending_same}
 use Rattle.sbl_machine.proofs.Ended.{same_outcome, same_touches, same_used}
 use Rattle.sbl_machine.proofs.machine.Machine.ran.Goals as goal

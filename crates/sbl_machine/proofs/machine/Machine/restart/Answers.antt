@@ -1,7 +1,7 @@
 use Rattle.std.proofs.Common.{ap}
 use Rattle.std.proofs.lemmas.Result.{IfOk-equal}
 use Rattle.sbl_program.specs.ProgramOf.{program_of}
-use Rattle.sbl_interpreter.specs.Start.{start}
+use Rattle.sbl_program.specs.Start.{start}
 use Rattle.sbl_machine.proofs.machine.Machine.restart.Goals as goal
 
 pub returns : goal.returns

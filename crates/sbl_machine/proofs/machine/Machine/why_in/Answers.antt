@@ -4,7 +4,7 @@ use Rattle.sbl_machine.specs.MachineOf.{IsMachineOf, listed_in, machine_plan}
 use Rattle.sbl_semantics.specs.Meaning.{ending_with_events}
 use Rattle.sbl_semantics.specs.Outcome.{integers_at, outcome_at, used_at, events_at, events_in, events_of}
 use Rattle.sbl_program.specs.Program.{Program}
-use Rattle.sbl_interpreter.specs.Run.{calls}
+use Rattle.sbl_program.specs.Run.{calls}
 use Rattle.sbl_semantics.specs.State.{State}
 use Rattle.sbl_machine.proofs.SoundRuns.{telling_of, telling_same}
 use Rattle.sbl_machine.proofs.WhyLaw.{events_change_nothing}

@@ -8,11 +8,12 @@ use Rattle.sbl_char_class.specs.Terms.{class_at}
 use Rattle.sbl_program.specs.Program as programs
 use Rattle.sbl_program.specs.ProgramOf.{view_action, view_number, view_node, view_nodes, view_next_command}
 use Rattle.sbl_program.specs.declared.node.Node.TheVariants.{Act, Sequence}
-use Rattle.sbl_interpreter.specs.Actions.{acts, test_grouping}
-use Rattle.sbl_interpreter.specs.Rows.{pays}
-use Rattle.sbl_interpreter.specs.Run.{runs, all_run}
-use Rattle.sbl_interpreter.proofs.Arms.{sequence_does, turn_is, grouping_does, non_does}
-use Rattle.sbl_interpreter.proofs.ChainRuns.{part_is}
+use Rattle.sbl_program.specs.Actions.{acts, test_grouping}
+use Rattle.sbl_program.specs.Rows.{pays}
+use Rattle.sbl_program.specs.Run.{runs, all_run}
+use Rattle.sbl_program.proofs.Arms.{sequence_does, grouping_does, non_does}
+use Rattle.sbl_program.proofs.Turns.{turn_is}
+use Rattle.sbl_program.proofs.ChainRuns.{part_is}
 use Rattle.sbl_semantics.specs.Control.{pay_first}
 use Rattle.sbl_semantics.specs.Slices.{left_bracket}
 use Rattle.sbl_semantics.specs.State.{State, Doing, Signals, after, then_on}

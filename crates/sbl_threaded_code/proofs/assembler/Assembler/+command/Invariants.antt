@@ -1,7 +1,7 @@
-use Rattle.std.proofs.Common.{◌≡◌, ℕ, ◌<◌, ◌≤◌, drop, map, take, length}
+use Rattle.std.proofs.Common.{◌≡◌, ℕ, ◌≤◌, drop, map, take, length}
 use Rattle.sbl_program.specs.AmongStrings.{Listing}
 use Rattle.sbl_program.specs.ProgramOf.{view_next_command, view_nodes}
-use Rattle.sbl_interpreter.specs.Run.{all_run}
+use Rattle.sbl_program.specs.Run.{all_run}
 use Rattle.sbl_threaded_code.specs.Performs.{Performs, IsRest, ArePerformed}
 use Rattle.sbl_threaded_code.proofs.assembler.Assembler.+command.Given as goal
 

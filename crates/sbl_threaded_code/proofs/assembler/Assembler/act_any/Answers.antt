@@ -2,9 +2,9 @@ use Rattle.std.proofs.Common.{ap, ◌∙◌}
 use Rattle.std.proofs.lemmas.Result.{IfOk-weaker}
 use Rattle.sbl_program.specs.Program as programs
 use Rattle.sbl_program.specs.ProgramOf.{view_action}
-use Rattle.sbl_interpreter.specs.Actions.{acts}
+use Rattle.sbl_program.specs.Actions.{acts}
 use Rattle.sbl_semantics.specs.State.{after, then_on}
-use Rattle.sbl_interpreter.specs.Rows.{pays}
+use Rattle.sbl_program.specs.Rows.{pays}
 use Rattle.sbl_threaded_code.specs.Flow.{flow}
 use Rattle.sbl_threaded_code.proofs.Instructions.{flow_act}
 use Rattle.sbl_threaded_code.proofs.Performing.{emitted_at}

@@ -1,7 +1,6 @@
-use Rattle.std.proofs.Common.{[], ◌∷◌, ap, ◌∙◌}
+use Rattle.std.proofs.Common.{ap, ◌∙◌}
 use Rattle.std.proofs.lemmas.Result.{IfOk-weaker}
-use Rattle.sbl_semantics.specs.Moves.{match, test_boolean}
-use Rattle.sbl_semantics.specs.Moves as moves
+use Rattle.sbl_semantics.specs.Moves.{test_boolean}
 use Rattle.sbl_threaded_code.specs.Flow.{flow}
 use Rattle.sbl_threaded_code.proofs.Instructions.{flow_boolean}
 use Rattle.sbl_threaded_code.proofs.Performing.{emitted_at}

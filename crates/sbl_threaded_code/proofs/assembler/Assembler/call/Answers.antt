@@ -1,6 +1,6 @@
 use Rattle.std.proofs.Common.{ap, ◌∙◌}
 use Rattle.std.proofs.lemmas.Result.{IfOk-weaker}
-use Rattle.sbl_interpreter.specs.Run.{calls}
+use Rattle.sbl_program.specs.Run.{calls}
 use Rattle.sbl_semantics.specs.Control.{pay_first}
 use Rattle.sbl_threaded_code.specs.Flow.{flow}
 use Rattle.sbl_threaded_code.proofs.Instructions.{flow_call}

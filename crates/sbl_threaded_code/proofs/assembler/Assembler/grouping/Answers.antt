@@ -1,7 +1,7 @@
-use Rattle.std.proofs.Common.{false, [], ◌∷◌, ap, ◌∙◌}
+use Rattle.std.proofs.Common.{false, ap, ◌∙◌}
 use Rattle.std.proofs.lemmas.Result.{IfOk-weaker}
 use Rattle.sbl_char_class.specs.Terms.{class_at}
-use Rattle.sbl_interpreter.specs.Actions.{test_grouping}
+use Rattle.sbl_program.specs.Actions.{test_grouping}
 use Rattle.sbl_threaded_code.specs.Flow.{flow}
 use Rattle.sbl_threaded_code.proofs.Instructions.{flow_grouping}
 use Rattle.sbl_threaded_code.proofs.Performing.{emitted_at}

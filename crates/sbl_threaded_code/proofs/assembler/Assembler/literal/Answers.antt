@@ -1,6 +1,6 @@
-use Rattle.std.proofs.Common.{◌≡◌, ℕ, false, List, [], ◌∷◌, length, get_or, sym, ap, ◌∙◌, arith, rules, Vec, Global}
+use Rattle.std.proofs.Common.{◌≡◌, ℕ, false, List, [], ◌∷◌, length, get_or, sym, ap, ◌∙◌, rules, Vec, Global}
 use Rattle.std.proofs.lemmas.Result.{IfOk-weaker}
-use Rattle.sbl_interpreter.specs.Rows.{pays}
+use Rattle.sbl_program.specs.Rows.{pays}
 use Rattle.sbl_semantics.specs.Moves.{match}
 use Rattle.sbl_semantics.specs.State.{after, then_on}
 use Rattle.sbl_threaded_code.specs.Flow.{flow}

@@ -1,6 +1,6 @@
-use Rattle.std.proofs.Common.{ap, sym, ◌∙◌, refl}
+use Rattle.std.proofs.Common.{ap, ◌∙◌}
 use Rattle.std.proofs.lemmas.Result.{IfOk-weaker}
-use Rattle.sbl_interpreter.specs.Rows.{pays}
+use Rattle.sbl_program.specs.Rows.{pays}
 use Rattle.sbl_semantics.specs.State.{then_on}
 use Rattle.sbl_threaded_code.specs.Flow.{flow}
 use Rattle.sbl_threaded_code.proofs.Instructions.{flow_pay}

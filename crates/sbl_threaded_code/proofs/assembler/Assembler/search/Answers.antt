@@ -1,9 +1,9 @@
 use Rattle.std.proofs.Common.{List, ap, ◌∙◌}
 use Rattle.std.proofs.lemmas.Result.{IfOk-weaker}
 use Rattle.sbl_program.specs.declared.node.Candidate.{Candidate}
-use Rattle.sbl_interpreter.specs.Rows.{pays}
-use Rattle.sbl_interpreter.specs.Run.{calls}
-use Rattle.sbl_interpreter.specs.Search.{search_all}
+use Rattle.sbl_program.specs.Rows.{pays}
+use Rattle.sbl_program.specs.Run.{calls}
+use Rattle.sbl_program.specs.Search.{search_all}
 use Rattle.sbl_semantics.specs.Control.{pay_first}
 use Rattle.sbl_semantics.specs.State.{after, then_on}
 use Rattle.sbl_threaded_code.specs.Flow.{flow}

@@ -1,7 +1,7 @@
 use Rattle.std.proofs.Common.{ap, ◌∙◌}
 use Rattle.std.proofs.lemmas.Result.{IfOk-weaker}
 use Rattle.sbl_char_class.specs.Terms.{class_at}
-use Rattle.sbl_interpreter.specs.Actions.{test_grouping}
+use Rattle.sbl_program.specs.Actions.{test_grouping}
 use Rattle.sbl_semantics.specs.Control.{pay_first}
 use Rattle.sbl_threaded_code.specs.Flow.{flow, seek_of}
 use Rattle.sbl_threaded_code.proofs.Instructions.{flow_seek_grouping}

@@ -3,7 +3,7 @@ use Rattle.std.proofs.lemmas.Result.{IfOk-weaker}
 use Rattle.sbl_char_class.specs.Terms.{class_at}
 use Rattle.sbl_program.specs.ProgramOf.{view_action}
 use Rattle.sbl_program.specs.declared.action.Action.TheVariants.{Match}
-use Rattle.sbl_interpreter.specs.Actions.{acts, test_grouping}
+use Rattle.sbl_program.specs.Actions.{acts, test_grouping}
 use Rattle.sbl_semantics.specs.Moves.{match}
 use Rattle.sbl_threaded_code.proofs.PerformingAt.{anywhere, performs_test, same_meaning_at}
 use Rattle.sbl_threaded_code.proofs.assembler.Assembler.test.Goals as goal

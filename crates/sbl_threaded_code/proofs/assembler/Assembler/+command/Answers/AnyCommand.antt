@@ -7,12 +7,12 @@ use Rattle.sbl_ast.specs.declared.mode.Mode.{Mode}
 use Rattle.sbl_program.specs.Program as programs
 use Rattle.sbl_program.specs.ProgramOf.{view_action, view_number, view_node, view_nodes, view_next_command}
 use Rattle.sbl_program.specs.declared.node.Node.TheVariants.{Act, Sequence, Row, Not, Test, Try, Do, Fail, Repeat, Loop, AtLeast, Goto, GoPast, Backwards, SetLimit, Call, Search, Among}
-use Rattle.sbl_interpreter.specs.Actions.{acts}
-use Rattle.sbl_interpreter.specs.Rows.{pays, row_runs, others_run}
-use Rattle.sbl_interpreter.specs.Run.{runs, all_run, group_runs, calls}
-use Rattle.sbl_interpreter.specs.Search.{search_all}
-use Rattle.sbl_interpreter.proofs.Arms.{sequence_does, not_does, test_does, try_does, do_does, fail_does, repeat_does, loop_does, atleast_does, goto_does, gopast_does, backwards_does, setlimit_does, search_does, among_does}
-use Rattle.sbl_interpreter.proofs.ChainRuns.{row_does}
+use Rattle.sbl_program.specs.Actions.{acts}
+use Rattle.sbl_program.specs.Rows.{pays, row_runs, others_run}
+use Rattle.sbl_program.specs.Run.{runs, all_run, group_runs, calls}
+use Rattle.sbl_program.specs.Search.{search_all}
+use Rattle.sbl_program.proofs.Arms.{sequence_does, not_does, test_does, try_does, do_does, fail_does, repeat_does, loop_does, atleast_does, goto_does, gopast_does, backwards_does, setlimit_does, search_does, among_does}
+use Rattle.sbl_program.proofs.ChainRuns.{row_does}
 use Rattle.sbl_semantics.specs.Choices.{choice}
 use Rattle.sbl_semantics.specs.Control.{pay_first}
 use Rattle.sbl_semantics.specs.State.{State, Signals, after, then_on, pay, saved_cursor}

@@ -1,9 +1,0 @@
-use Rattle.std.proofs.Common.{◌∙◌, ◌-◌, ap, sym, refl, List, ℕ, length}
-use Rattle.std.specs.Str.{bytes_eq}
-use Rattle.sbl_bench.proofs.LastFacts.{last_stem}
-use Rattle.sbl_bench.proofs.class.is_last.Goals as goal
-
-pub returns-in-Some : goal.returns-in-Some
-returns-in-Some c =
-    c.eq.ensures ∙ ap (λ (s : List ℕ). bytes_eq s c.args.stem.now) c.as_slice.ensures.value
-    ∙ sym (last_stem c.args.stem.now c.args.classes.now (length c.args.classes.now - 1) c.in-Some.class.now refl (sym c.in-Some.ensures.value))

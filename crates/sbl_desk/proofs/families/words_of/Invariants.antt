@@ -1,7 +1,0 @@
-use Rattle.std.proofs.Common.{◌≡◌, take}
-use Rattle.sbl_changes.specs.Rows.{texts_of}
-use Rattle.sbl_desk.specs.FamilyReader.{words_read}
-use Rattle.sbl_desk.proofs.families.words_of.Given as goal
-
-abbrev pub invariant-loop-word : goal.invariant-loop-word
-invariant-loop-word l = texts_of l.words.items ≡ words_read (take l.word-index l.family)

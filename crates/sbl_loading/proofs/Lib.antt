@@ -1,0 +1,5 @@
+pub mod LoadFacts
+pub mod WordListFacts
+pub mod InputFacts
+pub mod OneLoading
+pub mod VocabularyFacts

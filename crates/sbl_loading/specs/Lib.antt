@@ -1,0 +1,8 @@
+-- definitions that the contracts of public functions use
+pub mod Faults
+pub mod Loading
+pub mod LoadedRows
+pub mod OneLoading
+-- what the functions inside the crate promise each other: nothing in these need be believed
+pub mod WordLists
+pub mod VocabularyRows

@@ -1,0 +1,12 @@
+//! Loads a bench, or its rows alone, from the script block and the words of an input.
+#![tactic(auto)]
+
+mod faults;
+mod laws;
+mod loading;
+mod vocabulary_rows;
+mod word_list;
+
+pub use faults::LoadFault;
+pub use laws::loading_is_one;
+pub use loading::{load, load_rows, read_script};

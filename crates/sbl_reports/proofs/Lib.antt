@@ -1,0 +1,2 @@
+pub mod FamilyFacts
+pub mod RecordFacts

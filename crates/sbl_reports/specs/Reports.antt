@@ -1,0 +1,70 @@
+-- The reports of work: what changed since some rows, figures, and the largest classes.
+use Rattle.std.specs.Prelude.{ℕ, List, [], ◌∷◌, ◌++◌, codes, decimal, map}
+use Rattle.std.specs.Str.{encode_utf8_all}
+use Rattle.sbl_bench.specs.Contents.{Contents, rows_now}
+use Rattle.sbl_rows.specs.Rows as bench
+use Rattle.sbl_changes.specs.Changes.{Added, Change, Changed, Merged, Removed, Renamed, Split, changes_of}
+use Rattle.sbl_changes.specs.Classes.{Class}
+use Rattle.sbl_changes.specs.Largest.{largest_of}
+use Rattle.sbl_changes.specs.Rows.{Outcome, Row, Stem, Refused}
+use Rattle.sbl_changes.specs.Stats.{Stats, stats_of}
+use Rattle.sbl_semantics.specs.Outcome as machine
+use Rattle.sbl_io.specs.Records.{records_text}
+use Rattle.sbl_semantics.specs.Names.{name_of}
+
+-- a row of a bench, with the name of a refusal for the refusal
+abbrev pub named_outcome : machine.Outcome' → Outcome
+named_outcome (machine.Stem text) = Stem text
+named_outcome (machine.Refused f) = Refused (name_of f)
+
+abbrev pub named_row : bench.Row → Row
+named_row r = record { word = r.word; outcome = named_outcome r.outcome }
+
+abbrev pub named_rows : List bench.Row → List Row
+named_rows rows = map named_row rows
+
+-- ---- changes
+
+abbrev pub outcome_fields : Outcome → List (List ℕ)
+outcome_fields (Stem text) = codes "stem" ∷ encode_utf8_all text ∷ []
+outcome_fields (Refused name) = codes "refused" ∷ name ∷ []
+
+-- a stem, and then others
+abbrev pub stem_fields : List ℕ → List (List ℕ) → List (List ℕ)
+stem_fields stem stems = map encode_utf8_all (stem ∷ stems)
+
+abbrev pub change_fields : Change → List (List ℕ)
+change_fields (Added word) = codes "added" ∷ encode_utf8_all word ∷ []
+change_fields (Removed word) = codes "removed" ∷ encode_utf8_all word ∷ []
+change_fields (Changed word before after) = codes "changed" ∷ encode_utf8_all word ∷ (outcome_fields before ++ outcome_fields after)
+change_fields (Split stem into) = codes "split" ∷ stem_fields stem into
+change_fields (Merged stem from) = codes "merged" ∷ stem_fields stem from
+change_fields (Renamed before after) = codes "renamed" ∷ stem_fields before (after ∷ [])
+
+-- a row for each change between some rows and those of the bench
+abbrev pub changes_text : List bench.Row → Contents → List ℕ
+changes_text before s = records_text (map change_fields (changes_of (named_rows before) (named_rows (rows_now s))))
+
+-- ---- figures
+
+abbrev pub figure_fields : List ℕ → ℕ → List (List ℕ)
+figure_fields name number = name ∷ decimal number ∷ []
+
+abbrev pub stats_fields : Stats → ℕ → List (List (List ℕ))
+stats_fields s runs =
+    figure_fields (codes "words") s.words ∷ figure_fields (codes "refused") s.refused ∷ figure_fields (codes "classes") s.classes
+    ∷ figure_fields (codes "alone") s.alone ∷ figure_fields (codes "largest") s.largest ∷ figure_fields (codes "unchanged") s.unchanged
+    ∷ figure_fields (codes "runs") runs ∷ []
+
+abbrev pub stats_text : Contents → List ℕ
+stats_text s = records_text (stats_fields (stats_of (named_rows (rows_now s))) s.count)
+
+-- ---- the largest classes
+
+-- the stem of a class, then its words
+abbrev pub class_fields : Class → List (List ℕ)
+class_fields c = stem_fields c.stem c.members
+
+-- a row for each of the n largest classes
+abbrev pub largest_text : ℕ → Contents → List ℕ
+largest_text n s = records_text (map class_fields (largest_of n (named_rows (rows_now s))))

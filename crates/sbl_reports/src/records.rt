@@ -1,0 +1,90 @@
+//! The lines of values that are written as one record each.
+ghost use Rattle.std.specs.Prelude.{◌≡◌, ◌++◌, ◌∷◌, [], ℕ, IfOk, List, OnOk, encode_utf8_all, map};
+ghost use Rattle.csv.specs.Records.{fields_of, partial_of};
+ghost use Rattle.sbl_changes.specs.Rows.{texts_of};
+ghost use Rattle.sbl_io.specs.Records as spec;
+ghost use Rattle.sbl_reports.specs.Blank.{IsBlank};
+ghost use Rattle.sbl_reports.specs.Reports.{stem_fields};
+
+use csv::ByteRecord;
+use sbl_io::{push_line, push_text};
+use std::alloc::{AllocError, Global};
+
+/// A value that is written as one record.
+pub(crate) trait Record {
+    /// Its fields, as bytes.
+    ghost fields: { Self → List (List ℕ) };
+
+    /// Appends its fields to a blank record. `text` is a buffer. Returns `AllocError` if an allocation fails.
+    fn fill(&self, text: &mut String, csv_record: &mut ByteRecord) -> Result<(), AllocError>
+        requires { IsBlank csv_record.old }
+        ensures { OnOk result (fields_of csv_record.new ≡ fields self.now) };
+}
+
+/// Returns the lines of values. Returns `AllocError` if an allocation fails.
+pub(crate) fn lines_of<T: Record>(alloc: Global, values: &[T]) -> Result<Vec<u8>, AllocError>
+    ensures { IfOk result (λ lines. lines.items ≡ spec.records_text (map T.fields values.now)) }
+{
+    let mut out = Vec::new(alloc);
+    for value in values {
+        push_value(alloc, &mut out, value)?;
+    }
+    Ok(out)
+}
+
+/// Appends the line of a value. Returns `AllocError` if an allocation fails.
+fn push_value<T: Record>(alloc: Global, out: &mut Vec<u8>, value: &T) -> Result<(), AllocError>
+    ensures { OnOk result (out.new.items ≡ out.old.items ++ spec.record_line (T.fields value.now)) }
+{
+    let mut text = String::new(alloc);
+    let mut csv_record = ByteRecord::new(alloc);
+    value.fill(&mut text, &mut csv_record)?;
+    push_line(alloc, out, &csv_record)
+}
+
+/// Appends texts to a record, each as one field. Returns `AllocError` if an allocation fails.
+fn push_texts(
+    text: &mut String,
+    csv_record: &mut ByteRecord,
+    texts: &[&[char]],
+) -> Result<(), AllocError>
+    requires { partial_of csv_record.old ≡ [] }
+    ensures fields { OnOk result (fields_of csv_record.new ≡ fields_of csv_record.old ++ map encode_utf8_all (texts_of texts.now)) }
+    ensures partial { OnOk result (partial_of csv_record.new ≡ []) }
+{
+    for characters in texts {
+        push_text(text, csv_record, characters)?;
+    }
+    Ok(())
+}
+
+/// Appends a text and others to a record, each as one field. Returns `AllocError` if an allocation fails.
+pub(crate) fn push_stem(
+    text: &mut String,
+    csv_record: &mut ByteRecord,
+    stem: &[char],
+    others: &[&[char]],
+) -> Result<(), AllocError>
+    requires { partial_of csv_record.old ≡ [] }
+    ensures fields { OnOk result (fields_of csv_record.new ≡ fields_of csv_record.old ++ stem_fields stem.now (texts_of others.now)) }
+    ensures partial { OnOk result (partial_of csv_record.new ≡ []) }
+{
+    push_text(text, csv_record, stem)?;
+    push_texts(text, csv_record, others)
+}
+
+/// Appends a name, a text and others to a record, each as one field. Returns `AllocError` if an allocation fails.
+pub(crate) fn push_named(
+    text: &mut String,
+    csv_record: &mut ByteRecord,
+    name: &str,
+    stem: &[char],
+    others: &[&[char]],
+) -> Result<(), AllocError>
+    requires { partial_of csv_record.old ≡ [] }
+    ensures fields { OnOk result (fields_of csv_record.new ≡ fields_of csv_record.old ++ name.now ∷ stem_fields stem.now (texts_of others.now)) }
+    ensures partial { OnOk result (partial_of csv_record.new ≡ []) }
+{
+    csv_record.push_field(name.as_bytes())?;
+    push_stem(text, csv_record, stem, others)
+}

@@ -1,0 +1,187 @@
+//! The reports of work: what changed since some rows, figures, and the largest classes.
+ghost use Rattle.std.specs.Prelude.{◌≡◌, ◌++◌, ◌∷◌, [], IfOk, OnOk, codes, map};
+ghost use Rattle.csv.specs.Records.{fields_of, partial_of};
+ghost use Rattle.sbl_bench.specs.KeptRuns.{contents_of};
+ghost use Rattle.sbl_rows.specs.Rows.{view_row};
+ghost use Rattle.sbl_changes.specs.Changes.{view_change};
+ghost use Rattle.sbl_changes.specs.Classes.{view_class as view_stem_class};
+ghost use Rattle.sbl_changes.specs.Rows.{view_outcome, view_rows};
+ghost use Rattle.sbl_semantics.specs.Outcome.{outcome_of};
+ghost use Rattle.sbl_io.specs.Records.{record_line, records_text};
+ghost use Rattle.sbl_reports.specs.Reports as spec;
+
+use crate::records::{Record, lines_of, push_named, push_stem};
+use csv::ByteRecord;
+use sbl_bench::{Bench, Row};
+use sbl_changes::{
+    ChangeRow, RowStats, StemClass, WordOutcome, WordRow, changes, largest_classes, stats,
+};
+use sbl_io::{push_line, push_text};
+use sbl_machine::Outcome;
+use std::alloc::{AllocError, Global};
+
+/// Returns the outcome of a row, with the name of a refusal.
+fn named_outcome(outcome: &Outcome) -> WordOutcome<'_>
+    ensures { view_outcome result ≡ spec.named_outcome (outcome_of outcome.now) }
+{
+    match outcome {
+        Outcome::Stem(stem) => WordOutcome::Stem(stem.as_slice()),
+        Outcome::Refused(fault) => WordOutcome::Refused(fault.name()),
+    }
+}
+
+/// Returns rows with the names of refusals. Returns `AllocError` if an allocation fails.
+pub(crate) fn named_rows<'a>(
+    alloc: Global,
+    rows: &[Row<'a>],
+) -> Result<Vec<WordRow<'a>>, AllocError>
+    ensures { IfOk result (λ named. view_rows named.items ≡ spec.named_rows (map view_row rows.now)) }
+{
+    let mut named = Vec::with_capacity(alloc, rows.len())?;
+    for row in rows {
+        named.push(WordRow {
+            word: row.word,
+            outcome: named_outcome(row.outcome),
+        })?;
+    }
+    Ok(named)
+}
+
+/// Appends an outcome to a record, as two fields. Returns `AllocError` if an allocation fails.
+fn push_outcome(
+    text: &mut String,
+    csv_record: &mut ByteRecord,
+    outcome: WordOutcome<'_>,
+) -> Result<(), AllocError>
+    requires { partial_of csv_record.old ≡ [] }
+    ensures fields { OnOk result (fields_of csv_record.new ≡ fields_of csv_record.old ++ spec.outcome_fields (view_outcome outcome.entry)) }
+    ensures partial { OnOk result (partial_of csv_record.new ≡ []) }
+{
+    match outcome {
+        WordOutcome::Stem(stem) => {
+            csv_record.push_field(b"stem")?;
+            push_text(text, csv_record, stem)
+        }
+        WordOutcome::Refused(name) => {
+            csv_record.push_field(b"refused")?;
+            csv_record.push_field(name.as_bytes())
+        }
+    }
+}
+
+impl Record for ChangeRow<'_> {
+    ghost fields = { λ change. spec.change_fields (view_change change) };
+
+    fn fill(&self, text: &mut String, csv_record: &mut ByteRecord) -> Result<(), AllocError> {
+        match self {
+            ChangeRow::Added(word) => push_named(text, csv_record, "added", word, &[]),
+            ChangeRow::Removed(word) => push_named(text, csv_record, "removed", word, &[]),
+            ChangeRow::Changed {
+                word,
+                before,
+                after,
+            } => {
+                push_named(text, csv_record, "changed", word, &[])?;
+                push_outcome(text, csv_record, *before)?;
+                push_outcome(text, csv_record, *after)
+            }
+            ChangeRow::Split(class) => {
+                push_named(text, csv_record, "split", class.stem, &class.members)
+            }
+            ChangeRow::Merged(class) => {
+                push_named(text, csv_record, "merged", class.stem, &class.members)
+            }
+            ChangeRow::Renamed { from, to } => {
+                push_named(text, csv_record, "renamed", from, &[*to])
+            }
+        }
+    }
+}
+
+impl Record for StemClass<'_> {
+    ghost fields = { λ class. spec.class_fields (view_stem_class class) };
+
+    fn fill(&self, text: &mut String, csv_record: &mut ByteRecord) -> Result<(), AllocError> {
+        push_stem(text, csv_record, self.stem, &self.members)
+    }
+}
+
+/// Returns the report of what changed: a row for each change between some rows and those of the bench.
+///
+/// # Errors
+///
+/// Returns `AllocError` if an allocation fails.
+pub fn changes_text(alloc: Global, before: &[Row<'_>], bench: &Bench) -> Result<Vec<u8>, AllocError>
+    ensures { IfOk result (λ text. text.items ≡ spec.changes_text (map view_row before.now) (contents_of bench.now)) }
+{
+    let rows = bench.rows()?;
+    let before = named_rows(alloc, before)?;
+    let after = named_rows(alloc, &rows)?;
+    let found = changes(alloc, &before, &after)?;
+    lines_of(alloc, &found)
+}
+
+/// Appends the line of a figure. Returns `AllocError` if an allocation fails.
+fn push_figure(alloc: Global, out: &mut Vec<u8>, name: &str, number: u64) -> Result<(), AllocError>
+    ensures { OnOk result (out.new.items ≡ out.old.items ++ record_line (spec.figure_fields name.now number)) }
+{
+    let digits = format!(in alloc; "{number}")?;
+    let mut csv_record = ByteRecord::new(alloc);
+    csv_record.push_field(name.as_bytes())?;
+    csv_record.push_field(digits.as_bytes())?;
+    push_line(alloc, out, &csv_record)
+}
+
+/// Appends the lines of the figures about words. Returns `AllocError` if an allocation fails.
+fn push_word_figures(alloc: Global, out: &mut Vec<u8>, figures: &RowStats) -> Result<(), AllocError>
+    ensures { OnOk result (out.new.items ≡ out.old.items ++ records_text (spec.figure_fields (codes "words") figures.now.words ∷ spec.figure_fields (codes "refused") figures.now.refused ∷ [])) }
+{
+    push_figure(alloc, out, "words", figures.words as u64)?;
+    push_figure(alloc, out, "refused", figures.refused as u64)
+}
+
+/// Appends the lines of the figures about classes. Returns `AllocError` if an allocation fails.
+fn push_class_figures(
+    alloc: Global,
+    out: &mut Vec<u8>,
+    figures: &RowStats,
+) -> Result<(), AllocError>
+    ensures { OnOk result (out.new.items ≡ out.old.items ++ records_text (spec.figure_fields (codes "classes") figures.now.classes ∷ spec.figure_fields (codes "alone") figures.now.alone ∷ spec.figure_fields (codes "largest") figures.now.largest ∷ [])) }
+{
+    push_figure(alloc, out, "classes", figures.classes as u64)?;
+    push_figure(alloc, out, "alone", figures.alone as u64)?;
+    push_figure(alloc, out, "largest", figures.largest as u64)
+}
+
+/// Returns the report of figures of the rows and classes of a bench, and of its runs.
+///
+/// # Errors
+///
+/// Returns `AllocError` if an allocation fails.
+pub fn stats_text(alloc: Global, bench: &Bench) -> Result<Vec<u8>, AllocError>
+    ensures { IfOk result (λ text. text.items ≡ spec.stats_text (contents_of bench.now)) }
+{
+    let rows = bench.rows()?;
+    let named = named_rows(alloc, &rows)?;
+    let figures = stats(alloc, &named)?;
+    let mut out = Vec::new(alloc);
+    push_word_figures(alloc, &mut out, &figures)?;
+    push_class_figures(alloc, &mut out, &figures)?;
+    push_figure(alloc, &mut out, "unchanged", figures.unchanged as u64)?;
+    push_figure(alloc, &mut out, "runs", bench.runs())?;
+    Ok(out)
+}
+
+/// Returns the report of the largest classes, at most `number` of them: the largest first, those of one size by stem.
+///
+/// # Errors
+///
+/// Returns `AllocError` if an allocation fails.
+pub fn largest_text(alloc: Global, bench: &Bench, number: usize) -> Result<Vec<u8>, AllocError>
+    ensures { IfOk result (λ text. text.items ≡ spec.largest_text number (contents_of bench.now)) }
+{
+    let rows = bench.rows()?;
+    let named = named_rows(alloc, &rows)?;
+    let classes = largest_classes(alloc, &named, number)?;
+    lines_of(alloc, &classes)
+}

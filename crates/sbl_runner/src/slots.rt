@@ -1,0 +1,71 @@
+//! The cursors that the commands of a routine have saved.
+
+ghost use Rattle.std.specs.Prelude.{◌≡◌, slice_index_or, slice_set};
+ghost use Rattle.sbl_interpreter.specs.Endings.{IsSaved};
+ghost use Rattle.sbl_threaded_code.specs.Slots.{no_cursor, no_cursors};
+
+use sbl_semantics::SavedCursor;
+use sbl_threaded_code::SLOTS;
+use std::marker::Model;
+
+/// A cursor in an empty text, which a slot holds before one is saved in it.
+const NO_CURSOR: SavedCursor = SavedCursor {
+    cursor: 0,
+    beyond: 0,
+    length: 0,
+};
+
+/// Saved cursors, by slot.
+#[derive(Drop)]
+pub struct SavedCursors {
+    cursors: [SavedCursor; 4],
+}
+
+impl Model for SavedCursors {
+    ghost use Rattle.std.specs.Prelude.{◌≡◌, ℕ, List, length, slice_index_or};
+    ghost use Rattle.sbl_semantics.specs.declared.cursor.SavedCursor.{SavedCursor};
+    ghost use Rattle.sbl_interpreter.specs.Endings.{IsSaved};
+    ghost use Rattle.sbl_threaded_code.specs.Slots.{no_cursor};
+
+    ghost Value = { List SavedCursor };
+
+    ghost view = { λ s. s.cursors };
+
+    ghost invariant = { λ s. (length s.cursors ≡ 4) × ((j : ℕ) → IsSaved (slice_index_or s.cursors j no_cursor)) };
+}
+
+impl SavedCursors {
+    /// Returns slots in which no cursor is saved.
+    #[inline(always)]
+    pub fn new() -> SavedCursors
+        ensures { result ≡ no_cursors }
+    {
+        SavedCursors {
+            cursors: [NO_CURSOR; 4],
+        }
+    }
+
+    /// Saves a cursor; past the last slot nothing is done.
+    #[inline(always)]
+    pub fn set(&mut self, slot: usize, cursor: SavedCursor)
+        requires { IsSaved cursor }
+        ensures { self.new ≡ slice_set self.old slot cursor }
+    {
+        if slot < SLOTS {
+            self.cursors[slot] = cursor;
+        }
+    }
+
+    /// Returns a saved cursor; past the last slot, one in an empty text.
+    #[inline(always)]
+    pub fn get(&self, slot: usize) -> SavedCursor
+        ensures value { result ≡ slice_index_or self.now slot no_cursor }
+        ensures saved { IsSaved result }
+    {
+        if slot < SLOTS {
+            self.cursors[slot]
+        } else {
+            NO_CURSOR
+        }
+    }
+}
