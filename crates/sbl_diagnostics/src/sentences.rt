@@ -1,7 +1,9 @@
 //! What is wrong at the place of a fault, in a sentence.
 
 use crate::characters::{push_hexadecimal, push_named};
-use crate::declarations::{DeclaredName, declaration_of, declared_in, kind_text, names_of};
+use crate::declarations::{
+    DeclaredName, declaration_of, declared_in, kind_text, names_of, wanted_declaration,
+};
 use crate::definitions::{is_at_terms, push_no_definition, push_undefined, push_wrong_mode};
 use crate::encodings::push_conversion;
 use crate::expectations::{push_expectation, push_use};
@@ -323,7 +325,19 @@ fn push_undeclared(
     if push_near_reserved(alloc, shown, name)? {
         return Ok(());
     }
-    shown.push_str(" Declare it, or use another name.")
+    push_declaration(alloc, shown, place)
+}
+
+/// Appends that a name has to be declared, with an example.
+fn push_declaration(alloc: Global, shown: &mut String, place: Place<'_>) -> Result<(), AllocError> {
+    let Place { faulty, spot } = place;
+    let name = spot.token;
+    let word = match tokens_before(alloc, faulty.text, spot.begin) {
+        Some(before) => wanted_declaration(Site::new(faulty, &before, spot)),
+        None => "routines",
+    };
+    let text = format!(in alloc; " Declare it, as in {word} ( {name} ), or use another name.")?;
+    shown.push_str(text.as_str())
 }
 
 /// Appends why the external that is to be run is not there.

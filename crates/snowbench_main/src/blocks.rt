@@ -1,7 +1,7 @@
 //! The blocks of an input.
 
 use sbl_bench::MAX_WORD_LENGTH;
-use sbl_io::first_line;
+use sbl_io::{MAX_LINE, first_line};
 use std::alloc::{AllocError, Global};
 
 /// Returns the number of the first line that is a single point, from 1.
@@ -61,6 +61,20 @@ fn is_long(line: &[u8]) -> bool {
         Ok(text) => text.chars().count() > MAX_WORD_LENGTH,
         Err(_) => false,
     }
+}
+
+/// Returns the number of the first line, from 1, that has more bytes than a line may have.
+pub(crate) fn overlong_line(text: &[u8]) -> Option<u64> {
+    let mut rest = text;
+    let mut number: u64 = 1;
+    while let Some((line, after)) = first_line(rest) {
+        if line.len() > MAX_LINE {
+            return Some(number);
+        }
+        number = number.saturating_add(1);
+        rest = after;
+    }
+    None
 }
 
 /// Appends a block, and then the point. If the last line has no end, it gets one.

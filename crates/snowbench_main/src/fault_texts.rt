@@ -1,12 +1,13 @@
 //! What to say on the fault of a run over an input: where it is, or what is missing.
 
-use crate::blocks::{after_point, long_line, point_line};
+use crate::blocks::{after_point, long_line, overlong_line, point_line};
 use crate::file_names::{FileNames, STANDARD_INPUT, file_name};
 use crate::messages::count_and_word;
 use crate::run_result::RunResult;
 use sbl_bench::MAX_WORD_LENGTH;
 use sbl_diagnostics::{fault_of, offset_of_byte, push_conversion, push_named, script_fault_text};
-use sbl_formats::read_script;
+use sbl_io::MAX_LINE;
+use sbl_loading::read_script;
 use sbl_places::position_of;
 use snowbench::{CommandLine, Device, Lines, Verb};
 use std::alloc::{AllocError, Global};
@@ -19,6 +20,9 @@ const NOT_TEXT: &[u8] = b"snowbench: 75 NotText\n";
 
 /// The line of a word with too many characters.
 const TOO_LONG: &[u8] = b"snowbench: 43 WordTooLong\n";
+
+/// The line of a line with too many bytes.
+const LINE_TOO_LONG: &[u8] = b"snowbench: 72 LineTooLong\n";
 
 /// Returns what there is to say on the fault of a run, beside the line of the fault. Without `names` all of the input is from
 /// standard input.
@@ -33,9 +37,14 @@ pub(crate) fn run_fault_text(
     if said == CUT {
         return format!(in alloc; "  {}", cut_text(command_line.verb, input)).map(Some);
     }
-    if command_line.verb == Verb::Filter && (said == NOT_TEXT || said == TOO_LONG) {
+    let is_late = said == LINE_TOO_LONG && overlong_line(input).is_none();
+    let is_word = said == NOT_TEXT || said == TOO_LONG || is_late;
+    if command_line.verb == Verb::Filter && is_word {
         let rows = count_and_word(alloc, ended.rows, "row", "rows")?;
         return format!(in alloc; "  it is the word after {rows}").map(Some);
+    }
+    if said == LINE_TOO_LONG {
+        return overlong_line_text(alloc, names, input);
     }
     if said == NOT_TEXT {
         return not_utf8_text(alloc, names, input);
@@ -110,6 +119,40 @@ fn long_word_text(
     )?;
     shown.push_str(place.as_str())?;
     Ok(Some(shown))
+}
+
+/// Returns which line has too many bytes. In standard input lines are counted from its beginning.
+fn overlong_line_text(
+    alloc: Global,
+    names: Option<FileNames<'_>>,
+    input: &[u8],
+) -> Result<Option<String>, AllocError> {
+    let Some(line) = overlong_line(input) else {
+        return Ok(None);
+    };
+    let (name, line) = match names {
+        Some(names) => file_of_line(names, input, line),
+        None => (STANDARD_INPUT, line),
+    };
+    let mut shown = String::new(alloc);
+    push_named(&mut shown, name)?;
+    let place = format!(in alloc; ":{line}: more than {MAX_LINE} bytes, which no line may have")?;
+    shown.push_str(place.as_str())?;
+    Ok(Some(shown))
+}
+
+/// Returns the file that a line of the input is from, and its number in that file.
+fn file_of_line<'a>(names: FileNames<'a>, input: &[u8], line: u64) -> (&'a str, u64) {
+    let script_lines = point_line(input).unwrap_or(u64::MAX);
+    if line < script_lines {
+        return (file_name(names.script), line);
+    }
+    let line = line.saturating_sub(script_lines);
+    let word_lines = point_line(after_point(input).unwrap_or(&[])).unwrap_or(u64::MAX);
+    match names.rest {
+        Some(name) if word_lines < line => (file_name(name), line.saturating_sub(word_lines)),
+        _ => (file_name(names.words), line),
+    }
 }
 
 /// Returns the lines on a fault of the script, if that is the fault of the run.
