@@ -18,7 +18,7 @@ LEAST = 25
 OF_WORDS = {
     43: "",
     44: "It has more than 100,000 words. To take the first of them: head -n 100000 FILE > NEW",
-    72: "It has a line of more than 65,536 bytes.",
+    72: "",
     75: "",
 }
 # The status after Ctrl-C at the start.

@@ -12,6 +12,8 @@ from plain import named
 
 # The script reads only regular files that are not larger.
 LARGEST = 1 << 26
+# A line may have so many bytes in an input; a file of work is read as a whole.
+LONGEST_LINE = 65536
 BOM, GZIP, UTF16 = b"\xef\xbb\xbf", b"\x1f\x8b", (b"\xff\xfe", b"\xfe\xff")
 
 
@@ -62,9 +64,24 @@ def on_encoding(name, data, lines):
     return said
 
 
+def is_overlong(line):
+    return len(line.encode("utf-8", "surrogateescape")) > LONGEST_LINE
+
+
+def on_script(name, lines):
+    """The warning on a line that a script may have here, and not in an input."""
+    found = lines_that(lines, is_overlong)
+    if not found:
+        return []
+    return [name + from_line(found, "more than 65,536 bytes", "lines") + ". run, check, filter and session refuse such a line (72 LineTooLong). Break it"]
+
+
 def on_words(name, lines):
     """Warnings on what only a list of words may have."""
     said = []
+    found = lines_that(lines, is_overlong)
+    if found:
+        return [name + from_line(found, "more than 65,536 bytes, which no line may have", "lines") + ". Write one word on each line"]
     text = "\n".join(lines)
     if re.search(r"\bexternals\s*\(", text):
         return [name + ": this looks like a script, and each of its lines is a word here"]
@@ -107,7 +124,7 @@ def warnings_on(script, words=""):
         if lines and data.startswith(BOM):
             lines[0] = lines[0][1:]
         said += on_encoding(named(path), data, lines)
-        said += on_words(named(path), lines) if path is words else []
+        said += (on_words if path is words else on_script)(named(path), lines)
     return said
 
 

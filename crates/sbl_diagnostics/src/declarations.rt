@@ -1,6 +1,5 @@
 //! The names that a script declares.
 
-use crate::sites::Site;
 use sbl_text::{Kind, Sign, Token, Word, tokens};
 use std::alloc::{AllocError, Global};
 
@@ -96,18 +95,4 @@ pub(crate) fn names_of<'a>(
         }
     }
     Ok(found)
-}
-
-/// Returns the word that declares a name at this site, by the token before it. A name that can be of several kinds there is most
-/// likely a routine.
-pub(crate) fn wanted_declaration(site: Site<'_>) -> &'static str {
-    match site.last_kind() {
-        Some(Kind::Word(Word::Define)) if !site.is_before_as() => "groupings",
-        Some(Kind::Word(Word::Non)) => "groupings",
-        Some(Kind::Word(Word::Set | Word::Unset)) => "booleans",
-        Some(Kind::Word(Word::SetMark) | Kind::Sign(Sign::Dollar)) => "integers",
-        Some(Kind::Word(Word::Insert | Word::Attach | Word::LenOf)) => "strings",
-        Some(Kind::Sign(Sign::Arrow | Sign::LessMinus | Sign::LessPlus)) => "strings",
-        _ => "routines",
-    }
 }

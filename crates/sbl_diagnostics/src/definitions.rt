@@ -110,12 +110,19 @@ pub(crate) fn push_undefined(
     })
 }
 
-/// Returns whether the last of these tokens are `define` and a name.
-fn end_with_define(tokens: &[Token<'_>]) -> bool {
-    match tokens {
-        [.., word, name] => word.kind == Kind::Word(Word::Define) && name.kind == Kind::Name,
-        _ => false,
+/// Returns whether these tokens end with `define`, a name, and terms with the signs after them, if there are terms.
+fn end_in_terms(tokens: &[Token<'_>]) -> bool {
+    let mut is_in_terms = false;
+    let mut previous = None;
+    for token in tokens {
+        is_in_terms = match token.kind {
+            Kind::Name => is_in_terms || previous == Some(Kind::Word(Word::Define)),
+            Kind::Literal | Kind::Sign(Sign::Plus | Sign::Minus) => is_in_terms,
+            _ => false,
+        };
+        previous = Some(token.kind);
     }
+    is_in_terms
 }
 
 /// Returns whether a name at this place is one of the terms of a grouping, so that it may be meant as characters.
@@ -125,7 +132,7 @@ pub(crate) fn is_at_terms(alloc: Global, place: Place<'_>) -> bool {
         Some(Part::Terms(_)) => true,
         Some(_) => false,
         None => match tokens_before(alloc, faulty.text, spot.begin) {
-            Some(before) => end_with_define(&before),
+            Some(before) => end_in_terms(&before),
             None => false,
         },
     }

@@ -16,6 +16,7 @@ mod reasons;
 mod sentences;
 mod sites;
 mod text_lines;
+mod undeclared;
 
 pub use block_faults::{TypedBlock, part_text, whole_text};
 pub use characters::{plain_text, push_named};

@@ -1,16 +1,15 @@
 //! What is wrong at the place of a fault, in a sentence.
 
 use crate::characters::{push_hexadecimal, push_named};
-use crate::declarations::{
-    DeclaredName, declaration_of, declared_in, kind_text, names_of, wanted_declaration,
-};
-use crate::definitions::{is_at_terms, push_no_definition, push_undefined, push_wrong_mode};
+use crate::declarations::{declaration_of, declared_in, kind_text, names_of};
+use crate::definitions::{push_no_definition, push_undefined, push_wrong_mode};
 use crate::encodings::push_conversion;
 use crate::expectations::{push_expectation, push_use};
 use crate::foreign::{advice_on, foreign_character, is_end_line, left_out_text};
 use crate::near::{push_listed, push_near, push_near_reserved, push_near_word};
 use crate::reasons::{begins_sentence, reason};
 use crate::sites::{Site, push_advice};
+use crate::undeclared::push_undeclared;
 use sbl_places::{Part, Position, ScriptFault, begins_item, position_of};
 use sbl_text::{Kind, Lexer, Sign, Token, Word, tokens};
 use std::alloc::{AllocError, Global};
@@ -294,50 +293,6 @@ fn push_name(alloc: Global, shown: &mut String, place: Place<'_>) -> Result<(), 
             shown.push_str(reason(fault))
         }
     }
-}
-
-/// Appends that a name is not declared, and which declared name or reserved word may be meant.
-fn push_undeclared(
-    alloc: Global,
-    shown: &mut String,
-    declared: &[DeclaredName<'_>],
-    place: Place<'_>,
-) -> Result<(), AllocError> {
-    let (script, external) = (place.faulty.script, place.faulty.external);
-    let name = place.spot.token;
-    shown.push_str(" is not declared.")?;
-    if name == external && names_of(alloc, declared, true)?.is_empty() {
-        let text = format!(in alloc; " Declare it: externals ( {name} )")?;
-        return shown.push_str(text.as_str());
-    }
-    let names = names_of(alloc, declared, false)?;
-    if push_near(alloc, shown, name, &names)? {
-        return Ok(());
-    }
-    if is_at_terms(alloc, place) {
-        let text = format!(in alloc; " Declare it, or put characters in quotes: '{name}'")?;
-        return shown.push_str(text.as_str());
-    }
-    if let Some(advice) = advice_on(alloc, script, name) {
-        shown.push_str(" ")?;
-        return shown.push_str(advice);
-    }
-    if push_near_reserved(alloc, shown, name)? {
-        return Ok(());
-    }
-    push_declaration(alloc, shown, place)
-}
-
-/// Appends that a name has to be declared, with an example.
-fn push_declaration(alloc: Global, shown: &mut String, place: Place<'_>) -> Result<(), AllocError> {
-    let Place { faulty, spot } = place;
-    let name = spot.token;
-    let word = match tokens_before(alloc, faulty.text, spot.begin) {
-        Some(before) => wanted_declaration(Site::new(faulty, &before, spot)),
-        None => "routines",
-    };
-    let text = format!(in alloc; " Declare it, as in {word} ( {name} ), or use another name.")?;
-    shown.push_str(text.as_str())
 }
 
 /// Appends why the external that is to be run is not there.

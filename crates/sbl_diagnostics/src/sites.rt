@@ -76,17 +76,6 @@ impl<'a> Site<'a> {
         self.is_at(Word::Or) || self.is_at(Word::And)
     }
 
-    /// Returns whether `as` follows the token at the place.
-    pub(crate) fn is_before_as(self) -> bool {
-        let end = self.spot.begin.saturating_add(self.spot.token.len());
-        let rest = self.faulty.text.get(end..).unwrap_or(&[]);
-        match rest.trim_ascii_start() {
-            [b'a', b's'] => true,
-            [b'a', b's', next, ..] => !next.is_ascii_alphanumeric() && *next != b'_',
-            _ => false,
-        }
-    }
-
     /// Returns the sign at the place that sets or compares an integer, if there is one.
     pub(crate) fn operator(self) -> Option<Sign> {
         match self.spot.kind {

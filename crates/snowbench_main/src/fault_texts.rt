@@ -6,7 +6,6 @@ use crate::messages::count_and_word;
 use crate::run_result::RunResult;
 use sbl_bench::MAX_WORD_LENGTH;
 use sbl_diagnostics::{fault_of, offset_of_byte, push_conversion, push_named, script_fault_text};
-use sbl_io::MAX_LINE;
 use sbl_loading::read_script;
 use sbl_places::position_of;
 use snowbench::{CommandLine, Device, Lines, Verb};
@@ -121,7 +120,7 @@ fn long_word_text(
     Ok(Some(shown))
 }
 
-/// Returns which line has too many bytes. In standard input lines are counted from its beginning.
+/// Returns which line has too many bytes, and what to do. In standard input lines are counted from its beginning.
 fn overlong_line_text(
     alloc: Global,
     names: Option<FileNames<'_>>,
@@ -130,28 +129,53 @@ fn overlong_line_text(
     let Some(line) = overlong_line(input) else {
         return Ok(None);
     };
-    let (name, line) = match names {
-        Some(names) => file_of_line(names, input, line),
+    let (part, number) = part_of_line(input, line);
+    let (name, number) = match names {
+        Some(names) => (name_of_part(names, part), number),
         None => (STANDARD_INPUT, line),
     };
     let mut shown = String::new(alloc);
     push_named(&mut shown, name)?;
-    let place = format!(in alloc; ":{line}: more than {MAX_LINE} bytes, which no line may have")?;
+    let advice = match part {
+        InputPart::Script => "Break it",
+        InputPart::Words => "Write one word on each line",
+        InputPart::Rest => "Shorten it",
+    };
+    let place = format!(in alloc;
+        ":{number}: more than 65,536 bytes, which no line may have. {advice}"
+    )?;
     shown.push_str(place.as_str())?;
     Ok(Some(shown))
 }
 
-/// Returns the file that a line of the input is from, and its number in that file.
-fn file_of_line<'a>(names: FileNames<'a>, input: &[u8], line: u64) -> (&'a str, u64) {
+/// A part of an input.
+#[derive(Clone, Copy)]
+enum InputPart {
+    Script,
+    Words,
+    Rest,
+}
+
+/// Returns the part of an input that a line is in, and the number of the line there.
+fn part_of_line(input: &[u8], line: u64) -> (InputPart, u64) {
     let script_lines = point_line(input).unwrap_or(u64::MAX);
     if line < script_lines {
-        return (file_name(names.script), line);
+        return (InputPart::Script, line);
     }
     let line = line.saturating_sub(script_lines);
     let word_lines = point_line(after_point(input).unwrap_or(&[])).unwrap_or(u64::MAX);
-    match names.rest {
-        Some(name) if word_lines < line => (file_name(name), line.saturating_sub(word_lines)),
-        _ => (file_name(names.words), line),
+    if line < word_lines {
+        return (InputPart::Words, line);
+    }
+    (InputPart::Rest, line.saturating_sub(word_lines))
+}
+
+/// Returns the name of the file that a part of the input is from.
+fn name_of_part(names: FileNames<'_>, part: InputPart) -> &str {
+    match (part, names.rest) {
+        (InputPart::Script, _) => file_name(names.script),
+        (InputPart::Rest, Some(rest)) => file_name(rest),
+        _ => file_name(names.words),
     }
 }
 

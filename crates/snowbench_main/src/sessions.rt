@@ -333,7 +333,8 @@ fn check_input(rt: &HostRuntime, names: FileNames<'_>, stems: &str) -> Result<(V
     let expected = read_named(rt, stems, "stems")?;
     let (count, other) = (line_count(&words), line_count(&expected));
     if count != other {
-        let text = lengths_text(rt.alloc(), names.words, count, stems, other);
+        let words = file_name(names.words);
+        let text = lengths_text(rt.alloc(), words, count, file_name(stems), other);
         return Err(print_line(rt, text, REFUSED));
     }
     match compose(rt.alloc(), &script, &words, &expected) {
