@@ -17,6 +17,7 @@ pub mod machine_sound;
 pub mod machine_why;
 pub mod numbering_laws;
 pub mod places_laws;
+pub mod rows_classes_are_sound;
 pub mod script_only_the_item;
 pub mod tables_laws;
 pub mod text_laws;

@@ -1,5 +1,5 @@
 -- definitions that the contracts of public functions use
 pub mod Filter
 pub mod Laws
--- what functions inside promise each other
+-- what the functions inside the crate promise each other: nothing in these need be believed
 pub mod LineWriter

@@ -1,4 +1,4 @@
 -- definitions that public contracts depend on
 pub mod Moments
--- definitions that functions inside the crate promise each other
+-- what the functions inside the crate promise each other: nothing in these need be believed
 pub mod OpenSearches

@@ -1,6 +1,6 @@
 -- definitions that public contracts depend on
 pub mod Reports
 pub mod Families
--- definitions that functions inside the crate promise each other
+-- what the functions inside the crate promise each other: nothing in these need be believed
 pub mod FamilyReader
 pub mod Blank

@@ -1,8 +1,9 @@
 //! A set of pairs of a stem and a word that has it. In order, it gives the classes.
 
-ghost use Rattle.std.specs.Prelude.{◌≡◌, ◌||◌, ◌&&◌, not, OnOk, OnErr};
+ghost use Rattle.std.specs.Prelude.{◌≡◌, ◌||◌, ◌&&◌, false, not, IfOk, OnOk, OnErr};
 ghost use Rattle.std.specs.Str.{bytes_eq};
 ghost use Rattle.sbl_semantics.specs.Outcome.{outcome_of};
+ghost use Rattle.sbl_rows.specs.ChangedRows.{same_outcome};
 ghost use Rattle.sbl_rows.specs.Pairs.{IsFollowed, Key, has, is_pair_of};
 
 use crate::changed_row::is_same;
@@ -43,14 +44,16 @@ pub fn remove_key(pairs: &mut Pairs, stem: Vec<char>, word: Vec<char>)
     pairs.remove(&pair);
 }
 
-/// Removes the pair of this word from the set, if the word has a stem. Returns `AllocError` if an allocation fails.
+/// Removes the pair of this word from the set, if the word has a stem. Returns `AllocError` if an allocation fails; the set is
+/// unchanged then.
 fn remove_pair(
     alloc: Global,
     pairs: &mut Pairs,
     word: &[char],
     outcome: &Outcome,
 ) -> Result<(), AllocError>
-    ensures { OnOk result ((q : Key) → has pairs.new q ≡ (not (is_pair_of word.now (outcome_of outcome.now) q) && has pairs.old q)) }
+    ensures ok { OnOk result ((q : Key) → has pairs.new q ≡ (not (is_pair_of word.now (outcome_of outcome.now) q) && has pairs.old q)) }
+    ensures err { OnErr result ((q : Key) → has pairs.new q ≡ has pairs.old q) }
 {
     let Outcome::Stem(stem) = outcome else {
         return Ok(());
@@ -61,7 +64,8 @@ fn remove_pair(
     Ok(())
 }
 
-/// Exchanges the pair of a word for that of its outcome now. Returns `AllocError` if an allocation fails.
+/// Exchanges the pair of a word for that of its outcome now. Returns `AllocError` if an allocation fails; then only the pair of
+/// this word may be missing.
 fn exchange_pair(
     alloc: Global,
     pairs: &mut Pairs,
@@ -69,14 +73,15 @@ fn exchange_pair(
     before: &Outcome,
     now: &Outcome,
 ) -> Result<(), AllocError>
-    ensures { OnOk result ((q : Key) → has pairs.new q ≡ (is_pair_of word.now (outcome_of now.now) q || (not (is_pair_of word.now (outcome_of before.now) q) && has pairs.old q))) }
+    ensures ok { OnOk result ((q : Key) → has pairs.new q ≡ (is_pair_of word.now (outcome_of now.now) q || (not (is_pair_of word.now (outcome_of before.now) q) && has pairs.old q))) }
+    ensures err { OnErr result ((q : Key) → bytes_eq word.now q.1.items ≡ false → has pairs.new q ≡ has pairs.old q) }
 {
     remove_pair(alloc, pairs, word, before)?;
     insert_pair(alloc, pairs, word, now)
 }
 
 /// Brings the set up to date for a word that ran again, if its outcome is another one. Returns whether it is. Returns
-/// `AllocError` if an allocation fails.
+/// `AllocError` if an allocation fails; the pairs of other words are unchanged then.
 pub fn follow_one(
     alloc: Global,
     pairs: &mut Pairs,
@@ -84,7 +89,9 @@ pub fn follow_one(
     before: &Outcome,
     now: &Outcome,
 ) -> Result<bool, AllocError>
-    ensures { OnOk result ((q : Key) → IsFollowed word.now (outcome_of before.now) (outcome_of now.now) (has pairs.old) (has pairs.new) q) }
+    ensures differs { IfOk result (λ differs. differs ≡ not (same_outcome (outcome_of before.now) (outcome_of now.now))) }
+    ensures ok { OnOk result ((q : Key) → IsFollowed word.now (outcome_of before.now) (outcome_of now.now) (has pairs.old) (has pairs.new) q) }
+    ensures err { OnErr result ((q : Key) → bytes_eq word.now q.1.items ≡ false → has pairs.new q ≡ has pairs.old q) }
 {
     if is_same(before, now) {
         return Ok(false);

@@ -1,6 +1,6 @@
 -- definitions that public contracts depend on
 pub mod Parts
 pub mod Unused
--- definitions that functions inside the crate promise each other
+-- what the functions inside the crate promise each other: nothing in these need be believed
 pub mod GatheredGroups
 pub mod Views

@@ -3,6 +3,6 @@ pub mod WhyRows
 pub mod Integers
 pub mod RoutineAmongs
 pub mod Searches
--- definitions that functions inside the crate promise each other
+-- what the functions inside the crate promise each other: nothing in these need be believed
 pub mod EventViews
 pub mod Places

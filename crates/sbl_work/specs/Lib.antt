@@ -4,5 +4,5 @@ pub mod Replies
 pub mod ReplyViews
 pub mod Serving
 pub mod WholeWork
--- definitions that functions inside the crate promise each other
+-- what the functions inside the crate promise each other: nothing in these need be believed
 pub mod Answering

@@ -18,7 +18,7 @@ loop-change-preserved c = λ old f paired.
     (c.in-Some.ensures.value ∙ ap (λ (w : List ℕ). find w es) c.as_slice-word.ensures.value)
     (λ q. subst (λ (w : List ℕ). IsFollowed w (outcome_of change.traced.outcome) (outcome_of c.in-Some.now.now.outcome) (has s) (has n) q) c.as_slice-word.ensures.value
     (subst (λ (o : Outcome). IsFollowed c.as_slice-word.result.now (outcome_of o) (outcome_of c.in-Some.now.now.outcome) (has s) (has n) q) c.outcome-before.ensures
-    (subst (λ (o : Outcome). IsFollowed c.as_slice-word.result.now (outcome_of c.outcome-before.result.now) (outcome_of o) (has s) (has n) q) c.outcome.ensures (c.in_ok-differs.ensures q))))
+    (subst (λ (o : Outcome). IsFollowed c.as_slice-word.result.now (outcome_of c.outcome-before.result.now) (outcome_of o) (has s) (has n) q) c.outcome.ensures (c.in_ok-differs.ensures.ok q))))
     (c.loop-change.invariant old f paired)
 
 pub returns : goal.returns

@@ -4,8 +4,8 @@ use Rattle.sbl_semantics.specs.Outcome.{outcome_of}
 use Rattle.sbl_rows.specs.Pairs.{has, is_pair_of}
 use Rattle.sbl_rows.proofs.pairs.remove_pair.Goals as goal
 
-pub returns : goal.returns
-returns c = λ q.
+pub returns-clause-ok : goal.returns-clause-ok
+returns-clause-ok c = λ q.
     c.remove_key.ensures q
     ∙ ap (λ (s : List ℕ). not (bytes_eq s q.0.items && bytes_eq c.in_ok-word.word.items q.1.items) && has c.args.pairs.now q) (c.in_ok-stem.ensures.items ∙ c.as_slice.ensures.value)
     ∙ ap (λ (w : List ℕ). not (bytes_eq c.in-Stem.stem.items q.0.items && bytes_eq w q.1.items) && has c.args.pairs.now q) c.in_ok-word.ensures.items
