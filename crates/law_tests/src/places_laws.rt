@@ -1,18 +1,18 @@
-//! Laws of sbl_places (specs/FaultPlaces.antt), written out.
+//! Laws of sbl_source_map (specs/FaultPlaces.antt), written out.
 
 ghost use Rattle.std.specs.Prelude.{◌≡◌, ℕ, true, List};
 ghost use Rattle.sbl_resolver.specs.Occurrences.{occurrences_of};
 ghost use Rattle.sbl_resolver.specs.Subjects.{subjects_of};
 ghost use Rattle.sbl_parser.specs.Reading.{IsReadAs};
-ghost use Rattle.sbl_places.specs.FaultPlaces.{IsFaultAt, is_of_token};
-ghost use Rattle.sbl_places.specs.SubjectTokens.{SubjectToken, subject_tokens, subjects};
+ghost use Rattle.sbl_source_map.specs.FaultPlaces.{IsFaultAt, is_of_token};
+ghost use Rattle.sbl_source_map.specs.SubjectTokens.{SubjectToken, subject_tokens, subjects};
 ghost use Rattle.sbl_script.specs.Reading.{IsFaultOf, lexemes};
 ghost use Rattle.sbl_text.specs.Tokens.{PlacedToken};
 ghost use Rattle.sbl_text.specs.declared.fault.ScriptFault.{ScriptFault as AnyFault};
 ghost use Rattle.sbl_ast.specs.Texts.{script};
 ghost use Rattle.sbl_ast.specs.Tree.{Item};
 
-use sbl_places::laws::{faults_are_at_tokens, subjects_are_tokens, token_is_one};
+use sbl_source_map::laws::{faults_are_at_tokens, subjects_are_tokens, token_is_one};
 
 /// Needs the whole of the law `subjects_are_tokens`.
 pub fn needs_subjects_are_tokens()

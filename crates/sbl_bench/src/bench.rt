@@ -5,9 +5,9 @@ ghost use Rattle.std.specs.Prelude.{◌≡◌, ◌≤◌, ◌+◌, ◌^◌, ◌�
 use crate::change::Change;
 use crate::fault::EditFault;
 use crate::traces::Traces;
-use sbl_interpreter::MAX_WORD_LENGTH;
 use sbl_machine::{Item, Machine, Meter, Table, Why};
 use sbl_rows::{Pairs, Row};
+use sbl_run_state::MAX_WORD_LENGTH;
 use sbl_script::Script;
 use std::alloc::{AllocError, Global};
 use std::collections::BTreeSet;

@@ -2,8 +2,8 @@
 
 use crate::places::{Title, fault_of, fault_text, offset_of_byte, push_title, script_fault_text};
 use crate::sentences::Faulty;
-use sbl_places::{Part, cut_at_part, offset_in_block};
 use sbl_script::{Script, ScriptEditFault, ScriptFault};
+use sbl_source_map::{Part, cut_at_part, offset_in_block};
 use sbl_text::{Kind, Lexer, Token, Word, tokens};
 use std::alloc::{AllocError, Global};
 

@@ -3,7 +3,7 @@
 use crate::characters::push_named;
 use crate::declarations::{declaration_of, declared_in};
 use crate::sentences::{Faulty, Place, tokens_before};
-use sbl_places::Part;
+use sbl_source_map::Part;
 use sbl_text::{Kind, Sign, Token, Word, tokens};
 use std::alloc::{AllocError, Global};
 

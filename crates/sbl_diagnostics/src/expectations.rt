@@ -7,7 +7,7 @@ use crate::constructs::{
 use crate::declarations::{DeclaredName, declaration_of, declared_in};
 use crate::grammar::{Outlook, Symbol, outlook_after};
 use crate::sites::{Site, push_advice, push_text};
-use sbl_places::begins_item;
+use sbl_source_map::begins_item;
 use sbl_text::{Kind, Sign, Token, Word};
 use std::alloc::{AllocError, Global};
 

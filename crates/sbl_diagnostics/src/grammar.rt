@@ -1,6 +1,6 @@
 //! What the grammar expects after some tokens: a stack of symbols, as docs/LANGUAGE.md has them.
 
-use sbl_places::Part;
+use sbl_source_map::Part;
 use sbl_text::{Kind, Sign, Token, Word};
 use std::alloc::{AllocError, Global};
 

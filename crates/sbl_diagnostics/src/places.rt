@@ -8,8 +8,8 @@ ghost use Rattle.sbl_script.specs.Reading.{IsFaultOf, IsScriptOf};
 use crate::characters::{plain, push_named, width};
 use crate::sentences::{Faulty, Place, Spot, is_blank, push_reason, push_sentence};
 use crate::text_lines::line_at;
-use sbl_places::{Position, ScriptFault, offset_of_fault, position_of};
 use sbl_script::Script;
+use sbl_source_map::{Position, ScriptFault, offset_of_fault, position_of};
 use sbl_text::Lexer;
 use std::alloc::{AllocError, Global};
 

@@ -1,6 +1,6 @@
 //! What is wrong at the place of a script's fault.
 
-use sbl_places::ScriptFault;
+use sbl_source_map::ScriptFault;
 
 /// Returns whether the reason is a sentence of its own. Otherwise it follows what is at the place.
 pub(crate) fn begins_sentence(fault: ScriptFault) -> bool {

@@ -10,7 +10,7 @@ use crate::near::{push_listed, push_near, push_near_reserved, push_near_word};
 use crate::reasons::{begins_sentence, reason};
 use crate::sites::{Site, push_advice};
 use crate::undeclared::push_undeclared;
-use sbl_places::{Part, Position, ScriptFault, begins_item, position_of};
+use sbl_source_map::{Part, Position, ScriptFault, begins_item, position_of};
 use sbl_text::{Kind, Lexer, Sign, Token, Word, tokens};
 use std::alloc::{AllocError, Global};
 

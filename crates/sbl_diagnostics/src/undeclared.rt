@@ -6,7 +6,7 @@ use crate::foreign::advice_on;
 use crate::grammar::is_operator;
 use crate::near::{push_near, push_near_reserved};
 use crate::sentences::{Faulty, Place, tokens_before};
-use sbl_places::Part;
+use sbl_source_map::Part;
 use sbl_text::{Kind, Sign, Token, Word, tokens};
 use std::alloc::{AllocError, Global};
 

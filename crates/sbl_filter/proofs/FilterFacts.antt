@@ -19,12 +19,12 @@ use Rattle.sbl_semantics.specs.Limit.{default_limit}
 use Rattle.sbl_io.specs.Records.{record_line}
 use Rattle.sbl_ast.specs.Source.{Source}
 use Rattle.sbl_formats.proofs.BlockFacts.{all_fit-push, no_point-push}
-use Rattle.sbl_loading.proofs.LoadFacts.{all_text-push, script_unread}
+use Rattle.sbl_input.proofs.LoadFacts.{all_text-push, script_unread}
 use Rattle.sbl_formats.specs.Block.{point}
-use Rattle.sbl_loading.specs.Faults.{left_by_load}
-use Rattle.sbl_loading.specs.Loading.{HasReason, ReadsScript, TookSource}
-use Rattle.sbl_loading.specs.declared.faults.LoadFault.{LoadFault}
-use Rattle.sbl_loading.specs.declared.faults.LoadFault.TheVariants.{Input, Open, Script}
+use Rattle.sbl_input.specs.Faults.{left_by_load}
+use Rattle.sbl_input.specs.Loading.{HasReason, ReadsScript, TookSource}
+use Rattle.sbl_input.specs.declared.faults.LoadFault.{LoadFault}
+use Rattle.sbl_input.specs.declared.faults.LoadFault.TheVariants.{Input, Open, Script}
 use Rattle.sbl_bench.specs.Contents.{Contents}
 use Rattle.sbl_rows.specs.Rows.{row_of}
 use Rattle.sbl_rows.specs.Setting.{under}

@@ -21,12 +21,12 @@ use Rattle.sbl_filter.proofs.RowFacts.{filtered-append}
 use Rattle.sbl_semantics.specs.Limit.{default_limit}
 use Rattle.sbl_io.specs.Records.{records_text}
 use Rattle.sbl_ast.specs.Source.{Source}
-use Rattle.sbl_loading.specs.Loading.{IsInput, IsLoaded}
-use Rattle.sbl_loading.specs.OneLoading.{IsToldByBytes, LoadingIsOne}
+use Rattle.sbl_input.specs.Loading.{IsInput, IsLoaded}
+use Rattle.sbl_input.specs.OneLoading.{IsToldByBytes, LoadingIsOne}
 use Rattle.sbl_formats.specs.RowRecords.{row_fields}
 use Rattle.sbl_listings.specs.Listings.{stems_text}
-use Rattle.sbl_loading.specs.declared.faults.LoadFault.{LoadFault}
-use Rattle.sbl_loading.specs.declared.faults.LoadFault.TheVariants.{Open}
+use Rattle.sbl_input.specs.declared.faults.LoadFault.{LoadFault}
+use Rattle.sbl_input.specs.declared.faults.LoadFault.TheVariants.{Open}
 
 pub parts : PartsMakeWhole
 parts s first rest = filtered-append s first rest

@@ -5,10 +5,10 @@ use Rattle.sbl_bench.specs.Vocabulary.{is_word, vocabulary}
 use Rattle.sbl_filter.specs.Filter.{IsFiltered, filter_output, is_filled}
 use Rattle.sbl_io.specs.declared.faults.ServeFault.TheVariants as fault
 use Rattle.sbl_ast.specs.Source.{Source}
-use Rattle.sbl_loading.specs.Loading.{IsLoaded}
+use Rattle.sbl_input.specs.Loading.{IsLoaded}
 use Rattle.sbl_listings.specs.Listings.{stems_text}
-use Rattle.sbl_loading.specs.declared.faults.LoadFault.{LoadFault}
-use Rattle.sbl_loading.specs.declared.faults.LoadFault.TheVariants.{Input, Script}
+use Rattle.sbl_input.specs.declared.faults.LoadFault.{LoadFault}
+use Rattle.sbl_input.specs.declared.faults.LoadFault.TheVariants.{Input, Script}
 use Rattle.sbl_text.specs.declared.fault.ScriptFault.TheVariants as script
 
 -- no word that is not empty is there again

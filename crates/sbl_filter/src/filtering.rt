@@ -10,13 +10,13 @@ ghost use Rattle.sbl_io.specs.declared.faults.LineFault.{LineFault};
 ghost use Rattle.sbl_machine.specs.MachineOf.{IsLinkedMachineOf};
 ghost use Rattle.sbl_ast.specs.Source.{Source};
 ghost use Rattle.sbl_script.specs.ParsedScript.{source_of};
-ghost use Rattle.sbl_loading.specs.Faults.{left_by_load};
-ghost use Rattle.sbl_loading.specs.Loading.{HasReason};
+ghost use Rattle.sbl_input.specs.Faults.{left_by_load};
+ghost use Rattle.sbl_input.specs.Loading.{HasReason};
 
 use crate::row_writer::{RowWriter, row_text};
 use sbl_bench::{EditFault, MAX_WORD_LENGTH};
+use sbl_input::{LoadFault, read_script};
 use sbl_io::{Lines, ServeFault, Sink, Source, write_all};
-use sbl_loading::{LoadFault, read_script};
 use sbl_machine::{Machine, Meter, Table};
 use sbl_script::Script;
 use std::alloc::Global;

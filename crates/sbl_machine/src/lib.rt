@@ -18,7 +18,7 @@ pub use meter::Meter;
 pub use outcome::{RunReport, RunTrace, Why};
 pub use run_stop::RunStop;
 pub use sbl_among_search::{AmongSearch, LinkedTable, PlainTable};
-pub use sbl_interpreter::TouchLog;
+pub use sbl_run_state::TouchLog;
 pub use sbl_semantics::{Event, Item, Outcome, RunFault, Touch};
 
 /// The tables that a program searches.

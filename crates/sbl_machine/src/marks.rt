@@ -13,7 +13,7 @@ use crate::among_list::AmongList;
 use crate::groupings_built::built_from;
 use crate::naming::Names;
 use sbl_compiler::NameList;
-use sbl_interpreter::TouchLog;
+use sbl_run_state::TouchLog;
 use sbl_semantics::Item;
 use std::alloc::{AllocError, Global};
 

@@ -2,7 +2,7 @@
 
 ghost use Rattle.std.specs.Prelude.{◌≡◌, ◌+◌, ◌<◌, IsTrue, false, ◌↔◌};
 
-use sbl_interpreter::{State, Touch};
+use sbl_run_state::{State, Touch};
 use std::alloc::Global;
 use std::marker::Model;
 

@@ -5,7 +5,7 @@ ghost use Rattle.std.specs.BTreeSet.{insert_key};
 ghost use Rattle.std.specs.List.{list_any};
 ghost use Rattle.sbl_semantics.specs.TouchedItems.{item_cmp, item_of, items_in, items_of, item_of_touch, same_item};
 
-use sbl_interpreter::Touch;
+use sbl_run_state::Touch;
 use sbl_semantics::Item;
 use std::alloc::{AllocError, Global};
 use std::collections::BTreeSet;

@@ -7,7 +7,7 @@ ghost use Rattle.sbl_moments.specs.OpenSearches.{view_search};
 
 use crate::slices::first;
 use sbl_ast::Mode;
-use sbl_interpreter::Event;
+use sbl_run_state::Event;
 use std::alloc::{AllocError, Global};
 use std::marker::Model;
 

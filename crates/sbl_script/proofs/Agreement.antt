@@ -18,9 +18,9 @@ use Rattle.sbl_ast.specs.Texts.{Text, TreeOf, places_in}
 use Rattle.sbl_ast.specs.Texts as texts
 use Rattle.sbl_ast.specs.View.{RowView}
 use Rattle.sbl_ast.proofs.After.{plain_before, tree_before}
-use Rattle.sbl_amongs.specs.Amongs.{AmongContents, amongs_of_body, nth_held, put_in_body}
-use Rattle.sbl_amongs.specs.Replacement.{count_words, is_among}
-use Rattle.sbl_amongs.proofs.Swapped.{body_one}
+use Rattle.sbl_tree_amongs.specs.Amongs.{AmongContents, amongs_of_body, nth_held, put_in_body}
+use Rattle.sbl_tree_amongs.specs.Replacement.{count_words, is_among}
+use Rattle.sbl_tree_amongs.proofs.Swapped.{body_one}
 use Rattle.sbl_parser.proofs.OneTree.{trees_are_one}
 use Rattle.sbl_script.specs.declared.edit_fault.ScriptEditFault.{ScriptEditFault}
 use Rattle.sbl_script.specs.declared.edit_fault.ScriptEditFault.TheVariants as edits

@@ -18,12 +18,12 @@ ghost use Rattle.sbl_script.specs.Reading as spec;
 use crate::edit_fault::ScriptEditFault;
 use crate::edits;
 use crate::edits::{DefinitionKind, escapes_before, items_with};
-use sbl_amongs::{has_as_many_amongs, nth_among, put_in_place};
 use sbl_ast::{Among, Argument, Plain, RowOfCommands, ScriptItem, Term};
 use sbl_parser::{is_left_out, parse, parse_among, parse_body, parse_terms};
 use sbl_print::canonical_text;
 use sbl_resolver::{body_in, check};
 use sbl_text::{ScriptFault, Token, tokens, tokens_under};
+use sbl_tree_amongs::{has_as_many_amongs, nth_among, put_in_place};
 use std::alloc::{AllocError, Global};
 use std::marker::Model;
 

@@ -10,9 +10,9 @@ ghost use Rattle.sbl_unused.specs.Views.{HasTaken, takes_in, texts_of};
 ghost use Rattle.sbl_moments.specs.Moments.{at_start};
 
 use sbl_bench::Bench;
-use sbl_interpreter::Event;
 use sbl_machine::Item;
 use sbl_moments::Moment;
+use sbl_run_state::Event;
 use std::alloc::{AllocError, Global};
 use std::collections::BTreeSet;
 

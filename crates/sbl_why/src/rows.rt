@@ -12,10 +12,10 @@ ghost use Rattle.sbl_why.specs.WhyRows as spec;
 
 use csv::ByteRecord;
 use sbl_bench::Bench;
-use sbl_interpreter::Event;
 use sbl_io::{push_line, push_text};
 use sbl_machine::Outcome;
 use sbl_moments::Moment;
+use sbl_run_state::Event;
 use std::alloc::{AllocError, Global};
 
 /// Appends a number to a record, as one field. Returns `AllocError` if an allocation fails.

@@ -11,9 +11,9 @@ ghost use Rattle.sbl_why.specs.WhyRows as spec;
 
 use crate::rows::{push_event, push_more, push_outcome};
 use sbl_bench::{Bench, EditFault};
-use sbl_interpreter::Event;
 use sbl_machine::Why;
 use sbl_moments::{Moment, first};
+use sbl_run_state::Event;
 use std::alloc::{AllocError, Global};
 
 /// No more events than this have a row.

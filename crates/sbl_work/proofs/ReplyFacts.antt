@@ -21,11 +21,11 @@ use Rattle.sbl_text.specs.declared.fault.ScriptFault.{ScriptFault}
 use Rattle.sbl_text.specs.declared.fault.ScriptFault.TheVariants as script
 use Rattle.sbl_work.specs.Commands as command
 use Rattle.sbl_work.specs.Commands.{WorkCommand, alone_command, block_command, families_command, is_replace, part_command, replace_command}
-use Rattle.sbl_desk.specs.Desks.{State}
-use Rattle.sbl_desk.specs.Editing.{Replaces}
+use Rattle.sbl_history.specs.Desks.{State}
+use Rattle.sbl_history.specs.Editing.{Replaces}
 use Rattle.sbl_work.specs.Replies.{IsWorkReply, TellsReport, not_text_text, rows_or_fault}
 use Rattle.sbl_work.specs.ReplyViews.{IsFamiliesAnswer, IsFileAnswer, IsPartResult, IsTextResult, IsWorkAnswer, NamesText}
-use Rattle.sbl_desk.proofs.Refusing.{nothing_tried}
+use Rattle.sbl_history.proofs.Refusing.{nothing_tried}
 
 -- ---- any command
 

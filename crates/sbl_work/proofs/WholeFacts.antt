@@ -2,7 +2,7 @@
 use Rattle.std.proofs.Common.{inl, inr, ◌≡◌, ◌∙◌, ℕ, List, Option, Result, Ok, Err, refl, ap, subst}
 use Rattle.sbl_bench.specs.Contents.{Contents}
 use Rattle.sbl_io.specs.declared.faults.ServeFault.{ServeFault}
-use Rattle.sbl_desk.specs.Desks.{State}
+use Rattle.sbl_history.specs.Desks.{State}
 use Rattle.sbl_work.specs.Serving.{IsWork}
 use Rattle.sbl_work.specs.WholeWork.{IsOpened, IsWholeWork, WorksOrMemory, first_desk}
 

@@ -8,7 +8,7 @@ use Rattle.sbl_formats.specs.Block.{BlockLines, Breaks, NoPoint}
 use Rattle.sbl_sessions.specs.Requests.{block_lines}
 use Rattle.sbl_sessions.specs.declared.replies.Reply.{Reply}
 use Rattle.sbl_work.specs.Commands.{asks_work_block, by_work_block}
-use Rattle.sbl_desk.specs.Desks.{State}
+use Rattle.sbl_history.specs.Desks.{State}
 use Rattle.sbl_work.specs.ReplyViews.{IsWorkAnswer}
 
 -- the line with its block, if it asks for one, has this reply, for some bytes of its file; the block was taken from the input

@@ -14,14 +14,14 @@ use Rattle.sbl_unused.specs.Unused as unused
 use Rattle.sbl_why.specs.Integers as integers
 use Rattle.sbl_why.specs.WhyRows as rows
 use Rattle.sbl_work.specs.Commands.{WorkCommand, Nothing, Session, EditPart, EditWhole, Undo, Redo, Mark, Changes, Stats, Unused, Largest, Families, Why, Integers, Show, Saved, NoFile, Echo}
-use Rattle.sbl_places.specs.Definitions.{definition_text}
-use Rattle.sbl_desk.specs.Desks.{Redoes, State, Undoes}
-use Rattle.sbl_desk.specs.Editing.{IsLimitNoted, Replaces, ReplacesPart}
+use Rattle.sbl_source_map.specs.Definitions.{definition_text}
+use Rattle.sbl_history.specs.Desks.{Redoes, State, Undoes}
+use Rattle.sbl_history.specs.Editing.{IsLimitNoted, Replaces, ReplacesPart}
 use Rattle.sbl_reports.specs.Families.{families_in, families_text}
-use Rattle.sbl_places.specs.Heads.{IsWithoutHead}
+use Rattle.sbl_source_map.specs.Heads.{IsWithoutHead}
 use Rattle.sbl_reports.specs.Reports.{changes_text, largest_text, stats_text}
-use Rattle.sbl_desk.specs.declared.history.HistoryFault.{HistoryFault}
-use Rattle.sbl_desk.specs.declared.history.HistoryFault.TheVariants as fault
+use Rattle.sbl_history.specs.declared.history.HistoryFault.{HistoryFault}
+use Rattle.sbl_history.specs.declared.history.HistoryFault.TheVariants as fault
 
 -- ---- texts
 

@@ -17,9 +17,9 @@ use Rattle.sbl_sessions.specs.declared.replies.Reply.{Reply}
 use Rattle.sbl_text.specs.declared.fault.ScriptFault.TheVariants as script
 use Rattle.sbl_work.specs.Commands as command
 use Rattle.sbl_work.specs.Commands.{WorkCommand, alone_command, count_in, families_in_file, is_replace, with_file}
-use Rattle.sbl_desk.specs.Desks.{State}
-use Rattle.sbl_desk.specs.Editing.{ReplacesPart}
-use Rattle.sbl_places.specs.Heads.{IsWithoutHead}
+use Rattle.sbl_history.specs.Desks.{State}
+use Rattle.sbl_history.specs.Editing.{ReplacesPart}
+use Rattle.sbl_source_map.specs.Heads.{IsWithoutHead}
 use Rattle.sbl_reports.specs.Families.{families_in, families_text}
 use Rattle.sbl_work.specs.Replies.{IsWorkReply, TellsReport}
 use Rattle.sbl_work.specs.declared.requests.BlockRequest.{BlockRequest}

@@ -5,7 +5,7 @@ use Rattle.sbl_io.specs.declared.faults.ServeFault.{ServeFault}
 use Rattle.sbl_io.specs.declared.faults.ServeFault.TheVariants as fault
 use Rattle.sbl_ast.specs.Source.{Source}
 use Rattle.sbl_script.specs.Reading.{IsScriptOf}
-use Rattle.sbl_desk.specs.Desks.{State}
+use Rattle.sbl_history.specs.Desks.{State}
 use Rattle.sbl_work.specs.Serving.{IsWork}
 
 -- A bench of a script that these bytes are with this external, and of some words. No definition says what a file has.

@@ -6,7 +6,7 @@ ghost use Rattle.sbl_io.specs.LinesOf.{lines_of};
 ghost use Rattle.sbl_formats.specs.Block.{made_text};
 ghost use Rattle.sbl_sessions.specs.{Answers.with_line_feed, Commands.line_command};
 ghost use Rattle.sbl_work.specs.Commands as spec;
-ghost use Rattle.sbl_desk.specs.Desks.{State, state_of};
+ghost use Rattle.sbl_history.specs.Desks.{State, state_of};
 ghost use Rattle.sbl_reports.specs.Reports as reports;
 ghost use Rattle.sbl_work.specs.ReplyViews.{IsWorkAnswer, view_file};
 
@@ -15,11 +15,11 @@ use crate::replies::{BAD_NUMBER, NO_FILE, edit_reply, memory_reply, redo_reply, 
 use crate::requests::{Request, count_in, request_of};
 use crate::whys::{integers_reply, why_reply};
 use sbl_bench::{Bench, EditFault};
-use sbl_desk::Desk;
+use sbl_history::Desk;
 use sbl_io::first_line;
-use sbl_places::definition_text;
 use sbl_reports::{changes_text, largest_text, stats_text};
 use sbl_sessions::{Reply, report};
+use sbl_source_map::definition_text;
 use sbl_unused::unused_text;
 use std::alloc::{AllocError, Global};
 

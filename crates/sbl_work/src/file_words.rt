@@ -1,7 +1,7 @@
 //! The words of a file.
 
+use sbl_input::LoadFault;
 use sbl_io::{MAX_LINE, ServeFault, first_line};
-use sbl_loading::LoadFault;
 use std::alloc::Global;
 
 /// The byte order mark, in UTF-8.

@@ -5,7 +5,7 @@ ghost use Rattle.sbl_work.specs.WholeWork.{IsOpened};
 
 use crate::file_words::words_in;
 use sbl_bench::Bench;
-use sbl_loading::LoadFault;
+use sbl_input::LoadFault;
 use sbl_script::Script;
 use std::alloc::{AllocError, Global};
 use std::hash::RandomState;

@@ -7,20 +7,20 @@ ghost use Rattle.sbl_formats.specs.Block.{HoldsText, made_text};
 ghost use Rattle.sbl_sessions.specs.CommandViews.{FindsTarget, view_target};
 ghost use Rattle.sbl_sessions.specs.Commands.{target_of, text_of_block};
 ghost use Rattle.sbl_work.specs.Commands as spec;
-ghost use Rattle.sbl_desk.specs.Desks.{State, state_of};
-ghost use Rattle.sbl_desk.specs.Editing.{Replaces};
-ghost use Rattle.sbl_places.specs.Parts.{view_part};
+ghost use Rattle.sbl_history.specs.Desks.{State, state_of};
+ghost use Rattle.sbl_history.specs.Editing.{Replaces};
+ghost use Rattle.sbl_source_map.specs.Parts.{view_part};
 ghost use Rattle.sbl_work.specs.ReplyViews.{FindsBlock, IsFamiliesAnswer, IsPartResult, IsWorkAnswer, NamesText};
 
 use crate::replies::{NOT_TEXT, edit_reply};
 use crate::requests::BlockRequest;
 use sbl_bench::{Bench, EditFault};
-use sbl_desk::Desk;
 use sbl_formats::{BlockFault, BlockText};
-use sbl_places::{Part, without_head};
+use sbl_history::Desk;
 use sbl_reports::families_text;
 use sbl_script::ScriptFault;
 use sbl_sessions::{BAD_COMMAND, Reply, Target, report};
+use sbl_source_map::{Part, without_head};
 use std::alloc::{AllocError, Global};
 
 /// Returns the text of a block, or the fault of an edit by it.

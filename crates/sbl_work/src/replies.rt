@@ -6,7 +6,7 @@ ghost use Rattle.sbl_sessions.specs.Edits.{fault_in};
 ghost use Rattle.sbl_work.specs.Replies as spec;
 
 use sbl_bench::EditFault;
-use sbl_desk::HistoryFault;
+use sbl_history::HistoryFault;
 use sbl_sessions::{Reply, edit_text};
 use std::alloc::AllocError;
 

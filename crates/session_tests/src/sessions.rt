@@ -2,8 +2,8 @@
 
 use crate::verbs::{Verb, all_give};
 use sbl_bench::EditFault::Full;
+use sbl_input::LoadFault::{Input, Open, Script};
 use sbl_io::ServeFault::{Cut, LineTooLong, NotText, OutOfMemory, Read, Write};
-use sbl_loading::LoadFault::{Input, Open, Script};
 use sbl_script::ScriptFault::{ScriptTooLong, UnclosedString, WrongMode};
 use std::test::Fail;
 use test_scripts::print_values;

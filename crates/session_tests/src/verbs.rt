@@ -1,8 +1,8 @@
 //! A session or a filter over a reader and a writer in memory, from its script to its end.
 
 use sbl_filter::filter;
+use sbl_input::{LoadFault, load};
 use sbl_io::{Device, Lines};
-use sbl_loading::{LoadFault, load};
 use sbl_sessions::serve;
 use std::alloc::Global;
 use std::hash::RandomState;

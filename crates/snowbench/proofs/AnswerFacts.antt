@@ -7,13 +7,13 @@ use Rattle.sbl_bench.specs.Contents.{Contents}
 use Rattle.sbl_bench.specs.declared.fault.EditFault.TheVariants as edit
 use Rattle.sbl_check.specs.Differences.{IsChecked}
 use Rattle.sbl_ast.specs.Source.{Source}
-use Rattle.sbl_loading.specs.Loading.{IsLoaded, ReadsScript, TookSource}
+use Rattle.sbl_input.specs.Loading.{IsLoaded, ReadsScript, TookSource}
 use Rattle.sbl_sessions.specs.Session.{IsSession}
-use Rattle.sbl_loading.specs.declared.faults.LoadFault.{LoadFault}
-use Rattle.sbl_loading.specs.declared.faults.LoadFault.TheVariants.{Input, Open, Script}
+use Rattle.sbl_input.specs.declared.faults.LoadFault.{LoadFault}
+use Rattle.sbl_input.specs.declared.faults.LoadFault.TheVariants.{Input, Open, Script}
 use Rattle.sbl_io.specs.declared.faults.ServeFault.{ServeFault}
 use Rattle.sbl_io.specs.declared.faults.ServeFault.TheVariants as fault
-use Rattle.sbl_loading.proofs.LoadFacts.{script_unread}
+use Rattle.sbl_input.proofs.LoadFacts.{script_unread}
 use Rattle.snowbench.specs.WholeCheck.{ChecksLists, IsWholeCheck, ReadsExpected, ReadsWords, list_text}
 use Rattle.snowbench.specs.WholeSession.{IsWholeSession, as_load}
 use Rattle.sbl_filter.specs.Filter.{IsFiltered}

@@ -6,12 +6,12 @@ use Rattle.std.specs.Str.{is_utf8}
 use Rattle.sbl_bench.specs.Contents.{Contents}
 use Rattle.sbl_check.specs.Differences.{IsChecked, ending, line_fault, pair_fault}
 use Rattle.sbl_ast.specs.Source.{Source}
-use Rattle.sbl_loading.specs.Loading as load
-use Rattle.sbl_loading.specs.Loading.{AfterSource, IsLoaded, ReadsScript, WordLines}
+use Rattle.sbl_input.specs.Loading as load
+use Rattle.sbl_input.specs.Loading.{AfterSource, IsLoaded, ReadsScript, WordLines}
 use Rattle.sbl_formats.specs.Block.{BlockLines, Breaks}
 use Rattle.sbl_sessions.specs.Session.{Ends}
-use Rattle.sbl_loading.specs.declared.faults.LoadFault.{LoadFault}
-use Rattle.sbl_loading.specs.declared.faults.LoadFault.TheVariants.{Input}
+use Rattle.sbl_input.specs.declared.faults.LoadFault.{LoadFault}
+use Rattle.sbl_input.specs.declared.faults.LoadFault.TheVariants.{Input}
 use Rattle.sbl_io.specs.Devices.{HasStopped, Tally}
 use Rattle.sbl_io.specs.HeldInput.{HasCause, HasReason, fault_of, reads_bound}
 use Rattle.sbl_io.specs.LinesOf.{max_line}

@@ -3,7 +3,7 @@ use Rattle.std.specs.Prelude.{◌≡◌, None, Result, IfErr}
 use Rattle.sbl_io.specs.Devices.{Tally, WritesInTime}
 use Rattle.sbl_io.specs.HeldInput.{KeepsTime, fault_of}
 use Rattle.sbl_io.specs.declared.lines.Lines.{Lines}
-use Rattle.sbl_loading.specs.declared.faults.LoadFault.{LoadFault}
+use Rattle.sbl_input.specs.declared.faults.LoadFault.{LoadFault}
 use Rattle.snowbench.specs.Program.{HasReasons}
 
 -- What reading these lines and writing to this writer keeps, besides what is read and written.

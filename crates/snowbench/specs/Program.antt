@@ -3,8 +3,8 @@ use Rattle.std.specs.Prelude.{◌≡◌, ◌⊎◌, ◌++◌, ◌==◌, ℕ, Lis
 use Rattle.std.specs.Io.KnownBytes.{Appends, Keeps}
 use Rattle.sbl_command_line.specs.declared.command_line.Verb.{Verb}
 use Rattle.sbl_command_line.specs.declared.command_line.Verb.TheVariants.{Session, Stem, Filter, Check, Work}
-use Rattle.sbl_loading.specs.declared.faults.LoadFault.{LoadFault}
-use Rattle.sbl_loading.specs.declared.faults.LoadFault.TheVariants.{Input}
+use Rattle.sbl_input.specs.declared.faults.LoadFault.{LoadFault}
+use Rattle.sbl_input.specs.declared.faults.LoadFault.TheVariants.{Input}
 use Rattle.sbl_io.specs.Devices.{HasStopped, Tally}
 use Rattle.sbl_io.specs.HeldInput.{HasCause}
 use Rattle.sbl_io.specs.declared.lines.Lines.{Lines}

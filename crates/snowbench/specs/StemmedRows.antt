@@ -5,10 +5,10 @@ use Rattle.std.specs.Io.KnownBytes.{Appends}
 use Rattle.sbl_bench.specs.KeptRuns.{contents_of}
 use Rattle.sbl_bench.specs.Contents.{opening_contents, opening_fault}
 use Rattle.sbl_ast.specs.Source.{Source}
-use Rattle.sbl_loading.specs.Loading.{IsInput, IsLoaded}
+use Rattle.sbl_input.specs.Loading.{IsInput, IsLoaded}
 use Rattle.sbl_listings.specs.Listings.{stems_text}
-use Rattle.sbl_loading.specs.declared.faults.LoadFault.{LoadFault}
-use Rattle.sbl_loading.specs.declared.faults.LoadFault.TheVariants.{Input}
+use Rattle.sbl_input.specs.declared.faults.LoadFault.{LoadFault}
+use Rattle.sbl_input.specs.declared.faults.LoadFault.TheVariants.{Input}
 use Rattle.sbl_io.specs.declared.faults.ServeFault.TheVariants as fault
 
 -- The rows of the vocabulary are written, and the input is left after the vocabulary. If the writer failed, a prefix of

@@ -7,9 +7,9 @@ use Rattle.std.specs.declared.alloc.Global.{Global}
 use Rattle.sbl_ast.specs.Source.{Source}
 use Rattle.sbl_check.specs.Differences.{IsChecked}
 use Rattle.sbl_formats.specs.Block.{BlockLines, Breaks, TookBlock}
-use Rattle.sbl_loading.specs.Loading.{ReadsScript, TookFault, TookSource}
-use Rattle.sbl_loading.specs.declared.faults.LoadFault.{LoadFault}
-use Rattle.sbl_loading.specs.declared.faults.LoadFault.TheVariants.{Script}
+use Rattle.sbl_input.specs.Loading.{ReadsScript, TookFault, TookSource}
+use Rattle.sbl_input.specs.declared.faults.LoadFault.{LoadFault}
+use Rattle.sbl_input.specs.declared.faults.LoadFault.TheVariants.{Script}
 use Rattle.sbl_io.specs.HeldInput.{AllFit, Took}
 use Rattle.sbl_io.specs.LinesOf.{lines_of}
 use Rattle.sbl_io.specs.declared.faults.ServeFault.{ServeFault}

@@ -2,10 +2,10 @@
 use Rattle.std.specs.Prelude.{◌≡◌, ◌⊎◌, ℕ, List, [], Option, Result, Ok, Err}
 use Rattle.std.specs.Io.KnownBytes.{Appends}
 use Rattle.sbl_bench.specs.Contents.{Contents}
-use Rattle.sbl_loading.specs.Loading.{IsLoaded}
+use Rattle.sbl_input.specs.Loading.{IsLoaded}
 use Rattle.sbl_sessions.specs.Session.{IsSession}
-use Rattle.sbl_loading.specs.declared.faults.LoadFault.{LoadFault}
-use Rattle.sbl_loading.specs.declared.faults.LoadFault.TheVariants.{Input}
+use Rattle.sbl_input.specs.declared.faults.LoadFault.{LoadFault}
+use Rattle.sbl_input.specs.declared.faults.LoadFault.TheVariants.{Input}
 use Rattle.sbl_io.specs.declared.faults.ServeFault.{ServeFault}
 
 -- a result without a bench: the same, or its fault as one of loading

@@ -8,6 +8,6 @@ pub use laws::lists_are_read;
 pub use program::run;
 pub use sbl_check::check;
 pub use sbl_command_line::{CommandLine, Face, Verb, read_command_line};
+pub use sbl_input::{LoadFault, load, loading_is_one};
 pub use sbl_io::{Device, LineFault, Lines, MAX_LINE, ServeFault, Sink, Source, Stop};
-pub use sbl_loading::{LoadFault, load, loading_is_one};
 pub use sbl_sessions::{answers_are_one, serve};

@@ -6,8 +6,8 @@ use crate::messages::count_and_word;
 use crate::run_result::RunResult;
 use sbl_bench::MAX_WORD_LENGTH;
 use sbl_diagnostics::{fault_of, offset_of_byte, push_conversion, push_named, script_fault_text};
-use sbl_loading::read_script;
-use sbl_places::position_of;
+use sbl_input::read_script;
+use sbl_source_map::position_of;
 use snowbench::{CommandLine, Device, Lines, Verb};
 use std::alloc::{AllocError, Global};
 

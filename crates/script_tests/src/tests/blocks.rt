@@ -1,6 +1,6 @@
 //! The place of a fault in a block. Offsets were counted by hand.
 
-use sbl_places::{Part, ScriptFault, cut_at_part, offset_in_block};
+use sbl_source_map::{Part, ScriptFault, cut_at_part, offset_in_block};
 use std::alloc::{AllocError, Global};
 use std::process::Abort;
 use std::test::Fail;

@@ -1,6 +1,6 @@
 //! The token of each fault of the checks. Lines and columns were counted by hand.
 
-use sbl_places::{Position, place_of_fault, position_of};
+use sbl_source_map::{Position, place_of_fault, position_of};
 use std::alloc::{AllocError, Global};
 use std::test::Fail;
 use test_scripts::{field, with_line_feeds};

@@ -1,6 +1,6 @@
 //! The byte offset of a fault. Offsets were counted by hand.
 
-use sbl_places::{ScriptFault, offset_of_fault};
+use sbl_source_map::{ScriptFault, offset_of_fault};
 use std::test::Fail;
 
 const STEPS: &str = "externals ( stem )\ndefine stem as (\n  do true\n  do Step3\n)";

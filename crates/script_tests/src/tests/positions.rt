@@ -1,6 +1,6 @@
 //! Lines and columns of byte offsets, counted by hand.
 
-use sbl_places::{Position, position_of};
+use sbl_source_map::{Position, position_of};
 
 /// A text, an offset, its line and its column.
 const POSITIONS: &[(&str, usize, usize, usize)] = &[

@@ -5,8 +5,8 @@ use Rattle.sbl_filter.proofs.FilterFacts.{script-no_write}
 use Rattle.sbl_io.specs.Faults.{serve_fault_of}
 use Rattle.sbl_io.specs.HeldInput.{fault_of}
 use Rattle.sbl_io.specs.declared.faults.LineFault.{LineFault}
-use Rattle.sbl_loading.proofs.LoadFacts.{script_refused}
-use Rattle.sbl_loading.specs.declared.faults.LoadFault.TheVariants.{Input}
+use Rattle.sbl_input.proofs.LoadFacts.{script_refused}
+use Rattle.sbl_input.specs.declared.faults.LoadFault.TheVariants.{Input}
 use Rattle.sbl_filter.proofs.filtering.filter.Goals as goal
 
 pub returns-in_err-text-clause-why_write : goal.returns-in_err-text-clause-why_write

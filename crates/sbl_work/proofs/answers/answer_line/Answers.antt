@@ -1,7 +1,7 @@
 use Rattle.std.specs.Str.{chars}
 use Rattle.sbl_bench.specs.KeptRuns.{contents_of}
 use Rattle.sbl_work.specs.Commands.{Echo, Integers, Largest, Saved, Show, Stats, Unused, Why, alone_command, count_in, families_in_file, with_file}
-use Rattle.sbl_desk.specs.Desks.{state_of}
+use Rattle.sbl_history.specs.Desks.{state_of}
 use Rattle.sbl_work.specs.ReplyViews.{view_file}
 use Rattle.sbl_work.proofs.ReplyFacts.{same_command}
 use Rattle.sbl_work.proofs.answers.answer_line.Goals as goal

@@ -2,7 +2,7 @@ use Rattle.std.proofs.Common.{subst}
 use Rattle.sbl_bench.specs.KeptRuns.{contents_of}
 use Rattle.sbl_sessions.specs.Requests.{asks_block}
 use Rattle.sbl_work.specs.Commands.{is_replace}
-use Rattle.sbl_desk.specs.Desks.{state_of}
+use Rattle.sbl_history.specs.Desks.{state_of}
 use Rattle.sbl_work.specs.ReplyViews.{FindsBlock}
 use Rattle.sbl_work.specs.declared.requests.BlockRequest.{BlockRequest}
 use Rattle.sbl_work.specs.declared.requests.BlockRequest.TheVariants as blocks

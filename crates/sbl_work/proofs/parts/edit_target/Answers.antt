@@ -1,6 +1,6 @@
 use Rattle.std.proofs.Common.{rules, ◌≡◌, ◌∙◌, subst}
 use Rattle.sbl_bench.specs.KeptRuns.{contents_of}
-use Rattle.sbl_desk.specs.Desks.{state_of}
+use Rattle.sbl_history.specs.Desks.{state_of}
 use Rattle.sbl_script.specs.Edits.{ScriptEdit}
 use Rattle.sbl_sessions.specs.CommandViews.{view_target}
 use Rattle.sbl_work.specs.ReplyViews.{IsPartResult}

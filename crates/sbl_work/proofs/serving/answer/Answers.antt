@@ -3,7 +3,7 @@ use Rattle.sbl_bench.specs.KeptRuns.{contents_of}
 use Rattle.sbl_io.proofs.Bytes.{whole_none}
 use Rattle.sbl_io.specs.HeldInput.{input_of, line_of}
 use Rattle.sbl_work.specs.Commands.{asks_work_block}
-use Rattle.sbl_desk.specs.Desks.{state_of}
+use Rattle.sbl_history.specs.Desks.{state_of}
 use Rattle.sbl_work.specs.ReplyViews.{FindsBlock, IsFileAnswer}
 use Rattle.sbl_work.proofs.ServingFacts.{answered_block, answered_line, asks_found}
 use Rattle.sbl_work.proofs.serving.answer.Goals as goal

@@ -1,6 +1,6 @@
 use Rattle.std.proofs.Common.{[], Some, sym}
 use Rattle.sbl_bench.specs.KeptRuns.{contents_of}
-use Rattle.sbl_desk.specs.Desks.{state_of}
+use Rattle.sbl_history.specs.Desks.{state_of}
 use Rattle.sbl_work.proofs.ReplyFacts.{save_memory}
 use Rattle.sbl_work.proofs.serving.answer_alone.Goals as goal
 

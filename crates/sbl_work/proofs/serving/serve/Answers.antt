@@ -10,7 +10,7 @@ use Rattle.sbl_io.specs.declared.faults.LineFault.TheVariants as read
 use Rattle.sbl_io.specs.declared.faults.ServeFault.{ServeFault}
 use Rattle.sbl_io.specs.declared.faults.ServeFault.TheVariants as fault
 use Rattle.sbl_work.specs.Commands.{quit_line}
-use Rattle.sbl_desk.specs.Desks.{State, state_of}
+use Rattle.sbl_history.specs.Desks.{State, state_of}
 use Rattle.sbl_work.specs.Serving.{IsWork}
 use Rattle.sbl_work.proofs.ServingFacts.{work_at_line, work_at_write, work_ends, work_goes_on, work_open, work_quits, work_starts, work_unprompted}
 use Rattle.sbl_work.proofs.serving.serve.Goals as goal

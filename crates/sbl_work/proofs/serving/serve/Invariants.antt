@@ -2,7 +2,7 @@ use Rattle.std.proofs.Common.{◌≡◌, IsSome}
 use Rattle.sbl_bench.specs.KeptRuns.{contents_of}
 use Rattle.sbl_io.specs.Devices.{WritesInTime}
 use Rattle.sbl_io.specs.HeldInput.{KeepsTime, TakesFeeds, fault_of, fuel_of, input_of, reads_bound}
-use Rattle.sbl_desk.specs.Desks.{state_of}
+use Rattle.sbl_history.specs.Desks.{state_of}
 use Rattle.sbl_work.specs.Serving.{WorkRepliesToInput}
 use Rattle.sbl_work.proofs.serving.serve.Given as goal
 

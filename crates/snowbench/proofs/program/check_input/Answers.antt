@@ -3,8 +3,8 @@ use Rattle.std.proofs.KnownBytes.{Appends-nil}
 use Rattle.std.proofs.lemmas.Result.{err_from_is_err_and}
 use Rattle.sbl_io.specs.HeldInput.{input_of}
 use Rattle.sbl_script.specs.ParsedScript.{source_of}
-use Rattle.sbl_loading.specs.declared.faults.LoadFault.TheVariants.{Input, Script}
-use Rattle.sbl_loading.proofs.LoadFacts.{script_parsed, script_refused}
+use Rattle.sbl_input.specs.declared.faults.LoadFault.TheVariants.{Input, Script}
+use Rattle.sbl_input.proofs.LoadFacts.{script_parsed, script_refused}
 use Rattle.snowbench.proofs.AnswerFacts.{check_lists, check_no_text}
 use Rattle.snowbench.proofs.ReasonFacts.{reasons_later, script_reasons}
 use Rattle.snowbench.proofs.program.check_input.Goals as goal

@@ -1,7 +1,7 @@
 use Rattle.std.proofs.lemmas.Result.{err_from_is_err_and}
 use Rattle.sbl_io.specs.HeldInput.{input_of}
 use Rattle.sbl_script.specs.ParsedScript.{source_of}
-use Rattle.sbl_loading.specs.declared.faults.LoadFault.TheVariants.{Input}
+use Rattle.sbl_input.specs.declared.faults.LoadFault.TheVariants.{Input}
 use Rattle.snowbench.proofs.AnswerFacts.{lists_checked, lists_no_expected, lists_no_words}
 use Rattle.snowbench.proofs.ReasonFacts.{check_result_reasons, expected_reasons, reasons_later, words_reasons}
 use Rattle.snowbench.proofs.program.check_lists.Goals as goal

@@ -11,7 +11,7 @@ use Rattle.sbl_program.specs.FoundView.{listing_found}
 use Rattle.sbl_program.specs.ProgramOf.{program_of}
 use Rattle.std.specs.Prelude.{slice_get}
 use Rattle.sbl_program.specs.Listing.{listed_by}
-use Rattle.sbl_interpreter.proofs.NumberingTables.{same_tables}
+use Rattle.sbl_run_state.proofs.NumberingTables.{same_tables}
 use Rattle.sbl_ast.specs.View.{view_items}
 use Rattle.sbl_machine.proofs.machine.Machine.new.Goals as goal
 

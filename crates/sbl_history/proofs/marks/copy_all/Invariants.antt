@@ -1,0 +1,7 @@
+use Rattle.std.proofs.Common.{◌≡◌, map, take}
+use Rattle.sbl_rows.specs.Rows.{view_row}
+use Rattle.sbl_history.specs.Desks.{view_marked}
+use Rattle.sbl_history.proofs.marks.copy_all.Given as goal
+
+abbrev pub invariant-loop-row : goal.invariant-loop-row
+invariant-loop-row l = map view_marked l.copies.items ≡ map view_row (take l.row-index l.rows)

@@ -1,0 +1,76 @@
+-- A desk without memory addresses; marking, undoing and redoing.
+use Rattle.std.specs.Prelude.{◌≡◌, ℕ, List, [], ◌∷◌, ◌++◌, Option, Some, None, Result, Ok, Err, map}
+use Rattle.std.specs.Option.{option_map}
+use Rattle.sbl_bench.specs.Contents.{Contents}
+use Rattle.sbl_bench.specs.Edits.{Edits}
+use Rattle.sbl_rows.specs.Rows.{Row}
+use Rattle.sbl_semantics.specs.Outcome.{outcome_of}
+use Rattle.sbl_print.specs.Canonical.{canonical}
+use Rattle.sbl_history.specs.History.{Past, ToLimit, ToText, Turn, edit_of}
+use Rattle.sbl_history.specs.declared.desk.Desk.{Desk}
+use Rattle.sbl_history.specs.declared.history.HistoryFault.{HistoryFault}
+use Rattle.sbl_history.specs.declared.history.HistoryFault.TheVariants as fault
+use Rattle.sbl_history.specs.declared.steps.History.{History}
+use Rattle.sbl_history.specs.declared.steps.Step.{Step}
+use Rattle.sbl_history.specs.declared.steps.Step.TheVariants as step
+use Rattle.sbl_history.specs.declared.marks.MarkedRow.{MarkedRow}
+use Rattle.std.specs.declared.vec.Vec.{Vec}
+use Rattle.std.specs.declared.alloc.Global.{Global}
+
+-- a text of the script in force, if one is kept; the edits that can be undone and redone; the rows at the mark
+pub record State : Type 0 where
+  pub text : Option (List ℕ)
+  pub past : Past
+  pub marked : List Row
+
+abbrev pub view_step : Step → Turn
+view_step (step.Text text) = ToText text.items
+view_step (step.Limit n) = ToLimit n
+
+abbrev pub view_marked : MarkedRow → Row
+view_marked r = record { word = r.word.items; outcome = outcome_of r.outcome }
+
+abbrev pub past_of : History → Past
+past_of h = record { earlier = map view_step h.earlier.items; later = map view_step h.later.items }
+
+abbrev pub view_text : Option (Vec ℕ Global) → Option (List ℕ)
+view_text text = option_map (λ t. t.items) text
+
+abbrev pub state_of : Desk → State
+state_of d = record { text = view_text d.text; past = past_of d.history; marked = map view_marked d.marked.items }
+
+-- the text of the script in force: the one that is kept, or else its canonical text
+abbrev pub text_in : Contents → Option (List ℕ) → List ℕ
+text_in s (Some text) = text
+text_in s None = canonical s.setting.script.items
+
+-- ---- undoing and redoing
+
+-- what takes a turn back: the text in force before it, or the limit before it
+abbrev pub back : Contents → Option (List ℕ) → Turn → Turn
+back s text (ToText other) = ToText (text_in s text)
+back s text (ToLimit n) = ToLimit s.setting.limit
+
+-- the text that is kept after a turn
+abbrev pub text_after : Option (List ℕ) → Turn → Option (List ℕ)
+text_after text (ToText other) = Some other
+text_after text (ToLimit n) = text
+
+-- What undoes or redoes: the last of the turns in the first list is made, and what takes it back becomes the last of the other
+-- list. If there is none, or the bench refuses its edit, nothing changes but, maybe, the count of runs.
+abbrev pub Turns : Result (Unit {0}) HistoryFault → Contents → Contents → Option (List ℕ) → Option (List ℕ) → List Turn → List Turn → List Turn → List Turn → Type 0
+Turns (Ok u) s t text new_text from to new_from new_to =
+    (turn : Turn) × (from ≡ new_from ++ turn ∷ []) × Edits (Ok u) s (edit_of turn) t × (new_to ≡ to ++ back s text turn ∷ [])
+    × (new_text ≡ text_after text turn)
+Turns (Err fault.Nothing) s t text new_text from to new_from new_to =
+    (from ≡ []) × (t ≡ s) × (new_text ≡ text) × (new_from ≡ from) × (new_to ≡ to)
+Turns (Err (fault.Edit f)) s t text new_text from to new_from new_to =
+    (rest : List Turn) × (turn : Turn) × (from ≡ rest ++ turn ∷ []) × Edits (Err f) s (edit_of turn) t × (new_text ≡ text) × (new_from ≡ from) × (new_to ≡ to)
+
+-- the latest edit in force is undone
+abbrev pub Undoes : Result (Unit {0}) HistoryFault → Contents → State → Contents → State → Type 0
+Undoes result s d t e = Turns result s t d.text e.text d.past.earlier d.past.later e.past.earlier e.past.later × (e.marked ≡ d.marked)
+
+-- the edit that was undone last is redone
+abbrev pub Redoes : Result (Unit {0}) HistoryFault → Contents → State → Contents → State → Type 0
+Redoes result s d t e = Turns result s t d.text e.text d.past.later d.past.earlier e.past.later e.past.earlier × (e.marked ≡ d.marked)

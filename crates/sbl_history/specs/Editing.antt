@@ -1,0 +1,44 @@
+-- Edits of the setting of a bench that are remembered.
+use Rattle.std.specs.Prelude.{◌≡◌, ◌⊎◌, ℕ, List, Option, Result, Ok, Err}
+use Rattle.sbl_bench.specs.Contents.{Contents}
+use Rattle.sbl_bench.specs.Edits.{Edit, Edits, Replace}
+use Rattle.sbl_bench.specs.declared.fault.EditFault.{EditFault}
+use Rattle.sbl_bench.specs.declared.fault.EditFault.TheVariants as fault
+use Rattle.sbl_print.specs.Canonical.{canonical}
+use Rattle.sbl_script.specs.Edits.{ScriptEdit}
+use Rattle.sbl_history.specs.Desks.{State, text_in}
+use Rattle.sbl_history.specs.History.{ToLimit, ToText, remember_turn}
+use Rattle.sbl_history.specs.Splicing.{IsTextOf}
+
+-- two benches have scripts with the same canonical text
+abbrev pub SameText : Contents → Contents → Type 0
+SameText s t = canonical s.setting.script.items ≡ canonical t.setting.script.items
+
+-- After an accepted edit of the script this text is kept, and the edit is remembered. It may be forgotten only if the canonical
+-- text is the same after it.
+pub record IsNoted (s t : Contents) (d e : State) (text : Option (List ℕ)) : Type 0 where
+  pub text_is : e.text ≡ text
+  pub marked : e.marked ≡ d.marked
+  pub past : (SameText s t × (e.past ≡ d.past)) ⊎ (e.past ≡ remember_turn d.past (ToText (text_in s d.text)))
+
+-- The bench makes an edit of the script, and the desk notes it with this text. After a fault the desk is unchanged.
+abbrev pub Replaces : Result (Unit {0}) EditFault → Edit → Option (List ℕ) → Contents → State → Contents → State → Type 0
+Replaces (Ok u) edit text s d t e = Edits (Ok u) s edit t × IsNoted s t d e text
+Replaces (Err f) edit text s d t e = Edits (Err f) s edit t × (e ≡ d)
+
+-- The same for a part of the script. The text that is kept then is a text of the script in force, if any is kept; or an allocation
+-- failed before anything was tried.
+abbrev pub ReplacesPart : Result (Unit {0}) EditFault → ScriptEdit → List ℕ → Contents → State → Contents → State → Type 0
+ReplacesPart result what text s d t e =
+    ((kept : Option (List ℕ)) × IsTextOf s t kept × Replaces result (Replace what text) kept s d t e)
+    ⊎ ((result ≡ Err fault.OutOfMemory) × (t ≡ s) × (e ≡ d))
+
+-- The limit was this one before. It is remembered if the bench has another one now.
+abbrev pub NotesLimit : ℕ → Contents → State → State → Type 0
+NotesLimit before t d e =
+    ((t.setting.limit ≡ before) × (e ≡ d))
+    ⊎ (¬ (t.setting.limit ≡ before) × (e ≡ record d { past = remember_turn d.past (ToLimit before) }))
+
+-- After a request that may set the limit, the limit before is remembered if it was another one.
+abbrev pub IsLimitNoted : Contents → Contents → State → State → Type 0
+IsLimitNoted s t d e = NotesLimit s.setting.limit t d e

@@ -1,0 +1,231 @@
+//! A desk: what is kept beside a bench at work, so that its edits can be undone and its rows compared with those at a mark.
+ghost use Rattle.std.specs.Prelude.{◌≡◌, ◌⊎◌, ℕ, List, [], IfOk, IfSome, OnErr, OnOk, None, Some, map, string_bytes, true};
+ghost use Rattle.sbl_bench.specs.Contents.{rows_now};
+ghost use Rattle.sbl_bench.specs.Edits.{Edits, Replace, Whole};
+ghost use Rattle.sbl_bench.specs.KeptRuns.{contents_of};
+ghost use Rattle.sbl_print.specs.Canonical.{canonical};
+ghost use Rattle.sbl_rows.specs.Rows.{view_row};
+ghost use Rattle.sbl_history.specs.Desks.{Redoes, Undoes, state_of, text_in, view_text};
+ghost use Rattle.sbl_history.specs.{Editing.NotesLimit, Editing.Replaces, Editing.ReplacesPart, History.ToText, History.remember_turn, Splicing.Reads};
+ghost use Rattle.sbl_source_map.specs.Parts.{view_part};
+
+use crate::history::{HistoryFault, text_of, turn};
+use crate::marks::{MarkedRow, copy_rows, views_of};
+use crate::splice::{SplicedText, splice};
+use crate::steps::{History, Step};
+use sbl_bench::{Bench, EditFault, Row};
+use sbl_source_map::Part;
+use std::alloc::{AllocError, Global};
+
+/// What is kept beside a bench at work: the text of its script, the edits that can be undone and redone, and the rows at the
+/// mark. Each function that edits takes the bench of this desk.
+#[derive(Drop)]
+pub struct Desk {
+    alloc: Global,
+    // a text of the script in force, if one is known
+    text: Option<Vec<u8>>,
+    history: History,
+    marked: Vec<MarkedRow>,
+}
+
+/// The script before an edit.
+#[derive(Drop)]
+struct Before {
+    text: Vec<u8>,
+    canonical: String,
+}
+
+impl Desk {
+    /// Returns the desk of a bench whose script was read from this text. The mark is set; there is nothing to undo or redo.
+    ///
+    /// # Errors
+    ///
+    /// Returns `AllocError` if an allocation fails.
+    pub fn new(alloc: Global, bench: &Bench, text: Vec<u8>) -> Result<Desk, AllocError>
+        ensures { IfOk result (λ d. state_of d ≡ record { text = Some text.items; past = record { earlier = []; later = [] }; marked = rows_now (contents_of bench.now) }) }
+    {
+        let marked = copy_rows(alloc, bench)?;
+        let history = History::new(alloc)?;
+        Ok(Desk {
+            alloc,
+            text: Some(text),
+            history,
+            marked,
+        })
+    }
+
+    /// Returns the rows at the mark, in the order of the vocabulary then.
+    ///
+    /// # Errors
+    ///
+    /// Returns `AllocError` if an allocation fails.
+    pub fn marked_rows(&self) -> Result<Vec<Row<'_>>, AllocError>
+        ensures { IfOk result (λ rows. map view_row rows.items ≡ (state_of self.now).marked) }
+    {
+        views_of(self.alloc, &self.marked)
+    }
+
+    /// Sets the mark: remembers the rows of the bench as they are.
+    ///
+    /// # Errors
+    ///
+    /// Returns `AllocError` if an allocation fails; then the desk is unchanged.
+    pub fn mark(&mut self, bench: &Bench) -> Result<(), AllocError>
+        ensures marked { OnOk result (state_of self.new ≡ record (state_of self.old) { marked = rows_now (contents_of bench.now) }) }
+        ensures kept { OnErr result (state_of self.new ≡ state_of self.old) }
+    {
+        self.marked = copy_rows(self.alloc, bench)?;
+        Ok(())
+    }
+
+    /// Notes that the bench may have another limit now than this one, which it had before. If it has, the limit before is
+    /// remembered.
+    pub fn note_limit(&mut self, bench: &Bench, before: u32)
+        ensures { NotesLimit before (contents_of bench.now) (state_of self.old) (state_of self.new) }
+    {
+        if before != bench.limit() {
+            self.history.remember(Step::Limit(before));
+        }
+    }
+
+    /// Returns the script before an edit. Returns `AllocError` if an allocation fails.
+    fn before(&self, bench: &Bench) -> Result<Before, AllocError>
+        ensures text { IfOk result (λ b. b.text.items ≡ text_in (contents_of bench.now) (view_text self.now.text)) }
+        ensures canonical { IfOk result (λ b. string_bytes b.canonical ≡ canonical (contents_of bench.now).setting.script.items) }
+    {
+        let text = text_of(self.alloc, bench, &self.text)?;
+        let canonical = bench.script().print(self.alloc)?;
+        Ok(Before { text, canonical })
+    }
+
+    /// Notes that the script was edited, with its text. Remembers the text before unless the canonical text is the same.
+    fn note(&mut self, bench: &Bench, before: Before, text: Option<Vec<u8>>)
+        ensures text { (state_of self.new).text ≡ view_text text }
+        ensures marked { (state_of self.new).marked ≡ (state_of self.old).marked }
+        ensures past { ((canonical (contents_of bench.now).setting.script.items ≡ string_bytes before.canonical) × ((state_of self.new).past ≡ (state_of self.old).past)) ⊎ ((state_of self.new).past ≡ remember_turn (state_of self.old).past (ToText before.text.items)) }
+    {
+        self.text = text;
+        if has_canonical(self.alloc, bench, before.canonical.as_str()) {
+            return;
+        }
+        self.history.remember(Step::Text(before.text));
+    }
+
+    /// Replaces the whole script, as `Bench::replace_script` does, and remembers the edit if it changed the script.
+    ///
+    /// # Errors
+    ///
+    /// Returns the faults of `Bench::replace_script`. Then the desk is unchanged.
+    #[tactic(auto, using(crate::proofs::Refusing::nothing_tried))]
+    pub fn replace(&mut self, bench: &mut Bench, text: &[u8]) -> Result<(), EditFault>
+        ensures { Replaces result (Whole text.now) (Some text.now) (contents_of bench.old) (state_of self.old) (contents_of bench.new) (state_of self.new) }
+    {
+        let kept = Vec::from_slice(self.alloc, text)?;
+        let before = self.before(bench)?;
+        bench.replace_script(text)?;
+        self.note(bench, before, Some(kept));
+        Ok(())
+    }
+
+    /// Replaces a part of the script by a text, as `Bench::replace_routine`, `Bench::replace_among` and `Bench::replace_grouping`
+    /// do, and remembers the edit if it changed the script. The text in force is the text before with this part put into it, if
+    /// that is a text of the script after the edit; otherwise the canonical text.
+    ///
+    /// # Errors
+    ///
+    /// Returns the faults of these three. Returns `OutOfMemory` also if an allocation fails before the edit is tried. Then the
+    /// desk is unchanged.
+    pub fn replace_part(
+        &mut self,
+        bench: &mut Bench,
+        target: Part<'_>,
+        text: &str,
+    ) -> Result<(), EditFault>
+        ensures { ReplacesPart result (view_part target.entry) text.now (contents_of bench.old) (state_of self.old) (contents_of bench.new) (state_of self.new) }
+    {
+        let before = self.before(bench)?;
+        let external = bench.script().external();
+        let found = splice(self.alloc, &before.text, external, target, text)?;
+        edit_part(bench, target, text)?;
+        let kept = text_in_force(self.alloc, bench, found);
+        self.note(bench, before, kept);
+        Ok(())
+    }
+
+    /// Undoes the latest edit that changed the script or the limit. The vocabulary stays as it is.
+    ///
+    /// # Errors
+    ///
+    /// Returns `Nothing` if there is none, and `Edit` with the fault of the bench: `MeterFull` or `OutOfMemory`, or `Script`
+    /// with `ScriptTooLong` if the script before was made by an edit of a part and its canonical text has more than 1,048,576
+    /// bytes. Then nothing changes but, maybe, the count of runs.
+    pub fn undo(&mut self, bench: &mut Bench) -> Result<(), HistoryFault>
+        ensures { Undoes result (contents_of bench.old) (state_of self.old) (contents_of bench.new) (state_of self.new) }
+    {
+        let text = &mut self.text;
+        let past = &mut self.history;
+        turn(self.alloc, bench, text, &mut past.earlier, &mut past.later)
+    }
+
+    /// Redoes the edit that was undone last.
+    ///
+    /// # Errors
+    ///
+    /// As `undo`.
+    pub fn redo(&mut self, bench: &mut Bench) -> Result<(), HistoryFault>
+        ensures { Redoes result (contents_of bench.old) (state_of self.old) (contents_of bench.new) (state_of self.new) }
+    {
+        let text = &mut self.text;
+        let past = &mut self.history;
+        turn(self.alloc, bench, text, &mut past.later, &mut past.earlier)
+    }
+
+    /// Returns the text of the script in force: the bytes that it was read from, with the typed parts put into them, or its
+    /// canonical text.
+    ///
+    /// # Errors
+    ///
+    /// Returns `AllocError` if an allocation fails.
+    pub fn text(&self, bench: &Bench) -> Result<Vec<u8>, AllocError>
+        ensures { IfOk result (λ t. t.items ≡ text_in (contents_of bench.now) (state_of self.now).text) }
+    {
+        text_of(self.alloc, bench, &self.text)
+    }
+}
+
+/// Replaces a part of the script of a bench by a text. Returns the fault of the bench.
+fn edit_part(bench: &mut Bench, target: Part<'_>, text: &str) -> Result<(), EditFault>
+    ensures { Edits result (contents_of bench.old) (Replace (view_part target.entry) text.now) (contents_of bench.new) }
+{
+    match target {
+        Part::Body(name) => bench.replace_routine(name, text),
+        Part::Among(name, k) => bench.replace_among(name, k, text),
+        Part::Terms(name) => bench.replace_grouping(name, text),
+    }
+}
+
+/// Returns the text if it is known to be one of the script of the bench; `None` also if an allocation fails.
+fn text_in_force(alloc: Global, bench: &Bench, found: Option<SplicedText>) -> Option<Vec<u8>>
+    ensures { (external : List ℕ) → IfSome found (λ c. Reads external c.text.items (string_bytes c.canonical)) → IfSome (view_text result) (λ bytes. Reads external bytes (canonical (contents_of bench.now).setting.script.items)) }
+{
+    match found {
+        Some(spliced) => {
+            if has_canonical(alloc, bench, spliced.canonical.as_str()) {
+                Some(spliced.text)
+            } else {
+                None
+            }
+        }
+        None => None,
+    }
+}
+
+/// Whether the script of a bench is known to have this canonical text; false also if an allocation fails.
+fn has_canonical(alloc: Global, bench: &Bench, text: &str) -> bool
+    ensures { result ≡ true → canonical (contents_of bench.now).setting.script.items ≡ text.now }
+{
+    match bench.script().print(alloc) {
+        Ok(canonical) => canonical.as_str() == text,
+        Err(_) => false,
+    }
+}

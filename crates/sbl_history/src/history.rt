@@ -1,0 +1,164 @@
+//! The edits that can be undone and redone.
+ghost use Rattle.std.specs.Prelude.{◌≡◌, ◌≤◌, ◌<◌, ◌+◌, ◌-◌, ◌++◌, ◌∷◌, [], Some, drop, length, map, IfOk, OnOk, OnErr, vec_len, vec_capacity};
+ghost use Rattle.sbl_bench.specs.Edits.{Edits};
+ghost use Rattle.sbl_bench.specs.KeptRuns.{contents_of};
+ghost use Rattle.sbl_history.specs.Desks.{Turns, back, past_of, text_after, text_in, view_step, view_text};
+ghost use Rattle.sbl_history.specs.History.{ToLimit, ToText, edit_of, latest, remember_turn};
+
+use crate::steps::{History, Step};
+use sbl_bench::{Bench, EditFault};
+use std::alloc::{AllocError, Global};
+use std::mem::replace;
+
+/// The maximum number of edits that can be undone or redone.
+const MAX_STEPS: usize = 100;
+
+/// Why nothing was undone or redone.
+#[derive(Clone, Copy, Debug, PartialEq, Eq)]
+pub enum HistoryFault {
+    /// There is no such edit.
+    Nothing,
+    /// The bench refuses the edit.
+    Edit(EditFault),
+}
+
+impl History {
+    /// Returns an empty history. Returns `AllocError` if an allocation fails; later calls allocate nothing for the history.
+    pub(crate) fn new(alloc: Global) -> Result<History, AllocError>
+        ensures { IfOk result (λ h. past_of h ≡ record { earlier = []; later = [] }) }
+    {
+        let earlier = Vec::with_capacity(alloc, MAX_STEPS)?;
+        let later = Vec::with_capacity(alloc, MAX_STEPS)?;
+        Ok(History { earlier, later })
+    }
+
+    /// Remembers the step that undoes an edit. Forgets the edits that were undone, and the oldest one if there are 100.
+    pub(crate) fn remember(&mut self, step: Step)
+        ensures { past_of self.new ≡ remember_turn (past_of self.old) (view_step step) }
+    {
+        self.later.clear();
+        push_latest(&mut self.earlier, step);
+    }
+}
+
+/// Drops the first step if there are 100.
+fn make_room(steps: &mut Vec<Step>)
+    requires { vec_len steps.old ≤ 100 }
+    ensures items { steps.new.items ≡ drop (length steps.old.items - 99) steps.old.items }
+    ensures few { vec_len steps.new < 100 }
+    ensures room { vec_capacity steps.new ≡ vec_capacity steps.old }
+{
+    if steps.len() >= MAX_STEPS {
+        let _oldest = steps.remove(0);
+    }
+}
+
+/// Appends a step, and forgets the oldest one if there are 100.
+#[tactic(auto, using(crate::proofs::Latest::one_more))]
+fn push_latest(steps: &mut Vec<Step>, step: Step)
+    requires few { vec_len steps.old ≤ 100 }
+    requires room { 100 ≤ vec_capacity steps.old }
+    ensures steps { map view_step steps.new.items ≡ latest (map view_step steps.old.items ++ view_step step ∷ []) }
+    ensures few { vec_len steps.new ≤ 100 }
+    ensures room { vec_capacity steps.new ≡ vec_capacity steps.old }
+{
+    make_room(steps);
+    steps.push_reserved(step);
+}
+
+/// Makes the last of the steps `from`, and appends the step that takes it back to `to`.
+///
+/// # Errors
+///
+/// Returns `Nothing` if there is none, and `Edit` with the fault of the bench. Then nothing changes but, maybe, the count
+/// of runs.
+pub(crate) fn turn(
+    alloc: Global,
+    bench: &mut Bench,
+    text: &mut Option<Vec<u8>>,
+    from: &mut Vec<Step>,
+    to: &mut Vec<Step>,
+) -> Result<(), HistoryFault>
+    requires few { vec_len from.old + vec_len to.old ≤ 100 }
+    requires room { 100 ≤ vec_capacity from.old }
+    requires to_room { 100 ≤ vec_capacity to.old }
+    ensures turns { Turns result (contents_of bench.old) (contents_of bench.new) (view_text text.old) (view_text text.new) (map view_step from.old.items) (map view_step to.old.items) (map view_step from.new.items) (map view_step to.new.items) }
+    ensures few { vec_len from.new + vec_len to.new ≡ vec_len from.old + vec_len to.old }
+    ensures room { vec_capacity from.new ≡ vec_capacity from.old }
+    ensures to_room { vec_capacity to.new ≡ vec_capacity to.old }
+{
+    let Some(mut step) = from.pop() else {
+        return Err(HistoryFault::Nothing);
+    };
+    match exchange(alloc, bench, text, &mut step) {
+        Ok(()) => {
+            to.push_reserved(step);
+            Ok(())
+        }
+        Err(fault) => {
+            from.push_reserved(step);
+            Err(HistoryFault::Edit(fault))
+        }
+    }
+}
+
+/// Puts into force what a step has. Then the step has what was in force before.
+fn exchange(
+    alloc: Global,
+    bench: &mut Bench,
+    text: &mut Option<Vec<u8>>,
+    step: &mut Step,
+) -> Result<(), EditFault>
+    ensures edits { Edits result (contents_of bench.old) (edit_of (view_step step.old)) (contents_of bench.new) }
+    ensures exchanged { OnOk result ((view_step step.new ≡ back (contents_of bench.old) (view_text text.old) (view_step step.old)) × (view_text text.new ≡ text_after (view_text text.old) (view_step step.old))) }
+    ensures kept { OnErr result ((step.new ≡ step.old) × (text.new ≡ text.old)) }
+{
+    match step {
+        Step::Text(other) => exchange_text(alloc, bench, text, other),
+        Step::Limit(limit) => exchange_limit(bench, limit),
+    }
+}
+
+/// Replaces the whole script by a text. Then `other` has the text that was in force before.
+#[tactic(auto, using(crate::proofs::Refusing::nothing_tried))]
+fn exchange_text(
+    alloc: Global,
+    bench: &mut Bench,
+    text: &mut Option<Vec<u8>>,
+    other: &mut Vec<u8>,
+) -> Result<(), EditFault>
+    ensures edits { Edits result (contents_of bench.old) (edit_of (ToText other.old.items)) (contents_of bench.new) }
+    ensures exchanged { OnOk result ((other.new.items ≡ text_in (contents_of bench.old) (view_text text.old)) × (view_text text.new ≡ Some other.old.items)) }
+    ensures kept { OnErr result ((other.new ≡ other.old) × (text.new ≡ text.old)) }
+{
+    let before = text_of(alloc, bench, text)?;
+    bench.replace_script(other)?;
+    *text = Some(replace(other, before));
+    Ok(())
+}
+
+/// Sets the limit. Then `limit` is the limit before.
+fn exchange_limit(bench: &mut Bench, limit: &mut u32) -> Result<(), EditFault>
+    ensures edits { Edits result (contents_of bench.old) (edit_of (ToLimit limit.old)) (contents_of bench.new) }
+    ensures exchanged { OnOk result (limit.new ≡ (contents_of bench.old).setting.limit) }
+    ensures kept { OnErr result (limit.new ≡ limit.old) }
+{
+    let before = bench.limit();
+    bench.set_limit(u64::from(*limit))?;
+    *limit = before;
+    Ok(())
+}
+
+/// Returns the text of the script in force. Returns `AllocError` if an allocation fails.
+pub(crate) fn text_of(
+    alloc: Global,
+    bench: &Bench,
+    text: &Option<Vec<u8>>,
+) -> Result<Vec<u8>, AllocError>
+    ensures { IfOk result (λ t. t.items ≡ text_in (contents_of bench.now) (view_text text.now)) }
+{
+    match text {
+        Some(text) => Vec::from_slice(alloc, text),
+        None => Ok(bench.script().print(alloc)?.into_bytes()),
+    }
+}

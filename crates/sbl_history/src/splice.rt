@@ -1,0 +1,71 @@
+//! The text of a script with a typed part put into it, so that its comments and layout stay.
+ghost use Rattle.std.specs.Prelude.{◌≡◌, IfOk, IfSome, string_bytes};
+ghost use Rattle.sbl_history.specs.Splicing.{Reads};
+
+use sbl_script::{Script, ScriptFault};
+use sbl_source_map::{Excerpt, Part, cut_at_part};
+use std::alloc::{AllocError, Global};
+
+/// A text of a script, with the canonical text of the script that it reads as.
+#[derive(Drop)]
+pub(crate) struct SplicedText {
+    pub(crate) text: Vec<u8>,
+    pub(crate) canonical: String,
+}
+
+/// Returns a text that is cut at a part, with another part in its place. A line feed follows a part that has a comment up to
+/// the end of its line.
+fn put_in(alloc: Global, cut: &Excerpt<'_>, part: &str) -> Result<Vec<u8>, AllocError> {
+    let part = part.trim();
+    let mut new = Vec::from_slice(alloc, cut.before)?;
+    new.extend_from_slice(part.as_bytes())?;
+    if part.contains("//") && cut.after.first() != Some(&b'\n') {
+        new.extend_from_slice(b"\n")?;
+    }
+    new.extend_from_slice(cut.after)?;
+    Ok(new)
+}
+
+/// Returns the text of a script with another part in place of the target; `None` if the text has no such part.
+fn with_part(
+    alloc: Global,
+    text: &[u8],
+    target: Part<'_>,
+    part: &str,
+) -> Result<Option<Vec<u8>>, AllocError> {
+    let Ok(text) = str::from_utf8(text) else {
+        return Ok(None);
+    };
+    match cut_at_part(alloc, text, target)? {
+        Some(cut) => Ok(Some(put_in(alloc, &cut, part)?)),
+        None => Ok(None),
+    }
+}
+
+/// Returns the text of a script with another part in place of the target, if that reads as a script with this external.
+///
+/// # Errors
+///
+/// Returns `AllocError` if an allocation fails.
+pub(crate) fn splice(
+    alloc: Global,
+    text: &[u8],
+    external: &str,
+    target: Part<'_>,
+    part: &str,
+) -> Result<Option<SplicedText>, AllocError>
+    ensures { IfOk result (λ found. IfSome found (λ c. Reads external.now c.text.items (string_bytes c.canonical))) }
+{
+    let Some(text) = with_part(alloc, text, target, part)? else {
+        return Ok(None);
+    };
+    match Script::parse(alloc, &text, external) {
+        Ok(script) => {
+            let canonical = script.print(alloc)?;
+            script.discard();
+            Ok(Some(SplicedText { text, canonical }))
+        }
+        Err(ScriptFault::OutOfMemory) => Err(AllocError),
+        Err(_) => Ok(None),
+    }
+}

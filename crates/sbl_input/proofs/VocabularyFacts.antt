@@ -1,0 +1,72 @@
+-- What one more word does to a vocabulary and to the text of its rows.
+use Rattle.std.proofs.Common.{◌≡◌, ◌∙◌, ◌++◌, ℕ, true, false, List, [], ◌∷◌, length, Some, None, Result, Ok, Err, map, refl, sym, ap, subst, nat_eq, arith, tests, ◌≤◌, ◌<◌, nat_lt, nat_le}
+use Rattle.std.specs.Str.{bytes_eq}
+use Rattle.std.specs.List.{list_any}
+use Rattle.std.specs.declared.vec.Vec.{Vec}
+use Rattle.std.specs.declared.alloc.Global.{Global}
+use Rattle.std.proofs.lemmas.List.{flat_map_more, length-map, map-append}
+use Rattle.sbl_ast.specs.Source.{Source}
+use Rattle.sbl_bench.specs.Contents.{IsFaultOrMemory, word_fault}
+use Rattle.sbl_rows.specs.Rows.{row_of}
+use Rattle.sbl_rows.specs.Setting.{under}
+use Rattle.sbl_bench.specs.Vocabulary.{is_skipped, with_word}
+use Rattle.sbl_bench.specs.declared.fault.EditFault.{EditFault}
+use Rattle.sbl_bench.specs.declared.fault.EditFault.TheVariants as fault
+use Rattle.sbl_io.specs.Records.{record_line, records_text}
+use Rattle.sbl_semantics.specs.Limit.{default_limit}
+use Rattle.sbl_formats.specs.RowRecords.{row_fields}
+use Rattle.sbl_listings.specs.Listings.{stems_text}
+use Rattle.sbl_input.specs.VocabularyRows.{RowsOpen, text_of_rows}
+use Rattle.sbl_input.specs.WordLists.{OpensAs, texts_of}
+use Rattle.sbl_input.proofs.WordListFacts.{any_is_word, skips}
+
+-- whether a set has a word, which is not empty
+skipped-is : (keys : List (Vec ℕ Global)) (word : List ℕ) → nat_eq (length word) 0 ≡ false → is_skipped word (texts_of keys) ≡ list_any (λ k. bytes_eq word k.items) keys
+skipped-is keys word some = skips word (texts_of keys) some ∙ sym (any_is_word keys word)
+
+short-word : (word : List ℕ) → length word ≤ 255 → nat_lt 255 (length word) ≡ false
+short-word word short = grind (arith, tests, short)
+
+-- a repeat
+pub repeat-fine : (keys : List (Vec ℕ Global)) (word : List ℕ) → length word ≤ 255 → nat_eq (length word) 0 ≡ false → list_any (λ k. bytes_eq word k.items) keys ≡ true → word_fault (texts_of keys) word ≡ None
+repeat-fine keys word short some there = rw (short-word word short, skipped-is keys word some ∙ there) refl
+
+pub repeat-skipped : (keys : List (Vec ℕ Global)) (word : List ℕ) → nat_eq (length word) 0 ≡ false → list_any (λ k. bytes_eq word k.items) keys ≡ true → texts_of keys ≡ with_word (texts_of keys) word
+repeat-skipped keys word some there = rw (skipped-is keys word some ∙ there) refl
+
+-- a new word
+pub new-full : (keys : List (Vec ℕ Global)) (word : List ℕ) → length word ≤ 255 → nat_eq (length word) 0 ≡ false → list_any (λ k. bytes_eq word k.items) keys ≡ false → 100000 ≤ length keys → word_fault (texts_of keys) word ≡ Some fault.Full
+new-full keys word short some new full =
+    let all : nat_le 100000 (length (texts_of keys)) ≡ true = rw (length-map keys (λ (w : Vec ℕ Global). w.items)) (grind (arith, tests, full)) in
+    rw (short-word word short, skipped-is keys word some ∙ new, all) refl
+
+pub new-fine : (keys : List (Vec ℕ Global)) (word : List ℕ) → length word ≤ 255 → nat_eq (length word) 0 ≡ false → list_any (λ k. bytes_eq word k.items) keys ≡ false → length keys < 100000 → word_fault (texts_of keys) word ≡ None
+new-fine keys word short some new few =
+    let room : nat_le 100000 (length (texts_of keys)) ≡ false = rw (length-map keys (λ (w : Vec ℕ Global). w.items)) (grind (arith, tests, few)) in
+    rw (short-word word short, skipped-is keys word some ∙ new, room) refl
+
+pub new-last : (keys : List (Vec ℕ Global)) (word : List ℕ) → nat_eq (length word) 0 ≡ false → list_any (λ k. bytes_eq word k.items) keys ≡ false → with_word (texts_of keys) word ≡ texts_of keys ++ word ∷ []
+new-last keys word some new = rw (skipped-is keys word some ∙ new) refl
+
+-- an empty word
+pub empty-fine : (words : List (List ℕ)) (w : List ℕ) → nat_eq (length w) 0 ≡ true → word_fault words w ≡ None
+empty-fine words [] empty = refl
+empty-fine words (c ∷ w) empty = absurd (grind (arith, tests, empty))
+
+-- a word that is too long
+pub long-fault : (words : List (List ℕ)) (w : List ℕ) → 255 < length w → word_fault words w ≡ Some fault.WordTooLong
+long-fault words w long = let too : nat_lt 255 (length w) ≡ true = grind (arith, tests, long) in rw too refl
+
+-- one more row
+pub rows-more : (s : Source) (words : List (List ℕ)) (w : List ℕ) → text_of_rows s words ++ record_line (row_fields (row_of (under s default_limit) w)) ≡ text_of_rows s (words ++ w ∷ [])
+rows-more s words w =
+    let row = row_of (under s default_limit) in
+    flat_map_more record_line [] (map row_fields (map row words)) (row_fields (row w))
+    ∙ ap records_text (sym (map-append row_fields (map row words) (row w ∷ [])) ∙ ap (map row_fields) (sym (map-append row words (w ∷ []))))
+
+-- rows of words with which a bench opens as with all
+pub rows_open_as : {B : Type 0} (s : Source) (words all : List (List ℕ)) (is : List ℕ → B → Type 0) (result : Result B EditFault) → OpensAs words all → RowsOpen s words is result → RowsOpen s all is result
+rows_open_as s words all is (Ok b) alike opens =
+    let none = sym alike.faults ∙ opens.0 in
+    (none, subst (λ (ws : List (List ℕ)). is (stems_text (record { setting = under s default_limit; words = ws; count = length ws })) b) (alike.vocabularies none) opens.1)
+rows_open_as s words all is (Err f) alike opens = subst (λ o. IsFaultOrMemory o f) alike.faults opens

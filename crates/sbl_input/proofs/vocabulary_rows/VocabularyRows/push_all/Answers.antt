@@ -1,0 +1,23 @@
+use Rattle.std.proofs.Common.{◌≡◌, ◌∙◌, ℕ, List, [], length, sym, ap, subst, rules}
+use Rattle.std.proofs.lemmas.List.{nil_from_length}
+use Rattle.std.specs.declared.vec.Vec.{Vec}
+use Rattle.std.specs.declared.alloc.Global.{Global}
+use Rattle.sbl_bench.specs.Contents.{opening_fault}
+use Rattle.sbl_bench.specs.Vocabulary.{with_all}
+use Rattle.sbl_listings.specs.Listings.{stems_text}
+use Rattle.sbl_formats.specs.RowWriter.{HasWritten}
+use Rattle.sbl_input.specs.VocabularyRows.{text_of_rows}
+use Rattle.sbl_input.specs.WordLists.{texts_of}
+use Rattle.sbl_input.proofs.vocabulary_rows.VocabularyRows.push_all.Goals as goal
+
+pub returns : goal.returns
+unfolding stems_text
+returns c = λ s made begins.
+    let inv = c.loop-word.invariant in
+    let keys = texts_of c.loop-word.self.words.keys in
+    let rest = c.loop-word.word-iterator.rest.items in
+    let zero : length rest ≡ 0 = search (rules, c.in-None.ensures.steps.0) in
+    let done : rest ≡ [] = nil_from_length rest zero in
+    let none = inv.0 ∙ ap (λ (r : List (Vec ℕ Global)). opening_fault keys (texts_of r)) done in
+    let all = inv.1 ∙ ap (λ (r : List (Vec ℕ Global)). with_all keys (texts_of r)) done in
+    (none, subst (λ (ws : List (List ℕ)). HasWritten c.loop-word.self.records.writer (text_of_rows s ws)) (sym all) (inv.2 s made begins))

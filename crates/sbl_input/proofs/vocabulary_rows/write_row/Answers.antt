@@ -1,0 +1,10 @@
+use Rattle.std.proofs.Common.{ap}
+use Rattle.sbl_rows.specs.Rows.{Row}
+use Rattle.sbl_formats.specs.RowRecords.{row_fields}
+use Rattle.sbl_formats.proofs.RecordFacts.{writes_same}
+use Rattle.sbl_input.proofs.vocabulary_rows.write_row.Goals as goal
+
+pub returns : goal.returns
+returns c = λ s made.
+    let fields = ap (λ o. let row : Row = record { word = c.args.word.now; outcome = o } in row_fields row) (c.in-Ok.ensures.outcome s made) in
+    writes_same c.write.result _ _ _ _ fields c.write.ensures

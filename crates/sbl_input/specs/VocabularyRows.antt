@@ -1,0 +1,41 @@
+-- While the rows of a vocabulary are made without a bench.
+use Rattle.std.specs.Prelude.{◌≡◌, ℕ, List, [], Option, None, Result, Ok, Err, map}
+use Rattle.std.specs.Str.{chars}
+use Rattle.sbl_ast.specs.Source.{Source}
+use Rattle.sbl_bench.specs.Contents.{IsFaultOrMemory, opening_contents, opening_fault}
+use Rattle.sbl_bench.specs.KeptRuns.{contents_of}
+use Rattle.sbl_rows.specs.Rows.{rows_of}
+use Rattle.sbl_rows.specs.Setting.{under}
+use Rattle.sbl_bench.specs.declared.fault.EditFault.{EditFault}
+use Rattle.sbl_io.specs.Records.{records_text}
+use Rattle.sbl_semantics.specs.Limit.{default_limit}
+use Rattle.sbl_input.specs.Loading.{IsInput, IsLoaded}
+use Rattle.sbl_formats.specs.RowRecords.{row_fields}
+use Rattle.sbl_listings.specs.Listings.{stems_text}
+use Rattle.sbl_formats.specs.RowWriter.{HasWritten}
+use Rattle.sbl_input.specs.WordLists.{HoldsWords, texts_of}
+use Rattle.sbl_input.specs.declared.loading.ParsedInput.{ParsedInput}
+use Rattle.sbl_script.specs.ParsedScript.{source_of}
+use Rattle.sbl_input.specs.declared.faults.LoadFault.{LoadFault}
+use Rattle.sbl_input.specs.declared.vocabulary_rows.VocabularyRows.{VocabularyRows}
+
+-- The script and the words of an input were read; or why there is no bench of it.
+abbrev pub ReadsInput : Option (List ℕ) → Option (List ℕ) → List ℕ → Result ParsedInput LoadFault → Type 0
+ReadsInput old new external (Ok input) =
+    (lines : List (List ℕ)) × IsInput old new external (source_of input.script) lines × HoldsWords input.words (map chars lines)
+ReadsInput old new external (Err f) = IsLoaded old new external (λ b. contents_of b) (Err f)
+
+-- ---- while the rows are made
+
+-- the text of the rows of words
+abbrev pub text_of_rows : Source → List (List ℕ) → List ℕ
+text_of_rows s words = records_text (map row_fields (rows_of (under s default_limit) words))
+
+-- the rows of the words so far are written
+abbrev pub IsWriting : Source → VocabularyRows → Type 0
+IsWriting s rows = HasWritten rows.records.writer (text_of_rows s (texts_of rows.words.keys))
+
+-- the text of the rows that a bench of these words has; or a fault of the words, or an allocation failed
+abbrev pub RowsOpen : {B : Type 0} → Source → List (List ℕ) → (List ℕ → B → Type 0) → Result B EditFault → Type 0
+RowsOpen s words is (Ok b) = (opening_fault [] words ≡ None) × is (stems_text (opening_contents s words)) b
+RowsOpen s words is (Err f) = IsFaultOrMemory (opening_fault [] words) f

@@ -1,0 +1,168 @@
+//! The words of a vocabulary while they are read.
+ghost use Rattle.std.specs.Prelude.{◌≡◌, ◌∷◌, ◌++◌, [], ℕ, List, None, map, is_some, OnOk, IfOk};
+ghost use Rattle.sbl_bench.specs.Contents.{word_fault};
+ghost use Rattle.sbl_bench.specs.Vocabulary.{vocabulary, with_word};
+ghost use Rattle.sbl_input.specs.WordLists.{AreDistinct, AreKept, HasRoom, HoldsWords, OpensAs, texts_in, texts_of};
+
+use indexmap::IndexSet;
+use sbl_bench::{MAX_WORD_LENGTH, MAX_WORDS, WordKeys};
+use std::alloc::{AllocError, Global};
+use std::hash::RandomState;
+use std::mem;
+
+/// The words so far that decide how a bench opens, and the first word that a bench refuses. Empty words and the words after that
+/// one are not kept.
+#[derive(Drop)]
+pub(crate) struct WordList {
+    alloc: Global,
+    keys: RandomState,
+    words: KeptWords,
+    refused: Option<Vec<char>>,
+}
+
+/// Words that are kept. Repeats are kept among them until there are `MAX_WORDS`, so that an ordinary vocabulary is hashed by the
+/// bench alone.
+#[derive(Drop)]
+enum KeptWords {
+    Plain(Vec<Vec<char>>),
+    Distinct(IndexSet<Vec<char>, WordKeys>),
+}
+
+impl WordList {
+    /// Returns the list of no words. If words are found by a hash, its keys are made of these. Does not allocate.
+    pub(crate) fn new(alloc: Global, keys: RandomState) -> WordList
+        ensures { HoldsWords result [] }
+    {
+        WordList {
+            alloc,
+            keys,
+            words: KeptWords::Plain(Vec::new(alloc)),
+            refused: None,
+        }
+    }
+
+    /// Appends a word. Returns `AllocError` if an allocation fails.
+    pub(crate) fn push(&mut self, word: Vec<char>) -> Result<(), AllocError>
+        ensures { OnOk result ((all : List (List ℕ)) → HoldsWords self.old all → HoldsWords self.new (all ++ word.items ∷ [])) }
+    {
+        if self.refused.is_some() {
+            return Ok(());
+        }
+        if word.is_empty() {
+            return Ok(());
+        }
+        self.words.make_room(self.alloc, self.keys)?;
+        if self.words.refuses(word.as_slice()) {
+            self.refused = Some(word);
+            return Ok(());
+        }
+        self.words.push(word)
+    }
+
+    /// Returns words with which a bench opens as with all the words that were appended. Returns `AllocError` if an allocation
+    /// fails.
+    pub(crate) fn into_words(self) -> Result<Vec<Vec<char>>, AllocError>
+        ensures { IfOk result (λ words. (all : List (List ℕ)) → HoldsWords self all → OpensAs (map (λ w. w.items) words.items) all) }
+    {
+        let WordList {
+            alloc,
+            keys: _,
+            words,
+            refused,
+        } = self;
+        let mut list = words.into_list(alloc)?;
+        if let Some(word) = refused {
+            list.push(word).map_err(|_| AllocError)?;
+        }
+        Ok(list)
+    }
+}
+
+impl KeptWords {
+    /// Drops the repeats if there are `MAX_WORDS` words or more with them. Returns `AllocError` if an allocation fails.
+    fn make_room(&mut self, alloc: Global, keys: RandomState) -> Result<(), AllocError>
+        ensures kept { OnOk result ((all : List (List ℕ)) → AreKept (texts_in self.old) None all → AreKept (texts_in self.new) None all) }
+        ensures room { OnOk result (AreDistinct self.old → HasRoom self.new) }
+    {
+        if let KeptWords::Plain(words) = self {
+            if words.len() >= MAX_WORDS {
+                let words = mem::replace(words, Vec::new(alloc));
+                *self = KeptWords::Distinct(distinct(alloc, keys, words)?);
+            }
+        }
+        Ok(())
+    }
+
+    /// Returns whether a bench refuses a word after these. Does not allocate.
+    fn refuses(&self, word: &[char]) -> bool
+        ensures { HasRoom self.now → result ≡ is_some (word_fault (vocabulary (texts_in self.now)) word.now) }
+    {
+        match self {
+            KeptWords::Plain(_) => word.len() > MAX_WORD_LENGTH,
+            KeptWords::Distinct(words) => is_refused(words, word),
+        }
+    }
+
+    /// Appends a word that a bench does not refuse. Returns `AllocError` if an allocation fails.
+    fn push(&mut self, word: Vec<char>) -> Result<(), AllocError>
+        ensures kept { OnOk result ((all : List (List ℕ)) → HasRoom self.old → AreKept (texts_in self.old) None all → word_fault (vocabulary (texts_in self.old)) word.items ≡ None → AreKept (texts_in self.new) None (all ++ word.items ∷ [])) }
+        ensures distinct { OnOk result (AreDistinct self.old → AreDistinct self.new) }
+    {
+        match self {
+            KeptWords::Plain(words) => words.push(word)?,
+            KeptWords::Distinct(words) => insert(words, word)?,
+        }
+        Ok(())
+    }
+
+    /// Returns the words in their order. Returns `AllocError` if an allocation fails.
+    fn into_list(self, alloc: Global) -> Result<Vec<Vec<char>>, AllocError>
+        ensures { IfOk result (λ list. texts_of list.items ≡ texts_in self) }
+    {
+        match self {
+            KeptWords::Plain(words) => Ok(words),
+            KeptWords::Distinct(words) => words.into_iter().collect(alloc),
+        }
+    }
+}
+
+/// Returns the words without empty words and repeats. Returns `AllocError` if an allocation fails.
+fn distinct(
+    alloc: Global,
+    keys: RandomState,
+    words: Vec<Vec<char>>,
+) -> Result<IndexSet<Vec<char>, WordKeys>, AllocError>
+    ensures { IfOk result (λ set. texts_of set.keys ≡ vocabulary (texts_of words.items)) }
+{
+    let mut set = IndexSet::with_hasher(alloc, WordKeys::new(keys));
+    for word in words {
+        insert(&mut set, word)?;
+    }
+    Ok(set)
+}
+
+/// Appends a word, unless it is empty or in the set. Returns `AllocError` if an allocation fails.
+fn insert(set: &mut IndexSet<Vec<char>, WordKeys>, word: Vec<char>) -> Result<(), AllocError>
+    ensures { OnOk result (texts_of set.new.keys ≡ with_word (texts_of set.old.keys) word.items) }
+{
+    if word.is_empty() {
+        return Ok(());
+    }
+    match set.insert(word) {
+        Ok(_) => Ok(()),
+        Err(_) => Err(AllocError),
+    }
+}
+
+/// Returns whether a bench refuses a word after those of a set. Does not allocate.
+fn is_refused(set: &IndexSet<Vec<char>, WordKeys>, word: &[char]) -> bool
+    ensures { result ≡ is_some (word_fault (texts_of set.now.keys) word.now) }
+{
+    if word.len() > MAX_WORD_LENGTH {
+        return true;
+    }
+    if word.is_empty() || set.len() < MAX_WORDS {
+        return false;
+    }
+    !set.contains(word)
+}

@@ -1,9 +1,0 @@
-use Rattle.std.proofs.Common.{◌≡◌, map, drop}
-use Rattle.sbl_text.specs.Tokens.{placed_of}
-use Rattle.sbl_places.specs.SubjectTokens.{subject_tokens, subject_tokens_after}
-use Rattle.sbl_places.specs.Walks.{open_in, range_at}
-use Rattle.sbl_places.proofs.subject_tokens.subject_at.Given as goal
-
-abbrev pub invariant-loop-token : goal.invariant-loop-token
-invariant-loop-token l =
-    range_at l.left (subject_tokens_after l.brackets.follows_among (open_in l.brackets) (map placed_of (drop l.token-index l.tokens))) ≡ range_at l.number (subject_tokens (map placed_of l.tokens))

@@ -1,0 +1,6 @@
+pub mod EarlyEnds
+pub mod Nothing
+pub mod NumberingTables
+pub mod Marked
+pub mod SlotValues
+pub mod Seeking

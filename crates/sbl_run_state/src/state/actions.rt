@@ -1,0 +1,128 @@
+//! Commands that contain no command.
+
+ghost use Rattle.std.specs.Prelude.{◌≡◌, ◌<◌, map, IfOk};
+ghost use Rattle.sbl_char_class.specs.CharacterClasses.{members};
+ghost use Rattle.sbl_program.specs.Actions.{acts};
+ghost use Rattle.sbl_semantics.specs.Numbers.{continue_with, natural};
+ghost use Rattle.sbl_program.specs.Arithmetic.{value};
+ghost use Rattle.sbl_semantics.specs.Moves.{hop, at_mark, to_mark};
+ghost use Rattle.sbl_program.specs.ProgramOf.{view_action, view_number};
+ghost use Rattle.sbl_run_state.specs.Endings.{Follows};
+
+use crate::halt::Halt;
+use crate::state::State;
+use crate::state::numbers::natural;
+use sbl_ast::Mode;
+use sbl_char_class::CharacterClass;
+use sbl_program::{Action, Arithmetic};
+
+impl State {
+    /// Does a command without a command inside, after its step is paid, and returns its signal. `groupings` has the
+    /// class of each grouping.
+    ///
+    /// Returns a fault if a number in it is out of range, if there is no valid slice for it, if the cursor would leave
+    /// the text, or if the text would be too long; returns `OutOfMemory` if an allocation fails or the number of a
+    /// grouping is above `u32::MAX`.
+    pub fn act(
+        &mut self,
+        groupings: &[CharacterClass],
+        mode: Mode,
+        action: &Action,
+    ) -> Result<bool, Halt>
+        ensures follows { Follows result self.new (acts (map members groupings.now) (view_action action.now) mode self.old) }
+        ensures same_steps { IfOk result (λ _. self.new.steps ≡ self.old.steps) }
+    {
+        match action {
+            Action::Match(term) => Ok(self.take_term(mode, term)),
+            Action::Grouping(number) => self.take_grouping(mode, groupings, *number, true),
+            Action::NonGrouping(number) => self.take_grouping(mode, groupings, *number, false),
+            Action::Next => Ok(self.take_next(mode)),
+            Action::Hop(expression) => self.hop_by(mode, expression),
+            Action::ToLimit => {
+                self.to_limit(mode)?;
+                Ok(true)
+            }
+            Action::AtLimit => Ok(self.is_at_limit(mode)),
+            Action::SetMark(number) => {
+                self.set_mark(*number)?;
+                Ok(true)
+            }
+            Action::AtMark(expression) => self.is_at_value(mode, expression),
+            Action::ToMark(expression) => self.to_value(mode, expression),
+            Action::Set(number) => {
+                self.set_boolean(*number, true)?;
+                Ok(true)
+            }
+            Action::Unset(number) => {
+                self.set_boolean(*number, false)?;
+                Ok(true)
+            }
+            Action::Boolean(number) => Ok(self.test_boolean(*number)),
+            Action::LeftBracket => {
+                self.left_bracket(mode);
+                Ok(true)
+            }
+            Action::RightBracket => {
+                self.right_bracket(mode);
+                Ok(true)
+            }
+            Action::Replace(term) => {
+                self.replace(term)?;
+                Ok(true)
+            }
+            Action::Delete => {
+                self.delete()?;
+                Ok(true)
+            }
+            Action::Keep(number) => {
+                self.keep(*number)?;
+                Ok(true)
+            }
+            Action::Insert(term) => {
+                self.insert(mode, term)?;
+                Ok(true)
+            }
+            Action::Attach(term) => {
+                self.attach(mode, term)?;
+                Ok(true)
+            }
+            Action::Assign(number, change, expression) => {
+                self.assign(mode, *number, *change, expression)?;
+                Ok(true)
+            }
+            Action::Compare(left, relation, right) => self.compare(mode, left, *relation, right),
+            Action::True => Ok(true),
+            Action::False => Ok(false),
+        }
+    }
+
+    // `hop`: moves over as many characters as an expression says. Returns a fault if the expression has one.
+    #[inline(never)]
+    fn hop_by(&mut self, mode: Mode, expression: &Arithmetic) -> Result<bool, Halt>
+        ensures follows { Follows result self.new (continue_with (value (view_number expression.now) mode self.old) self.old (λ z. hop (natural z) mode self.old)) }
+        ensures same_steps { IfOk result (λ _. self.new.steps ≡ self.old.steps) }
+    {
+        let number = self.value_here(mode, expression)?;
+        Ok(self.hop(mode, natural(number)))
+    }
+
+    // `atmark`: returns whether the cursor is at the value of an expression. Returns a fault if the expression has one.
+    #[inline(never)]
+    fn is_at_value(&mut self, mode: Mode, expression: &Arithmetic) -> Result<bool, Halt>
+        ensures follows { Follows result self.new (continue_with (value (view_number expression.now) mode self.old) self.old (λ z. at_mark (natural z) self.old)) }
+        ensures same_steps { IfOk result (λ _. self.new.steps ≡ self.old.steps) }
+    {
+        let place = self.value_here(mode, expression)?;
+        Ok(self.is_at_mark(natural(place)))
+    }
+
+    // `tomark`: moves the cursor to the value of an expression. Returns a fault if the expression has one.
+    #[inline(never)]
+    fn to_value(&mut self, mode: Mode, expression: &Arithmetic) -> Result<bool, Halt>
+        ensures follows { Follows result self.new (continue_with (value (view_number expression.now) mode self.old) self.old (λ z. to_mark (natural z) mode self.old)) }
+        ensures same_steps { IfOk result (λ _. self.new.steps ≡ self.old.steps) }
+    {
+        let place = self.value_here(mode, expression)?;
+        Ok(self.to_mark(mode, natural(place)))
+    }
+}

@@ -1,2 +1,0 @@
--- what the functions inside the crate promise each other; no public contract depends on these
-pub mod Inner
