@@ -40,7 +40,7 @@ fn add_items(items: &mut BTreeSet<Item>, more: BTreeSet<Item>) -> Result<(), All
 fn add_touched(items: &mut BTreeSet<Item>, bench: &Bench, word: &[char]) -> Result<(), AllocError>
     ensures { is_word word.now bench.now.words ≡ true → OnOk result ((test : Item' → Bool) → list_any test (items_in items.new) ≡ (list_any test (touched_items (setting_of bench.now).script word.now (setting_of bench.now).limit) || list_any test (items_in items.old))) }
 {
-    match bench.items_of_trace(word)? {
+    match bench.touched(word)? {
         Some(more) => add_items(items, more),
         None => Ok(()),
     }
