@@ -103,15 +103,13 @@ fn add_built_from(
 ) -> Result<(), AllocError>
     ensures { OnOk result ((x : Item') → list_any (same_item x) (items_in items.new) ≡ and_terms (view_plain plain.now) (λ y. list_any (same_item y) (items_in items.old)) x) }
 {
-    if let Plain::Grouping {
-        name,
-        first,
-        others,
-    } = plain
-    {
-        if has_item(items, &Item::Grouping(String::from_str(alloc, name)?)) {
-            add_argument(alloc, items, first)?;
-            add_terms(alloc, items, others)?;
+    if let Plain::Grouping(grouping) = plain {
+        if has_item(
+            items,
+            &Item::Grouping(String::from_str(alloc, &grouping.name)?),
+        ) {
+            add_argument(alloc, items, &grouping.first)?;
+            add_terms(alloc, items, &grouping.others)?;
         }
     }
     Ok(())
