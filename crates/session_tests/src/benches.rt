@@ -6,10 +6,9 @@ use sbl_input::load;
 use sbl_io::{Device, Lines};
 use sbl_sessions::serve;
 use std::alloc::{AllocError, Global};
-use std::hash::RandomState;
 use std::process::Abort;
 use std::test::Fail;
-use test_devices::{SameBytes, bytes_of, in_pieces};
+use test_devices::{bytes_of, in_pieces};
 use test_scripts::{PLURALS, field, number, with_scripts};
 
 /// The input of a session, how many bytes a read returns, the read and the write that fails, both counted from 1 (0 for never), and the
@@ -73,8 +72,7 @@ fn see(
     write: u64,
     asked: &[u8],
 ) -> Result<Seen, Fail> {
-    let keys = RandomState::new(&SameBytes)?;
-    match load(lines, keys, "stem") {
+    match load(lines, "stem") {
         Ok(mut bench) => {
             let seen = serve_and_ask(alloc, &mut bench, lines, write, asked);
             bench.leak();
