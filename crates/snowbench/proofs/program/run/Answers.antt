@@ -1,4 +1,4 @@
-use Rattle.std.proofs.Common.{inl, inr, ◌≡◌, refl, subst, ℕ, List, Option, codes}
+use Rattle.std.proofs.Common.{inl, inr, ◌≡◌, refl, rules, subst, ℕ, List, Option, codes}
 use Rattle.std.proofs.KnownBytes.{Appends-nil}
 use Rattle.std.specs.Prelude.{string_bytes}
 use Rattle.sbl_io.specs.HeldInput.{input_of}
@@ -14,7 +14,16 @@ returns-in-Ok-clause-runs g c =
     let runs = c.run_with.ensures.runs made.fault in
     let last = c.run_with.new.lines in
     let answers = subst (λ (input : Option (List ℕ)). IsAnswer c.args.wanted.now.verb (string_bytes c.args.wanted.now.external) input (input_of left last) (held c.args.writer.now) (held c.run_with.new.writer) runs.0) made.input runs.1 in
-    inr (c.in-Ok.lines, last, runs.0, record { input = made.input; fault = made.fault; counts = made.tally; bound = made.bound; in_time = made.in_time }, c.run_with.ensures.reads_in_time, answers, runs.2, runs.3)
+    inr (record {
+      lines = c.in-Ok.lines;
+      last = last;
+      answer = runs.0;
+      made = record { input = made.input; fault = made.fault; counts = made.tally; bound = made.bound; in_time = made.in_time };
+      in_time = c.run_with.ensures.reads_in_time;
+      answers = answers;
+      reasons = runs.2;
+      reported = runs.3;
+    })
 
 pub returns-in-Err-clause-runs : goal.returns-in-Err-clause-runs
 returns-in-Err-clause-runs g c =
