@@ -38,6 +38,27 @@ class Samples(unittest.TestCase):
         self.assertEqual(verdict.kind, Kind.ACCEPTED)
 
 
+    def test_each_edit_of_a_group_is_judged_by_its_own_goals(self) -> None:
+        said = sample("group")
+        kinds = {
+            "plain::better": ("src/plain.rt", Kind.REFUSED),
+            "linked::links::links_of": ("src/linked/links.rt", Kind.REFUSED),
+            "linked::LinkedTableAmongSearch::next_shorter": ("src/linked.rt", Kind.REFUSED),
+            "linked::reading::read_at": ("src/linked/reading.rt", Kind.REFUSED),
+            # The control of the group.
+            "linked::links::row_before": ("src/linked/links.rt", Kind.ACCEPTED),
+        }
+        for path, (file, kind) in kinds.items():
+            verdict = judge([function(f"sbl_among_search::{path}", file=file, first=1000, last=1000)], said)
+            self.assertEqual((path, verdict and verdict.kind), (path, kind))
+
+    def test_a_function_that_no_edit_of_a_group_changes_is_proved_or_not_settled(self) -> None:
+        said = sample("group")
+        for path, kind in (("linked::keys::keys_upto", None), ("plain::copy_strings", Kind.ACCEPTED)):
+            verdict = judge([function(f"sbl_among_search::{path}", file="src/linked.rt")], said)
+            self.assertEqual(verdict and verdict.kind, kind)
+
+
 class Messages(unittest.TestCase):
     def kind(self, said: str, changed: Changed) -> Kind | None:
         verdict = judge([changed], messages_of(said))
