@@ -154,3 +154,13 @@ module _ {R W : Type 0} (reads : R → Tally) (writes : W → Tally) where
   serve_reasons a b c w v fault.LengthsDiffer none steady bound ends = absurd ends
   serve_reasons a b c w v fault.NotText none steady bound ends = absurd ends
   serve_reasons a b c w v fault.OutOfMemory none steady bound ends = absurd ends
+
+  -- a fault of the words of a filter
+  pub filter_reasons : (a b c : Lines R) (w v : W) (f : LoadFault) → fault_of b ≡ None → (reads b.reader).failures ≡ (reads a.reader).failures
+      → reads_bound reads b ≡ reads_bound reads a → load.HasReason reads b c f → (f ≡ Input fault.Write → HasStopped writes w v)
+      → HasReasons reads writes a c w v f
+  filter_reasons a b c w v f none steady bound why stopped = (λ is. by (why is), stopped)
+    where
+      by : HasCause reads b c ⊎ (fault_of b ≡ Some line.Read) → HasCause reads a c
+      by (inl cause) = cause_later a b c steady bound cause
+      by (inr some) = no_fault (fault_of b) line.Read none some
