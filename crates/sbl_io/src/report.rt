@@ -66,7 +66,8 @@ impl ReportText {
     pub fn into_bytes(self) -> Vec<u8>
         ensures { (text : List ℕ) → HasText self text → result.items ≡ text }
     {
-        self.bytes
+        let ReportText { alloc: _, bytes } = self;
+        bytes
     }
 }
 
