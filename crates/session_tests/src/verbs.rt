@@ -6,10 +6,9 @@ use sbl_io::{Device, Lines};
 use sbl_script::Script;
 use sbl_sessions::serve;
 use std::alloc::Global;
-use std::hash::RandomState;
 use std::process::Abort;
 use std::test::Fail;
-use test_devices::{Pieces, SameBytes, bytes_of, in_pieces};
+use test_devices::{Pieces, bytes_of, in_pieces};
 use test_scripts::{field, number, with_scripts};
 
 /// A reader in memory.
@@ -27,19 +26,11 @@ pub(crate) enum Verb {
 }
 
 /// Runs a session.
-fn session(
-    lines: &mut Lines<Reader<'_>>,
-    writer: &mut Writer,
-) -> Result<Result<(), LoadFault>, Fail> {
-    let keys = RandomState::new(&SameBytes)?;
-    Ok(match load(lines, keys, "stem") {
-        Ok(mut bench) => {
-            let served = serve(&mut bench, lines, writer);
-            bench.leak();
-            served.map_err(LoadFault::Input)
-        }
-        Err(fault) => Err(fault),
-    })
+fn session(lines: &mut Lines<Reader<'_>>, writer: &mut Writer) -> Result<(), LoadFault> {
+    let mut bench = load(lines, "stem")?;
+    let served = serve(&mut bench, lines, writer);
+    bench.leak();
+    served.map_err(LoadFault::Input)
 }
 
 /// Runs a filter of a script block and of words up to the end of input. A fault of the script has line 0.
@@ -69,7 +60,7 @@ pub(crate) fn run_verb(
     mut writer: Writer,
 ) -> Result<Vec<u8>, Fail> {
     let ending = match verb {
-        Verb::Session => session(lines, &mut writer)?,
+        Verb::Session => session(lines, &mut writer),
         Verb::Filter => filter(lines, "stem", &mut writer),
         Verb::FilterToEnd => match to_end(lines, &mut writer) {
             Ok(()) => Ok(()),

@@ -8,7 +8,9 @@ use crate::run_result::RunResult;
 use crate::streams::{FirstBytes, FirstBytesReader, Output};
 use crate::talk::{Lead, Talk};
 use crate::watching::{Context, Quiet, WatchedReader};
-use snowbench::{CommandLine, Device, Lines, Source, Verb, run, run_filter as run_words};
+use snowbench::{
+    Device, Lines, Source, Verb, Wanted, WordKeys, run_filter as run_words, run_with,
+};
 use std::alloc::{AllocError, Global};
 use std::cell::RefCell;
 use std::hash::RandomState;
@@ -24,7 +26,7 @@ const MAX_FAULT_LINE: usize = 96;
 /// Runs what the command line asks for over the lines of a reader.
 fn run_lines<R: Source + Drop>(
     rt: &HostRuntime,
-    command_line: &CommandLine,
+    wanted: &Wanted,
     lines: &mut Lines<R>,
 ) -> Result<RunResult, AllocError> {
     let Ok(keys) = RandomState::new(rt) else {
@@ -33,7 +35,8 @@ fn run_lines<R: Source + Drop>(
     let said = Vec::with_capacity(rt.alloc(), MAX_FAULT_LINE)?;
     let mut writer = Device::new(Output::new(rt.stdout()));
     let mut errors = Device::new(said);
-    let status = run(command_line, keys, lines, &mut writer, &mut errors);
+    let keys = WordKeys::new(keys);
+    let status = run_with(wanted, keys, lines, &mut writer, &mut errors);
     let output = writer.into_inner();
     Ok(RunResult::new(status, errors.into_inner(), &output))
 }
@@ -42,7 +45,7 @@ fn run_lines<R: Source + Drop>(
 /// commands are.
 fn run_watched<'x, R: Read + Drop>(
     rt: &'x HostRuntime,
-    command_line: &'x CommandLine,
+    wanted: &'x Wanted,
     input: &'x str,
     reader: R,
     talk: &'x RefCell<Talk>,
@@ -51,7 +54,7 @@ fn run_watched<'x, R: Read + Drop>(
         return without_keys(rt.alloc());
     };
     let context = Context {
-        external: command_line.external.as_str(),
+        external: wanted.external.as_str(),
         input: Some(input),
         script: None,
         prompts: false,
@@ -61,7 +64,8 @@ fn run_watched<'x, R: Read + Drop>(
     let said = Vec::with_capacity(rt.alloc(), MAX_FAULT_LINE)?;
     let mut writer = Device::new(Quiet::new(Output::new(rt.stdout()), talk));
     let mut errors = Device::new(said);
-    let status = run(command_line, keys, &mut lines, &mut writer, &mut errors);
+    let keys = WordKeys::new(keys);
+    let status = run_with(wanted, keys, &mut lines, &mut writer, &mut errors);
     let output = writer.into_inner().into_inner();
     Ok(RunResult::new(status, errors.into_inner(), &output))
 }
@@ -78,8 +82,8 @@ fn without_keys(alloc: Global) -> Result<RunResult, AllocError> {
 }
 
 /// Returns the exit status: that of the run, and with `--strict` 1 after a refused command.
-fn status_of(command_line: &CommandLine, ended: &RunResult) -> u8 {
-    if command_line.is_strict && ended.has_refusal {
+fn status_of(wanted: &Wanted, ended: &RunResult) -> u8 {
+    if wanted.options.is_strict && ended.has_refusal {
         return FAILED;
     }
     ended.status
@@ -96,7 +100,7 @@ fn print_said(rt: &HostRuntime, ended: &RunResult) {
 /// from standard input. Returns the exit status. A reader of a pipe that has closed it, as `head` does, is no fault.
 fn print_fault(
     rt: &HostRuntime,
-    command_line: &CommandLine,
+    wanted: &Wanted,
     names: Option<FileNames<'_>>,
     input: &[u8],
     ended: &RunResult,
@@ -105,44 +109,44 @@ fn print_fault(
         return CLOSED_PIPE;
     }
     print_said(rt, ended);
-    match run_fault_text(rt.alloc(), command_line, names, input, ended) {
-        Ok(Some(text)) => print_line(rt, Ok(text), status_of(command_line, ended)),
-        Ok(None) => status_of(command_line, ended),
+    match run_fault_text(rt.alloc(), wanted, names, input, ended) {
+        Ok(Some(text)) => print_line(rt, Ok(text), status_of(wanted, ended)),
+        Ok(None) => status_of(wanted, ended),
         Err(_) => fail_memory(rt),
     }
 }
 
 /// Runs what the command line asks for over standard input, and returns the exit status.
-pub(crate) fn run_input(rt: &HostRuntime, command_line: &CommandLine) -> u8 {
-    let kept = RefCell::new(FirstBytes::new(rt.alloc(), command_line.shows_places));
+pub(crate) fn run_input(rt: &HostRuntime, wanted: &Wanted) -> u8 {
+    let kept = RefCell::new(FirstBytes::new(rt.alloc(), wanted.options.shows_places));
     let talk = RefCell::new(Talk::new(rt.alloc(), Lead::Session));
-    let Ok(ended) = run_standard_input(rt, command_line, &kept, &talk) else {
+    let Ok(ended) = run_standard_input(rt, wanted, &kept, &talk) else {
         return fail_memory(rt);
     };
-    if !command_line.shows_places {
+    if !wanted.options.shows_places {
         print_said(rt, &ended);
-        return status_of(command_line, &ended);
+        return status_of(wanted, &ended);
     }
     let kept = kept.into_inner();
     if ended.status == 0 && kept.is_whole() {
-        print_hint(rt, command_line.verb, kept.bytes());
+        print_hint(rt, wanted.verb, kept.bytes());
     }
-    print_fault(rt, command_line, None, kept.bytes(), &ended)
+    print_fault(rt, wanted, None, kept.bytes(), &ended)
 }
 
 /// Runs what the command line asks for over standard input, and keeps its first bytes.
 fn run_standard_input(
     rt: &HostRuntime,
-    command_line: &CommandLine,
+    wanted: &Wanted,
     kept: &RefCell<FirstBytes>,
     talk: &RefCell<Talk>,
 ) -> Result<RunResult, AllocError> {
     let first_reader = FirstBytesReader::new(rt.stdin(), kept);
-    if command_line.shows_places && command_line.verb == Verb::Session {
-        return run_watched(rt, command_line, STANDARD_INPUT, first_reader, talk);
+    if wanted.options.shows_places && wanted.verb == Verb::Session {
+        return run_watched(rt, wanted, STANDARD_INPUT, first_reader, talk);
     }
     let mut lines = Lines::new(rt.alloc(), Device::new(first_reader))?;
-    run_lines(rt, command_line, &mut lines)
+    run_lines(rt, wanted, &mut lines)
 }
 
 /// Prints a hint if the input is not read to its end.
@@ -212,14 +216,10 @@ fn read_block(rt: &HostRuntime, command: &str, path: &str, what: &str) -> Result
 }
 
 /// Runs the commands of a file over a script and words in files, and returns the exit status.
-pub(crate) fn run_session(
-    rt: &HostRuntime,
-    command_line: &CommandLine,
-    names: FileNames<'_>,
-) -> u8 {
+pub(crate) fn run_session(rt: &HostRuntime, wanted: &Wanted, names: FileNames<'_>) -> u8 {
     match session_input(rt, names) {
-        Ok(input) => match run_commands(rt, command_line, names, &input) {
-            Ok(ended) => print_fault(rt, command_line, Some(names), &input, &ended),
+        Ok(input) => match run_commands(rt, wanted, names, &input) {
+            Ok(ended) => print_fault(rt, wanted, Some(names), &input, &ended),
             Err(_) => fail_memory(rt),
         },
         Err(status) => status,
@@ -229,7 +229,7 @@ pub(crate) fn run_session(
 /// Runs a session over these bytes, and shows the place of each block that is refused.
 fn run_commands(
     rt: &HostRuntime,
-    command_line: &CommandLine,
+    wanted: &Wanted,
     names: FileNames<'_>,
     input: &[u8],
 ) -> Result<RunResult, AllocError> {
@@ -238,17 +238,13 @@ fn run_commands(
         Some(path) => file_name(path),
     };
     let talk = RefCell::new(Talk::new(rt.alloc(), Lead::Commands));
-    run_watched(rt, command_line, name, input, &talk)
+    run_watched(rt, wanted, name, input, &talk)
 }
 
 /// Runs what the command line asks for over these bytes.
-fn run_bytes(
-    rt: &HostRuntime,
-    command_line: &CommandLine,
-    input: &[u8],
-) -> Result<RunResult, AllocError> {
+fn run_bytes(rt: &HostRuntime, wanted: &Wanted, input: &[u8]) -> Result<RunResult, AllocError> {
     let mut lines = Lines::new(rt.alloc(), Device::new(input))?;
-    run_lines(rt, command_line, &mut lines)
+    run_lines(rt, wanted, &mut lines)
 }
 
 /// Returns the input of a session. Without a file of commands the command is `stems`.
@@ -270,9 +266,9 @@ fn session_input(rt: &HostRuntime, names: FileNames<'_>) -> Result<Vec<u8>, u8> 
 
 /// Writes the row of each word of standard input by the script of a file, as they come, and returns the exit status. With the
 /// name `-` the script is at the beginning of standard input, and a line `.` may end the words.
-pub(crate) fn run_filter(rt: &HostRuntime, command_line: &CommandLine, script: &str) -> u8 {
+pub(crate) fn run_filter(rt: &HostRuntime, wanted: &Wanted, script: &str) -> u8 {
     if script == "-" {
-        return run_input(rt, command_line);
+        return run_input(rt, wanted);
     }
     let text = match read_block(rt, "filter", script, "lines of the script") {
         Ok(text) => text,
@@ -281,35 +277,42 @@ pub(crate) fn run_filter(rt: &HostRuntime, command_line: &CommandLine, script: &
     let Ok(input) = script_block(rt.alloc(), &text) else {
         return fail_memory(rt);
     };
-    let Ok((ended, text)) = filter_words(rt, command_line.external.as_str(), &input) else {
+    let Ok((ended, text)) = filter_words(rt, wanted.external.as_str(), &input) else {
         return fail_memory(rt);
     };
     match text {
-        Some(text) => print_word_fault(rt, &ended, text),
-        None => {
+        Ok(Some(text)) => print_word_fault(rt, &ended, Ok(text)),
+        Err(error) => print_word_fault(rt, &ended, Err(error)),
+        Ok(None) => {
             let names = FileNames {
                 script,
                 words: "-",
                 rest: None,
             };
-            print_fault(rt, command_line, Some(names), &input, &ended)
+            print_fault(rt, wanted, Some(names), &input, &ended)
         }
     }
 }
 
 /// Prints the line of a fault of a word, and where it is. Returns the exit status.
-fn print_word_fault(rt: &HostRuntime, ended: &RunResult, text: String) -> u8 {
+fn print_word_fault(
+    rt: &HostRuntime,
+    ended: &RunResult,
+    text: Result<String, AllocError>,
+) -> u8 {
     print_said(rt, ended);
-    print_line(rt, Ok(text), ended.status)
+    print_line(rt, text, ended.status)
 }
 
-/// Writes the row of each word of standard input, by the script in these bytes. Returns how that has ended, and the lines on a fault
-/// of a word.
+/// How a filter has ended, and what there is to say on the fault of a word.
+type EndOfFilter = (RunResult, Result<Option<String>, AllocError>);
+
+/// Writes the row of each word of standard input, by the script in these bytes.
 fn filter_words(
     rt: &HostRuntime,
     external: &str,
     input: &[u8],
-) -> Result<(RunResult, Option<String>), AllocError> {
+) -> Result<EndOfFilter, AllocError> {
     let reader = input.chain(rt.stdin());
     let mut lines = Lines::new(rt.alloc(), Device::new(reader))?;
     let said = Vec::with_capacity(rt.alloc(), MAX_FAULT_LINE)?;
@@ -319,8 +322,8 @@ fn filter_words(
     let output = writer.into_inner();
     let ended = RunResult::new(end.status, errors.into_inner(), &output);
     let text = match end.line {
-        Some(line) => word_fault_text(rt.alloc(), ended.said.as_slice(), line, lines.line())?,
-        None => None,
+        Some(line) => word_fault_text(rt.alloc(), ended.said.as_slice(), line, lines.line()),
+        None => Ok(None),
     };
     Ok((ended, text))
 }
@@ -328,7 +331,7 @@ fn filter_words(
 /// Compares the stems of the words of a file with those of another, and returns the exit status. Prints how many differ.
 pub(crate) fn run_check(
     rt: &HostRuntime,
-    command_line: &CommandLine,
+    wanted: &Wanted,
     names: FileNames<'_>,
     stems: &str,
 ) -> u8 {
@@ -336,10 +339,10 @@ pub(crate) fn run_check(
         Ok(read) => read,
         Err(status) => return status,
     };
-    let Ok(ended) = run_bytes(rt, command_line, &input) else {
+    let Ok(ended) = run_bytes(rt, wanted, &input) else {
         return fail_memory(rt);
     };
-    let status = print_fault(rt, command_line, Some(names), &input, &ended);
+    let status = print_fault(rt, wanted, Some(names), &input, &ended);
     if ended.said.is_empty() {
         let rows = ended.rows;
         let text = counts_text(rt.alloc(), words, rows);
