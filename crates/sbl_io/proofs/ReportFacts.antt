@@ -1,11 +1,12 @@
 -- The number of bytes of the line of a record, field by field.
 use Rattle.std.proofs.Common.{◌≡◌, ◌≢◌, ◌≤◌, ◌<◌, ◌+◌, ◌-◌, ◌==◌, ◌∙◌, ◌++◌, ◌∷◌, [], ℕ, zero, suc, Bool, true, false, List, Option, Some, None, take, length, min, get_or, sym, ap, refl, arith, length-append}
 use Rattle.std.proofs.lemmas.Bool.{eq-eqb, ne_eqb}
-use Rattle.std.proofs.lemmas.List.{append-nil, take_more, take-nil}
+use lib.Seq.{take-nil}
+use Rattle.std.proofs.lemmas.List.{append-nil, take_more}
 use Rattle.std.proofs.lemmas.List.Sums.{sum_by-cons, sum_by_push}
 use Rattle.std.specs.List.{sum_by}
 use Rattle.std.specs.Option.{unwrap_or}
-use Rattle.std.specs.Prelude.{if◌then◌else◌}
+use Rattle.std.specs.Prelude.{◌^◌, if◌then◌else◌}
 use Rattle.csv.specs.Records.{field_at}
 use Rattle.csv.specs.Writing.{escaped, field_text, fields_text, is_blank, needs_quotes, quoted}
 use Rattle.csv.proofs.WriteFacts.{escaped-append}
@@ -33,13 +34,13 @@ two_fields f g fields = omega (arith, sum_by-cons size f (g ∷ fields), sum_by-
 
 -- the end of a record that shows a byte
 one_end : (b : Bool) (text : List ℕ) → b ≡ false → length (text ++ ((if b then 34 ∷ 34 ∷ [] else []) ++ 10 ∷ [])) ≡ length text + 1
-one_end b text no = rw no (length-append text (10 ∷ []))
+one_end b text off = rw off (length-append text (10 ∷ []))
 
 blank_end : (b : Bool) (text : List ℕ) → b ≡ true → length text ≡ 0 → length (text ++ ((if b then 34 ∷ 34 ∷ [] else []) ++ 10 ∷ [])) ≡ 3
-blank_end b text yes none = rw yes (omega (arith, none, length-append text (34 ∷ 34 ∷ 10 ∷ [])))
+blank_end b text on none = rw on (omega (arith, none, length-append text (34 ∷ 34 ∷ 10 ∷ [])))
 
 pub short_line : (fields : List (List ℕ)) → total fields < 2 → length (record_line fields) ≡ 3
-unfolding fields_text, is_blank
+unfolding fields_text is_blank
 short_line [] short = refl
 short_line (f ∷ []) short =
     let none : length (field_text flexible f) ≡ 0 = omega (arith, one_field f, short) in
@@ -47,7 +48,7 @@ short_line (f ∷ []) short =
 short_line (f ∷ g ∷ fields) short = absurd (omega (arith, two_fields f g fields, short))
 
 pub long_line : (fields : List (List ℕ)) → 2 ≤ total fields → length (record_line fields) ≡ total fields
-unfolding fields_text, is_blank
+unfolding fields_text is_blank
 long_line [] long = absurd (omega (arith, long))
 long_line (f ∷ []) long =
     let some : length (field_text flexible f) ≢ 0 = λ none. absurd (omega (arith, one_field f, long, none)) in
@@ -106,42 +107,47 @@ counted_record text line n k m so one sum = omega (arith, so, one, sum, length-a
 
 -- ---- quotes
 
-escaped_byte : (b : ℕ) → length (escaped flexible (b ∷ [])) ≡ (if b == 34 then 2 else 1)
+quote_size : Bool → ℕ
+quote_size true = 2
+quote_size false = 1
+
+escaped_byte : (b : ℕ) → length (escaped flexible (b ∷ [])) ≡ quote_size (b == 34)
 unfolding escaped
 escaped_byte b = by (b == 34)
   where
-    by : (q : Bool) → length (if q then 34 ∷ b ∷ [] else b ∷ []) ≡ (if q then 2 else 1)
+    by : (q : Bool) → length (if q then 34 ∷ b ∷ [] else b ∷ []) ≡ quote_size q
     by true = refl
     by false = refl
 
-escaped_more : (field : List ℕ) (i b : ℕ) → i < length field → b ≡ get_or field i b → length (escaped flexible (take (i + 1) field)) ≡ length (escaped flexible (take i field)) + (if b == 34 then 2 else 1)
-escaped_more field i b lt is =
-    let one : take (i + 1) field ≡ take i field ++ b ∷ [] = take_more field i b lt ∙ ap (λ (x : ℕ). take i field ++ x ∷ []) (sym is) in
-    ap (λ (l : List ℕ). length (escaped flexible l)) one ∙ ap length (escaped-append flexible (take i field) (b ∷ []))
+escaped_more : (field : List ℕ) (i : ℕ) → i < length field
+    → length (escaped flexible (take (i + 1) field)) ≡ length (escaped flexible (take i field)) + quote_size (get_or field i 0 == 34)
+escaped_more field i lt =
+    let b = get_or field i 0 in
+    ap (λ (l : List ℕ). length (escaped flexible l)) (take_more field i 0 lt) ∙ ap length (escaped-append flexible (take i field) (b ∷ []))
     ∙ length-append (escaped flexible (take i field)) (escaped flexible (b ∷ [])) ∙ ap (λ (n : ℕ). length (escaped flexible (take i field)) + n) (escaped_byte b)
 
-pub quote_more : (field : List ℕ) (i b n m : ℕ) → i < length field → b ≡ get_or field i b → b ≡ 34 → n + i ≡ length (escaped flexible (take i field)) → m ≡ n + 1
+pub quote_more : (field : List ℕ) (i n m : ℕ) → i < length field → get_or field i 0 ≡ 34 → n + i ≡ length (escaped flexible (take i field)) → m ≡ n + 1
     → m + (i + 1) ≡ length (escaped flexible (take (i + 1) field))
-quote_more field i b n m lt is quote so next =
-    let two : (if b == 34 then 2 else 1) ≡ 2 = ap (λ (q : Bool). if q then 2 else 1) (eq-eqb b 34 quote) in
-    omega (arith, so, next, escaped_more field i b lt is, two)
+quote_more field i n m lt quote so next =
+    let two : quote_size (get_or field i 0 == 34) ≡ 2 = ap quote_size (eq-eqb (get_or field i 0) 34 quote) in
+    omega (arith, so, next, escaped_more field i lt, two)
 
-pub other_more : (field : List ℕ) (i b n : ℕ) → i < length field → b ≡ get_or field i b → b ≢ 34 → n + i ≡ length (escaped flexible (take i field))
-    → n + (i + 1) ≡ length (escaped flexible (take (i + 1) field))
-other_more field i b n lt is other so =
-    let one : (if b == 34 then 2 else 1) ≡ 1 = ap (λ (q : Bool). if q then 2 else 1) (ne_eqb b 34 other) in
-    omega (arith, so, escaped_more field i b lt is, one)
+pub other_more : (field : List ℕ) (i n m : ℕ) → i < length field → get_or field i 0 ≢ 34 → n + i ≡ length (escaped flexible (take i field)) → m ≡ n
+    → m + (i + 1) ≡ length (escaped flexible (take (i + 1) field))
+other_more field i n m lt other so same =
+    let one : quote_size (get_or field i 0 == 34) ≡ 1 = ap quote_size (ne_eqb (get_or field i 0) 34 other) in
+    omega (arith, so, same, escaped_more field i lt, one)
 
 -- ---- fields
 
 pub plain_field : (field : List ℕ) (b : Bool) → b ≡ needs_quotes flexible field → b ≡ false → length field ≤ max_count → length field ≡ count_of (field_text flexible field)
-plain_field field b test no fits =
-    let plain : field_text flexible field ≡ field = ap (λ (q : Bool). if q then quoted flexible field else field) (sym test ∙ no) in
+plain_field field b test off fits =
+    let plain : field_text flexible field ≡ field = ap (λ (q : Bool). if q then quoted flexible field else field) (sym test ∙ off) in
     omega (arith, fits, ap length plain)
 
 pub quoted_field : (field : List ℕ) (b : Bool) (quotes n m : ℕ) → b ≡ needs_quotes flexible field → b ≡ true → quotes + length field ≡ length (escaped flexible field)
     → n ≡ min (length field + quotes) (2 ^ 64 - 1) → m ≡ min (n + 2) (2 ^ 64 - 1) → m ≡ count_of (field_text flexible field)
-quoted_field field b quotes n m test yes marks first next =
-    let whole : field_text flexible field ≡ quoted flexible field = ap (λ (q : Bool). if q then quoted flexible field else field) (sym test ∙ yes) in
+quoted_field field b quotes n m test on marks first next =
+    let whole : field_text flexible field ≡ quoted flexible field = ap (λ (q : Bool). if q then quoted flexible field else field) (sym test ∙ on) in
     let size : length (quoted flexible field) ≡ length (escaped flexible field) + 2 = omega (arith, length-append (escaped flexible field) (34 ∷ [])) in
     omega (arith, marks, first, next, size, ap length whole)

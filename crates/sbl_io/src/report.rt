@@ -85,9 +85,10 @@ fn line_length(csv_record: &ByteRecord) -> usize
 {
     let mut length: usize = 0;
     for i in 0..csv_record.len() {
-        if let Some(field) = csv_record.get(i) {
+        match csv_record.get(i) {
             // A delimiter follows each field but the last, and a line feed follows that.
-            length = length.saturating_add(field_length(field)).saturating_add(1);
+            Some(field) => length = length.saturating_add(field_length(field)).saturating_add(1),
+            None => {}
         }
     }
     // A record that shows no byte has two quotes before its line feed.
