@@ -107,7 +107,7 @@ counted_record text line n k m so one sum = omega (arith, so, one, sum, length-a
 
 -- ---- quotes
 
-quote_size : Bool → ℕ
+abbrev quote_size : Bool → ℕ
 quote_size true = 2
 quote_size false = 1
 

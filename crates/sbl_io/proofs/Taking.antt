@@ -8,7 +8,7 @@ module _ {T : Type 0} (has_taken : T → List ℕ → Type 0) where
   takes-none x text has = subst (has_taken x) (sym (append-nil text)) has
 
   pub takes-same : (x y : T) (a b : List ℕ) → a ≡ b → TakesMore has_taken x y a → TakesMore has_taken x y b
-  takes-same x y a b same takes = subst (TakesMore has_taken x y) same takes
+  takes-same x y a b same takes = subst (λ (t : List ℕ). TakesMore has_taken x y t) same takes
 
   pub takes-then : (x y z : T) (a b : List ℕ) → TakesMore has_taken x y a → TakesMore has_taken y z b → TakesMore has_taken x z (a ++ b)
   takes-then x y z a b first next text has = subst (has_taken z) (append_assoc text a b) (next (text ++ a) (first text has))
