@@ -120,14 +120,14 @@ class Desk:
         answer = self.files.write_crlf(argument, self.child.text()) if is_own else self.child.run(lines, say, text)
         if answer is None:
             say(list(filter(None, [word == "save" and self.files.put_back(argument, former)])))
-            return self.end()
+            return self.end(word)
         if answer is False:
             return self.bring_back(word == "reload")
         refusal = REFUSAL.match(answer[0]) if len(answer) == 1 else None
         if refusal:
-            self.refuse(answer, int(refusal[1]), lines, former)
             if word == "reload" and text is not None:
                 self.files.refused = text
+            self.refuse(answer, int(refusal[1]), lines, former)
             return "refused"
         with self.child.interrupts.allowed():
             shown = self.lay_out(lines[0], answer)
@@ -353,10 +353,10 @@ class Desk:
                 self.warned.append(line)
                 say([line], is_text=True)
 
-    def end(self):
-        """Says why the program has ended. If something ended it in the middle of a command, it is brought back."""
+    def end(self, word=""):
+        """Says why the program has ended. If something ended it in the middle of a command, whose first word is given, it is brought back."""
         if self.child.is_lost() and self.bring_back_lost():
-            say(["The command was not done: type it again."])
+            say(["The file was not read: Enter reads it." if word == "reload" else "The command was not done: type it again."])
             return "refused"
         self.child.process.wait()
         self.last_message = self.child.said()
