@@ -9,6 +9,7 @@ it was read, and `watch` has the parent get SIGWINCH each time that one is. `wor
 For each request it writes `ok`, `refused` or `ended` as a line on descriptor 3; for `start` also `waits`, if a file has a fault; for `saved`
 also `words`, if only the file of words was saved, which is not read again.
 """
+import contextlib
 import os
 import re
 import signal
@@ -129,7 +130,8 @@ class Desk:
                 self.files.refused = text
             self.refuse(answer, int(refusal[1]), lines, former)
             return "refused"
-        with self.child.interrupts.allowed():
+        # (what was accepted has to be noted)
+        with self.child.interrupts.allowed() if answer != ["ok"] else contextlib.nullcontext():
             shown = self.lay_out(lines[0], answer)
         write(shown, is_text=word in ("show", "script", "echo"))
         say(self.advice.note(lines))
@@ -312,7 +314,8 @@ class Desk:
             return True
         lost = list(dict.fromkeys(edit.command for edit in self.history.unsaved()))
         edits = "These edits are in no file and are lost: %s." % listed(lost, "and") if lost else "No edit is lost."
-        say(["It was ended again. %s Start again." % edits])
+        words = " Words that you added are in no file." if self.added.missing() else ""
+        say(["It could not be brought back. %s%s Start again." % (edits, words)])
         self.child.stop()
         self.status = 1
         raise Lost
