@@ -1,8 +1,10 @@
-"""How ./snowbench finds its program, and what --prove ends with: what tests/hostile tries of it. Each function returns what is wrong."""
+"""What tests/hostile tries without a terminal: how ./snowbench finds its program, what --prove ends with, and streams. Each function returns
+what is wrong."""
 import glob
 import os
 import resource
 import shutil
+import signal
 import subprocess
 import tempfile
 import time
@@ -172,4 +174,26 @@ def proving():
     with open(os.path.join(room, "HANDLES"), "w", encoding="ascii") as file:
         file.write("more\n")
     expect("other sources", 0, "dist/ has no program of these sources yet")
+    return wrong
+
+
+def streams(program):
+    """What docs/LIMITS.md says of input and output that do not block, and of a file that may not grow."""
+    session, wrong = b"externals ( stem ) define stem as true\n.\n" + b"".join(b"w%d\n" % i for i in range(100000)) + b".\nstems\n", []
+    ends = os.pipe()
+    os.set_blocking(ends[0], False)
+    ended = subprocess.run([program, "session"], stdin=ends[0], capture_output=True, timeout=PATIENCE)
+    if (ended.returncode, ended.stderr) != (1, b"snowbench: 70 Read\n"):
+        wrong.append("an input that does not block: %s" % ended)
+    reader, writer = os.pipe()
+    os.set_blocking(writer, False)
+    ended = subprocess.run([program, "session"], input=session, stdout=writer, stderr=subprocess.PIPE, timeout=PATIENCE)
+    if (ended.returncode, ended.stderr) != (1, b"snowbench: 71 Write\n"):
+        wrong.append("an output that does not block: %s" % ended)
+    with open(os.path.join(ROOM.name, "grown"), "wb") as file:
+        ended = subprocess.run(["bash", "-c", 'ulimit -f 1; exec "$@"', "-", program, "session"], input=session, stdout=file, stderr=subprocess.PIPE, timeout=PATIENCE)
+    if ended.returncode != -signal.SIGXFSZ:
+        wrong.append("a file that may not grow: %s" % ended)
+    for end in (*ends, reader, writer):
+        os.close(end)
     return wrong
