@@ -275,5 +275,3 @@ def fill(file, data):
     at = 0
     while at < len(data):
         at += os.pwrite(file, data[at:], at)
-
-

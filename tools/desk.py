@@ -9,6 +9,7 @@ it was read, and `watch` has the parent get SIGWINCH each time that one is. `wor
 For each request it writes `ok`, `refused` or `ended` as a line on descriptor 3; for `start` also `waits`, if a file has a fault; for `saved`
 also `words`, if only the file of words was saved, which is not read again.
 """
+import contextlib
 import os
 import re
 import signal
@@ -120,16 +121,17 @@ class Desk:
         answer = self.files.write_crlf(argument, self.child.text()) if is_own else self.child.run(lines, say, text)
         if answer is None:
             say(list(filter(None, [word == "save" and self.files.put_back(argument, former)])))
-            return self.end()
+            return self.end(word)
         if answer is False:
             return self.bring_back(word == "reload")
         refusal = REFUSAL.match(answer[0]) if len(answer) == 1 else None
         if refusal:
-            self.refuse(answer, int(refusal[1]), lines, former)
             if word == "reload" and text is not None:
                 self.files.refused = text
+            self.refuse(answer, int(refusal[1]), lines, former)
             return "refused"
-        with self.child.interrupts.allowed():
+        # (what was accepted has to be noted)
+        with self.child.interrupts.allowed() if answer != ["ok"] else contextlib.nullcontext():
             shown = self.lay_out(lines[0], answer)
         write(shown, is_text=word in ("show", "script", "echo"))
         say(self.advice.note(lines))
@@ -312,7 +314,8 @@ class Desk:
             return True
         lost = list(dict.fromkeys(edit.command for edit in self.history.unsaved()))
         edits = "These edits are in no file and are lost: %s." % listed(lost, "and") if lost else "No edit is lost."
-        say(["It was ended again. %s Start again." % edits])
+        words = " Words that you added are in no file." if self.added.missing() else ""
+        say(["It could not be brought back. %s%s Start again." % (edits, words)])
         self.child.stop()
         self.status = 1
         raise Lost
@@ -353,10 +356,10 @@ class Desk:
                 self.warned.append(line)
                 say([line], is_text=True)
 
-    def end(self):
-        """Says why the program has ended. If something ended it in the middle of a command, it is brought back."""
+    def end(self, word=""):
+        """Says why the program has ended. If something ended it in the middle of a command, whose first word is given, it is brought back."""
         if self.child.is_lost() and self.bring_back_lost():
-            say(["The command was not done: type it again."])
+            say(["The file was not read: Enter reads it." if word == "reload" else "The command was not done: type it again."])
             return "refused"
         self.child.process.wait()
         self.last_message = self.child.said()
