@@ -1,0 +1,3 @@
+-- definitions that public contracts depend on
+pub mod Folders
+pub mod Memory

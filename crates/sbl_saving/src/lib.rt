@@ -1,0 +1,21 @@
+//! Files that are replaced so that each has its old text or its new one, whatever happens in between.
+#![tactic(auto)]
+
+mod folder;
+mod former;
+mod in_place;
+mod memory;
+mod read;
+mod replace;
+mod save;
+mod system;
+
+pub use folder::{Failed, Folder};
+pub use former::Former;
+pub use memory::{Find, MemoryFolder};
+pub use replace::{ReplaceFault, replace_file};
+pub use read::{ReadFault, is_same_file, read_file};
+pub use save::{SaveFault, save_file};
+
+#[cfg(test)]
+mod tests;
