@@ -37,7 +37,7 @@ pub(crate) fn reason(fault: ScriptFault) -> &'static str {
         }
         ScriptFault::BadCode { .. } => {
             "this is no code of a character: hex needs 1 to 6 digits of 0-9 and A-F, decimal needs \
-             digits. Or the macro has more than 64 characters"
+             1 to 7 digits of 0-9"
         }
         ScriptFault::NumberTooLarge { .. } => "a number may be 2147483647 at most",
         ScriptFault::Syntax { .. } => "cannot follow what is before it",

@@ -1,9 +1,5 @@
 -- The canonical text of a script is read as that script, and no other script has it.
-use Rattle.std.specs.Prelude.{◌≡◌, ℕ, ◌*◌, List, length, ◌≤◌}
-use Rattle.std.specs.Str.{chars}
-use Rattle.sbl_text.specs.Directives.{max_macro}
-use Rattle.sbl_text.specs.Laws.{all_literals}
-use Rattle.sbl_ast.specs.Places.{lexemes_of}
+use Rattle.std.specs.Prelude.{◌≡◌, ℕ, List, length, ◌≤◌}
 use Rattle.sbl_print.specs.Canonical.{canonical}
 use Rattle.sbl_ast.specs.Source.{Source}
 use Rattle.sbl_script.specs.Reading.{IsScriptOf, max_script}
@@ -15,7 +11,3 @@ CanonicalIsRead s text = text ≡ canonical s.items → length text ≤ max_scri
 -- two scripts with the same canonical text have the same items
 abbrev pub CanonicalIsOne : Source → Source → Type 0
 CanonicalIsOne s t = canonical s.items ≡ canonical t.items → s.items ≡ t.items
-
--- the literals of the script have together at most 64 characters for each three of its canonical text
-abbrev pub LiteralsFit : Source → Type 0
-LiteralsFit s = all_literals (lexemes_of s.items) * 3 ≤ length (chars (canonical s.items)) * max_macro

@@ -4,7 +4,7 @@ ghost use Rattle.sbl_script.specs.OneEdit.{EditFaultIsOne, EditIsOne, EditOrFaul
 ghost use Rattle.sbl_script.specs.OnlyTheItem.{ExternalStays, OnlyTheItem};
 ghost use Rattle.sbl_script.specs.OneReading.{FaultIsOne, ScriptIsOne, ScriptOrFault};
 ghost use Rattle.sbl_script.specs.ParsedScript.{source_of};
-ghost use Rattle.sbl_script.specs.CanonicalText.{CanonicalIsOne, CanonicalIsRead, LiteralsFit};
+ghost use Rattle.sbl_script.specs.CanonicalText.{CanonicalIsOne, CanonicalIsRead};
 
 use crate::script::Script;
 pub use crate::script::{is_shallow, is_spelled, is_well_declared};
@@ -13,7 +13,7 @@ use sbl_print::laws::canonical_is_spaced;
 pub use sbl_resolver::laws::{
     amongs_are_sound, fault_is_first, names_resolve, substrings_are_paired, well_declared_passes,
 };
-use sbl_text::laws::{first_fault_is_one, literals_are_short, spaced_are_read, tokens_are_one};
+use sbl_text::laws::{first_fault_is_one, spaced_are_read, tokens_are_one};
 
 /// For given bytes and a given external there is at most one script and at most one fault, and never both. So
 /// `Script::parse` is a function of these two, unless an allocation fails.
@@ -74,15 +74,4 @@ pub fn canonical_is_one(script: &Script, other: &Script)
     one_tree();
     is_spelled(script);
     is_spelled(other);
-}
-
-/// The literals of a script have together at most 64 characters for each three of its canonical text. This holds for
-/// scripts after edits too.
-pub fn literals_fit(script: &Script)
-    ensures { LiteralsFit (source_of script.now) }
-{
-    literals_are_short();
-    spaced_are_read();
-    canonical_is_spaced();
-    is_spelled(script);
 }

@@ -10,5 +10,3 @@ pub mod Spellings
 pub mod Parted
 pub mod Unique
 pub mod Spaced
-pub mod Bounded
-pub mod Short

@@ -2,7 +2,7 @@
 use denote.Enum.Bare.{sameb}
 use Rattle.std.specs.Option.{option_map_or}
 use Rattle.std.specs.Str.{chars}
-use Rattle.std.specs.Prelude.{ℕ, nat_le, if◌then◌else◌, List, length, Option, Some, None, option_and_then}
+use Rattle.std.specs.Prelude.{ℕ, true, false, if◌then◌else◌, List, Option, Some, None, option_and_then}
 use Rattle.sbl_text.specs.declared.pieces.Expectation.{Expectation}
 use Rattle.sbl_text.specs.declared.pieces.Expectation.TheVariants as wanted
 use Rattle.sbl_text.specs.contracts.directives.Coding as codings
@@ -10,7 +10,7 @@ use Rattle.sbl_text.specs.declared.directives.Coding.{Coding}
 use Rattle.sbl_text.specs.declared.directives.Coding.TheVariants as coding
 use Rattle.sbl_token.specs.declared.words.Word.{Word}
 use Rattle.sbl_token.specs.declared.words.Word.TheVariants as reserved
-use Rattle.sbl_text.specs.Codes.{numbers_in, all_codes}
+use Rattle.sbl_text.specs.Codes.{codes_of}
 use Rattle.sbl_text.specs.Escapes.{InForce, nothing_set, with_inserts, with_macro}
 use Rattle.sbl_token.specs.Lexemes.{Lexeme, word, literal, inserts, macro_name}
 use Rattle.sbl_text.specs.Pieces.{Setting}
@@ -35,19 +35,12 @@ start_under e = record { escapes = e; wanted = wanted.Token; defining = None }
 abbrev pub start : Directives
 start = start_under nothing_set
 
--- the characters that a literal writes: as they are, or as codes of 1 to 6 hexadecimal or 1 to 7 decimal digits
-abbrev pub literal_characters : Coding → List ℕ → Option (List ℕ)
-literal_characters coding.Plain v = Some v
-literal_characters coding.Hex v = all_codes 16 6 (numbers_in v)
-literal_characters coding.Decimal v = all_codes 10 7 (numbers_in v)
-
--- the most characters of a macro
-abbrev pub max_macro : ℕ
-max_macro = 64
-
--- The value that a literal gives to a macro. Longer ones are refused, so that few insertions never give many characters.
+-- The value that a literal gives to a macro: its characters, or after `hex` or `decimal` those with its codes, if it has
+-- nothing but codes. Its length has no bound.
 abbrev pub value_for_macro : Coding → List ℕ → Option (List ℕ)
-value_for_macro k v = option_and_then (λ w. if nat_le (length w) max_macro then Some w else None) (literal_characters k v)
+value_for_macro coding.Plain v = Some v
+value_for_macro coding.Hex v = codes_of true v
+value_for_macro coding.Decimal v = codes_of false v
 
 abbrev pub value_for : Option Defining → List ℕ → Option (List ℕ)
 value_for d v = option_map_or (λ m. value_for_macro m.coding v) d (Some v)
@@ -74,9 +67,6 @@ after s (macro_name n) = record { escapes = s.escapes; wanted = wanted.Token; de
 after s _ = start_under s.escapes
 
 -- ---- names for parts of these definitions, which no other definition uses
-
-abbrev pub if_short : Option (List ℕ) → Option (List ℕ)
-if_short o = option_and_then (λ w. if nat_le (length w) max_macro then Some w else None) o
 
 abbrev pub after_word : Directives → Word → Directives
 after_word s w = after s (word w)

@@ -1,5 +1,5 @@
 -- Laws of the lexer.
-use Rattle.std.specs.Prelude.{true, ◌≡◌, ◌⊎◌, ℕ, ◌+◌, ◌*◌, ◌≤◌, List, [], ◌∷◌, length, Result, Ok, Err, Option, Some, None}
+use Rattle.std.specs.Prelude.{true, ◌≡◌, ◌⊎◌, ℕ, List, [], ◌∷◌, Result, Ok, Err, Option, Some, None}
 use Rattle.sbl_text.specs.declared.fault.ScriptFault.{ScriptFault}
 use Rattle.sbl_text.specs.declared.fault.ScriptFault.TheVariants as fault
 use Rattle.sbl_token.specs.declared.signs.Sign.{Sign}
@@ -7,10 +7,10 @@ use Rattle.sbl_token.specs.declared.token.Token.{Token}
 use Rattle.sbl_token.specs.declared.words.Word.{Word}
 use Rattle.sbl_token.specs.Signs.{sign_text}
 use Rattle.sbl_token.specs.Words.{word_of, word_text}
-use Rattle.sbl_token.specs.Lexemes.{Lexeme, literal, lexeme_of}
-use Rattle.sbl_text.specs.Directives.{Directives, max_macro}
+use Rattle.sbl_token.specs.Lexemes.{Lexeme, lexeme_of}
+use Rattle.sbl_text.specs.Directives.{Directives}
 use Rattle.sbl_text.specs.Tokens.{PlacedToken, AreTokensFrom, ArePlacedFrom, IsFirstFaultFrom, Reading, IsNext, MayEnd}
-use Rattle.sbl_text.specs.Escapes.{InForce, Definition}
+use Rattle.sbl_text.specs.Escapes.{InForce}
 use Rattle.sbl_text.specs.Literals.{IsLiteral}
 use Rattle.sbl_text.specs.SpacedTokens.{after_all, AreSaid, SpacedToken, lexemes_of, are_white, spaced_text}
 use Rattle.std.specs.Str.{chars, IsUtf8}
@@ -65,21 +65,3 @@ NextIsFirst =
 -- if there is no next token, the text has no tokens
 abbrev pub NoneIsLast : Type 0
 NoneIsLast = (r t : Reading) → IsNext r t (Ok None) → AreTokensFrom r.state r.rest []
-
--- no macro has too many characters
-abbrev pub AreShort : List Definition → Type 0
-AreShort [] = Unit {0}
-AreShort (d ∷ ds) = (length d.value ≤ max_macro) × AreShort ds
-
-abbrev pub literal_length : Lexeme → ℕ
-literal_length (literal spelling v) = length v
-literal_length _ = 0
-
--- how many characters the literals among these lexemes have together
-abbrev pub all_literals : List Lexeme → ℕ
-all_literals [] = 0
-all_literals (l ∷ ls) = literal_length l + all_literals ls
-
--- the literals of a text have together at most 64 characters for each three of the text
-abbrev pub LiteralsAreShort : Type 0
-LiteralsAreShort = (s : Directives) (text : List ℕ) (ls : List Lexeme) → AreShort s.escapes.macros → AreTokensFrom s text ls → all_literals ls * 3 ≤ length text * max_macro

@@ -14,9 +14,6 @@ use sbl_token::{Kind, Token, Value, Word};
 use std::alloc::Global;
 use std::marker::Model;
 
-/// The most characters of a macro (our own choice).
-const MAX_MACRO: usize = 64;
-
 /// How the literal of a macro is read: as it is, or as code points.
 #[derive(Clone, Copy, Debug, PartialEq, Eq)]
 pub enum Coding {
@@ -63,14 +60,13 @@ fn with_coding<'a>(defining: Option<Defining<'a>>, coding: Coding) -> Option<Def
     }
 }
 
-/// Returns the characters that a literal writes.
-fn literal_characters(
-    alloc: Global,
-    coding: Coding,
-    characters: &[char],
-    place: usize,
-) -> Characters
-    ensures { MatchResult result (λ v. spec.literal_characters coding characters.now ≡ Some v.items) (λ f. (f ≡ ScriptFault.OutOfMemory) ⊎ ((spec.literal_characters coding characters.now ≡ None) × (f ≡ ScriptFault.BadCode place))) }
+/// Returns the value that a literal with these characters gives to a macro: the characters, or the characters with
+/// these codes (Snowball manual, "stringdef").
+///
+/// Returns `BadCode` at `place` if the literal should have codes and has anything else, and `OutOfMemory` if an
+/// allocation fails. The value may have any number of characters.
+pub fn macro_value(alloc: Global, coding: Coding, characters: &[char], place: usize) -> Characters
+    ensures { MatchResult result (λ v. spec.value_for_macro coding characters.now ≡ Some v.items) (λ f. (f ≡ ScriptFault.OutOfMemory) ⊎ ((spec.value_for_macro coding characters.now ≡ None) × (f ≡ ScriptFault.BadCode place))) }
 {
     match coding {
         Coding::Plain => match Vec::from_slice(alloc, characters) {
@@ -80,22 +76,6 @@ fn literal_characters(
         Coding::Hex => codes(alloc, 16, MAX_HEX_DIGITS, characters, place),
         Coding::Decimal => codes(alloc, 10, MAX_DECIMAL_DIGITS, characters, place),
     }
-}
-
-/// Returns the value that a literal with these characters gives to a macro: the characters, or the characters with
-/// these codes (Snowball manual, "stringdef"; the limit is our own choice).
-///
-/// Returns `BadCode` at `place` if there is anything but codes, or if the value has more than 64 characters, and
-/// `OutOfMemory` if an allocation fails.
-#[tactic(auto, using(crate::proofs::Short::short_is_kept, crate::proofs::Short::long_is_refused, crate::proofs::Short::none_is_refused))]
-pub fn macro_value(alloc: Global, coding: Coding, characters: &[char], place: usize) -> Characters
-    ensures { MatchResult result (λ v. spec.value_for_macro coding characters.now ≡ Some v.items) (λ f. (f ≡ ScriptFault.OutOfMemory) ⊎ ((spec.value_for_macro coding characters.now ≡ None) × (f ≡ ScriptFault.BadCode place))) }
-{
-    let value = literal_characters(alloc, coding, characters, place)?;
-    if value.len() > MAX_MACRO {
-        return Err(ScriptFault::BadCode { place });
-    }
-    Ok(value)
 }
 
 /// Returns the characters of a literal, or none for another value.

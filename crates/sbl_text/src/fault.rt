@@ -24,7 +24,7 @@ pub enum ScriptFault {
     /// A literal inserts a name that is not defined.
     #[error("4 UnknownEscape at {place}")]
     UnknownEscape { place: usize },
-    /// A number is not the code point of a character, or a macro has more than 64 characters.
+    /// What should be the code point of a character is not one.
     #[error("5 BadCode at {place}")]
     BadCode { place: usize },
     /// The number at the byte offset is above 2147483647.

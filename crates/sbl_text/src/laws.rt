@@ -1,6 +1,6 @@
 //! Laws of the lexer.
 
-ghost use Rattle.sbl_text.specs.Laws.{FirstFaultIsOne, LiteralIsOne, LiteralsAreShort, NextIsFirst, NoneIsLast, PlacesAreOne, SameFaultAgain, SignsDiffer, SpacedAreRead, TokensAreSaid, TokensAreOne, TokensOrFault, WordsAreRead};
+ghost use Rattle.sbl_text.specs.Laws.{FirstFaultIsOne, LiteralIsOne, NextIsFirst, NoneIsLast, PlacesAreOne, SameFaultAgain, SignsDiffer, SpacedAreRead, TokensAreSaid, TokensAreOne, TokensOrFault, WordsAreRead};
 
 /// A text has at most one list of tokens, and the tokens have one list of positions.
 pub fn tokens_are_one()
@@ -41,10 +41,4 @@ pub fn nexts_are_tokens()
 pub fn spaced_are_read()
     ensures read { SpacedAreRead }
     ensures said { TokensAreSaid }
-{}
-
-/// The literals of a text have together at most 64 characters for each three of the text, if no macro in force before it
-/// has more than 64; in a text that begins without macros none has.
-pub fn literals_are_short()
-    ensures { LiteralsAreShort }
 {}

@@ -289,18 +289,15 @@ fn codes_are_read_in_their_base(rt: HostRuntime) -> Result<(), Fail> {
     Ok(())
 }
 
-/// A code, how often it is there, and how many characters such a macro has.
-const MACROS: &[(Coding, &str, usize, &str)] = &[
-    (Coding::Plain, "\u{df}", 0, "0"),
-    (Coding::Plain, "\u{df}", 64, "64"),
-    (Coding::Plain, "\u{df}", 65, "5 BadCode at 7"),
-    (Coding::Hex, "DF ", 0, "0"),
-    (Coding::Hex, "DF ", 64, "64"),
-    (Coding::Hex, "DF ", 65, "5 BadCode at 7"),
-    (Coding::Decimal, "98\n", 0, "0"),
-    (Coding::Decimal, "98\n", 64, "64"),
-    (Coding::Decimal, "98\n", 65, "5 BadCode at 7"),
+/// A code, and how often it is there. Such a macro has as many characters.
+const MACROS: &[(Coding, &str)] = &[
+    (Coding::Plain, "\u{df}"),
+    (Coding::Hex, "DF "),
+    (Coding::Decimal, "98\n"),
 ];
+
+/// How often a code is there.
+const COUNTS: &[usize] = &[0, 1, 64, 65, 1000];
 
 /// Returns how many characters a macro of this many codes has, or its fault.
 fn length_of(
@@ -322,11 +319,75 @@ fn length_of(
 }
 
 #[test]
-fn a_macro_has_at_most_64_characters(rt: HostRuntime) -> Result<(), Fail> {
-    for (coding, code, count, want) in MACROS {
-        let length = length_of(rt.alloc(), *coding, code, *count)?;
-        assert_eq!(rt; length.as_str(), *want, "{count} of {code:?}");
+fn a_macro_may_have_any_number_of_characters(rt: HostRuntime) -> Result<(), Fail> {
+    let alloc = rt.alloc();
+    for (coding, code) in MACROS {
+        for count in COUNTS {
+            let length = length_of(alloc, *coding, code, *count)?;
+            assert_eq!(rt;
+                length.as_str(),
+                format!(in alloc; "{count}")?.as_str(),
+                "{code:?}"
+            );
+        }
     }
+    Ok(())
+}
+
+/// Returns the text of a macro of 64 codes and then of this one.
+fn text_with_code(alloc: Global, word: &str, code: &str) -> Result<String, AllocError> {
+    let mut text = format!(in alloc; "stringescapes {{}} stringdef m {word} '")?;
+    for _ in 0..64 {
+        text.push_str("61 ")?;
+    }
+    text.push_str(code)?;
+    text.push_str("' '{m}'")?;
+    Ok(text)
+}
+
+/// The word before the codes, the 65th code, and how many bytes the macro's characters have, or the fault of its literal.
+const LAST_CODES: &[(&str, &str, &str)] = &[
+    ("hex", "61", "65"),
+    ("hex", "E9", "66"),
+    ("hex", "110000", "5 BadCode at 33"),
+    ("hex", "g", "5 BadCode at 33"),
+    ("decimal", "61", "65"),
+    ("decimal", "1114112", "5 BadCode at 37"),
+    ("decimal", "e", "5 BadCode at 37"),
+    ("", "61", "194"),
+    ("", "110000", "198"),
+];
+
+#[test]
+fn a_code_after_64_others_is_read(rt: HostRuntime) -> Result<(), Fail> {
+    let alloc = rt.alloc();
+    for (word, code, want) in LAST_CODES {
+        let text = text_with_code(alloc, word, code)?;
+        let shown = answer_text(alloc, &text, Asked::Value)?;
+        let length = if shown.as_str().starts_with("5 ") {
+            shown
+        } else {
+            format!(in alloc; "{}", shown.len())?
+        };
+        assert_eq!(rt; length.as_str(), *want, "{text}");
+    }
+    Ok(())
+}
+
+/// `read_codes` and a lexer read the same codes.
+#[test]
+fn codes_of_a_call_and_of_a_literal_are_the_same(rt: HostRuntime) -> Result<(), Fail> {
+    let alloc = rt.alloc();
+    let mut text = String::new(alloc);
+    for _ in 0..65 {
+        text.push_str("E4\t")?;
+    }
+    let value = read_codes(alloc, true, &letters(alloc, &text)?);
+    let read = read_text(alloc, value)?;
+    let script = format!(in alloc; "stringescapes {{}} stringdef m hex '{text}' '{{m}}'")?;
+    let inserted = answer_text(alloc, &script, Asked::Value)?;
+    assert_eq!(rt; read.len(), 130);
+    assert_eq!(rt; inserted.as_str(), read.as_str());
     Ok(())
 }
 
@@ -349,28 +410,22 @@ fn doubling_macros(alloc: Global, count: usize, inserted: usize) -> Result<Strin
     Ok(text)
 }
 
-/// The macro that is too long is refused at its literal: the texts of the six before it have 154 bytes, and ` stringdef m6 ` has 14.
-const DOUBLED: &[(usize, &str)] = &[
-    (
-        6,
-        "stringescapes {} stringdef m0 'ab' stringdef m1 '{m0}{m0}' stringdef m2 '{m1}{m1}' stringdef m3 '{m2}{m2}' stringdef m4 '{m3}{m3}' stringdef m5 '{m4}{m4}' ",
-    ),
-    (7, "5 BadCode at 168"),
-    (8, "5 BadCode at 168"),
-    (30, "5 BadCode at 168"),
+/// How many macros there are, how often the sixth is inserted, and how many characters the last literal has.
+const DOUBLED: &[(usize, usize, usize)] = &[
+    (6, 0, 64),
+    (7, 0, 128),
+    (8, 0, 256),
+    (14, 0, 16384),
+    (7, 500, 32000),
+    (14, 500, 32000),
 ];
 
 #[test]
-fn macros_that_double_are_refused_at_the_first_that_is_too_long(
-    rt: HostRuntime,
-) -> Result<(), Fail> {
+fn macros_that_double_have_their_characters(rt: HostRuntime) -> Result<(), Fail> {
     let alloc = rt.alloc();
-    for (count, want) in DOUBLED {
-        let text = doubling_macros(alloc, *count, 0)?;
-        assert_eq!(rt; answer_text(alloc, &text, Asked::Texts)?.as_str(), *want);
+    for (count, inserted, want) in DOUBLED {
+        let text = doubling_macros(alloc, *count, *inserted)?;
+        assert_eq!(rt; answer_text(alloc, &text, Asked::Value)?.len(), *want);
     }
-    // but a macro may be inserted often
-    let text = doubling_macros(alloc, 6, 500)?;
-    assert_eq!(rt; answer_text(alloc, &text, Asked::Value)?.len(), 32000);
     Ok(())
 }
