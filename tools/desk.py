@@ -18,7 +18,7 @@ from advice import Advice, correct_in
 from changes import Changes, added_words, lay_out_families, lay_out_largest, lay_out_stats
 from child import Child
 from conditions import Conditions
-from files import Files
+from files import Files, state_of
 from history import EDITS, TYPED, aside_sentence, digest
 from opening import Opening
 from plain import named
@@ -101,27 +101,26 @@ class Desk:
         return verdict
 
     def run(self, word, argument, lines, is_edit):
-        former = read(argument) if word == "save" else None
+        former, state = (read(argument), state_of(argument)) if word == "save" else (None, None)
         typed, text = self.before_reload() if word == "reload" else ({}, None)
         replaced = self.definition(argument.partition(" ")[0]) if word in TYPED else None
         if is_edit and self.changes is None:
             self.changes = self.changes_now(self.query(["changes"]))
-        is_own = word == "save" and self.files.has_crlf()
-        answer = self.files.write_crlf(argument, self.child.text()) if is_own else self.child.run(lines, say, text)
+        answer = self.child.run(lines, say, text)
         if answer is None:
-            say(list(filter(None, [word == "save" and self.files.put_back(argument, former)])))
             return self.end()
         if answer is False:
-            return self.bring_back(word == "reload")
+            return self.bring_back(word == "reload", argument if word == "save" and state_of(argument) != state else None)
         refusal = REFUSAL.match(answer[0]) if len(answer) == 1 else None
         if refusal:
-            self.refuse(answer, int(refusal[1]), lines, former)
+            self.refuse(answer, int(refusal[1]), lines)
             if word == "reload" and text is not None:
                 self.files.refused = text
             return "refused"
         write(self.lay_out(lines[0], answer), is_text=word in ("show", "script", "echo"))
         say(self.advice.note(lines))
         if word == "save":
+            say(self.files.note_in_place(argument, state))
             say(self.files.note_saved(argument, former))
             self.history.note_saved(argument)
         if word in ("add", "remove"):
@@ -149,16 +148,15 @@ class Desk:
         rows = rows_of(self.query(["stems"]) or []) if added else []
         return Changes(answer, {row[0]: row[1:] for row in rows if row[0] in added})
 
-    def refuse(self, answer, code, lines, former):
-        """Shows a refusal and what to do. `former` is what the file of `save` had before."""
-        word, _, argument = lines[0].partition(" ")
+    def refuse(self, answer, code, lines):
+        """Shows a refusal and what to do."""
+        word = lines[0].partition(" ")[0]
         write(answer)
-        cut = self.files.put_back(argument, former) if word == "save" else None
         say_program(self.child.said())
         # (of a text that is not UTF-8 the program has said what it may be)
         if word == "reload" and answer != ["no 48 NotUtf8"]:
             self.warn([self.script])
-        say([cut] if cut else self.advice.lines(code, lines))
+        say(self.advice.lines(code, lines))
 
     def show_changes(self, text):
         """Shows the rows of `changes` that have a text."""
@@ -200,7 +198,7 @@ class Desk:
             return self.end()
         refusal = REFUSAL.match(answer[0])
         if refusal:
-            self.refuse(answer, int(refusal[1]), ["tests " + word], None)
+            self.refuse(answer, int(refusal[1]), ["tests " + word])
             return "refused"
         lines = self.conditions.lay_out(word, rows_of(answer), int(rows_of(figures)[0][1]))
         write(lines or [])
@@ -244,7 +242,9 @@ class Desk:
     def append(self, path):
         """Puts the added words into a file."""
         is_new = self.files.has_new_words()
-        is_done, sentence = self.added.append(path)
+        is_done, sentence = self.added.append(path, self.child)
+        if is_done is None:
+            return self.end() if sentence is None else self.bring_back(is_reload=False)
         if not is_new:
             self.files.note_words()
         write(["ok"] if is_done else [])
@@ -262,8 +262,9 @@ class Desk:
         self.files.look()
         return self.definitions(), read(self.script)
 
-    def bring_back(self, is_reload):
-        """Has the program begin anew and go to where it was, after an edit that Ctrl-C broke off. The script's file keeps its text."""
+    def bring_back(self, is_reload, written=None):
+        """Has the program begin anew and go to where it was, after a command that Ctrl-C broke off. `written` is the file of a `save` that has
+        another text now."""
         say([self.child.break_sentence()])
         try:
             self.child.bring_back()
@@ -275,8 +276,20 @@ class Desk:
             self.child.stop()
             self.status = 1
             return "ended"
+        if written is not None:
+            return self.note_broken_save(written)
         say(["The command was broken off. Nothing changed.", *([correct_in(self.script, self.is_save_enough)] if is_reload else [])])
         return "refused"
+
+    def note_broken_save(self, path):
+        """Says what a file has after a `save` of it that Ctrl-C broke off too late."""
+        if self.child.text() != read(path):
+            say(["The command was broken off. %s has another text than before: save to it again." % named(path)])
+            return "refused"
+        self.files.note_saved(path, None)
+        self.history.note_saved(path)
+        say(["The script was saved to %s before the command was broken off." % named(path)])
+        return "ok"
 
     def definitions(self):
         """Returns the definition of each part that is typed and in force, by its name; the whole script has no name."""

@@ -1,9 +1,10 @@
 //! What a file has to have before it is written.
 
-use crate::read::read_file;
+use crate::fault::SaveFault;
+use crate::read::{ReadFault, read_file};
+use std::fs;
 use std::io::ErrorKind;
 use std::rt::Files;
-use std::fs;
 
 /// What a file has to have before it is written.
 #[derive(Clone, Copy, Debug)]
@@ -16,6 +17,14 @@ pub enum Former<'a> {
     Missing,
 }
 
+/// Returns whether there is no file of this name, not even a link.
+fn is_free<F: Files>(files: &F, path: &str) -> bool {
+    match fs::symlink_metadata(files, path) {
+        Ok(_) => false,
+        Err(error) => error.kind() == ErrorKind::NotFound,
+    }
+}
+
 impl Former<'_> {
     /// Returns whether these bytes of a file are such.
     pub(crate) fn has(&self, old: &[u8]) -> bool {
@@ -26,18 +35,17 @@ impl Former<'_> {
         }
     }
 
-    /// Returns whether a file has this.
-    pub(crate) fn is_in<F: Files + AllocGlobal>(&self, files: &F, path: &str) -> bool {
-        match self {
+    /// Looks whether a file has this. Returns `Changed` if it does not, and `OutOfMemory` if memory to read it is refused.
+    pub(crate) fn check<F: Files + AllocGlobal>(&self, files: &F, path: &str) -> Result<(), SaveFault> {
+        let is_so = match self {
             Former::Any => true,
             Former::Bytes(_) => match read_file(files, path) {
                 Ok(read) => self.has(&read),
-                Err(_) => false,
+                Err(ReadFault::Unreadable) => false,
+                Err(ReadFault::OutOfMemory) => return Err(SaveFault::OutOfMemory),
             },
-            Former::Missing => match fs::symlink_metadata(files, path) {
-                Ok(_) => false,
-                Err(error) => error.kind() == ErrorKind::NotFound,
-            },
-        }
+            Former::Missing => is_free(files, path),
+        };
+        if is_so { Ok(()) } else { Err(SaveFault::Changed) }
     }
 }

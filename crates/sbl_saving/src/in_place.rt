@@ -1,9 +1,9 @@
 //! Writing a file in place, if no new file can take its name.
 
+use crate::fault::{SaveFault, fault_of};
 use crate::folder::{Failed, Folder};
 use crate::former::Former;
 use crate::read::{ReadFault, read_file};
-use crate::save::{SaveFault, fault_of};
 use crate::system::{Role, SystemFolder};
 use std::fs::{Metadata, OpenFile, OpenOptions};
 use std::io::{Seek, SeekFrom, Write};
@@ -91,7 +91,7 @@ pub(crate) fn write_in_place<F: Files + AllocGlobal>(
         Ok(file) => file,
         Err(error) => return Err(fault_of(&error)),
     };
-    let mut copy = SystemFolder::new(files, target, Former::Any, Role::Old, like);
+    let mut copy = SystemFolder::new(files, target, Former::Any, Role::Old, like)?;
     let is_kept = keep(&mut copy, &old).is_ok();
     let written = overwrite(&mut file, &old, text);
     if !is_kept || written != Err(SaveFault::Torn) {

@@ -1,48 +1,17 @@
 //! Writing a text to a file of the system: by a new file beside it, or in place if that cannot be.
 
+use crate::fault::{SaveFault, fault_of};
 use crate::former::Former;
 use crate::in_place::{write_device, write_in_place};
 use crate::read::is_one;
 use crate::replace::{ReplaceFault, replace_file};
 use crate::system::{Role, SystemFolder};
-use std::alloc::AllocError;
 use std::fs::{Metadata, OpenOptions};
 use std::io::ErrorKind;
 use std::os::unix::fs::MetadataExt;
 use std::path::PathBuf;
 use std::rt::Files;
-use std::{fs, io};
-
-/// Why a text was not written to a file.
-#[derive(Clone, Copy, Debug, PartialEq, Eq)]
-pub enum SaveFault {
-    /// The file does not have what it has to have. It was not written.
-    Changed,
-    /// The file cannot be written. It has its old text.
-    NotWritten,
-    /// The file has the new text, but after a stop of the machine it may have the old one.
-    NotSettled,
-    /// The file was written in place, and that failed; its old text could not be put back. A file beside it has that text, if one could
-    /// be made.
-    Torn,
-    /// Memory was refused. The file was not written.
-    OutOfMemory,
-}
-
-impl From<AllocError> for SaveFault {
-    fn from(_: AllocError) -> SaveFault {
-        SaveFault::OutOfMemory
-    }
-}
-
-/// Returns the fault of an error of the system before anything was written.
-pub(crate) fn fault_of(error: &io::Error) -> SaveFault {
-    if error.kind() == ErrorKind::OutOfMemory {
-        SaveFault::OutOfMemory
-    } else {
-        SaveFault::NotWritten
-    }
-}
+use std::fs;
 
 /// What a path names.
 #[derive(Drop)]
@@ -72,8 +41,10 @@ fn place_of<F: Files + AllocGlobal>(files: &F, path: &str) -> Result<Place, Save
     if !found.is_file() {
         return Ok(Place::Device);
     }
-    let Ok(real) = fs::canonicalize(files, path) else {
-        return Ok(Place::Nameless);
+    let real = match fs::canonicalize(files, path) {
+        Ok(real) => real,
+        Err(error) if error.kind() == ErrorKind::OutOfMemory => return Err(SaveFault::OutOfMemory),
+        Err(_) => return Ok(Place::Nameless),
     };
     match fs::metadata(files, real.as_str()) {
         Ok(other) if is_one(&found, &other) => Ok(Place::File(real, found)),
@@ -101,12 +72,13 @@ fn save_over<F: Files + AllocGlobal>(
     if like.nlink() > 1 {
         return write_in_place(files, target, Some(like), text, former);
     }
-    let mut folder = SystemFolder::new(files, target, former, Role::New, Some(like));
+    let mut folder = SystemFolder::new(files, target, former, Role::New, Some(like))?;
     match replace_file(&mut folder, text) {
         Ok(()) => Ok(()),
         Err(ReplaceFault::NotWritten) => Err(SaveFault::NotWritten),
         Err(ReplaceFault::NotSettled) => Err(SaveFault::NotSettled),
-        Err(ReplaceFault::NotMade | ReplaceFault::NotNamed) => {
+        Err(_) => {
+            folder.refusal()?;
             write_in_place(files, target, None, text, former)
         }
     }
@@ -119,11 +91,14 @@ fn save_new<F: Files + AllocGlobal>(
     text: &[u8],
     former: Former<'_>,
 ) -> Result<(), SaveFault> {
-    let mut folder = SystemFolder::new(files, path, former, Role::New, None);
+    let mut folder = SystemFolder::new(files, path, former, Role::New, None)?;
     match replace_file(&mut folder, text) {
         Ok(()) => Ok(()),
         Err(ReplaceFault::NotSettled) => Err(SaveFault::NotSettled),
-        Err(_) => Err(SaveFault::NotWritten),
+        Err(_) => {
+            folder.refusal()?;
+            Err(SaveFault::NotWritten)
+        }
     }
 }
 
@@ -146,9 +121,7 @@ pub fn save_file<F: Files + AllocGlobal>(
     if path.is_empty() {
         return Err(SaveFault::NotWritten);
     }
-    if !former.is_in(files, path) {
-        return Err(SaveFault::Changed);
-    }
+    former.check(files, path)?;
     match place_of(files, path)? {
         Place::File(target, like) => save_over(files, target.as_str(), like, text, former),
         Place::Nameless => write_in_place(files, path, None, text, former),

@@ -1,9 +1,10 @@
 //! A folder of the system. Contracts do not know what it has.
 ghost use Rattle.std.specs.Prelude.{None};
 
+use crate::fault::SaveFault;
 use crate::folder::{Failed, Folder};
 use crate::former::Former;
-use std::alloc::{AllocError, Global};
+use std::alloc::AllocError;
 use std::fs::{Metadata, OpenFile, OpenOptions};
 use std::io::{ErrorKind, Write};
 use std::os::unix::fs::{MetadataExt, OpenOptionsExt, PermissionsExt, chown};
@@ -15,6 +16,9 @@ const MOST_NAMES: u32 = 10_000;
 
 /// How many bytes of a file's name are in the name of a file beside it (our own choice). The system allows 255 in all.
 const MOST_OF_NAME: usize = 200;
+
+/// How many bytes are more in the path of a file beside another one: a slash, its role and its number.
+const MOST_OF_END: usize = 16;
 
 /// The permissions that a file has, but for its kind.
 const PERMISSIONS: u32 = 0o7777;
@@ -46,43 +50,72 @@ fn first_of(name: &str) -> &str {
     name.get(..end).unwrap_or(name)
 }
 
-/// Returns the path of a file beside another one, as in `my.sbl.new-1`.
-fn beside(alloc: Global, path: &str, role: Role, number: u32) -> Result<String, AllocError> {
-    let (folder, name) = split(path);
-    let role = match role {
-        Role::New => "new",
-        Role::Old => "old",
-    };
-    format!(in alloc; "{}/{}.{}-{}", folder, first_of(name), role, number)
+/// Appends a number in decimal digits. Returns `AllocError` if an allocation fails.
+fn push_number(text: &mut String, number: u32) -> Result<(), AllocError> {
+    for unit in [10_000, 1_000, 100, 10, 1] {
+        if number >= unit || unit == 1 {
+            text.push(digit_of(number / unit))?;
+        }
+    }
+    Ok(())
+}
+
+/// Returns the last decimal digit of a number.
+fn digit_of(number: u32) -> char {
+    char::from_digit(number % 10, 10).unwrap_or('0')
 }
 
 /// A file of the system, and another one beside it.
 #[derive(Drop)]
 pub(crate) struct SystemFolder<'a, F: Files> {
     files: &'a F,
-    alloc: Global,
     target: &'a str,
     former: Former<'a>,
     role: Role,
     like: Option<Metadata>,
     path: String,
     file: Option<F::File>,
+    /// Why the new file did not get the name, if the target did not have what it has to have.
+    refusal: Result<(), SaveFault>,
 }
 
 impl<'a, F: Files + AllocGlobal> SystemFolder<'a, F> {
     /// Returns the folder of a file, which is the target, before the file beside it is made. That one gets the owner and the
     /// permissions of `like`. It takes the name only of a target that has what `former` says.
-    pub(crate) fn new(files: &'a F, target: &'a str, former: Former<'a>, role: Role, like: Option<Metadata>) -> SystemFolder<'a, F> {
-        SystemFolder {
+    /// Returns `AllocError` if an allocation for the name of that file fails.
+    pub(crate) fn new(files: &'a F, target: &'a str, former: Former<'a>, role: Role, like: Option<Metadata>) -> Result<SystemFolder<'a, F>, AllocError> {
+        let (folder, name) = split(target);
+        let length = folder.len().saturating_add(name.len()).saturating_add(MOST_OF_END);
+        Ok(SystemFolder {
             files,
-            alloc: files.alloc(),
             target,
             former,
             role,
             like,
-            path: String::new(files.alloc()),
+            path: String::with_capacity(files.alloc(), length)?,
             file: None,
-        }
+            refusal: Ok(()),
+        })
+    }
+
+    /// Sets the path of the file beside the target, as in `my.sbl.new-1`. There is room for it.
+    fn name(&mut self, number: u32) -> Result<(), AllocError> {
+        let (folder, name) = split(self.target);
+        let role = match self.role {
+            Role::New => ".new-",
+            Role::Old => ".old-",
+        };
+        self.path.clear();
+        self.path.push_str(folder)?;
+        self.path.push_str("/")?;
+        self.path.push_str(first_of(name))?;
+        self.path.push_str(role)?;
+        push_number(&mut self.path, number)
+    }
+
+    /// Returns why the new file did not get the name, if the target did not have what it has to have.
+    pub(crate) fn refusal(&self) -> Result<(), SaveFault> {
+        self.refusal
     }
 
     /// Makes a file beside the target under a name that no file has.
@@ -93,7 +126,7 @@ impl<'a, F: Files + AllocGlobal> SystemFolder<'a, F> {
             options.mode(0o600);
         }
         for number in 1..=MOST_NAMES {
-            self.path = beside(self.alloc, self.target, self.role, number)?;
+            self.name(number)?;
             match options.open(self.files, self.path.as_str()) {
                 Err(error) if error.kind() == ErrorKind::AlreadyExists => {}
                 opened => return opened,
@@ -166,7 +199,8 @@ impl<F: Files + AllocGlobal> Folder for SystemFolder<'_, F> {
     }
 
     fn rename(&mut self) -> Result<(), Failed> {
-        if !self.former.is_in(self.files, self.target) {
+        self.refusal = self.former.check(self.files, self.target);
+        if self.refusal.is_err() {
             return Err(Failed);
         }
         step(fs::rename(self.files, self.path.as_str(), self.target))

@@ -79,7 +79,7 @@ word_command file line =
     else (if bytes_eq (command_word line) (codes "append") then with_file appended file
     else Session (session.line_command line))))))))
 
--- the command of a line that is UTF-8
+-- the command of a line that is no comment and no `echo`
 abbrev pub text_command : Option (List ℕ) → List ℕ → WorkCommand
 text_command file line =
     if bytes_eq line (codes "reload") then with_file EditWhole file
@@ -98,8 +98,8 @@ is_comment [] = false
 is_comment (b ∷ line) = b == 35
 
 -- The command of a line that is UTF-8: a comment, a text to be echoed, or one of the others.
-abbrev pub line_command : Option (List ℕ) → List ℕ → WorkCommand
-line_command file line =
+abbrev pub utf8_command : Option (List ℕ) → List ℕ → WorkCommand
+utf8_command file line =
     if is_comment line then Nothing
     else (if bytes_eq (command_word line) (codes "echo") then Echo (argument line)
     else text_command file line)
@@ -108,7 +108,7 @@ line_command file line =
 -- `families`; for `save` any if it was written, and for `append` the lines that were put at its end; none if it could not be read or
 -- written. A line that is not UTF-8 is a command of a session, where it is bad.
 unfoldable pub alone_command : Option (List ℕ) → List ℕ → WorkCommand
-alone_command file line = if is_utf8 line then line_command file line else Session (session.line_command line)
+alone_command file line = if is_utf8 line then utf8_command file line else Session (session.line_command line)
 
 -- ---- a line and its block
 

@@ -126,7 +126,7 @@ pub(crate) fn request_of(line: &[u8]) -> Request<'_>
 
 /// Returns what a line that is UTF-8 asks for.
 fn line_request(line: &str) -> Request<'_>
-    ensures { (file : Option (List ℕ)) → view_request file line.now result ≡ spec.line_command file line.now }
+    ensures { (file : Option (List ℕ)) → view_request file line.now result ≡ spec.utf8_command file line.now }
 {
     if is_comment(line.as_bytes()) {
         return Request::Comment;
