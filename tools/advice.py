@@ -153,6 +153,8 @@ class Advice:
         folder = os.path.dirname(path) or "."
         if os.path.realpath(path) == os.path.realpath(self.desk.script) and not os.path.lexists(path):
             return "%s is not there any more, and was not written: save to another file." % named(path)
+        if os.path.isfile(path) and os.access(path, os.W_OK) and read(path) == self.desk.child.text():
+            return "%s has the script now, but its folder could not be flushed to the disk. Save to it again." % named(path)
         if self.desk.files.is_script(path) and os.access(path, os.W_OK) and self.desk.files.seen != read(path):
             return "%s has changed since it was read, and was not overwritten. Enter reads it again; save to another file to keep both." % named(path)
         if not os.path.isdir(folder):

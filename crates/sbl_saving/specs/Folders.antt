@@ -24,28 +24,28 @@ abbrev pub with_draft : Folder → Folder
 with_draft f = record f { draft = Some []; is_flushed = false }
 
 -- bytes are put at the end of the new file
-abbrev pub written : List ℕ → Folder → Folder
-written bytes f = record f { draft = option_map (λ d. d ++ bytes) f.draft; is_flushed = false }
+abbrev pub with_bytes : List ℕ → Folder → Folder
+with_bytes bytes f = record f { draft = option_map (λ d. d ++ bytes) f.draft; is_flushed = false }
 
 -- some of them are, or all
 abbrev pub with_part : Option (List ℕ) → Folder → Folder
 with_part part f = record f { draft = part; is_flushed = false }
 
 -- the bytes of the new file are on the disk
-abbrev pub flushed : Folder → Folder
-flushed f = record f { is_flushed = true }
+abbrev pub after_flush : Folder → Folder
+after_flush f = record f { is_flushed = true }
 
 -- what is found at the name of the new file, if the program or the machine stops
 abbrev pub found_of : Folder → Found
 found_of f = if f.is_flushed then Exactly f.draft else Anything
 
 -- The new file takes the name of the target. Until the folder is flushed, what was there before may come back.
-abbrev pub renamed : Folder → Folder
-renamed f = record f { target = f.draft; draft = None; now = f.now ++ found_of f ∷ []; ever = f.ever ++ found_of f ∷ [] }
+abbrev pub after_rename : Folder → Folder
+after_rename f = record f { target = f.draft; draft = None; now = f.now ++ found_of f ∷ []; ever = f.ever ++ found_of f ∷ [] }
 
 -- what a reader of the target gets is there also after a stop of the machine
-abbrev pub settled : Folder → Folder
-settled f = record f { now = Exactly f.target ∷ [] }
+abbrev pub after_flush_of_names : Folder → Folder
+after_flush_of_names f = record f { now = Exactly f.target ∷ [] }
 
 -- the new file is removed
 abbrev pub without_draft : Folder → Folder
@@ -55,12 +55,12 @@ without_draft f = record f { draft = None }
 
 -- The target has the text, also after a stop of the machine. At no moment anything else could be found there than before, or the
 -- text.
-abbrev pub replaced : List ℕ → Folder → Folder
-replaced text f = record { target = Some text; draft = None; is_flushed = true; now = Exactly (Some text) ∷ []; ever = f.ever ++ Exactly (Some text) ∷ [] }
+abbrev pub with_text : List ℕ → Folder → Folder
+with_text text f = record { target = Some text; draft = None; is_flushed = true; now = Exactly (Some text) ∷ []; ever = f.ever ++ Exactly (Some text) ∷ [] }
 
 -- the same, but after a stop of the machine it may be as before
-abbrev pub unsettled : List ℕ → Folder → Folder
-unsettled text f = record { target = Some text; draft = None; is_flushed = true; now = f.now ++ Exactly (Some text) ∷ []; ever = f.ever ++ Exactly (Some text) ∷ [] }
+abbrev pub with_unsettled_text : List ℕ → Folder → Folder
+with_unsettled_text text f = record { target = Some text; draft = None; is_flushed = true; now = f.now ++ Exactly (Some text) ∷ []; ever = f.ever ++ Exactly (Some text) ∷ [] }
 
 -- Two folders have the same but for the new file: the target, and what may or might have been found there.
 abbrev pub SameTarget : Folder → Folder → Type 0

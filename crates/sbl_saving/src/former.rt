@@ -1,6 +1,6 @@
 //! What a file has to have before it is written.
 
-use crate::fault::SaveFault;
+use crate::save_fault::SaveFault;
 use crate::read::{ReadFault, read_file};
 use std::fs;
 use std::io::ErrorKind;

@@ -1,6 +1,6 @@
 //! Writing a file in place, if no new file can take its name.
 
-use crate::fault::{SaveFault, fault_of};
+use crate::save_fault::{SaveFault, fault_of};
 use crate::folder::{Failed, Folder};
 use crate::former::Former;
 use crate::read::{ReadFault, read_file};

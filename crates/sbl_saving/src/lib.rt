@@ -1,7 +1,6 @@
 //! Files that are replaced so that each has its old text or its new one, whatever happens in between.
 #![tactic(auto)]
 
-mod fault;
 mod folder;
 mod former;
 mod in_place;
@@ -9,15 +8,16 @@ mod memory;
 mod read;
 mod replace;
 mod save;
+mod save_fault;
 mod system;
 
-pub use fault::SaveFault;
 pub use folder::{Failed, Folder};
 pub use former::Former;
 pub use memory::{Find, MemoryFolder};
-pub use replace::{ReplaceFault, replace_file};
 pub use read::{ReadFault, is_same_file, read_file};
+pub use replace::{ReplaceFault, replace_file};
 pub use save::save_file;
+pub use save_fault::SaveFault;
 
 #[cfg(test)]
 mod tests;

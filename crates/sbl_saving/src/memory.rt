@@ -81,7 +81,7 @@ impl MemoryFolder {
     }
 
     /// Returns what may be found at the name of the new file.
-    fn found(&self) -> Result<Find, AllocError>
+    fn outcome(&self) -> Result<Find, AllocError>
         ensures { IfOk result (λ find. view_find find ≡ found_of (view_memory self.now)) }
     {
         if self.is_flushed {
@@ -126,10 +126,10 @@ impl Folder for MemoryFolder {
 
     fn rename(&mut self) -> Result<(), Failed> {
         self.step()?;
-        let Ok(now) = self.found() else {
+        let Ok(now) = self.outcome() else {
             return Err(Failed);
         };
-        let Ok(ever) = self.found() else {
+        let Ok(ever) = self.outcome() else {
             return Err(Failed);
         };
         if self.now.reserve(1).is_err() || self.ever.push(ever).is_err() {

@@ -1,7 +1,7 @@
 //! A file gets a new text: all of it, or it keeps the old one.
-ghost use Rattle.std.specs.Prelude.{◌≡◌, ◌×◌, List, Option, OnErr, OnOk, Err, ℕ};
+ghost use Rattle.std.specs.Prelude.{◌≡◌, List, Option, OnErr, OnOk, Err, ℕ};
 ghost use Rattle.std.specs.Option.{option_map};
-ghost use Rattle.sbl_saving.specs.Folders.{Keeps, flushed, replaced, unsettled, with_part, written};
+ghost use Rattle.sbl_saving.specs.Folders.{Keeps, after_flush, with_bytes, with_part, with_text, with_unsettled_text};
 
 use crate::folder::{Failed, Folder};
 
@@ -20,7 +20,7 @@ pub enum ReplaceFault {
 
 /// Writes the text into the new file, and flushes it.
 fn fill<D: Folder>(folder: &mut D, text: &[u8]) -> Result<(), Failed>
-    ensures filled { OnOk result (D.view folder.new ≡ option_map (λ f. flushed (written text.now f)) (D.view folder.old)) }
+    ensures filled { OnOk result (D.view folder.new ≡ option_map (λ f. after_flush (with_bytes text.now f)) (D.view folder.old)) }
     ensures part { OnErr result ((part : Option (List ℕ)) × (D.view folder.new ≡ option_map (with_part part) (D.view folder.old))) }
 {
     folder.write(text)?;
@@ -36,11 +36,11 @@ fn fill<D: Folder>(folder: &mut D, text: &[u8]) -> Result<(), Failed>
 /// if that can be done. Returns `NotSettled` if the names cannot be flushed: then the target has the new text, but after a stop of
 /// the machine it may have the old one again.
 pub fn replace_file<D: Folder>(folder: &mut D, text: &[u8]) -> Result<(), ReplaceFault>
-    ensures replaced { OnOk result (D.view folder.new ≡ option_map (replaced text.now) (D.view folder.old)) }
+    ensures replaced { OnOk result (D.view folder.new ≡ option_map (with_text text.now) (D.view folder.old)) }
     ensures not_made { result ≡ Err ReplaceFault.NotMade → D.view folder.new ≡ D.view folder.old }
     ensures not_written { result ≡ Err ReplaceFault.NotWritten → Keeps (D.view folder.old) (D.view folder.new) }
     ensures not_named { result ≡ Err ReplaceFault.NotNamed → Keeps (D.view folder.old) (D.view folder.new) }
-    ensures not_settled { result ≡ Err ReplaceFault.NotSettled → D.view folder.new ≡ option_map (unsettled text.now) (D.view folder.old) }
+    ensures not_settled { result ≡ Err ReplaceFault.NotSettled → D.view folder.new ≡ option_map (with_unsettled_text text.now) (D.view folder.old) }
 {
     if folder.create().is_err() {
         return Err(ReplaceFault::NotMade);

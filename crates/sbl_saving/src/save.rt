@@ -1,6 +1,6 @@
 //! Writing a text to a file of the system: by a new file beside it, or in place if that cannot be.
 
-use crate::fault::{SaveFault, fault_of};
+use crate::save_fault::{SaveFault, fault_of};
 use crate::former::Former;
 use crate::in_place::{write_device, write_in_place};
 use crate::read::is_one;

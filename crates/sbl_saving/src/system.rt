@@ -1,11 +1,11 @@
 //! A folder of the system. Contracts do not know what it has.
 ghost use Rattle.std.specs.Prelude.{None};
 
-use crate::fault::SaveFault;
+use crate::save_fault::SaveFault;
 use crate::folder::{Failed, Folder};
 use crate::former::Former;
 use std::alloc::AllocError;
-use std::fs::{Metadata, OpenFile, OpenOptions};
+use std::fs::{Metadata, OpenFile, OpenOptions, Permissions};
 use std::io::{ErrorKind, Write};
 use std::os::unix::fs::{MetadataExt, OpenOptionsExt, PermissionsExt, chown};
 use std::rt::Files;
@@ -125,7 +125,7 @@ impl<'a, F: Files + AllocGlobal> SystemFolder<'a, F> {
         if self.like.is_some() {
             options.mode(0o600);
         }
-        for number in 1..=MOST_NAMES {
+        for number in 1..MOST_NAMES {
             self.name(number)?;
             match options.open(self.files, self.path.as_str()) {
                 Err(error) if error.kind() == ErrorKind::AlreadyExists => {}
@@ -144,7 +144,7 @@ impl<'a, F: Files + AllocGlobal> SystemFolder<'a, F> {
         if made.uid() != like.uid() || made.gid() != like.gid() {
             chown(self.files, self.path.as_str(), Some(like.uid()), Some(like.gid()))?;
         }
-        file.set_permissions(PermissionsExt::from_mode(like.mode() & PERMISSIONS))
+        file.set_permissions(Permissions::from_mode(like.mode() & PERMISSIONS))
     }
 }
 

@@ -62,9 +62,9 @@ abbrev pub families_in_file : List ℕ → WorkCommand
 families_in_file bytes = Families (made_text (lines_of bytes))
 
 -- lines that were put at the end of a file; none if it lacks no word that was added
-abbrev pub appended : List ℕ → WorkCommand
-appended [] = NoWords
-appended (b ∷ lines) = Saved
+abbrev pub append_command : List ℕ → WorkCommand
+append_command [] = NoWords
+append_command (b ∷ lines) = Saved
 
 -- the command of a line by its command word
 abbrev pub word_command : Option (List ℕ) → List ℕ → WorkCommand
@@ -76,7 +76,7 @@ word_command file line =
     else (if bytes_eq (command_word line) (codes "integers") then Integers (chars (argument line))
     else (if bytes_eq (command_word line) (codes "show") then Show (argument line)
     else (if bytes_eq (command_word line) (codes "save") then with_file (λ bytes. Saved) file
-    else (if bytes_eq (command_word line) (codes "append") then with_file appended file
+    else (if bytes_eq (command_word line) (codes "append") then with_file append_command file
     else Session (session.line_command line))))))))
 
 -- the command of a line that is no comment and no `echo`

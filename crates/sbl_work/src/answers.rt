@@ -158,7 +158,7 @@ fn save_reply(bench: &Bench, file: Option<&[u8]>) -> Reply
 
 /// Returns the reply to `append`, for the lines that were put at the end of the file.
 fn append_reply(bench: &Bench, file: Option<&[u8]>) -> Reply
-    ensures { (d : State) → IsWorkAnswer (contents_of bench.now) d (spec.with_file spec.appended (view_file file.entry)) result (contents_of bench.now) d }
+    ensures { (d : State) → IsWorkAnswer (contents_of bench.now) d (spec.with_file spec.append_command (view_file file.entry)) result (contents_of bench.now) d }
 {
     match file {
         Some([]) => Reply::Fixed(NOTHING_TO_APPEND),

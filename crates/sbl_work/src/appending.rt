@@ -57,7 +57,7 @@ impl Added {
     }
 
     /// Returns the files that `append` has made.
-    pub(crate) fn made(&self) -> &[String] {
+    pub(crate) fn files(&self) -> &[String] {
         self.made.as_slice()
     }
 
@@ -84,10 +84,17 @@ fn text_of(alloc: Global, word: &[char]) -> Result<String, AllocError> {
 
 /// Returns whether bytes are the text of these characters.
 fn is_text_of(word: &[char], bytes: &[u8]) -> bool {
-    match str::from_utf8(bytes) {
-        Ok(text) => text.chars().eq(word.iter().copied()),
-        Err(_) => false,
+    let Ok(text) = str::from_utf8(bytes) else {
+        return false;
+    };
+    let mut rest = word;
+    for character in text.chars() {
+        match rest.split_first() {
+            Some((first, after)) if *first == character => rest = after,
+            _ => return false,
+        }
     }
+    rest.is_empty()
 }
 
 /// Returns the words. Returns `AllocError` if an allocation fails.

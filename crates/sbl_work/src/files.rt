@@ -144,7 +144,7 @@ fn may_append<F: Files>(files: &F, paths: &Paths, added: &Added, path: &str) -> 
             return true;
         }
     }
-    for made in added.made() {
+    for made in added.files() {
         if is_same_file(files, path, made.as_str()) {
             return true;
         }
@@ -157,6 +157,14 @@ fn is_free<F: Files>(files: &F, path: &str) -> bool {
     match fs::symlink_metadata(files, path) {
         Ok(_) => false,
         Err(error) => error.kind() == io::ErrorKind::NotFound,
+    }
+}
+
+/// Returns whether a path names an ordinary file.
+fn is_ordinary<F: Files>(files: &F, path: &str) -> bool {
+    match fs::metadata(files, path) {
+        Ok(found) => found.is_file(),
+        Err(_) => false,
     }
 }
 
@@ -209,7 +217,7 @@ pub(crate) fn append<F: Files + AllocGlobal>(
         }
         return appended;
     }
-    if !may_append(files, paths, added, path) || !fs::metadata(files, path).is_ok_and(|found| found.is_file()) {
+    if !may_append(files, paths, added, path) || !is_ordinary(files, path) {
         return Err(SaveFault::NotWritten);
     }
     let old = match read_file(files, path) {
