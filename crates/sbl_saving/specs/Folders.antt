@@ -1,5 +1,5 @@
 -- A file that is to be replaced, and a new file beside it in the same folder.
-use Rattle.std.specs.Prelude.{◌≡◌, ⊤, ℕ, Bool, true, false, List, [], ◌∷◌, ◌++◌, if◌then◌else◌, Option, Some, None}
+use Rattle.std.specs.Prelude.{ℕ, Bool, true, false, List, [], ◌∷◌, ◌++◌, if◌then◌else◌, Option, Some, None}
 use Rattle.std.specs.Option.{option_map}
 
 -- What may be found at a name: exactly these bytes, or no file; or anything, since bytes were not flushed to the disk.
@@ -61,13 +61,3 @@ with_text text f = record { target = Some text; draft = None; is_flushed = true;
 -- the same, but after a stop of the machine it may be as before
 abbrev pub with_unsettled_text : List ℕ → Folder → Folder
 with_unsettled_text text f = record { target = Some text; draft = None; is_flushed = true; now = f.now ++ Exactly (Some text) ∷ []; ever = f.ever ++ Exactly (Some text) ∷ [] }
-
--- Two folders have the same but for the new file: the target, and what may or might have been found there.
-abbrev pub SameTarget : Folder → Folder → Type 0
-SameTarget f g = (g.target ≡ f.target) × (g.now ≡ f.now) × (g.ever ≡ f.ever)
-
--- the same, if what is in the folder is known
-abbrev pub Keeps : Option Folder → Option Folder → Type 0
-Keeps (Some f) (Some g) = SameTarget f g
-Keeps None None = ⊤
-Keeps f g = ⊥

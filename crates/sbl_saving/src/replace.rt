@@ -1,7 +1,8 @@
 //! A file gets a new text: all of it, or it keeps the old one.
-ghost use Rattle.std.specs.Prelude.{◌≡◌, List, Option, OnErr, OnOk, Err, ℕ};
+ghost use Rattle.std.specs.Prelude.{◌≡◌, List, Option, OnErr, OnOk, ℕ};
 ghost use Rattle.std.specs.Option.{option_map};
-ghost use Rattle.sbl_saving.specs.Folders.{Keeps, after_flush, with_bytes, with_part, with_text, with_unsettled_text};
+ghost use Rattle.sbl_saving.specs.Folders.{after_flush, with_bytes, with_part};
+ghost use Rattle.sbl_saving.specs.Replacing.{IsReplaced};
 
 use crate::folder::{Failed, Folder};
 
@@ -36,11 +37,7 @@ fn fill<D: Folder>(folder: &mut D, text: &[u8]) -> Result<(), Failed>
 /// if that can be done. Returns `NotSettled` if the names cannot be flushed: then the target has the new text, but after a stop of
 /// the machine it may have the old one again.
 pub fn replace_file<D: Folder>(folder: &mut D, text: &[u8]) -> Result<(), ReplaceFault>
-    ensures replaced { OnOk result (D.view folder.new ≡ option_map (with_text text.now) (D.view folder.old)) }
-    ensures not_made { result ≡ Err ReplaceFault.NotMade → D.view folder.new ≡ D.view folder.old }
-    ensures not_written { result ≡ Err ReplaceFault.NotWritten → Keeps (D.view folder.old) (D.view folder.new) }
-    ensures not_named { result ≡ Err ReplaceFault.NotNamed → Keeps (D.view folder.old) (D.view folder.new) }
-    ensures not_settled { result ≡ Err ReplaceFault.NotSettled → D.view folder.new ≡ option_map (with_unsettled_text text.now) (D.view folder.old) }
+    ensures { IsReplaced text.now result (D.view folder.old) (D.view folder.new) }
 {
     if folder.create().is_err() {
         return Err(ReplaceFault::NotMade);
