@@ -7,6 +7,7 @@ from faults import reason, replacing
 from near import listed, meant, near
 from plain import cut, named
 from rows import rows_of
+from warn import read
 
 PLAIN = "stems classes script runs reload undo redo mark changes stats unused help quit".split()
 ONE_LINE = "add append remove class trace why tests events integers limit largest show save echo".split()
@@ -153,12 +154,16 @@ class Advice:
         folder = os.path.dirname(path) or "."
         if os.path.realpath(path) == os.path.realpath(self.desk.script) and not os.path.lexists(path):
             return "%s is not there any more, and was not written: save to another file." % named(path)
-        if self.desk.files.is_script(path) and os.access(path, os.W_OK):
+        if os.path.isfile(path) and os.access(path, os.W_OK) and read(path) == self.desk.child.text():
+            return "%s has the script now, but its folder could not be flushed to the disk. Save to it again." % named(path)
+        if self.desk.files.is_script(path) and os.access(path, os.W_OK) and self.desk.files.seen != read(path):
             return "%s has changed since it was read, and was not overwritten. Enter reads it again; save to another file to keep both." % named(path)
         if not os.path.isdir(folder):
             return "%s cannot be written: there is no folder %s." % (named(path), named(folder))
         if os.path.isdir(path):
             return "%s cannot be written: it is a folder. Name a file in it." % named(path)
+        if os.access(path if os.path.exists(path) else folder, os.W_OK):
+            return "%s cannot be written: perhaps the disk is full.%s" % (named(path), " It has its former text." if os.path.exists(path) else "")
         return "%s cannot be written: you may not write there. Save to another file." % named(path)
 
     def lines_75(self, word, argument, command):

@@ -20,7 +20,7 @@ from advice import Advice, correct_in
 from changes import Changes, added_words, lay_out_families, lay_out_largest, lay_out_stats
 from child import Child
 from conditions import Conditions
-from files import Files
+from files import Files, state_of
 from history import EDITS, TYPED, aside_sentence, digest
 from keys import BrokenOff
 from near import listed
@@ -46,6 +46,13 @@ LONGEST = 65536
 
 class Lost(Exception):
     """Something has ended the program, and it could not be brought back."""
+
+# What a sentence says of a command in the middle of which something ended the program.
+LOST = {
+    "reload": "The file was not read: Enter reads it.",
+    "save": "The file has its former text or the new one: type save again.",
+    "append": "The file has its former words or the new ones, too: type append again.",
+}
 
 
 class Desk:
@@ -112,23 +119,21 @@ class Desk:
         return verdict
 
     def run(self, word, argument, lines, is_edit):
-        former = read(argument) if word == "save" else None
+        former, state = (read(argument), state_of(argument)) if word == "save" else (None, None)
         typed, text = self.before_reload() if word == "reload" else ({}, None)
         replaced = self.definition(argument.partition(" ")[0]) if word in TYPED else None
         if is_edit and self.changes is None:
             self.changes = self.changes_now(self.query(["changes"]))
-        is_own = word == "save" and self.files.has_crlf()
-        answer = self.files.write_crlf(argument, self.child.text()) if is_own else self.child.run(lines, say, text)
+        answer = self.child.run(lines, say, text)
         if answer is None:
-            say(list(filter(None, [word == "save" and self.files.put_back(argument, former)])))
             return self.end(word)
         if answer is False:
-            return self.bring_back(word == "reload")
+            return self.bring_back(word == "reload", argument if word == "save" and state_of(argument) != state else None)
         refusal = REFUSAL.match(answer[0]) if len(answer) == 1 else None
         if refusal:
             if word == "reload" and text is not None:
                 self.files.refused = text
-            self.refuse(answer, int(refusal[1]), lines, former)
+            self.refuse(answer, int(refusal[1]), lines)
             return "refused"
         # (what was accepted has to be noted)
         with self.child.interrupts.allowed() if answer != ["ok"] else contextlib.nullcontext():
@@ -136,6 +141,7 @@ class Desk:
         write(shown, is_text=word in ("show", "script", "echo"))
         say(self.advice.note(lines))
         if word == "save":
+            say(self.files.note_in_place(argument, state))
             say(self.files.note_saved(argument, former))
             self.history.note_saved(argument)
         if word in ("add", "remove"):
@@ -163,17 +169,14 @@ class Desk:
         rows = rows_of(self.query(["stems"]) or []) if added else []
         return Changes(answer, {row[0]: row[1:] for row in rows if row[0] in added})
 
-    def refuse(self, answer, code, lines, former):
-        """Shows a refusal and what to do. `former` is what the file of `save` had before."""
-        word, _, argument = lines[0].partition(" ")
+    def refuse(self, answer, code, lines):
+        """Shows a refusal and what to do."""
+        word = lines[0].partition(" ")[0]
         write(answer)
-        cut = self.files.put_back(argument, former) if word == "save" else None
         say_program(self.child.said())
         # (of a text that is not UTF-8 the program has said what it may be)
         if word == "reload" and answer != ["no 48 NotUtf8"]:
             self.warn([self.script])
-        if cut:
-            return say([cut])
         with self.child.interrupts.allowed():
             sentences = self.advice.lines(code, lines)
         say(sentences)
@@ -218,7 +221,7 @@ class Desk:
             return self.end()
         refusal = REFUSAL.match(answer[0])
         if refusal:
-            self.refuse(answer, int(refusal[1]), ["tests " + word], None)
+            self.refuse(answer, int(refusal[1]), ["tests " + word])
             return "refused"
         with self.child.interrupts.allowed():
             lines = self.conditions.lay_out(word, rows_of(answer), int(rows_of(figures)[0][1]))
@@ -263,7 +266,9 @@ class Desk:
     def append(self, path):
         """Puts the added words into a file."""
         is_new = self.files.has_new_words()
-        is_done, sentence = self.added.append(path)
+        is_done, sentence = self.added.append(path, self.child)
+        if is_done is None:
+            return self.end("append") if sentence is None else self.bring_back(is_reload=False)
         if not is_new:
             self.files.note_words()
         write(["ok"] if is_done else [])
@@ -282,14 +287,17 @@ class Desk:
         self.files.look()
         return self.definitions(), read(self.script)
 
-    def bring_back(self, is_reload):
-        """Has the program begin anew and go to where it was, after an edit that Ctrl-C broke off. The script's file keeps its text."""
+    def bring_back(self, is_reload, written=None):
+        """Has the program begin anew and go to where it was, after a command that Ctrl-C broke off. `written` is the file of a `save` that has
+        another text now."""
         say([self.child.break_sentence()])
         if not self.is_brought_back() or digest(self.query(["script"]) or []) != self.history.script:
             say(["The command was broken off, but the edits before it could not be made again. Start again."])
             self.child.stop()
             self.status = 1
             return "ended"
+        if written is not None:
+            return self.note_broken_save(written)
         say(["The command was broken off. Nothing changed.", *([correct_in(self.script, self.is_save_enough)] if is_reload else [])])
         return "refused"
 
@@ -319,6 +327,16 @@ class Desk:
         self.child.stop()
         self.status = 1
         raise Lost
+
+    def note_broken_save(self, path):
+        """Says what a file has after a `save` of it that Ctrl-C broke off too late."""
+        if self.child.text() != read(path):
+            say(["The command was broken off. %s has another text than before: save to it again." % named(path)])
+            return "refused"
+        self.files.note_saved(path, None)
+        self.history.note_saved(path)
+        say(["The script was saved to %s before the command was broken off." % named(path)])
+        return "ok"
 
     def definitions(self):
         """Returns the definition of each part that is typed and in force, by its name; the whole script has no name."""
@@ -359,7 +377,7 @@ class Desk:
     def end(self, word=""):
         """Says why the program has ended. If something ended it in the middle of a command, whose first word is given, it is brought back."""
         if self.child.is_lost() and self.bring_back_lost():
-            say(["The file was not read: Enter reads it." if word == "reload" else "The command was not done: type it again."])
+            say([LOST.get(word, "The command was not done: type it again.")])
             return "refused"
         self.child.process.wait()
         self.last_message = self.child.said()
