@@ -11,6 +11,7 @@ also `words`, if only the file of words was saved, which is not read again.
 """
 import os
 import re
+import signal
 import sys
 
 from added import Added
@@ -20,14 +21,16 @@ from child import Child
 from conditions import Conditions
 from files import Files
 from history import EDITS, TYPED, aside_sentence, digest
+from keys import BrokenOff
+from near import listed
 from opening import Opening
-from plain import named
+from plain import cut, named
 from rows import rows_of
 from screen import say, say_program, write
 from shows import Shows
 from whys import lay_out_why
 from warn import BOM, read, warnings_on
-from watch import watch
+from watch import end_with_input, watch
 
 REFUSAL = re.compile(r"^no (\d\d) ([A-Za-z0-9]+)$")
 # What is shown for replies without a row.
@@ -38,6 +41,10 @@ EMPTY = {
 }
 # The most bytes of a line.
 LONGEST = 65536
+
+
+class Lost(Exception):
+    """Something has ended the program, and it could not be brought back."""
 
 
 class Desk:
@@ -51,6 +58,9 @@ class Desk:
         self.is_save_enough = False
         self.files, self.added = Files(script, words), Added(script, words)
         self.child = Child(program, options, script, words)
+        self.child.bring_back_lost = self.bring_back_lost
+        # Whether all requests are answered.
+        self.is_done = False
         self.advice = Advice(self)
         self.shows, self.conditions = Shows(self), Conditions(self)
         self.opening = Opening(self)
@@ -119,7 +129,9 @@ class Desk:
             if word == "reload" and text is not None:
                 self.files.refused = text
             return "refused"
-        write(self.lay_out(lines[0], answer), is_text=word in ("show", "script", "echo"))
+        with self.child.interrupts.allowed():
+            shown = self.lay_out(lines[0], answer)
+        write(shown, is_text=word in ("show", "script", "echo"))
         say(self.advice.note(lines))
         if word == "save":
             say(self.files.note_saved(argument, former))
@@ -158,7 +170,11 @@ class Desk:
         # (of a text that is not UTF-8 the program has said what it may be)
         if word == "reload" and answer != ["no 48 NotUtf8"]:
             self.warn([self.script])
-        say([cut] if cut else self.advice.lines(code, lines))
+        if cut:
+            return say([cut])
+        with self.child.interrupts.allowed():
+            sentences = self.advice.lines(code, lines)
+        say(sentences)
 
     def show_changes(self, text):
         """Shows the rows of `changes` that have a text."""
@@ -202,9 +218,10 @@ class Desk:
         if refusal:
             self.refuse(answer, int(refusal[1]), ["tests " + word], None)
             return "refused"
-        lines = self.conditions.lay_out(word, rows_of(answer), int(rows_of(figures)[0][1]))
+        with self.child.interrupts.allowed():
+            lines = self.conditions.lay_out(word, rows_of(answer), int(rows_of(figures)[0][1]))
         write(lines or [])
-        say([] if lines else ["The tests of this run cannot be shown: it is too long, or near a limit. events %s shows its events." % named(word)])
+        say([] if lines else ["The tests of this run cannot be shown: it is too long, or near a limit. events %s shows its events." % cut(word)])
         return "ok"
 
     def may_save(self, path):
@@ -253,7 +270,8 @@ class Desk:
 
     def peek(self, line):
         """Returns `ok` if a block may follow a line; otherwise says what is wrong with it."""
-        wrong = self.advice.early(line)
+        with self.child.interrupts.allowed():
+            wrong = self.advice.early(line)
         say(wrong + ["Nothing was done."] if wrong else [])
         return "refused" if wrong else "ok"
 
@@ -265,18 +283,39 @@ class Desk:
     def bring_back(self, is_reload):
         """Has the program begin anew and go to where it was, after an edit that Ctrl-C broke off. The script's file keeps its text."""
         say([self.child.break_sentence()])
-        try:
-            self.child.bring_back()
-            is_back = digest(self.query(["script"]) or []) == self.history.script
-        except OSError:
-            is_back = False
-        if not is_back:
+        if not self.is_brought_back() or digest(self.query(["script"]) or []) != self.history.script:
             say(["The command was broken off, but the edits before it could not be made again. Start again."])
             self.child.stop()
             self.status = 1
             return "ended"
         say(["The command was broken off. Nothing changed.", *([correct_in(self.script, self.is_save_enough)] if is_reload else [])])
         return "refused"
+
+    def is_brought_back(self):
+        try:
+            return self.child.bring_back()
+        except OSError:
+            return False
+
+    def bring_back_lost(self, is_last=False):
+        """Has the program begin anew and go to where it was, after something has ended it. Returns true; if it cannot, or if something ended it
+        for the last time, says what is lost, and raises `Lost`."""
+        number = -self.child.process.returncode
+        cause = "perhaps since memory was short" if number == signal.SIGKILL else signal.strsignal(number)
+        ended = "The program was ended from outside, by signal %d (%s)." % (number, cause)
+        if not self.history:
+            say([ended])
+            return False
+        if not is_last:
+            say(["%s It starts again and repeats the earlier edits." % ended])
+        if not is_last and self.is_brought_back():
+            return True
+        lost = list(dict.fromkeys(edit.command for edit in self.history.unsaved()))
+        edits = "These edits are in no file and are lost: %s." % listed(lost, "and") if lost else "No edit is lost."
+        say(["It was ended again. %s Start again." % edits])
+        self.child.stop()
+        self.status = 1
+        raise Lost
 
     def definitions(self):
         """Returns the definition of each part that is typed and in force, by its name; the whole script has no name."""
@@ -292,7 +331,7 @@ class Desk:
         before, command, is_reload = self.history.script, lines[0], lines[0] == "reload"
         is_new, edit = self.history.note(command, lines[1:-1], script, replaced)
         if edit:
-            write(["%s: %s" % ("undid" if command == "undo" else "redid", edit.command)])
+            write(["%s: %s" % ("undid" if command == "undo" else "redid", cut(edit.command))])
             if command == "undo" and self.history.in_file != self.history.script and (edit.word == "reload" or self.history.script_file in edit.files):
                 say(["%s still has what undo took back: Enter reads it again." % named(self.script)])
         elif not is_new and not is_reload and command not in ("undo", "redo"):
@@ -315,7 +354,10 @@ class Desk:
                 say([line], is_text=True)
 
     def end(self):
-        """Says why the program has ended."""
+        """Says why the program has ended. If something ended it in the middle of a command, it is brought back."""
+        if self.child.is_lost() and self.bring_back_lost():
+            say(["The command was not done: type it again."])
+            return "refused"
         self.child.process.wait()
         self.last_message = self.child.said()
         say_program(self.last_message)
@@ -341,8 +383,18 @@ def requests():
         yield record(), [record() for _ in range(int(count))]
 
 
+def reply_to(desk, kind, lines):
+    """Returns what is written for a request, also if Ctrl-C breaks its sentences off or the program cannot be brought back."""
+    try:
+        return reply(desk, kind, lines)
+    except BrokenOff:
+        say(["It was broken off."])
+        return "refused"
+    except Lost:
+        return "ended"
+
+
 def reply(desk, kind, lines):
-    """Returns what is written for a request."""
     if kind == "start":
         return desk.opening.start(lines == ["--watch"])
     if kind == "peek":
@@ -363,18 +415,20 @@ def reply(desk, kind, lines):
 def main():
     program, script, words, *options = sys.argv[1:]
     desk = Desk(program, script, words, options)
+    end_with_input(desk)
     with os.fdopen(3, "w") as replies:
         for kind, lines in requests():
-            said = reply(desk, kind, lines)
+            said = reply_to(desk, kind, lines)
             print(said, file=replies, flush=True)
             if said == "ended":
                 break
+    desk.is_done = True
     try:
         desk.child.process.stdin.close()
     except BrokenPipeError:
         pass
     status = desk.child.process.wait()
-    return status if desk.status is None else desk.status
+    return desk.status if desk.status is not None else 1 if status < 0 else status
 
 
 if __name__ == "__main__":

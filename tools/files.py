@@ -4,6 +4,7 @@ import os
 import re
 
 from plain import named
+from source import comments_in, decoded
 from warn import read
 
 
@@ -130,8 +131,7 @@ def with_crlf(text):
 
 def count_comments(text):
     """Returns the number of comments of a script."""
-    tokens = re.findall(rb"'(?:\{[^}]*\}|\{(?![^}]*\})|[^'{])*'|//[^\n]*|/\*.*?\*/", text or b"", re.S)
-    return sum(token.startswith(b"/") for token in tokens)
+    return comments_in(decoded(text))
 
 
 def amount(comments):
