@@ -1,9 +1,8 @@
 //! sbl_bench: the rows and classes of a vocabulary, its edits, and why they are refused.
 
 use crate::common::{displays, letters, lists, parse_body, parse_text, text_of};
-use sbl_bench::{Bench, Class, EditFault, Row};
+use sbl_bench::{Bench, Class, EditFault, Row, ScriptFault};
 use sbl_machine::{Item, Outcome};
-use sbl_script::ScriptFault;
 use std::alloc::{AllocError, Global};
 use std::process::Abort;
 use std::test::Fail;

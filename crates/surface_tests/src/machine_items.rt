@@ -5,6 +5,7 @@ ghost use Rattle.std.specs.Prelude.{◌≤◌, length, IfOk};
 use crate::common::{displays, field, letters, lists, number, parse_body, parse_text, text_of};
 use sbl_machine::{
     AmongSearch, Item, LinkedTable, Machine, Meter, Outcome, PlainTable, Ran, RunFault, RunStop,
+    ScriptFault,
 };
 use sbl_script::{Mode, Script};
 use std::alloc::{AllocError, Global};
@@ -163,11 +164,16 @@ fn runs(rt: &impl Abort, alloc: Global, script: &Script, row: &str) -> Result<()
     gives::<LinkedTable>(rt, alloc, script, row)
 }
 
+/// The script of a row of `RUNS`.
+fn script_named(alloc: Global, row: &str) -> Result<Script, ScriptFault> {
+    parse_text(alloc, field(row, 0))
+}
+
 #[test]
 fn a_run_gives_its_outcome_its_steps_and_what_it_touched(rt: HostRuntime) -> Result<(), Fail> {
     let alloc = rt.alloc();
     for row in RUNS.split('\n') {
-        let script = parse_text(alloc, field(row, 0))?;
+        let script = script_named(alloc, row)?;
         let done = runs(&rt, alloc, &script, row);
         drop(script);
         done?;

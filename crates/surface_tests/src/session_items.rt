@@ -3,8 +3,9 @@
 use crate::common::{PREFIXES, displays, field_lines, parse_text};
 use crate::device_items::{Single, Slow};
 use sbl_bench::EditFault;
-use sbl_script::ScriptFault;
-use snowbench::{Device, Lines, LoadFault, ServeFault, Sink, Source, check, load, serve};
+use snowbench::{
+    Device, Lines, LoadFault, ScriptFault, ServeFault, Sink, Source, check, load, serve,
+};
 use std::alloc::Global;
 use std::process::Abort;
 use std::test::Fail;
