@@ -10,7 +10,7 @@ import unittest
 from edits import Edit, pairs_of
 from judging import Changed, Kind, judge, judge_elsewhere
 from kit import Check, messages_of
-from sample import chosen, groups_by_crate
+from sample import choose, groups_by_crate
 from sources import functions_of, module_of, owner_of
 
 SAMPLES = f"{os.path.dirname(os.path.abspath(__file__))}/samples"
@@ -134,10 +134,10 @@ class Messages(unittest.TestCase):
 class Choice(unittest.TestCase):
     def test_a_commit_chooses_the_same_edits_again(self) -> None:
         edits = [Edit("a", f"edit_{it}", False, {}) for it in range(50)]
-        labels = [it.label for it in chosen(edits, 12, "c4147fb8")]
-        self.assertEqual(labels, [it.label for it in chosen(edits[::-1], 12, "c4147fb8")])
+        labels = [it.label for it in choose(edits, 12, "c4147fb8")]
+        self.assertEqual(labels, [it.label for it in choose(edits[::-1], 12, "c4147fb8")])
         self.assertEqual(len(set(labels)), 12)
-        self.assertNotEqual(labels, [it.label for it in chosen(edits, 12, "c4147fb9")])
+        self.assertNotEqual(labels, [it.label for it in choose(edits, 12, "c4147fb9")])
 
     def test_edits_of_one_function_are_in_two_groups(self) -> None:
         edits = [Edit(crate, name, False, {}, paths=[path]) for crate, name, path in (("a", "x", "f"), ("a", "y", "g"), ("a", "z", "f"), ("b", "x", "f"))]
