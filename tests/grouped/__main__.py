@@ -66,7 +66,7 @@ def edits_of(kit: Kit, crate: str, sources: Sources) -> list[Edit]:
     return edits + [read_edit(kit, sources, crate, it, True) for it in edit_files(f"{CONTROLS}/{crate}")]
 
 
-def picked(names: list[str]) -> dict[str, set[str]]:
+def edits_by_crate(names: list[str]) -> dict[str, set[str]]:
     """Returns the crates that are named, each with the edits that are named; with none if all are meant."""
     found: dict[str, set[str]] = {}
     for name in names:
@@ -108,7 +108,7 @@ def main(top: str, jobs: str, *names: str) -> int:
     if names[0] == "--sample":
         try_sample(kit, int(jobs), int(names[1]), names[2], tally)
     else:
-        for crate, wanted in picked(list(names)).items():
+        for crate, wanted in edits_by_crate(list(names)).items():
             is_proved &= try_crate(kit, crate, wanted, int(jobs), tally)
     print(tally.line())
     return 0 if tally.is_well() and is_proved else 1

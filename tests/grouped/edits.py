@@ -39,7 +39,7 @@ class Edit:
 
     @property
     def label(self) -> str:
-        return f"{self.crate}/{self.name}"
+        return f"{self.crate}/{'controls/' if self.is_control else ''}{self.name}"
 
 
 class Sources:

@@ -72,11 +72,11 @@ class Kit:
         texts, why = self.rt.read_edit(file, self.folder(crate))
         return texts, why or ""
 
-    def unread(self, check: Check, texts: dict[str, str]) -> str:
+    def unread_message(self, check: Check, texts: dict[str, str]) -> str:
         """Returns the first message that says that the prover could not read an edited text, or an empty text."""
         return next((it for it in check.said if self.rt.unread(it, texts)), "")
 
-    def limit(self, check: Check) -> str:
+    def limit_message(self, check: Check) -> str:
         """Returns the message by which the prover stopped at a limit of its own, or an empty text."""
         return next((it for it in check.said if check.status == 3 and self.rt.LIMITS.search(it)), "")
 

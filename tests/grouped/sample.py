@@ -15,7 +15,7 @@ from sources import module_of
 from trial import changes_of, verdict_of
 
 
-def chosen(edits: list[Edit], number: int, commit: str) -> list[Edit]:
+def choose(edits: list[Edit], number: int, commit: str) -> list[Edit]:
     """Returns so many of the edits, the same ones for the same commit."""
     order = sorted(edits, key=lambda it: hashlib.sha256(f"{commit} {it.label}".encode()).hexdigest())
     return order[:number]
@@ -56,28 +56,28 @@ class Sample:
 
     def run(self, number: int, commit: str, jobs: int) -> list[tuple[Edit, Verdict]]:
         """Tries so many edits, and returns what is said of each."""
-        edits = chosen(self.edits, number, commit)
+        edits = choose(self.edits, number, commit)
         missing = self.kit.take_libraries({it.crate for it in edits})
         if missing:
             return [(it, Verdict(Kind.UNKNOWN, f"{missing} is not proved here: run rt ci first")) for it in edits]
         with ThreadPoolExecutor(jobs) as pool:
-            return [it for found in pool.map(self.group, groups_by_crate(edits)) for it in found]
+            return [it for found in pool.map(self.try_group, groups_by_crate(edits)) for it in found]
 
-    def group(self, edits: list[Edit]) -> list[tuple[Edit, Verdict]]:
+    def try_group(self, edits: list[Edit]) -> list[tuple[Edit, Verdict]]:
         """Tries edits of one crate in one check, and alone what that does not settle."""
         if len(edits) == 1:
-            return [(edits[0], self.alone(edits[0]))]
+            return [(edits[0], self.try_alone(edits[0]))]
         crate, paths = edits[0].crate, [path for it in edits for path in it.paths]
         texts = self.sources[crate].with_spans([span for it in edits for span in it.spans])
         ran = self.kit.check(crate, texts, None, paths)
         found = []
         for edit in edits:
-            verdict = judge(changes_of(edit), ran.said) if ran.is_refusal and not self.kit.unread(ran, texts) else None
+            verdict = judge(changes_of(edit), ran.said) if ran.is_refusal and not self.kit.unread_message(ran, texts) else None
             is_settled = verdict and verdict.kind in (Kind.REFUSED, Kind.RENAMED, Kind.FORM)
-            found.append((edit, verdict if is_settled else self.alone(edit)))
+            found.append((edit, verdict if is_settled else self.try_alone(edit)))
         return found
 
-    def alone(self, edit: Edit) -> Verdict:
+    def try_alone(self, edit: Edit) -> Verdict:
         """Tries one edit alone."""
         ran = self.kit.check(edit.crate, edit.texts, None, edit.paths)
         if ran.said[-1].startswith("only=0"):

@@ -7,9 +7,10 @@ from __future__ import annotations
 import os
 import unittest
 
-from edits import pairs_of
+from edits import Edit, pairs_of
 from judging import Changed, Kind, judge, judge_elsewhere
-from kit import messages_of
+from kit import Check, messages_of
+from sample import choose, groups_by_crate
 from sources import functions_of, module_of, owner_of
 
 SAMPLES = f"{os.path.dirname(os.path.abspath(__file__))}/samples"
@@ -37,6 +38,12 @@ class Samples(unittest.TestCase):
         verdict = judge([function("sbl_token::signs::one", file="src/signs.rt")], sample("search_fails"))
         self.assertEqual(verdict.kind, Kind.ACCEPTED)
 
+
+    def test_a_check_of_one_function_refuses(self) -> None:
+        check = Check(1, sample("only"))
+        self.assertTrue(check.is_refusal)
+        verdict = judge([function("sbl_token::words::Word::text", file="src/words.rt", first=90, last=190)], check.said)
+        self.assertEqual(verdict.kind, Kind.REFUSED)
 
     def test_each_edit_of_a_group_is_judged_by_its_own_goals(self) -> None:
         said = sample("group")
@@ -122,6 +129,19 @@ class Messages(unittest.TestCase):
         lost = "proofs/Facts.antt:3:1: error: `fact`: `limit` is not in scope"
         self.assertEqual(judge_elsewhere([lost, "logic=not-proved"]).kind, Kind.NAME)
         self.assertEqual(judge_elsewhere([lost, "src/a.rt:1:1: error: no", "logic=not-proved"]).kind, Kind.REFUSED)
+
+
+class Choice(unittest.TestCase):
+    def test_a_commit_chooses_the_same_edits_again(self) -> None:
+        edits = [Edit("a", f"edit_{it}", False, {}) for it in range(50)]
+        labels = [it.label for it in choose(edits, 12, "c4147fb8")]
+        self.assertEqual(labels, [it.label for it in choose(edits[::-1], 12, "c4147fb8")])
+        self.assertEqual(len(set(labels)), 12)
+        self.assertNotEqual(labels, [it.label for it in choose(edits, 12, "c4147fb9")])
+
+    def test_edits_of_one_function_are_in_two_groups(self) -> None:
+        edits = [Edit(crate, name, False, {}, paths=[path]) for crate, name, path in (("a", "x", "f"), ("a", "y", "g"), ("a", "z", "f"), ("b", "x", "f"))]
+        self.assertEqual([[it.label for it in group] for group in groups_by_crate(edits)], [["a/x", "a/y"], ["a/z"], ["b/x"]])
 
 
 class Places(unittest.TestCase):

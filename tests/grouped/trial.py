@@ -36,9 +36,9 @@ class Trial:
         self.find(self.prove())
         was = self.kit.files(self.seed)
         with ThreadPoolExecutor(self.jobs) as pool:
-            left = self.grouped([it for it in self.edits if not it.misfit and not it.alone and it.paths], pool.map)
+            left = self.try_groups([it for it in self.edits if not it.misfit and not it.alone and it.paths], pool.map)
             left += [it for it in self.edits if not it.misfit and (it.alone or not it.paths)]
-            for edit, verdict in zip(left, pool.map(self.alone, left)):
+            for edit, verdict in zip(left, pool.map(self.try_alone, left)):
                 self.verdicts[edit.label] = verdict
         if self.kit.files(self.seed) != was or self.kit.prove(self.crate, self.seed).status:
             raise NotProved(f"what was proved of {self.crate} was changed meanwhile")
@@ -61,13 +61,13 @@ class Trial:
                 if not edit.alone:
                     find_paths(edit, proved)
 
-    def grouped(self, edits: list[Edit], call: Callable) -> list[Edit]:
+    def try_groups(self, edits: list[Edit], call: Callable) -> list[Edit]:
         """Tries edits in groups, in two turns, and returns those that no group settles."""
         for most in TURNS:
             groups = [it for it in groups_of(edits, self.sources, most, self.jobs) if len(it) > 1]
             in_groups = {edit.label for group in groups for edit in group}
             left = [it for it in edits if it.label not in in_groups]
-            left += [edit for found in call(self.group, groups) for edit in found]
+            left += [edit for found in call(self.try_group, groups) for edit in found]
             if groups:
                 print(f"{self.crate}: {len(groups)} groups settled {len(edits) - len(left)} of {len(edits)} edits", flush=True)
             edits = left
@@ -84,14 +84,14 @@ class Trial:
                 it.write("\n".join([f"edits: {' '.join(edit.name for edit in edits)}", *ran.said, ""]))
         return ran
 
-    def group(self, edits: list[Edit]) -> list[Edit]:
+    def try_group(self, edits: list[Edit]) -> list[Edit]:
         """Tries these edits in one check, and returns those that it does not settle."""
         ran = self.check(edits)
         texts = self.sources.with_spans([span for it in edits for span in it.spans])
         if ran.error():
             well = [it for it in edits if not self.is_bad(it)]
-            return self.group(well) if 1 < len(well) < len(edits) else well
-        if not ran.is_refusal or self.kit.unread(ran, texts):
+            return self.try_group(well) if 1 < len(well) < len(edits) else well
+        if not ran.is_refusal or self.kit.unread_message(ran, texts):
             return edits
         left = []
         for edit in edits:
@@ -111,7 +111,7 @@ class Trial:
             self.verdicts[edit.label] = Verdict(Kind.BAD, f"it does not compile: {error}")
         return bool(error)
 
-    def alone(self, edit: Edit) -> Verdict:
+    def try_alone(self, edit: Edit) -> Verdict:
         """Tries one edit alone."""
         ran = self.check([edit])
         return verdict_of(self.kit, edit, ran)
@@ -124,13 +124,13 @@ def changes_of(edit: Edit) -> list[Changed]:
 
 def verdict_of(kit: Kit, edit: Edit, ran: Check) -> Verdict:
     """Returns what a check of the crate with this edit alone says of it."""
-    unread = kit.unread(ran, edit.texts)
+    unread = kit.unread_message(ran, edit.texts)
     if ran.error() or unread and ran.status == 1:
         return Verdict(Kind.BAD, f"it does not compile: {ran.error()}" if ran.error() else f"the prover cannot read it: {unread}")
     if not ran.status:
         return Verdict(Kind.ACCEPTED, ", ".join(edit.paths) or edit.alone)
-    if kit.limit(ran):
-        return Verdict(Kind.UNKNOWN, kit.limit(ran))
+    if kit.limit_message(ran):
+        return Verdict(Kind.UNKNOWN, kit.limit_message(ran))
     if not ran.is_refusal:
         return Verdict(Kind.UNKNOWN, f"status {ran.status}: {ran.said[-1]}")
     verdict = judge(changes_of(edit), ran.said)
