@@ -140,14 +140,14 @@ other_more field i n m lt other so same =
 
 -- ---- fields
 
-pub plain_field : (field : List ℕ) (b : Bool) → b ≡ needs_quotes flexible field → b ≡ false → length field ≤ max_count → length field ≡ count_of (field_text flexible field)
-plain_field field b test off fits =
+pub plain_field : (field : List ℕ) (b : Bool) (k : ℕ) → b ≡ needs_quotes flexible field → b ≡ false → k ≡ length field → k ≤ max_count → k ≡ count_of (field_text flexible field)
+plain_field field b k test off len fits =
     let plain : field_text flexible field ≡ field = ap (λ (q : Bool). if q then quoted flexible field else field) (sym test ∙ off) in
-    omega (arith, fits, ap length plain)
+    omega (arith, len, fits, ap length plain)
 
-pub quoted_field : (field : List ℕ) (b : Bool) (quotes n m : ℕ) → b ≡ needs_quotes flexible field → b ≡ true → quotes + length field ≡ length (escaped flexible field)
-    → n ≡ min (length field + quotes) (2 ^ 64 - 1) → m ≡ min (n + 2) (2 ^ 64 - 1) → m ≡ count_of (field_text flexible field)
-quoted_field field b quotes n m test on marks first next =
+pub quoted_field : (field : List ℕ) (b : Bool) (quotes k n m : ℕ) → b ≡ needs_quotes flexible field → b ≡ true → k ≡ length field
+    → quotes + length field ≡ length (escaped flexible field) → n ≡ min (k + quotes) (2 ^ 64 - 1) → m ≡ min (n + 2) (2 ^ 64 - 1) → m ≡ count_of (field_text flexible field)
+quoted_field field b quotes k n m test on len marks first next =
     let whole : field_text flexible field ≡ quoted flexible field = ap (λ (q : Bool). if q then quoted flexible field else field) (sym test ∙ on) in
     let size : length (quoted flexible field) ≡ length (escaped flexible field) + 2 = omega (arith, length-append (escaped flexible field) (34 ∷ [])) in
-    omega (arith, marks, first, next, size, ap length whole)
+    omega (arith, len, marks, first, next, size, ap length whole)

@@ -39,7 +39,8 @@ impl Report for ReportLength {
     ghost has_taken = { λ report text. HasCounted report text };
 
     fn push(&mut self, csv_record: &ByteRecord) -> Result<(), AllocError> {
-        self.bytes = self.bytes.saturating_add(line_length(csv_record));
+        let bytes = self.bytes.saturating_add(line_length(csv_record));
+        self.bytes = bytes;
         Ok(())
     }
 }
@@ -99,13 +100,11 @@ fn line_length(csv_record: &ByteRecord) -> usize
 fn field_length(field: &[u8]) -> usize
     ensures { result ≡ count_of (field_text flexible field.now) }
 {
-    if !is_quoted(field) {
-        return field.len();
+    let length = field.len();
+    if is_quoted(field) {
+        return length.saturating_add(quote_count(field)).saturating_add(2);
     }
-    field
-        .len()
-        .saturating_add(quote_count(field))
-        .saturating_add(2)
+    length
 }
 
 /// Returns whether a field is between quotes.
