@@ -22,7 +22,7 @@ keeps_remove (Err e) o m n done failed keeps = subst (Keeps o) (sym failed) keep
 -- the new file is made
 pub keeps_draft : (o m : Option Folder) → m ≡ option_map with_draft o → Keeps o m
 keeps_draft (Some f) m is = subst (Keeps (Some f)) (sym is) (refl, refl, refl)
-keeps_draft None m is = subst (Keeps None) (sym is) unit
+keeps_draft None m is = subst (Keeps None) (sym is) tt
 
 -- a part of the text is written
 pub keeps_part : (part : Option (List ℕ)) (o m n : Option Folder) → m ≡ option_map with_draft o → n ≡ option_map (with_part part) m → Keeps o n
@@ -66,9 +66,9 @@ after_both bytes None = refl
 pub fill_ok : (r : Result (Unit {0}) Failed) (bytes : List ℕ) (o m n : Option Folder) → m ≡ option_map (with_bytes bytes) o → OnOk r (n ≡ option_map after_flush m)
     → OnOk r (n ≡ option_map (λ f. after_flush (with_bytes bytes f)) o)
 fill_ok (Ok u) bytes o m n written flushed = flushed ∙ ap (option_map after_flush) written ∙ after_both bytes o
-fill_ok (Err e) bytes o m n written flushed = unit
+fill_ok (Err e) bytes o m n written flushed = tt
 
 pub fill_err : (r : Result (Unit {0}) Failed) (bytes : List ℕ) (o m n : Option Folder) → m ≡ option_map (with_bytes bytes) o → OnErr r (n ≡ m)
     → OnErr r ((part : Option (List ℕ)) × (n ≡ option_map (with_part part) o))
-fill_err (Ok u) bytes o m n written kept = unit
+fill_err (Ok u) bytes o m n written kept = tt
 fill_err (Err e) bytes o m n written kept = let part = bytes_are_part bytes o in (part.0, kept ∙ written ∙ part.1)

@@ -72,12 +72,12 @@ fn keep<D: Folder>(folder: &mut D, text: &[u8]) -> Result<(), Failed> {
 }
 
 /// Writes a text to a file in place. A file beside it keeps the old text until that is done, if it can be made.
-pub(crate) fn write_in_place<F: Files + AllocGlobal>(
-    files: &F,
-    target: &str,
+pub(crate) fn write_in_place<'x, F: Files + AllocGlobal>(
+    files: &'x F,
+    target: &'x str,
     like: Option<Metadata>,
     text: &[u8],
-    former: Former<'_>,
+    former: Former<'x>,
 ) -> Result<(), SaveFault> {
     let old = match read_file(files, target) {
         Ok(old) => old,

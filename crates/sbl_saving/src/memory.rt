@@ -26,9 +26,9 @@ pub struct MemoryFolder {
     /// Whether the bytes of the new file are on the disk.
     pub is_flushed: bool,
     /// What may be found at the target if the machine stops now.
-    pub now: Vec<Find>,
+    pub finds_now: Vec<Find>,
     /// What might have been found there until now.
-    pub ever: Vec<Find>,
+    pub finds_ever: Vec<Find>,
     fails_at: u32,
     steps: u32,
 }
@@ -64,8 +64,8 @@ impl MemoryFolder {
             target,
             draft: None,
             is_flushed: false,
-            now,
-            ever,
+            finds_now: now,
+            finds_ever: ever,
             fails_at,
             steps: 0,
         })
@@ -132,10 +132,10 @@ impl Folder for MemoryFolder {
         let Ok(ever) = self.outcome() else {
             return Err(Failed);
         };
-        if self.now.reserve(1).is_err() || self.ever.push(ever).is_err() {
+        if self.finds_now.reserve(1).is_err() || self.finds_ever.push(ever).is_err() {
             return Err(Failed);
         }
-        let _ = self.now.push(now);
+        let _ = self.finds_now.push(now);
         self.target = self.draft.take();
         Ok(())
     }
@@ -148,7 +148,7 @@ impl Folder for MemoryFolder {
         let Ok(now) = only(self.alloc, Find::Exactly(target)) else {
             return Err(Failed);
         };
-        self.now = now;
+        self.finds_now = now;
         Ok(())
     }
 

@@ -61,12 +61,12 @@ fn may_write<F: Files>(files: &F, path: &str) -> Result<(), SaveFault> {
 }
 
 /// Writes a text to a file that is there. One that has several names is written in place, since the others would keep the old text.
-fn save_over<F: Files + AllocGlobal>(
-    files: &F,
-    target: &str,
+fn save_over<'x, F: Files + AllocGlobal>(
+    files: &'x F,
+    target: &'x str,
     like: Metadata,
     text: &[u8],
-    former: Former<'_>,
+    former: Former<'x>,
 ) -> Result<(), SaveFault> {
     may_write(files, target)?;
     if like.nlink() > 1 {
@@ -85,11 +85,11 @@ fn save_over<F: Files + AllocGlobal>(
 }
 
 /// Writes a text to a file that is not there yet.
-fn save_new<F: Files + AllocGlobal>(
-    files: &F,
-    path: &str,
+fn save_new<'x, F: Files + AllocGlobal>(
+    files: &'x F,
+    path: &'x str,
     text: &[u8],
-    former: Former<'_>,
+    former: Former<'x>,
 ) -> Result<(), SaveFault> {
     let mut folder = SystemFolder::new(files, path, former, Role::New, None)?;
     match replace_file(&mut folder, text) {
@@ -112,11 +112,11 @@ fn save_new<F: Files + AllocGlobal>(
 /// Returns `Changed` if the file does not have what `former` says, `NotWritten` if it cannot be written, and `OutOfMemory` if memory is
 /// refused: then it has its old text. Returns `NotSettled` if it has the new text, but the names of its folder cannot be flushed.
 /// Returns `Torn` if it was written in place, that failed, and its old text could not be put back.
-pub fn save_file<F: Files + AllocGlobal>(
-    files: &F,
-    path: &str,
+pub fn save_file<'x, F: Files + AllocGlobal>(
+    files: &'x F,
+    path: &'x str,
     text: &[u8],
-    former: Former<'_>,
+    former: Former<'x>,
 ) -> Result<(), SaveFault> {
     if path.is_empty() {
         return Err(SaveFault::NotWritten);
