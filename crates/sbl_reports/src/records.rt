@@ -48,11 +48,7 @@ fn push_values<T: Record, R: Report>(
 }
 
 /// Appends the line of a value. Returns `AllocError` if an allocation fails.
-fn push_value<T: Record, R: Report>(
-    alloc: Global,
-    out: &mut R,
-    value: &T,
-) -> Result<(), AllocError>
+fn push_value<T: Record, R: Report>(alloc: Global, out: &mut R, value: &T) -> Result<(), AllocError>
     ensures { OnOk result (TakesMore R.has_taken out.old out.new (spec.record_line (T.fields value.now))) }
 {
     let mut text = String::new(alloc);

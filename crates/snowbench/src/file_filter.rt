@@ -89,10 +89,7 @@ fn filter_input<R: Source + Drop, W: Sink>(
 }
 
 /// Reads a script block, and returns its script.
-fn read_source<R: Source + Drop>(
-    external: &str,
-    lines: &mut Lines<R>,
-) -> Result<Script, LoadFault>
+fn read_source<R: Source + Drop>(external: &str, lines: &mut Lines<R>) -> Result<Script, LoadFault>
     ensures script { fault_of lines.old ≡ None → IfOk result (λ script. TookSource (input_of R.left lines.old) (input_of R.left lines.new) external.now (source_of script)) }
     ensures lacks { fault_of lines.old ≡ None → IfErr result (λ fault. LacksScript (input_of R.left lines.old) (input_of R.left lines.new) external.now fault) }
     ensures why { IfErr result (λ fault. HasReason R.tally lines.old lines.new fault) }

@@ -119,7 +119,9 @@ pub(crate) fn word_fault_text(
 
 /// Appends that a word has too many characters.
 fn push_long_word(shown: &mut String) -> Result<(), AllocError> {
-    let text = format!(in *shown.allocator(); "more than {MAX_WORD_LENGTH} characters, which no word may have")?;
+    let text = format!(in *shown.allocator();
+        "more than {MAX_WORD_LENGTH} characters, which no word may have"
+    )?;
     shown.push_str(text.as_str())
 }
 

@@ -8,9 +8,7 @@ use crate::run_result::RunResult;
 use crate::streams::{FirstBytes, FirstBytesReader, Output};
 use crate::talk::{Lead, Talk};
 use crate::watching::{Context, Quiet, WatchedReader};
-use snowbench::{
-    Device, Lines, Source, Verb, Wanted, WordKeys, run_filter as run_words, run_with,
-};
+use snowbench::{Device, Lines, Source, Verb, Wanted, WordKeys, run_filter as run_words, run_with};
 use std::alloc::{AllocError, Global};
 use std::cell::RefCell;
 use std::hash::RandomState;
@@ -295,11 +293,7 @@ pub(crate) fn run_filter(rt: &HostRuntime, wanted: &Wanted, script: &str) -> u8 
 }
 
 /// Prints the line of a fault of a word, and where it is. Returns the exit status.
-fn print_word_fault(
-    rt: &HostRuntime,
-    ended: &RunResult,
-    text: Result<String, AllocError>,
-) -> u8 {
+fn print_word_fault(rt: &HostRuntime, ended: &RunResult, text: Result<String, AllocError>) -> u8 {
     print_said(rt, ended);
     print_line(rt, text, ended.status)
 }
@@ -308,11 +302,7 @@ fn print_word_fault(
 type EndOfFilter = (RunResult, Result<Option<String>, AllocError>);
 
 /// Writes the row of each word of standard input, by the script in these bytes.
-fn filter_words(
-    rt: &HostRuntime,
-    external: &str,
-    input: &[u8],
-) -> Result<EndOfFilter, AllocError> {
+fn filter_words(rt: &HostRuntime, external: &str, input: &[u8]) -> Result<EndOfFilter, AllocError> {
     let reader = input.chain(rt.stdin());
     let mut lines = Lines::new(rt.alloc(), Device::new(reader))?;
     let said = Vec::with_capacity(rt.alloc(), MAX_FAULT_LINE)?;

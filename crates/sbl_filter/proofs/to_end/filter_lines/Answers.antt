@@ -45,9 +45,11 @@ loop-rows-preserved g c =
     record {
       made = so.made;
       between = c.in_ok-filter_line.ensures.between;
-      rows =
-          (so.rows.0 ++ line ∷ [], words-push so.rows.1 (input_of left c.next_line.new.self) (held c.filter_line.new.writer) line (c.in_ok-next_line.ensures.fits c.if-branch.true, c.in_ok-next_line.ensures.more c.if-branch.true) writes,
-          next_line so.rows.0 line c.loop-rows.line c.saturating_add.result so.rows.2 c.saturating_add.ensures);
+      rows = (
+        so.rows.0 ++ line ∷ [],
+        words-push so.rows.1 (input_of left c.next_line.new.self) (held c.filter_line.new.writer) line (c.in_ok-next_line.ensures.fits c.if-branch.true, c.in_ok-next_line.ensures.more c.if-branch.true) writes,
+        next_line so.rows.0 line c.loop-rows.line c.saturating_add.result so.rows.2 c.saturating_add.ensures,
+      );
       fault = c.in_ok-next_line.ensures.ready.1 ∙ sym c.in_ok-next_line.ensures.ready.0 ∙ so.fault;
       read = c.in_ok-next_line.ensures.steady ∙ so.read;
       written = c.in_ok-filter_line.ensures.steady ∙ so.written;
