@@ -18,7 +18,7 @@ one_text a = append-nil (record_line a)
 -- the lines for a list that begins with a value
 pub text_of_more : {X : Type 0} (f : X → List (List (List ℕ))) (x : X) (xs rest : List X) → xs ≡ x ∷ rest
     → records_text (flat_map f xs) ≡ records_text (f x) ++ records_text (flat_map f rest)
-text_of_more f x xs rest are = ap (λ (l : List X). records_text (flat_map f l)) are ∙ both_texts (f x) (flat_map f rest)
+text_of_more {X = X} f x xs rest are = ap (λ (l : List X). records_text (flat_map f l)) are ∙ both_texts (f x) (flat_map f rest)
 
 module _ {T : Type 0} (has_taken : T → List ℕ → Type 0) where
   -- a report takes the lines for one value more
@@ -34,10 +34,10 @@ module _ {T : Type 0} (has_taken : T → List ℕ → Type 0) where
   -- rows that depend on a test
   pub if_taken : (b : Bool) (y z : T) (a : List (List ℕ)) → b ≡ false → TakesMore has_taken y z (record_line a)
       → TakesMore has_taken y z (records_text (if b then [] else a ∷ []))
-  if_taken b y z a no takes = subst (λ (t : Bool). TakesMore has_taken y z (records_text (if t then [] else a ∷ []))) (sym no) (one_taken y z a takes)
+  if_taken b y z a is_no takes = subst (λ (t : Bool). TakesMore has_taken y z (records_text (if t then [] else a ∷ []))) (sym is_no) (one_taken y z a takes)
 
   pub if_none : (b : Bool) (y : T) (rows : List (List (List ℕ))) → b ≡ true → TakesMore has_taken y y (records_text (if b then [] else rows))
-  if_none b y rows yes = subst (λ (t : Bool). TakesMore has_taken y y (records_text (if t then [] else rows))) (sym yes) (takes-none has_taken y)
+  if_none b y rows is_yes = subst (λ (t : Bool). TakesMore has_taken y y (records_text (if t then [] else rows))) (sym is_yes) (takes-none has_taken y)
 
   -- lines after lines
   pub two_taken : (x y z : T) (r : Result (Unit {0}) AllocError) (a b : List (List (List ℕ))) → TakesMore has_taken x y (records_text a)
