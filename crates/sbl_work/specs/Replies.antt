@@ -44,7 +44,7 @@ abbrev pub no_file_text : List ℕ
 no_file_text = with_line_feed (codes "no 57 NoFile")
 
 abbrev pub no_words_text : List ℕ
-no_words_text = with_line_feed (codes "no 58 NothingToAppend")
+no_words_text = with_line_feed (codes "no 69 NothingToAppend")
 
 abbrev pub not_text_text : List ℕ
 not_text_text = with_line_feed (codes "no 75 NotText")
