@@ -1,7 +1,7 @@
 //! What a file has to have before it is written.
 
-use crate::save_fault::SaveFault;
 use crate::read::{ReadFault, read_file};
+use crate::save_fault::SaveFault;
 use std::fs;
 use std::io::ErrorKind;
 use std::rt::Files;
@@ -36,7 +36,11 @@ impl Former<'_> {
     }
 
     /// Looks whether a file has this. Returns `Changed` if it does not, and `OutOfMemory` if memory to read it is refused.
-    pub(crate) fn check<F: Files + AllocGlobal>(&self, files: &F, path: &str) -> Result<(), SaveFault> {
+    pub(crate) fn check<F: Files + AllocGlobal>(
+        &self,
+        files: &F,
+        path: &str,
+    ) -> Result<(), SaveFault> {
         let is_so = match self {
             Former::Any => true,
             Former::Bytes(_) => match read_file(files, path) {
@@ -46,6 +50,10 @@ impl Former<'_> {
             },
             Former::Missing => is_free(files, path),
         };
-        if is_so { Ok(()) } else { Err(SaveFault::Changed) }
+        if is_so {
+            Ok(())
+        } else {
+            Err(SaveFault::Changed)
+        }
     }
 }

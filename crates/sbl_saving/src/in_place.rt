@@ -1,9 +1,9 @@
 //! Writing a file in place, if no new file can take its name.
 
-use crate::save_fault::{SaveFault, fault_of};
 use crate::folder::{Failed, Folder};
 use crate::former::Former;
 use crate::read::{ReadFault, read_file};
+use crate::save_fault::{SaveFault, fault_of};
 use crate::system::{Role, SystemFolder};
 use std::fs::{Metadata, OpenFile, OpenOptions};
 use std::io::{Seek, SeekFrom, Write};

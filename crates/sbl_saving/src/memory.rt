@@ -54,7 +54,11 @@ fn only(alloc: Global, find: Find) -> Result<Vec<Find>, AllocError>
 
 impl MemoryFolder {
     /// Returns a folder whose target has these bytes, on the disk, and without a new file. Returns `AllocError` if an allocation fails.
-    pub fn new(alloc: Global, target: Option<Vec<u8>>, fails_at: u32) -> Result<MemoryFolder, AllocError>
+    pub fn new(
+        alloc: Global,
+        target: Option<Vec<u8>>,
+        fails_at: u32,
+    ) -> Result<MemoryFolder, AllocError>
         ensures { IfOk result (λ m. view_memory m ≡ record { target = view_file target; draft = None; is_flushed = false; now = Exactly (view_file target) ∷ []; ever = Exactly (view_file target) ∷ [] }) }
     {
         let now = only(alloc, Find::Exactly(copy_of(alloc, &target)?))?;

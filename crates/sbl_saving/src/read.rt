@@ -57,7 +57,10 @@ pub fn is_same_file<F: Files>(files: &F, path: &str, other: &str) -> bool {
     }
     let (folder, name) = split(path);
     let (other_folder, other_name) = split(other);
-    match (fs::metadata(files, folder), fs::metadata(files, other_folder)) {
+    match (
+        fs::metadata(files, folder),
+        fs::metadata(files, other_folder),
+    ) {
         (Ok(folder), Ok(other_folder)) => name == other_name && is_one(&folder, &other_folder),
         _ => false,
     }

@@ -1,17 +1,17 @@
 //! Writing a text to a file of the system: by a new file beside it, or in place if that cannot be.
 
-use crate::save_fault::{SaveFault, fault_of};
 use crate::former::Former;
 use crate::in_place::{write_device, write_in_place};
 use crate::read::is_one;
 use crate::replace::{ReplaceFault, replace_file};
+use crate::save_fault::{SaveFault, fault_of};
 use crate::system::{Role, SystemFolder};
+use std::fs;
 use std::fs::{Metadata, OpenOptions};
 use std::io::ErrorKind;
 use std::os::unix::fs::MetadataExt;
 use std::path::PathBuf;
 use std::rt::Files;
-use std::fs;
 
 /// What a path names.
 #[derive(Drop)]

@@ -1,9 +1,9 @@
 //! A folder of the system. Contracts do not know what it has.
 ghost use Rattle.std.specs.Prelude.{None};
 
-use crate::save_fault::SaveFault;
 use crate::folder::{Failed, Folder};
 use crate::former::Former;
+use crate::save_fault::SaveFault;
 use std::alloc::AllocError;
 use std::fs::{Metadata, OpenFile, OpenOptions, Permissions};
 use std::io::{ErrorKind, Write};
@@ -83,9 +83,18 @@ impl<'a, F: Files + AllocGlobal> SystemFolder<'a, F> {
     /// Returns the folder of a file, which is the target, before the file beside it is made. That one gets the owner and the
     /// permissions of `like`. It takes the name only of a target that has what `former` says.
     /// Returns `AllocError` if an allocation for the name of that file fails.
-    pub(crate) fn new(files: &'a F, target: &'a str, former: Former<'a>, role: Role, like: Option<Metadata>) -> Result<SystemFolder<'a, F>, AllocError> {
+    pub(crate) fn new(
+        files: &'a F,
+        target: &'a str,
+        former: Former<'a>,
+        role: Role,
+        like: Option<Metadata>,
+    ) -> Result<SystemFolder<'a, F>, AllocError> {
         let (folder, name) = split(target);
-        let length = folder.len().saturating_add(name.len()).saturating_add(MOST_OF_END);
+        let length = folder
+            .len()
+            .saturating_add(name.len())
+            .saturating_add(MOST_OF_END);
         Ok(SystemFolder {
             files,
             target,
@@ -142,7 +151,12 @@ impl<'a, F: Files + AllocGlobal> SystemFolder<'a, F> {
         };
         let made = file.metadata()?;
         if made.uid() != like.uid() || made.gid() != like.gid() {
-            chown(self.files, self.path.as_str(), Some(like.uid()), Some(like.gid()))?;
+            chown(
+                self.files,
+                self.path.as_str(),
+                Some(like.uid()),
+                Some(like.gid()),
+            )?;
         }
         file.set_permissions(Permissions::from_mode(like.mode() & PERMISSIONS))
     }
@@ -164,7 +178,9 @@ fn flush_folder<F: Files>(files: &F, folder: &str) -> io::Result<()> {
         Err(error) => return Err(error),
     };
     match opened.sync_all() {
-        Err(error) if error.kind() == ErrorKind::InvalidInput || error.kind() == ErrorKind::Unsupported => Ok(()),
+        Err(error)
+            if error.kind() == ErrorKind::InvalidInput || error.kind() == ErrorKind::Unsupported =>
+            Ok(()),
         flushed => flushed,
     }
 }

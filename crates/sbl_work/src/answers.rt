@@ -11,7 +11,9 @@ ghost use Rattle.sbl_reports.specs.Reports as reports;
 ghost use Rattle.sbl_work.specs.ReplyViews.{IsWorkAnswer, view_file};
 
 use crate::parts::families_reply;
-use crate::replies::{BAD_NUMBER, NOTHING_TO_APPEND, NO_FILE, edit_reply, memory_reply, redo_reply, undo_reply};
+use crate::replies::{
+    BAD_NUMBER, NO_FILE, NOTHING_TO_APPEND, edit_reply, memory_reply, redo_reply, undo_reply,
+};
 use crate::requests::{Request, count_in, request_of};
 use crate::whys::{integers_reply, why_reply};
 use sbl_bench::{Bench, EditFault};

@@ -136,7 +136,11 @@ pub(crate) fn lines_to_append(
     old: &[u8],
 ) -> Result<Vec<u8>, AllocError> {
     let set = lacking(alloc, words, old)?;
-    let end = if has_crlf(old) { b"\r\n".as_slice() } else { b"\n".as_slice() };
+    let end = if has_crlf(old) {
+        b"\r\n".as_slice()
+    } else {
+        b"\n".as_slice()
+    };
     let mut lines = Vec::new(alloc);
     if !set.is_empty() && !old.is_empty() && old.last() != Some(&b'\n') {
         lines.extend_from_slice(end)?;

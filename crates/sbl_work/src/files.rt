@@ -6,6 +6,7 @@ ghost use Rattle.sbl_work.specs.WholeWork.{IsOpened};
 use crate::appending::{Added, lines_to_append};
 use crate::file_words::words_in;
 use sbl_bench::{Bench, WordKeys};
+use sbl_history::{has_crlf, push_crlf};
 use sbl_input::LoadFault;
 use sbl_saving::{Former, ReadFault, SaveFault, is_same_file, read_file, save_file};
 use sbl_script::Script;

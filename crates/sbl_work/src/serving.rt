@@ -85,7 +85,13 @@ fn answer_alone<F: Files + AllocGlobal>(
             Err(SaveFault::OutOfMemory) => edit_reply(Err(EditFault::OutOfMemory)),
             Err(_) => answer_line(alloc, desk, bench, line, None),
         },
-        Request::Append(path) => match append(folder.files, folder.paths, &mut folder.added, bench, path) {
+        Request::Append(path) => match append(
+            folder.files,
+            folder.paths,
+            &mut folder.added,
+            bench,
+            path,
+        ) {
             Ok(lines) => answer_line(alloc, desk, bench, line, Some(lines.as_slice())),
             Err(SaveFault::OutOfMemory) => edit_reply(Err(EditFault::OutOfMemory)),
             Err(_) => answer_line(alloc, desk, bench, line, None),
