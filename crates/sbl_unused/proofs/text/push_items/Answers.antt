@@ -1,7 +1,6 @@
 use Rattle.std.proofs.Common.{ap}
 use Rattle.std.specs.List.{flat_map}
 use Rattle.sbl_io.specs.Records.{records_text}
-use Rattle.sbl_semantics.specs.TouchedItems.{item_of}
 use Rattle.sbl_io.proofs.Taking.{leaves-less, leaves-none}
 use Rattle.sbl_unused.specs.Parts.{Part}
 use Rattle.sbl_unused.specs.Unused as spec

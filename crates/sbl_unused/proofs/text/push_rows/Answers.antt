@@ -1,7 +1,5 @@
-use Rattle.std.proofs.Common.{ℕ, List, sym}
 use Rattle.std.specs.List.{flat_map}
-use Rattle.sbl_io.specs.Records.{records_text}
-use Rattle.sbl_unused.proofs.Lines.{both_texts, two_taken}
+use Rattle.sbl_unused.proofs.Lines.{two_taken}
 use Rattle.sbl_unused.specs.Parts.{Part}
 use Rattle.sbl_unused.specs.Unused as spec
 use Rattle.sbl_unused.specs.Views.{view_parts}
