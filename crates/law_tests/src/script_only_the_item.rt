@@ -7,7 +7,7 @@ ghost use Rattle.sbl_resolver.specs.Checks.{WellDeclared};
 ghost use Rattle.sbl_script.specs.Edits.{ScriptEdit, changes, IsEditFault};
 ghost use Rattle.sbl_script.specs.OnlyTheItem.{item_of, number_of};
 ghost use Rattle.sbl_text.specs.declared.fault.ScriptFault.TheVariants as fault;
-ghost use Rattle.sbl_script.specs.declared.edit_fault.ScriptEditFault.TheVariants as edits;
+ghost use Rattle.sbl_script.specs.declared.edit_fault.EditFault.TheVariants as edits;
 
 use sbl_script::laws::only_the_item;
 

@@ -1,6 +1,6 @@
 //! Tests of command lines: what they ask for, and which are refused.
 
-use snowbench::read_command_line;
+use snowbench::read_words;
 use std::alloc::{AllocError, Global};
 use std::test::Fail;
 
@@ -16,22 +16,22 @@ fn line_of(alloc: Global, words: &str) -> Result<Vec<String>, AllocError> {
 /// Returns what a command line asks for, or that it is refused.
 fn answer(alloc: Global, words: &str) -> Result<String, AllocError> {
     let line = line_of(alloc, words)?;
-    match read_command_line(alloc, line.as_slice()) {
-        Ok(line) => format!(in alloc; "{line:?}"),
+    match read_words(alloc, line.as_slice()) {
+        Ok(wanted) => format!(in alloc; "{wanted:?}"),
         Err(_) => String::from_str(alloc, "refused"),
     }
 }
 
 /// The words of a command line, and what it asks for.
 const LINES: &str =
-    "snowbench session: CommandLine { verb: Session, external: \"stem\", script: None, words: None, commands: None, stems: None, is_strict: false, shows_places: false, face: None }
-snowbench check --external go: CommandLine { verb: Check, external: \"go\", script: None, words: None, commands: None, stems: None, is_strict: false, shows_places: false, face: None }
-snowbench stem --external=go: CommandLine { verb: Stem, external: \"go\", script: None, words: None, commands: None, stems: None, is_strict: false, shows_places: false, face: None }
-snowbench stem --external=: CommandLine { verb: Stem, external: \"\", script: None, words: None, commands: None, stems: None, is_strict: false, shows_places: false, face: None }
-snowbench stem --external -: CommandLine { verb: Stem, external: \"-\", script: None, words: None, commands: None, stems: None, is_strict: false, shows_places: false, face: None }
-snowbench session --: CommandLine { verb: Session, external: \"stem\", script: None, words: None, commands: None, stems: None, is_strict: false, shows_places: false, face: None }
-snowbench run a --strict b c: CommandLine { verb: Session, external: \"stem\", script: Some(\"a\"), words: Some(\"b\"), commands: Some(\"c\"), stems: None, is_strict: true, shows_places: false, face: None }
-snowbench check --places a - c: CommandLine { verb: Check, external: \"stem\", script: Some(\"a\"), words: Some(\"-\"), commands: None, stems: Some(\"c\"), is_strict: false, shows_places: true, face: None }
+    "snowbench session: Wanted { verb: Session, external: \"stem\", options: Options { script: None, words: None, commands: None, stems: None, is_strict: false, shows_places: false, face: None } }
+snowbench check --external go: Wanted { verb: Check, external: \"go\", options: Options { script: None, words: None, commands: None, stems: None, is_strict: false, shows_places: false, face: None } }
+snowbench stem --external=go: Wanted { verb: Stem, external: \"go\", options: Options { script: None, words: None, commands: None, stems: None, is_strict: false, shows_places: false, face: None } }
+snowbench stem --external=: Wanted { verb: Stem, external: \"\", options: Options { script: None, words: None, commands: None, stems: None, is_strict: false, shows_places: false, face: None } }
+snowbench stem --external -: Wanted { verb: Stem, external: \"-\", options: Options { script: None, words: None, commands: None, stems: None, is_strict: false, shows_places: false, face: None } }
+snowbench session --: Wanted { verb: Session, external: \"stem\", options: Options { script: None, words: None, commands: None, stems: None, is_strict: false, shows_places: false, face: None } }
+snowbench run a --strict b c: Wanted { verb: Session, external: \"stem\", options: Options { script: Some(\"a\"), words: Some(\"b\"), commands: Some(\"c\"), stems: None, is_strict: true, shows_places: false, face: None } }
+snowbench check --places a - c: Wanted { verb: Check, external: \"stem\", options: Options { script: Some(\"a\"), words: Some(\"-\"), commands: None, stems: Some(\"c\"), is_strict: false, shows_places: true, face: None } }
 snowbench: refused
 snowbench session --external: refused
 snowbench session --external a --external b: refused

@@ -1,6 +1,6 @@
 //! Tests of the whole program with a reader and writers in memory. tests/cases has more of them.
 
-use snowbench::{CommandLine, Device, Lines, Verb, run};
+use snowbench::{Device, Lines, Options, Verb, Wanted, WordKeys, run, run_with};
 use std::alloc::{AllocError, Global};
 use std::hash::RandomState;
 use std::process::Abort;
@@ -25,18 +25,20 @@ fn verb_of(word: &str) -> Verb {
 }
 
 /// Returns what a verb and its external, with a space between them, ask for.
-fn line_of(alloc: Global, words: &str) -> Result<CommandLine, AllocError> {
+fn wanted_of(alloc: Global, words: &str) -> Result<Wanted, AllocError> {
     let (verb, external) = words.split_once(' ').unwrap_or((words, ""));
-    Ok(CommandLine {
+    Ok(Wanted {
         verb: verb_of(verb),
         external: String::from_str(alloc, external)?,
-        script: None,
-        words: None,
-        commands: None,
-        stems: None,
-        is_strict: false,
-        shows_places: false,
-        face: None,
+        options: Options {
+            script: None,
+            words: None,
+            commands: None,
+            stems: None,
+            is_strict: false,
+            shows_places: false,
+            face: None,
+        },
     })
 }
 
@@ -50,12 +52,31 @@ struct RunReport {
 
 /// Runs a subcommand over an input. The writer of faults fails at write `fails_at` (0 for never).
 fn run_of(alloc: Global, words: &str, input: &[u8], fails_at: u64) -> Result<RunReport, Fail> {
-    let keys = RandomState::new(&SameBytes)?;
+    let mut text = writer(alloc, 0);
+    let mut errors = writer(alloc, fails_at);
+    let reader = Device::new(in_pieces(input, 16, 0, 0));
+    let wanted = wanted_of(alloc, words)?;
+    let status = run(alloc, &wanted, reader, &mut text, &mut errors);
+    Ok(RunReport {
+        text: text.into_inner().inner,
+        status,
+        errors: errors.into_inner().inner,
+    })
+}
+
+/// The same over lines, with keys.
+fn run_with_keys(
+    alloc: Global,
+    words: &str,
+    input: &[u8],
+    fails_at: u64,
+) -> Result<RunReport, Fail> {
+    let keys = WordKeys::new(RandomState::new(&SameBytes)?);
     let mut text = writer(alloc, 0);
     let mut errors = writer(alloc, fails_at);
     let mut lines = Lines::new(alloc, Device::new(in_pieces(input, 16, 0, 0)))?;
-    let command_line = line_of(alloc, words)?;
-    let status = run(&command_line, keys, &mut lines, &mut text, &mut errors);
+    let wanted = wanted_of(alloc, words)?;
+    let status = run_with(&wanted, keys, &mut lines, &mut text, &mut errors);
     Ok(RunReport {
         text: text.into_inner().inner,
         status,
@@ -104,10 +125,16 @@ stem stem||1|1||";
 fn gives(rt: &impl Abort, alloc: Global, script: &str, row: &str) -> Result<(), Fail> {
     let input = format!(in alloc; "{script}{}", field(row, 1))?;
     let input = bytes_of(alloc, input.as_str())?;
-    let report = run_of(alloc, field(row, 0), &input, number(row, 2))?;
-    assert!(rt; u64::from(report.status) == number(row, 3), "{row}");
-    assert!(rt; report.text == bytes_of(alloc, field(row, 4))?, "{row}");
-    assert!(rt; report.errors == bytes_of(alloc, field(row, 5))?, "{row}");
+    let text = bytes_of(alloc, field(row, 4))?;
+    let errors = bytes_of(alloc, field(row, 5))?;
+    for report in [
+        run_of(alloc, field(row, 0), &input, number(row, 2))?,
+        run_with_keys(alloc, field(row, 0), &input, number(row, 2))?,
+    ] {
+        assert!(rt; u64::from(report.status) == number(row, 3), "{row}");
+        assert!(rt; report.text == text, "{row}");
+        assert!(rt; report.errors == errors, "{row}");
+    }
     Ok(())
 }
 

@@ -181,7 +181,7 @@ view_plain (plains.Declaration k ns) = trees.declaration k (map string_bytes ns.
 view_plain (plains.StringEscapes a b) = trees.escapes a b
 view_plain (plains.StringDef n b l) = trees.macro (string_bytes n) b (view_literal l)
 view_plain (plains.Routine n r) = trees.routine (string_bytes n) (view_row r).0 (view_row r).1
-view_plain (plains.Grouping n a xs) = trees.grouping (string_bytes n) (view_argument a) (map view_term xs.items)
+view_plain (plains.Grouping g) = trees.grouping (string_bytes g.name) (view_argument g.first) (map view_term g.others.items)
 
 abbrev pub view_item : Item → trees.Item
 view_item (items.Plain p) = trees.plain (view_plain p)

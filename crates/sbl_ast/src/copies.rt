@@ -4,8 +4,8 @@ ghost use Rattle.std.specs.Prelude.{◌≡◌, IfOk, map, string_bytes};
 ghost use Rattle.sbl_ast.specs.View.{view_literal, view_argument, view_next_product, view_expression, view_factor, view_product, view_next_factor, view_sums, view_scales, view_entry, view_command, view_next_command, view_group, view_rows, view_others, view_groups, view_starter, view_among, view_plain, view_row, view_term};
 
 use crate::tree::{
-    Among, Argument, Command, Entry, Expression, Factor, Group, Literal, NextCommand, NextFactor,
-    NextProduct, Plain, Product, RowOfCommands, Term,
+    Among, Argument, Command, Entry, Expression, Factor, Group, Grouping, Literal, NextCommand,
+    NextFactor, NextProduct, Plain, Product, RowOfCommands, Term,
 };
 use std::alloc::{AllocError, Global};
 
@@ -274,14 +274,10 @@ pub fn copy_plain(alloc: Global, plain: &Plain) -> Result<Plain, AllocError>
             name: copy_name(alloc, name)?,
             body: copy_row(alloc, body)?,
         }),
-        Plain::Grouping {
-            name,
-            first,
-            others,
-        } => Ok(Plain::Grouping {
-            name: copy_name(alloc, name)?,
-            first: copy_argument(alloc, first)?,
-            others: copy_terms(alloc, others)?,
-        }),
+        Plain::Grouping(grouping) => Ok(Plain::Grouping(Grouping {
+            name: copy_name(alloc, &grouping.name)?,
+            first: copy_argument(alloc, &grouping.first)?,
+            others: copy_terms(alloc, &grouping.others)?,
+        })),
     }
 }

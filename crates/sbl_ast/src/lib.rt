@@ -15,7 +15,7 @@ pub use mode::Mode;
 pub use order::{ItemInMode, items_in_order};
 pub use tree::{
     Additive, Among, Argument, Assignment, Base, Command, Comparison, Constant, Count,
-    DeclarationKind, Entry, Expression, Factor, Group, Joiner, Literal, Move, Multiplicative,
-    Naming, NextCommand, NextFactor, NextProduct, Plain, Prefix, Product, RowOfCommands,
-    ScriptItem, Simple, Splice, Term,
+    DeclarationKind, Entry, Expression, Factor, Group, Grouping, Joiner, Literal, Move,
+    Multiplicative, Naming, NextCommand, NextFactor, NextProduct, Plain, Prefix, Product,
+    RowOfCommands, ScriptItem, Simple, Splice, Term,
 };

@@ -371,6 +371,17 @@ pub struct Term {
     pub argument: Argument,
 }
 
+/// The definition of a grouping: its terms are added and removed from left to right.
+#[derive(Debug, Drop)]
+pub struct Grouping {
+    /// The name of the grouping.
+    pub name: String,
+    /// The first term.
+    pub first: Argument,
+    /// The terms after it.
+    pub others: Vec<Term>,
+}
+
 /// An item that is allowed in a `backwardmode`.
 #[derive(Drop)]
 pub enum Plain {
@@ -395,14 +406,7 @@ pub enum Plain {
         body: RowOfCommands,
     },
     /// `define NAME T1 + T2 - T3 ..`
-    Grouping {
-        /// The name of the grouping.
-        name: String,
-        /// The first term.
-        first: Argument,
-        /// The terms after it.
-        others: Vec<Term>,
-    },
+    Grouping(Grouping),
 }
 
 /// An item of a script.

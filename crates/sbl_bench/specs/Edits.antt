@@ -3,8 +3,8 @@ use Rattle.std.specs.Prelude.{◌≡◌, ◌≢◌, ◌≤◌, ◌⊎◌, ◌&&�
 use Rattle.std.specs.List.{filter}
 use Rattle.std.specs.Option.{option_map_or}
 use Rattle.std.specs.Str.{bytes_eq}
-use Rattle.sbl_script.specs.declared.edit_fault.ScriptEditFault as declared
-use Rattle.sbl_script.specs.declared.edit_fault.ScriptEditFault.TheVariants as script
+use Rattle.sbl_script.specs.declared.edit_fault.EditFault as declared
+use Rattle.sbl_script.specs.declared.edit_fault.EditFault.TheVariants as script
 use Rattle.sbl_script.specs.Edits.{ScriptEdit, body, among, terms, IsEdited, IsEditFault}
 use Rattle.sbl_ast.specs.Source.{Source}
 use Rattle.sbl_script.specs.Reading.{IsScriptOf, IsFaultOf}
@@ -53,7 +53,7 @@ refusal_of_add s word =
     else (if nat_le max_words (length s.words) then Some fault.Full else None))
 
 -- the fault of an edit of a script, as a fault of the bench
-abbrev pub fault_of_script : declared.ScriptEditFault → EditFault
+abbrev pub fault_of_script : declared.EditFault → EditFault
 fault_of_script script.NoRoutine = fault.NoRoutine
 fault_of_script script.NoGrouping = fault.NoGrouping
 fault_of_script script.NoAmong = fault.NoAmong
@@ -69,7 +69,7 @@ is_limit n = nat_le 1 n && nat_le n 10000000
 abbrev pub IsRefused : Contents → Edit → EditFault → Type 0
 IsRefused s (Add word) f = refusal_of_add s word ≡ Some f
 IsRefused s (Remove word) f = (is_word word s.words ≡ false) × (f ≡ fault.Absent)
-IsRefused s (Replace what text) f = (g : declared.ScriptEditFault) × IsEditFault s.setting.script what text g × (f ≡ fault_of_script g)
+IsRefused s (Replace what text) f = (g : declared.EditFault) × IsEditFault s.setting.script what text g × (f ≡ fault_of_script g)
 IsRefused s (Whole bytes) f = (g : ScriptFault) × IsFaultOf bytes s.setting.script.external g × (f ≡ fault.Script g)
 IsRefused s (Install script) f = ⊥
 IsRefused s (Limit n) f = (is_limit n ≡ false) × (f ≡ fault.BadLimit)

@@ -17,6 +17,10 @@ number_of keys n = sip.finish (fold sip.write (initial_hasher keys) (fed.u64 n))
 unfoldable pub word_keys : RandomState → WordKeys
 word_keys keys = record { start = number_of keys 0; factor = bit_or (number_of keys 1) 1; last_factor = bit_or (number_of keys 2) 1 }
 
+-- keys that are no secret: the first digits of pi after the point, in groups of 64 bits; both factors are made odd
+unfoldable pub constant_keys : WordKeys
+constant_keys = record { start = 2611923443488327891; factor = 1376283091369227077; last_factor = 11820040416388919761 }
+
 -- the hasher that has taken nothing
 unfoldable pub initial : WordKeys → WordHasher
 initial keys = record { state = keys.start; factor = keys.factor; last_factor = keys.last_factor }

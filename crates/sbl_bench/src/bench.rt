@@ -125,7 +125,7 @@ impl Bench {
     /// order, then the amongs whose searches it pays for, by name and number, then the groupings whose tests it pays for, by
     /// name. Returns `None` exactly if the word is not in the vocabulary; this does not allocate. Returns `AllocError` if an
     /// allocation fails.
-    pub fn items_of_trace(&self, word: &[char]) -> Result<Option<BTreeSet<Item>>, AllocError>
+    pub fn touched(&self, word: &[char]) -> Result<Option<BTreeSet<Item>>, AllocError>
         ensures touched { IfOk result (λ items. option_map items_in items ≡ trace_of (setting_of self.now) self.now.words word.now) }
         ensures absent { is_word word.now self.now.words ≡ false → result ≡ Ok None }
     {

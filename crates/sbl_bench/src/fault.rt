@@ -104,19 +104,19 @@ impl From<AllocError> for EditFault {
     }
 }
 
-impl From<sbl_script::ScriptEditFault> for EditFault {
+impl From<sbl_script::EditFault> for EditFault {
     ghost use Rattle.sbl_bench.specs.Edits.{fault_of_script};
 
     ghost from_gives = { λ fault result. result ≡ fault_of_script fault };
 
-    fn from(fault: sbl_script::ScriptEditFault) -> EditFault {
+    fn from(fault: sbl_script::EditFault) -> EditFault {
         match fault {
-            sbl_script::ScriptEditFault::NoRoutine => EditFault::NoRoutine,
-            sbl_script::ScriptEditFault::NoGrouping => EditFault::NoGrouping,
-            sbl_script::ScriptEditFault::NoAmong => EditFault::NoAmong,
-            sbl_script::ScriptEditFault::AmongCount => EditFault::AmongCount,
-            sbl_script::ScriptEditFault::Script(fault) => EditFault::Script(fault),
-            sbl_script::ScriptEditFault::OutOfMemory => EditFault::OutOfMemory,
+            sbl_script::EditFault::NoRoutine => EditFault::NoRoutine,
+            sbl_script::EditFault::NoGrouping => EditFault::NoGrouping,
+            sbl_script::EditFault::NoAmong => EditFault::NoAmong,
+            sbl_script::EditFault::AmongCount => EditFault::AmongCount,
+            sbl_script::EditFault::Script(fault) => EditFault::Script(fault),
+            sbl_script::EditFault::OutOfMemory => EditFault::OutOfMemory,
         }
     }
 }
@@ -127,7 +127,7 @@ impl From<ScriptFault> for EditFault {
     ghost from_gives = { λ fault result. IsFaultOfText fault result };
 
     fn from(fault: ScriptFault) -> EditFault {
-        sbl_script::ScriptEditFault::from(fault).into()
+        sbl_script::EditFault::from(fault).into()
     }
 }
 

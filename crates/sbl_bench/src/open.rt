@@ -22,7 +22,6 @@ use sbl_machine::{DEFAULT_LIMIT, Machine, Meter, Table};
 use sbl_run_state::MAX_WORD_LENGTH;
 use sbl_script::Script;
 use std::alloc::Global;
-use std::hash::RandomState;
 
 impl Bench {
     ghost use Rattle.sbl_bench.specs.KeptRuns.{contents_of};
@@ -32,15 +31,24 @@ impl Bench {
     /// Returns the bench of a script and a list of words. The words are taken in order. Empty words and repeats are skipped, so
     /// a word keeps its first position. Each word of the vocabulary is run once.
     ///
-    /// Words are found by a hash whose keys are made of these (`WordKeys`); the bench is the same with any keys. Words that
-    /// collide would each take as long as all before it. If the keys come from the system, as those of `RandomState::new`,
-    /// they are secret, and we know no way to choose such words without them.
+    /// Words are found by a hash whose keys are no secret (`WordKeys::constant`). So anybody can choose words that collide:
+    /// each of them takes as long as all before it. If the words come from others, call `open_with_keys`.
     ///
     /// Returns `WordTooLong` at a word of more than 255 characters, even if it is a repeat, and `Full` at a new word after
     /// 100,000 others, whichever comes first. Returns `OutOfMemory` if an allocation fails. (Our own choice.)
-    pub fn open(
+    pub fn open(alloc: Global, script: Script, words: Vec<Vec<char>>) -> Result<Bench, EditFault>
+        ensures opens { Opens (source_of script) (map (λ w. w.items) words.items) (λ b. contents_of b) result }
+        ensures changes { IfOk result (λ b. b.changes ≡ []) }
+    {
+        Bench::open_with_keys(alloc, WordKeys::constant(), script, words)
+    }
+
+    /// Returns the same bench as `open`, or the same fault. Words are found by a hash with these keys; the bench is the same
+    /// with any keys. If they are made of keys that come from the system (`WordKeys::new`), they are secret, and we know no way
+    /// to choose words that collide without them.
+    pub fn open_with_keys(
         alloc: Global,
-        keys: RandomState,
+        keys: WordKeys,
         script: Script,
         words: Vec<Vec<char>>,
     ) -> Result<Bench, EditFault>
@@ -79,7 +87,7 @@ impl Bench {
 /// these; or a fault as `Bench::open` does.
 fn first_runs(
     alloc: Global,
-    keys: RandomState,
+    keys: WordKeys,
     machine: &Machine<Table>,
     words: Vec<Vec<char>>,
 ) -> Result<(Traces, Meter), EditFault>
@@ -91,7 +99,7 @@ fn first_runs(
     ensures fault { IfErr result (λ f. IsFaultOrMemory (opening_fault [] (map (λ w. w.items) words.items)) f) }
 {
     let mut meter = Meter::new();
-    let mut traces = IndexMap::with_hasher(alloc, WordKeys::new(keys));
+    let mut traces = IndexMap::with_hasher(alloc, keys);
     traces.reserve(words.len().min(MAX_WORDS))?;
     let mut lists = SharedLists::new(alloc);
     for word in words {

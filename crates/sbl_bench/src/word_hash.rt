@@ -1,4 +1,4 @@
-//! The hash by which the words of a vocabulary are found. It takes one multiplication for a character, and has secret keys.
+//! The hash by which the words of a vocabulary are found. It takes one multiplication for a character, and has keys.
 
 ghost use Rattle.std.specs.Prelude.{◌≡◌, fold};
 ghost use Rattle.std.specs.Hash.FoldHasher.{folded_multiply};
@@ -25,6 +25,18 @@ impl WordKeys {
             start: keys.hash_one(0u64),
             factor: keys.hash_one(1u64) | 1,
             last_factor: keys.hash_one(2u64) | 1,
+        }
+    }
+
+    /// Returns keys that are always the same, and so no secret: digits of pi (our own choice). Anybody can choose words that
+    /// collide under them.
+    pub fn constant() -> WordKeys
+        ensures { result ≡ hash.constant_keys }
+    {
+        WordKeys {
+            start: 0x243F_6A88_85A3_08D3,
+            factor: 0x1319_8A2E_0370_7345,
+            last_factor: 0xA409_3822_299F_31D1,
         }
     }
 }

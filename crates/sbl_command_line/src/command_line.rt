@@ -33,14 +33,21 @@ pub enum Face {
     Text,
 }
 
-/// What a command line asks for: a subcommand and the external to run.
+/// What a command line asks for: a subcommand, the external to run, and the options of the subcommand.
 #[derive(Debug, Drop)]
-pub struct CommandLine {
+pub struct Wanted {
     /// The subcommand; that of `run` is `Session`.
     pub verb: Verb,
     /// The external to run.
     pub external: String,
-    /// The file of the script; `run` and `work` have one, and `check` may.
+    /// The files and the flags.
+    pub options: Options,
+}
+
+/// The files and the flags of a command line.
+#[derive(Debug, Drop)]
+pub struct Options {
+    /// The file of the script; `run` and `work` have one, and `filter` and `check` may.
     pub script: Option<String>,
     /// The file of the words, if there is one.
     pub words: Option<String>,
@@ -364,17 +371,17 @@ fn make_program<'a>(alloc: Global) -> Result<Command<'a>, AllocError>
 /// Returns an error if `clap` refuses the words: there is no subcommand or an unknown word, or an option has no value
 /// or is given twice. A request for help is also an error, with the help as its text. A failed allocation is an error
 /// of its own kind.
-pub fn read_command_line<'a>(alloc: Global, words: &'a [String]) -> Result<CommandLine, Error>
-    ensures subcommand { IfOk result (λ line. (name : Text) × (verb_and_external (map string_bytes words.now) ≡ Some (name, string_bytes line.external)) × IsVerb name line.verb) }
-    ensures script { IfOk result (λ line. option_map string_bytes line.script ≡ value_in (codes "SCRIPT") (map string_bytes words.now)) }
-    ensures words { IfOk result (λ line. option_map string_bytes line.words ≡ value_in (codes "WORDS") (map string_bytes words.now)) }
-    ensures commands { IfOk result (λ line. option_map string_bytes line.commands ≡ value_in (codes "COMMANDS") (map string_bytes words.now)) }
-    ensures stems { IfOk result (λ line. option_map string_bytes line.stems ≡ value_in (codes "STEMS") (map string_bytes words.now)) }
-    ensures strict { IfOk result (λ line. IsFlag (flag_in (codes "strict") (map string_bytes words.now)) line.is_strict) }
-    ensures places { IfOk result (λ line. IsFlag (flag_in (codes "places") (map string_bytes words.now)) line.shows_places) }
-    ensures rows { IfOk result (λ line. flag_in (codes "rows") (map string_bytes words.now) ≡ Some (codes "true") → line.face ≡ Some Face.Rows) }
-    ensures text { IfOk result (λ line. flag_in (codes "rows") (map string_bytes words.now) ≡ Some (codes "false") → flag_in (codes "text") (map string_bytes words.now) ≡ Some (codes "true") → line.face ≡ Some Face.Text) }
-    ensures neither { IfOk result (λ line. flag_in (codes "rows") (map string_bytes words.now) ≡ Some (codes "false") → flag_in (codes "text") (map string_bytes words.now) ≡ Some (codes "false") → line.face ≡ None) }
+pub fn read_words<'a>(alloc: Global, words: &'a [String]) -> Result<Wanted, Error>
+    ensures subcommand { IfOk result (λ wanted. (name : Text) × (verb_and_external (map string_bytes words.now) ≡ Some (name, string_bytes wanted.external)) × IsVerb name wanted.verb) }
+    ensures script { IfOk result (λ wanted. option_map string_bytes wanted.options.script ≡ value_in (codes "SCRIPT") (map string_bytes words.now)) }
+    ensures words { IfOk result (λ wanted. option_map string_bytes wanted.options.words ≡ value_in (codes "WORDS") (map string_bytes words.now)) }
+    ensures commands { IfOk result (λ wanted. option_map string_bytes wanted.options.commands ≡ value_in (codes "COMMANDS") (map string_bytes words.now)) }
+    ensures stems { IfOk result (λ wanted. option_map string_bytes wanted.options.stems ≡ value_in (codes "STEMS") (map string_bytes words.now)) }
+    ensures strict { IfOk result (λ wanted. IsFlag (flag_in (codes "strict") (map string_bytes words.now)) wanted.options.is_strict) }
+    ensures places { IfOk result (λ wanted. IsFlag (flag_in (codes "places") (map string_bytes words.now)) wanted.options.shows_places) }
+    ensures rows { IfOk result (λ wanted. flag_in (codes "rows") (map string_bytes words.now) ≡ Some (codes "true") → wanted.options.face ≡ Some Face.Rows) }
+    ensures text { IfOk result (λ wanted. flag_in (codes "rows") (map string_bytes words.now) ≡ Some (codes "false") → flag_in (codes "text") (map string_bytes words.now) ≡ Some (codes "true") → wanted.options.face ≡ Some Face.Text) }
+    ensures neither { IfOk result (λ wanted. flag_in (codes "rows") (map string_bytes words.now) ≡ Some (codes "false") → flag_in (codes "text") (map string_bytes words.now) ≡ Some (codes "false") → wanted.options.face ≡ None) }
 {
     let matches = make_program(alloc)?.try_get_matches_from(words)?;
     let Some((name, options)) = matches.subcommand() else {
@@ -404,15 +411,17 @@ pub fn read_command_line<'a>(alloc: Global, words: &'a [String]) -> Result<Comma
     let is_strict = has_flag(options, "strict");
     let shows_places = has_flag(options, "places");
     let face = face_of(options);
-    Ok(CommandLine {
+    Ok(Wanted {
         verb,
         external: String::from_str(alloc, external)?,
-        script,
-        words: list,
-        commands,
-        stems,
-        is_strict,
-        shows_places,
-        face,
+        options: Options {
+            script,
+            words: list,
+            commands,
+            stems,
+            is_strict,
+            shows_places,
+            face,
+        },
     })
 }

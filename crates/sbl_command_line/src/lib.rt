@@ -3,4 +3,4 @@
 
 mod command_line;
 
-pub use command_line::{CommandLine, Face, Verb, read_command_line};
+pub use command_line::{Face, Options, Verb, Wanted, read_words};

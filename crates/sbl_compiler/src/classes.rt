@@ -125,13 +125,14 @@ impl Compiler<'_> {
     fn add_class(&self, plain: &Plain, classes: &mut Vec<CharacterClass>) -> CompileResult<()>
         ensures { OnOk result (map members classes.new.items ≡ spec.with_class (names_in self.now) (view_plain plain.now) (map members classes.old.items)) }
     {
-        if let Plain::Grouping {
-            name: _,
-            first,
-            others,
-        } = plain
-        {
-            let class = class_of(self.alloc, self.names, classes, first, others)?;
+        if let Plain::Grouping(grouping) = plain {
+            let class = class_of(
+                self.alloc,
+                self.names,
+                classes,
+                &grouping.first,
+                &grouping.others,
+            )?;
             classes.push(class)?;
         }
         Ok(())

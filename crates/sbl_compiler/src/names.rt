@@ -80,7 +80,7 @@ fn name_item(alloc: Global, plain: &Plain, names: &mut SymbolTable) -> Result<()
     match plain {
         Plain::Declaration(kind, more) => declare(alloc, *kind, more, names),
         Plain::Routine { name, .. } => names.routines.add(alloc, name.as_str()),
-        Plain::Grouping { name, .. } => names.groupings.add(alloc, name.as_str()),
+        Plain::Grouping(grouping) => names.groupings.add(alloc, grouping.name.as_str()),
         Plain::StringEscapes(_, _) => Ok(()),
         Plain::StringDef { .. } => Ok(()),
     }

@@ -2,7 +2,7 @@
 
 use crate::places::{Title, fault_of, fault_text, offset_of_byte, push_title, script_fault_text};
 use crate::sentences::Faulty;
-use sbl_script::{Script, ScriptEditFault, ScriptFault};
+use sbl_script::{EditFault, Script, ScriptFault};
 use sbl_source_map::{Part, cut_at_part, offset_in_block};
 use sbl_text::{Kind, Lexer, Token, Word, tokens};
 use std::alloc::{AllocError, Global};
@@ -72,12 +72,7 @@ fn first_tokens(alloc: Global, text: &str) -> Result<Vec<Token<'_>>, AllocError>
 }
 
 /// Returns the fault with which an edit is refused, if it is refused.
-fn edit_fault(
-    alloc: Global,
-    script: &Script,
-    part: Part<'_>,
-    text: &str,
-) -> Option<ScriptEditFault> {
+fn edit_fault(alloc: Global, script: &Script, part: Part<'_>, text: &str) -> Option<EditFault> {
     let edited = match part {
         Part::Body(name) => script.with_routine(alloc, name, text),
         Part::Among(name, k) => script.with_among(alloc, name, k, text),
@@ -158,13 +153,8 @@ fn fault_in_part<'x>(
         return Ok(None);
     };
     let fault = match fault {
-        ScriptEditFault::Script(fault) => fault,
-        ScriptEditFault::AmongCount => return Ok(Some(count_text(
-            alloc,
-            title,
-            typed.block,
-            cut.part,
-        )?)),
+        EditFault::Script(fault) => fault,
+        EditFault::AmongCount => return Ok(Some(count_text(alloc, title, typed.block, cut.part)?)),
         _ => return Ok(None),
     };
     let begin = offset_in_block(alloc, cut.before, rest.as_bytes(), cut.after, fault)?;

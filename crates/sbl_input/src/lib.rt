@@ -9,4 +9,4 @@ mod word_list;
 
 pub use faults::LoadFault;
 pub use laws::loading_is_one;
-pub use loading::{load, load_rows, read_script};
+pub use loading::{load, load_rows, load_with_keys, read_script};

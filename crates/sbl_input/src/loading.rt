@@ -17,12 +17,11 @@ ghost use Rattle.sbl_input.specs.Loading.{HasReason, IsLoaded, ReadsScript};
 use crate::faults::LoadFault;
 use crate::vocabulary_rows::vocabulary_rows;
 use crate::word_list::WordList;
-use sbl_bench::{Bench, EditFault};
+use sbl_bench::{Bench, EditFault, WordKeys};
 use sbl_formats::{BlockFault, read_block};
 use sbl_io::{Lines, ServeFault, Source};
 use sbl_script::{Script, ScriptFault};
 use std::alloc::Global;
-use std::hash::RandomState;
 
 /// Reads the text of the script block: its lines up to a line `.`, each followed by a line feed. The block is read to its end
 /// before it is checked.
@@ -83,10 +82,7 @@ fn ascii_characters(alloc: Global, line: &[u8]) -> Result<Vec<char>, LoadFault>
 }
 
 /// Reads the words, up to a line `.` or the end of input. Keeps only those that decide how a bench opens.
-fn read_words<R: Source + Drop>(
-    lines: &mut Lines<R>,
-    keys: RandomState,
-) -> Result<WordList, LoadFault>
+fn read_words<R: Source + Drop>(lines: &mut Lines<R>, keys: WordKeys) -> Result<WordList, LoadFault>
     ensures reads { fault_of lines.old ≡ None → ReadsWords (input_of R.left lines.old) (input_of R.left lines.new) result }
     ensures remembered { fault_of lines.new ≡ left_by_load result }
     ensures later { (R.tally lines.old.reader).failures ≤ (R.tally lines.new.reader).failures }
@@ -115,7 +111,7 @@ struct ParsedInput {
 /// Reads the script block and the words of an input. Returns the faults that `load` returns before it opens a bench.
 fn read_input<R: Source + Drop>(
     lines: &mut Lines<R>,
-    keys: RandomState,
+    keys: WordKeys,
     external: &str,
 ) -> Result<ParsedInput, LoadFault>
     ensures reads { fault_of lines.old ≡ None → ReadsInput (input_of R.left lines.old) (input_of R.left lines.new) external.now result }
@@ -142,14 +138,14 @@ fn read_input<R: Source + Drop>(
 /// does with all of them.
 fn open_words(
     alloc: Global,
-    keys: RandomState,
+    keys: WordKeys,
     script: Script,
     words: WordList,
 ) -> Result<Bench, EditFault>
     ensures { (all : List (List ℕ)) → HoldsWords words all → Opens (source_of script) all (λ b. contents_of b) result }
 {
     match words.into_words() {
-        Ok(words) => Bench::open(alloc, keys, script, words),
+        Ok(words) => Bench::open_with_keys(alloc, keys, script, words),
         Err(_) => {
             script.discard();
             Err(EditFault::OutOfMemory)
@@ -159,7 +155,10 @@ fn open_words(
 
 /// Loads the bench of an input. The input is a script block and then words. The script block is the lines up to a line `.`,
 /// each followed by a line feed; it is read as a script with this external. The words are one per line, up to a line `.` or the
-/// end of input. The lines after that are left. The keys are those of the hash by which words are found, as in `Bench::open`.
+/// end of input. The lines after that are left.
+///
+/// The hash by which words are found has keys that are no secret, as in `Bench::open`. If the input comes from others, call
+/// `load_with_keys`.
 ///
 /// # Errors
 ///
@@ -172,9 +171,24 @@ fn open_words(
 /// After `Cut`, the input is at its end. After a fault of the script, the next line is the one after its block. After
 /// `NotText`, it is the one after the line that is not UTF-8. The lines keep `Read` and `LineTooLong` and return them again,
 /// and so does every later `load`, which then reads nothing.
-pub fn load<R: Source + Drop>(
+pub fn load<R: Source + Drop>(lines: &mut Lines<R>, external: &str) -> Result<Bench, LoadFault>
+    ensures loaded { fault_of lines.old ≡ None → IsLoaded (input_of R.left lines.old) (input_of R.left lines.new) external.now (λ b. contents_of b) result }
+    ensures later { (R.tally lines.old.reader).failures ≤ (R.tally lines.new.reader).failures }
+    ensures steady { OnOk result ((R.tally lines.new.reader).failures ≡ (R.tally lines.old.reader).failures) }
+    ensures why { IfErr result (λ fault. HasReason R.tally lines.old lines.new fault) }
+    ensures in_time { KeepsTime R.tally lines.old lines.new }
+    ensures remembered { fault_of lines.new ≡ left_by_load result }
+    ensures again { (fault : LineFault) → fault_of lines.old ≡ Some fault → (result ≡ Err (LoadFault.Input (serve_fault_of fault))) × Keeps (input_of R.left lines.old) (input_of R.left lines.new) }
+    ensures bound { reads_bound R.tally lines.new ≡ reads_bound R.tally lines.old }
+{
+    load_with_keys(lines, WordKeys::constant(), external)
+}
+
+/// Returns the same bench as `load`, or the same fault, and leaves the input as `load` does. The keys are those of the hash by which
+/// words are found, as in `Bench::open_with_keys`.
+pub fn load_with_keys<R: Source + Drop>(
     lines: &mut Lines<R>,
-    keys: RandomState,
+    keys: WordKeys,
     external: &str,
 ) -> Result<Bench, LoadFault>
     ensures loaded { fault_of lines.old ≡ None → IsLoaded (input_of R.left lines.old) (input_of R.left lines.new) external.now (λ b. contents_of b) result }
@@ -196,7 +210,7 @@ pub fn load<R: Source + Drop>(
 /// Returns the text of the rows of words that were read. Returns `WordTooLong`, `Full` and `OutOfMemory` as `Bench::open` does.
 fn rows_of_words(
     alloc: Global,
-    keys: RandomState,
+    keys: WordKeys,
     script: &Script,
     words: WordList,
 ) -> Result<Vec<u8>, EditFault>
@@ -217,7 +231,7 @@ fn rows_of_words(
 /// Returns the faults that `load` returns, and leaves the input as `load` does.
 pub fn load_rows<R: Source + Drop>(
     lines: &mut Lines<R>,
-    keys: RandomState,
+    keys: WordKeys,
     external: &str,
 ) -> Result<Vec<u8>, LoadFault>
     ensures rows { fault_of lines.old ≡ None → AreRowsOf (input_of R.left lines.old) (input_of R.left lines.new) external.now result }

@@ -20,7 +20,6 @@ use sbl_formats::{Record, RecordWriter};
 use sbl_machine::{DEFAULT_LIMIT, Machine, Meter, Table};
 use sbl_script::Script;
 use std::alloc::{AllocError, Global};
-use std::hash::RandomState;
 use std::mem::forget;
 
 /// The words of a vocabulary so far, and their rows.
@@ -32,15 +31,15 @@ struct VocabularyRows {
 }
 
 impl VocabularyRows {
-    /// Returns no words. They are found by a hash with keys that are made of these. Does not allocate.
-    fn new(alloc: Global, keys: RandomState) -> VocabularyRows
+    /// Returns no words. They are found by a hash with these keys. Does not allocate.
+    fn new(alloc: Global, keys: WordKeys) -> VocabularyRows
         ensures words { texts_of result.words.keys ≡ [] }
         ensures rows { HasWritten result.records.writer [] }
     {
         VocabularyRows {
             alloc,
             meter: Meter::new(),
-            words: IndexSet::with_hasher(alloc, WordKeys::new(keys)),
+            words: IndexSet::with_hasher(alloc, keys),
             records: RecordWriter::new(alloc),
         }
     }
@@ -145,7 +144,7 @@ fn write_row(
 /// `Bench::open` does. Does not free the words: a program ends after it has written their rows.
 pub(crate) fn vocabulary_rows(
     alloc: Global,
-    keys: RandomState,
+    keys: WordKeys,
     script: &Script,
     words: Vec<Vec<char>>,
 ) -> Result<Vec<u8>, EditFault>

@@ -7,7 +7,6 @@ ghost use Rattle.sbl_input.specs.WordLists.{AreDistinct, AreKept, HasRoom, Holds
 use indexmap::IndexSet;
 use sbl_bench::{MAX_WORD_LENGTH, MAX_WORDS, WordKeys};
 use std::alloc::{AllocError, Global};
-use std::hash::RandomState;
 use std::mem;
 
 /// The words so far that decide how a bench opens, and the first word that a bench refuses. Empty words and the words after that
@@ -15,7 +14,7 @@ use std::mem;
 #[derive(Drop)]
 pub(crate) struct WordList {
     alloc: Global,
-    keys: RandomState,
+    keys: WordKeys,
     words: KeptWords,
     refused: Option<Vec<char>>,
 }
@@ -29,8 +28,8 @@ enum KeptWords {
 }
 
 impl WordList {
-    /// Returns the list of no words. If words are found by a hash, its keys are made of these. Does not allocate.
-    pub(crate) fn new(alloc: Global, keys: RandomState) -> WordList
+    /// Returns the list of no words. If words are found by a hash, it has these keys. Does not allocate.
+    pub(crate) fn new(alloc: Global, keys: WordKeys) -> WordList
         ensures { HoldsWords result [] }
     {
         WordList {
@@ -80,7 +79,7 @@ impl WordList {
 
 impl KeptWords {
     /// Drops the repeats if there are `MAX_WORDS` words or more with them. Returns `AllocError` if an allocation fails.
-    fn make_room(&mut self, alloc: Global, keys: RandomState) -> Result<(), AllocError>
+    fn make_room(&mut self, alloc: Global, keys: WordKeys) -> Result<(), AllocError>
         ensures kept { OnOk result ((all : List (List ℕ)) → AreKept (texts_in self.old) None all → AreKept (texts_in self.new) None all) }
         ensures room { OnOk result (AreDistinct self.old → HasRoom self.new) }
     {
@@ -129,12 +128,12 @@ impl KeptWords {
 /// Returns the words without empty words and repeats. Returns `AllocError` if an allocation fails.
 fn distinct(
     alloc: Global,
-    keys: RandomState,
+    keys: WordKeys,
     words: Vec<Vec<char>>,
 ) -> Result<IndexSet<Vec<char>, WordKeys>, AllocError>
     ensures { IfOk result (λ set. texts_of set.keys ≡ vocabulary (texts_of words.items)) }
 {
-    let mut set = IndexSet::with_hasher(alloc, WordKeys::new(keys));
+    let mut set = IndexSet::with_hasher(alloc, keys);
     for word in words {
         insert(&mut set, word)?;
     }

@@ -36,13 +36,13 @@ CountsRow old new (Ok n) = new ≡ 0
 CountsRow old new (Err Interrupted) = new ≡ min (old + 1) max_tries
 CountsRow old new (Err Failed) = new ≡ 0
 
--- the greatest number of reads of a reader
-abbrev pub max_reads : ℕ
-max_reads = 1099511627776
+-- the greatest number of reads that a device counts: 2^64 - 1
+abbrev pub max_count : ℕ
+max_count = 18446744073709551615
 
--- The count of reads rises by one at each read, up to max_reads.
+-- The count of reads rises by one at each read, up to max_count.
 abbrev pub CountsRead : ℕ → ℕ → Type 0
-CountsRead old new = new ≡ min (old + 1) max_reads
+CountsRead old new = new ≡ min (old + 1) max_count
 
 -- ---- reads and writes past a limit
 
@@ -51,10 +51,10 @@ abbrev pub tells_end : Result ℕ Stop → List ℕ → Bool
 tells_end (Ok n) buf = (n == 0) && nat_lt 0 (length buf)
 tells_end (Err stop) buf = false
 
--- A read is late if the end was returned before it, or after max_tries interruptions in a row, or after max_reads
+-- A read is late if the end was returned before it, or after max_tries interruptions in a row, or after max_count
 -- reads.
 abbrev pub is_late_read : Bool → ℕ → ℕ → Bool
-is_late_read ended row reads = ended || (nat_le max_tries row || nat_le max_reads reads)
+is_late_read ended row reads = ended || (nat_le max_tries row || nat_le max_count reads)
 
 -- A write is late after max_tries interruptions in a row.
 abbrev pub is_late_write : ℕ → Bool

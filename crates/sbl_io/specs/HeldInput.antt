@@ -3,7 +3,7 @@ use Rattle.std.specs.Prelude.{◌≡◌, ◌≢◌, ◌⊎◌, ◌<◌, ◌≤�
 use Rattle.std.specs.List.{AllByRecursion}
 use Rattle.std.specs.Option.{option_map}
 use Rattle.std.specs.Io.KnownBytes.{Consumes, IsAtEnd, prepend_known}
-use Rattle.sbl_io.specs.Devices.{Tally, max_reads, max_tries}
+use Rattle.sbl_io.specs.Devices.{Tally, max_count, max_tries}
 use Rattle.sbl_io.specs.Faults.{left_by}
 use Rattle.sbl_io.specs.LinesOf.{AreWhole, lines_of, max_line}
 use Rattle.sbl_io.specs.declared.lines.Lines.{Lines}
@@ -17,6 +17,10 @@ use Rattle.sbl_io.specs.declared.faults.ServeFault.TheVariants as serve
 -- the bytes that were taken are whole lines, if they are known
 abbrev pub TookWhole : Option (List ℕ) → Option (List ℕ) → Type 0
 TookWhole old new = (prefix : List ℕ) × Consumes old new prefix × AreWhole prefix
+
+-- the greatest number of reads of the lines that `Lines::new` returns
+abbrev pub max_reads : ℕ
+max_reads = 1099511627776
 
 module _ {R : Type 0} where
   -- the bytes that were read but not taken yet
@@ -52,7 +56,7 @@ module _ {R : Type 0} where
 
   -- the limit on reads: the count of the reader when these lines stop reading
   abbrev pub reads_bound : (R → Tally) → Lines R → ℕ
-  reads_bound tally l = min ((tally l.reader).reads + l.reads_left) max_reads
+  reads_bound tally l = min ((tally l.reader).reads + l.reads_left) max_count
 
   -- the reader has failed since, or was read up to the limit, or was interrupted more than 1,000 times in a row
   abbrev pub HasCause : (R → Tally) → Lines R → Lines R → Type 0
@@ -65,7 +69,7 @@ module _ {R : Type 0} where
   pub record AreAsked (tally : R → Tally) (l : Lines R) : Type 0 where
     pub in_time : (tally l.reader).late ≡ false
     pub known : (tally l.reader).ended ≡ true → l.ended ≡ true
-    pub within : (tally l.reader).reads + l.reads_left ≤ max_reads
+    pub within : (tally l.reader).reads + l.reads_left ≤ max_count
 
   -- the same; and if the lines have no fault, the last read of the reader was not interrupted
   abbrev pub InTime : (R → Tally) → Lines R → Type 0

@@ -1,13 +1,13 @@
 //! Readers and writers that may fail or be interrupted. Failures, interruptions and reads are counted.
 ghost use Rattle.std.specs.Prelude.{◌≡◌, ◌≤◌, ◌<◌, ◌^◌, ◌-◌, ◌||◌, ℕ, Bool, false, List, Option, length, IfOk, Err};
 ghost use Rattle.std.specs.Io.KnownBytes.{Keeps};
-ghost use Rattle.sbl_io.specs.Devices.{Tally, Reads, Writes, Counts, CountsRead, CountsRow, IsConverted, IsConvertedWrite, is_late_read, is_late_write, max_reads, max_tries, tells_end};
+ghost use Rattle.sbl_io.specs.Devices.{Tally, Reads, Writes, Counts, CountsRead, CountsRow, IsConverted, IsConvertedWrite, is_late_read, is_late_write, max_count, max_tries, tells_end};
 
 use std::io;
 use std::io::{ErrorKind, Read, Write};
 
-/// The greatest number of reads of one reader (our own choice).
-pub(crate) const MAX_READS: u64 = 1_099_511_627_776;
+/// The greatest number of reads that a device counts.
+const MAX_COUNT: u64 = u64::MAX;
 
 /// The greatest number of tries of one read or write, which allows 1,000 interruptions in a row (our own choice).
 pub(crate) const MAX_TRIES: u16 = 1_001;
@@ -27,8 +27,8 @@ pub trait Source {
     ghost left: { Self → Option (List ℕ) };
 
     /// The number of reads that failed, the number of the latest reads in a row that were interrupted, up to 1001, and the
-    /// number of reads, up to 1,099,511,627,776; whether a read has returned the end of the bytes; and whether there was a
-    /// read after that, after 1,001 interruptions in a row, or after 1,099,511,627,776 reads.
+    /// number of reads, up to the greatest `u64`; whether a read has returned the end of the bytes; and whether there was a
+    /// read after that, after 1,001 interruptions in a row, or after as many reads as the greatest `u64`.
     ghost tally: { Self → Tally };
 
     /// Reads the next bytes into `buf` and returns their number; 0 with a `buf` that is not empty means the end of the
@@ -81,7 +81,7 @@ pub(crate) struct Stops {
     pub(crate) ended: bool,
     pub(crate) late: bool,
     ghost capped: { interruptions ≤ max_tries },
-    ghost in_bound: { reads ≤ max_reads },
+    ghost in_bound: { reads ≤ max_count },
 }
 
 impl Stops {
@@ -110,10 +110,10 @@ impl Stops {
         ensures interruptions { self.new.interruptions ≡ self.old.interruptions }
         ensures ended { self.new.ended ≡ self.old.ended }
     {
-        if self.ended || self.interruptions >= MAX_TRIES || self.reads >= MAX_READS {
+        if self.ended || self.interruptions >= MAX_TRIES || self.reads >= MAX_COUNT {
             self.late = true;
         }
-        self.reads = (self.reads + 1).min(MAX_READS);
+        self.reads = self.reads.saturating_add(1);
     }
 
     /// Records whether one more write is past the limit on interruptions.

@@ -3,13 +3,16 @@ ghost use Rattle.std.specs.Prelude.{◌≡◌, ◌≢◌, ◌+◌, ◌≤◌, �
 ghost use Rattle.std.specs.Io.KnownBytes.{Consumes, IsAtEnd, Keeps};
 ghost use Rattle.sbl_io.specs.LinesOf.{without_carriage_return, max_line};
 
-use crate::devices::{MAX_READS, MAX_TRIES, Source, Stop};
+use crate::devices::{MAX_TRIES, Source, Stop};
 use crate::faults::LineFault;
 use crate::text_lines::first_feed;
 use std::alloc::{AllocError, Global};
 
 /// The greatest length of a line in bytes, without its line end (our own choice).
 pub const MAX_LINE: usize = 65_536;
+
+/// The greatest number of reads of one reader, if no other is given (our own choice).
+const MAX_READS: u64 = 1_099_511_627_776;
 
 /// The size of the buffer for a read in bytes (our own choice).
 const CHUNK: usize = 4_096;
@@ -45,26 +48,28 @@ pub struct Lines<R> {
 }
 
 impl<R: Source + Drop> Lines<R> {
-    ghost use Rattle.sbl_io.specs.Devices.{IsUnused, max_reads};
-    ghost use Rattle.sbl_io.specs.HeldInput.{fuel_of, line_of, fault_of, input_of, reads_bound, AsksInTime, BeginsLong, BreaksOff, HasCause, InTime, IsDrained, KeepsTime, StaysEnded, TakesFeeds, TakesLine, NoFeed, GivesLine};
+    ghost use Rattle.sbl_io.specs.Devices.{IsUnused, max_count};
+    ghost use Rattle.sbl_io.specs.HeldInput.{fuel_of, line_of, fault_of, input_of, max_reads, reads_bound, AsksInTime, BeginsLong, BreaksOff, HasCause, InTime, IsDrained, KeepsTime, StaysEnded, TakesFeeds, TakesLine, NoFeed, GivesLine};
 
     /// Returns the lines of `reader`, which is read at most 1,099,511,627,776 times. Allocates all buffers. Returns
     /// `AllocError` if an allocation fails.
     pub fn new(alloc: Global, reader: R) -> Result<Lines<R>, AllocError>
         ensures input { IfOk result (λ lines. input_of R.left lines ≡ R.left reader) }
         ensures fault { IfOk result (λ lines. fault_of lines ≡ None) }
-        ensures bound { IfOk result (λ lines. reads_bound R.tally lines ≡ max_reads) }
+        ensures bound { IfOk result (λ lines. reads_bound R.tally lines ≡ min ((R.tally reader).reads + max_reads) max_count) }
+        ensures tally { IfOk result (λ lines. R.tally lines.reader ≡ R.tally reader) }
         ensures in_time { IsUnused (R.tally reader) → IfOk result (λ lines. InTime R.tally lines) }
     {
         Lines::with_reads(alloc, reader, MAX_READS)
     }
 
-    /// Returns the lines of `reader`, which is read at most `most` times, and at most as often as by `new`. Allocates
-    /// all buffers. Returns `AllocError` if an allocation fails.
+    /// Returns the lines of `reader`, which is read at most `most` times. Allocates all buffers. Returns `AllocError` if
+    /// an allocation fails.
     pub fn with_reads(alloc: Global, reader: R, most: u64) -> Result<Lines<R>, AllocError>
         ensures input { IfOk result (λ lines. input_of R.left lines ≡ R.left reader) }
         ensures fault { IfOk result (λ lines. fault_of lines ≡ None) }
-        ensures bound { IfOk result (λ lines. reads_bound R.tally lines ≡ min ((R.tally reader).reads + most) max_reads) }
+        ensures bound { IfOk result (λ lines. reads_bound R.tally lines ≡ min ((R.tally reader).reads + most) max_count) }
+        ensures tally { IfOk result (λ lines. R.tally lines.reader ≡ R.tally reader) }
         ensures in_time { IsUnused (R.tally reader) → IfOk result (λ lines. InTime R.tally lines) }
     {
         let chunk = vec![in alloc; 0u8; CHUNK]?;
@@ -76,7 +81,7 @@ impl<R: Source + Drop> Lines<R> {
             at: 0,
             end: 0,
             line,
-            reads_left: most.min(MAX_READS),
+            reads_left: most,
             ended: false,
             fault: None,
         })

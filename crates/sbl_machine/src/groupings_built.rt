@@ -37,14 +37,9 @@ fn one_names_one(names: &NameList, terms: &[Term]) -> bool
 fn add_built(alloc: Global, plain: &Plain, names: &mut NameList) -> Result<(), AllocError>
     ensures { OnOk result (names.new ≡ spec.and_built (view_plain plain.now) names.old) }
 {
-    if let Plain::Grouping {
-        name,
-        first,
-        others,
-    } = plain
-    {
-        if names_one(names, first) || one_names_one(names, others) {
-            names.add(alloc, name.as_str())?;
+    if let Plain::Grouping(grouping) = plain {
+        if names_one(names, &grouping.first) || one_names_one(names, &grouping.others) {
+            names.add(alloc, grouping.name.as_str())?;
         }
     }
     Ok(())

@@ -15,10 +15,11 @@ mod run_stop;
 pub use limit::DEFAULT_LIMIT;
 pub use machine::Machine;
 pub use meter::Meter;
-pub use outcome::{RunReport, RunTrace, Why};
+pub use outcome::{Ran, RunTrace, Why};
 pub use run_stop::RunStop;
 pub use sbl_among_search::{AmongSearch, LinkedTable, PlainTable};
 pub use sbl_run_state::TouchLog;
+pub use sbl_script::ScriptFault;
 pub use sbl_semantics::{Event, Item, Outcome, RunFault, Touch};
 
 /// The tables that a program searches.

@@ -21,7 +21,7 @@ ghost use Rattle.sbl_semantics.specs.Events.{event_of, view_events};
 use crate::marks::marks_of;
 use crate::meter::Meter;
 use crate::naming::{Names, is_touched, items_touched, routine_at};
-use crate::outcome::{RunReport, RunTrace, Why};
+use crate::outcome::{Ran, RunTrace, Why};
 use crate::run_stop::RunStop;
 use sbl_among_search::AmongSearch;
 use sbl_ast::Mode;
@@ -86,7 +86,7 @@ impl<S: AmongSearch> Machine<S> {
         meter: &mut Meter,
         word: &[char],
         limit: u32,
-    ) -> Result<RunReport, RunStop>
+    ) -> Result<Ran, RunStop>
         requires { length word.now ≤ max_word_length }
         ensures outcome { (script : Source) → IsMachineOf S S.entries S.mode self.now script → IfOk result (λ ran. outcome_of ran.outcome ≡ run_of script word.now limit) }
         ensures touched { (script : Source) → IsMachineOf S S.entries S.mode self.now script → IfOk result (λ ran. items_in ran.touched ≡ touched_items script word.now limit) }
@@ -101,7 +101,7 @@ impl<S: AmongSearch> Machine<S> {
         } = self.run_unless_full(alloc, meter, word, limit)?;
         let touched = self.items(alloc, touches.as_slice())?;
         meter.count_run();
-        Ok(RunReport {
+        Ok(Ran {
             outcome,
             touched,
             used,

@@ -5,7 +5,7 @@ use std::collections::BTreeSet;
 
 /// The outcome of a run, the items that it touched, and the steps that it used.
 #[derive(Debug, Drop, PartialEq, Eq)]
-pub struct RunReport {
+pub struct Ran {
     /// The stem, or why there is none.
     pub outcome: Outcome,
     /// The routines that the run entered, the amongs that it searched and the groupings that it tested, in order.
@@ -14,7 +14,7 @@ pub struct RunReport {
     pub used: u64,
 }
 
-/// The same as `RunReport`, with numbers instead of names.
+/// The same as `Ran`, with numbers instead of names.
 #[derive(Debug, Drop, PartialEq, Eq)]
 pub struct RunTrace {
     /// The stem, or why there is none.

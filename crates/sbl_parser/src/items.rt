@@ -14,7 +14,7 @@ use crate::error::{ReadError, ReadResult};
 use crate::role::Role;
 use crate::starts::{begins_item, begins_plain};
 use crate::tokens::{argument, name};
-use sbl_ast::{Argument, Base, DeclarationKind, Literal, Plain, ScriptItem, Term};
+use sbl_ast::{Argument, Base, DeclarationKind, Grouping, Literal, Plain, ScriptItem, Term};
 
 /// Parses names up to a token that is not a name.
 fn names(cursor: &mut Cursor<'_, '_>) -> ReadResult<Vec<String>>
@@ -120,11 +120,11 @@ fn define(cursor: &mut Cursor<'_, '_>) -> ReadResult<Plain>
         }
         _ => {
             let (first, others) = terms(cursor)?;
-            Ok(Plain::Grouping {
+            Ok(Plain::Grouping(Grouping {
                 name,
                 first,
                 others,
-            })
+            }))
         }
     }
 }

@@ -15,7 +15,9 @@ use crate::tokens::{
     put, put_argument, put_inserts, put_literal, put_macro_name, put_name, put_sign, put_word,
 };
 use crate::words::{additive_text, base_text, declaration_text};
-use sbl_ast::{Argument, Base, DeclarationKind, Literal, Plain, RowOfCommands, ScriptItem, Term};
+use sbl_ast::{
+    Argument, Base, DeclarationKind, Grouping, Literal, Plain, RowOfCommands, ScriptItem, Term,
+};
 use sbl_token::{Sign, Word};
 use std::alloc::{AllocError, Global};
 
@@ -104,18 +106,13 @@ fn begin_routine(
 }
 
 /// Appends the definition of a grouping at the start of a line. Returns `AllocError` if an allocation fails.
-fn begin_grouping(
-    out: &mut String,
-    name: &String,
-    first: &Argument,
-    others: &Vec<Term>,
-) -> Result<(), AllocError>
-    ensures { OnOk result (BeginsLine (string_bytes out.old) (string_bytes out.new) (tokens (placed_plain (trees.grouping (string_bytes name.now) (view_argument first.now) (map view_term others.now.items)) []))) }
+fn begin_grouping(out: &mut String, grouping: &Grouping) -> Result<(), AllocError>
+    ensures { OnOk result (BeginsLine (string_bytes out.old) (string_bytes out.new) (tokens (placed_plain (trees.grouping (string_bytes grouping.now.name) (view_argument grouping.now.first) (map view_term grouping.now.others.items)) []))) }
 {
     out.push_str(Word::Define.text())?;
-    put_name(out, name)?;
-    put_argument(out, first)?;
-    put_terms(out, others)
+    put_name(out, &grouping.name)?;
+    put_argument(out, &grouping.first)?;
+    put_terms(out, &grouping.others)
 }
 
 /// Appends the line of an item that is allowed in a `backwardmode`. Returns `AllocError` if an allocation fails.
@@ -127,11 +124,7 @@ fn put_plain(alloc: Global, out: &mut String, plain: &Plain) -> Result<(), Alloc
         Plain::StringEscapes(a, b) => begin_escapes(out, *a, *b)?,
         Plain::StringDef { name, base, value } => begin_macro(out, name, *base, value)?,
         Plain::Routine { name, body } => begin_routine(alloc, out, name, body)?,
-        Plain::Grouping {
-            name,
-            first,
-            others,
-        } => begin_grouping(out, name, first, others)?,
+        Plain::Grouping(grouping) => begin_grouping(out, grouping)?,
     }
     out.push_str("\n")
 }

@@ -306,14 +306,10 @@ impl<'a> SoFar<'a> {
                 self.note_row(body, site)?;
                 self.put(Notice::RegionEnd, site)
             }
-            Plain::Grouping {
-                name,
-                first,
-                others,
-            } => {
-                self.put(Notice::DefinesGrouping(name.as_str()), site)?;
-                self.note_name(Use::Term, first, site)?;
-                self.note_terms(others, site)
+            Plain::Grouping(grouping) => {
+                self.put(Notice::DefinesGrouping(grouping.name.as_str()), site)?;
+                self.note_name(Use::Term, &grouping.first, site)?;
+                self.note_terms(&grouping.others, site)
             }
         }
     }

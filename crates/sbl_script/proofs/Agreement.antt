@@ -22,8 +22,8 @@ use Rattle.sbl_tree_amongs.specs.Amongs.{AmongContents, amongs_of_body, nth_held
 use Rattle.sbl_tree_amongs.specs.Replacement.{count_words, is_among}
 use Rattle.sbl_tree_amongs.proofs.Swapped.{body_one}
 use Rattle.sbl_parser.proofs.OneTree.{trees_are_one}
-use Rattle.sbl_script.specs.declared.edit_fault.ScriptEditFault.{ScriptEditFault}
-use Rattle.sbl_script.specs.declared.edit_fault.ScriptEditFault.TheVariants as edits
+use Rattle.sbl_script.specs.declared.edit_fault.EditFault.{EditFault}
+use Rattle.sbl_script.specs.declared.edit_fault.EditFault.TheVariants as edits
 use Rattle.sbl_script.specs.declared.edits.DefinitionKind.TheVariants as kinds
 use Rattle.sbl_script.specs.Reading.{HasTokens, IsFaultIn}
 use Rattle.sbl_script.specs.Edits.{ScriptEdit, body, among, terms, changes, defines, escapes_after, first_of, keeps_count, items_with, plains_of, plains_with, state_before, text_for, text_in, IsAmongReplaced, IsEdited, IsEditFault, IsMade, IsSubstituted}
@@ -103,7 +103,7 @@ module _ (p : Plain → Bool) where
 
 -- ---- the text that is read
 
-abbrev text_at : Result Home ScriptEditFault → Result Text ScriptEditFault
+abbrev text_at : Result Home EditFault → Result Text EditFault
 text_at (Ok h) = Ok h.text
 text_at (Err f) = Err f
 
@@ -133,18 +133,18 @@ text_by items (Some (routine m c os)) (terms n) = refl
 texts_same : (items : List Item) (e : ScriptEdit) → text_for items e ≡ text_at (home items e)
 texts_same items e = ap (λ (o : Option Plain). text_in o e) (first_same (changes e) items) ∙ text_by items (first_passing (changes e) items) e
 
-home_there : (r : Result Home ScriptEditFault) (w : Text) → text_at r ≡ Ok w → (h : Home) × (r ≡ Ok h) × (h.text ≡ w)
+home_there : (r : Result Home EditFault) (w : Text) → text_at r ≡ Ok w → (h : Home) × (r ≡ Ok h) × (h.text ≡ w)
 home_there (Ok h) w e = (h, refl, cc)
 home_there (Err f) w e = absurd cc
 
-err_there : (r : Result Home ScriptEditFault) (f : ScriptEditFault) → text_at r ≡ Err f → r ≡ Err f
+err_there : (r : Result Home EditFault) (f : EditFault) → text_at r ≡ Err f → r ≡ Err f
 err_there (Ok h) f e = absurd cc
 err_there (Err g) f e = cc
 
-pub missing_out : (items : List Item) (e : ScriptEdit) (f : ScriptEditFault) → home items e ≡ Err f → text_for items e ≡ Err f
+pub missing_out : (items : List Item) (e : ScriptEdit) (f : EditFault) → home items e ≡ Err f → text_for items e ≡ Err f
 missing_out items e f is = texts_same items e ∙ ap text_at is
 
-pub missing_in : (items : List Item) (e : ScriptEdit) (f : ScriptEditFault) → text_for items e ≡ Err f → home items e ≡ Err f
+pub missing_in : (items : List Item) (e : ScriptEdit) (f : EditFault) → text_for items e ≡ Err f → home items e ≡ Err f
 missing_in items e f is = err_there (home items e) f (sym (texts_same items e) ∙ is)
 
 -- ---- tokens with those of another among
@@ -413,7 +413,7 @@ module _ (s : Source) (e : ScriptEdit) (text : List ℕ) where
     fault_moved : (w : Text) → h.text ≡ w → (around : TreeOf w → List Item) → ((x : TreeOf w) → IsMade s.items e w x (around x)) → IsFaultIn w (state_before (changes e) s.items) around s.external text f → IsFaultAt s h text f
     fault_moved w is = subst (λ (w : Text). (around : TreeOf w → List Item) → ((x : TreeOf w) → IsMade s.items e w x (around x)) → IsFaultIn w (state_before (changes e) s.items) around s.external text f → IsFaultAt s h text f) is fault_there
 
-  pub fault_out : (f : ScriptEditFault) → IsEditFaultAt s e text f → IsEditFault s e text f
+  pub fault_out : (f : EditFault) → IsEditFaultAt s e text f → IsEditFault s e text f
   fault_out edits.AmongCount z = (z.0.text, text_there z.0 z.1, z.2, substituted_out z.0 false z.2 z.1 z.3)
   fault_out (edits.Script f) z =
       let g = agree z.0 z.1 in
@@ -423,7 +423,7 @@ module _ (s : Source) (e : ScriptEdit) (text : List ℕ) where
   fault_out edits.NoGrouping z = missing_out s.items e edits.NoGrouping z
   fault_out edits.NoAmong z = missing_out s.items e edits.NoAmong z
 
-  pub fault_in : (f : ScriptEditFault) → IsEditFault s e text f → IsEditFaultAt s e text f
+  pub fault_in : (f : EditFault) → IsEditFault s e text f → IsEditFaultAt s e text f
   fault_in edits.AmongCount z =
       let h = home_of z.0 z.1 in
       (h.0, h.1, z.2, substituted_in h.0 false z.2 h.1 (subst (λ (w : Text). IsSubstituted s e w text false z.2) (sym h.2) z.3))

@@ -11,8 +11,8 @@ use Rattle.sbl_ast.specs.Tree.{Argument, Term, Plain, routine, grouping, Item}
 use Rattle.sbl_ast.specs.Texts.{TreeOf}
 use Rattle.sbl_ast.specs.View.{RowView}
 use Rattle.sbl_parser.specs.Reading.{IsReadAs}
-use Rattle.sbl_script.specs.declared.edit_fault.ScriptEditFault.{ScriptEditFault}
-use Rattle.sbl_script.specs.declared.edit_fault.ScriptEditFault.TheVariants as edits
+use Rattle.sbl_script.specs.declared.edit_fault.EditFault.{EditFault}
+use Rattle.sbl_script.specs.declared.edit_fault.EditFault.TheVariants as edits
 use Rattle.sbl_script.specs.declared.edits.DefinitionKind.TheVariants as kinds
 use Rattle.sbl_ast.specs.Source.{Source}
 use Rattle.sbl_resolver.specs.Checks.{WellDeclared, fault_of}
@@ -44,22 +44,22 @@ pub terms_home : (items : List Item) (n : List ℕ) (a : Argument) (ts : List Te
 terms_home items n a ts is = ap (λ (o : Option Plain). home_in items o (terms n)) is
 
 -- where there is a home nothing is missing
-pub not_missing : {X : Type 0} (items : List Item) (e : ScriptEdit) (h : Home) (r : Result X ScriptEditFault) → home items e ≡ Ok h → (f : ScriptEditFault) → text_for items e ≡ Err f → r ≡ Err f
+pub not_missing : {X : Type 0} (items : List Item) (e : ScriptEdit) (h : Home) (r : Result X EditFault) → home items e ≡ Ok h → (f : EditFault) → text_for items e ≡ Err f → r ≡ Err f
 not_missing items e h r is f missing = let clash : Ok h ≡ Err f = sym is ∙ missing_in items e f missing in absurd cc
 
-err_same : (r : Result Home ScriptEditFault) (f g : ScriptEditFault) → r ≡ Err f → r ≡ Err g → f ≡ g
+err_same : (r : Result Home EditFault) (f g : EditFault) → r ≡ Err f → r ≡ Err g → f ≡ g
 err_same r f g a b = cc
 
 -- what is missing is told
-pub missing_told : {X : Type 0} (items : List Item) (e : ScriptEdit) (g : ScriptEditFault) (r : Result X ScriptEditFault) → home items e ≡ Err g → r ≡ Err g → (f : ScriptEditFault) → text_for items e ≡ Err f → r ≡ Err f
+pub missing_told : {X : Type 0} (items : List Item) (e : ScriptEdit) (g : EditFault) (r : Result X EditFault) → home items e ≡ Err g → r ≡ Err g → (f : EditFault) → text_for items e ≡ Err f → r ≡ Err f
 missing_told items e g r is told f missing = told ∙ ap Err (err_same (home items e) g f is (missing_in items e f missing))
 
 -- ---- faults of the text
 
-abbrev pub Refused : Source → ScriptEdit → List ℕ → ScriptEditFault → Type 0
+abbrev pub Refused : Source → ScriptEdit → List ℕ → EditFault → Type 0
 Refused s e text f = (f ≡ edits.OutOfMemory) ⊎ IsEditFault s e text f
 
-pub told_as : (s : Source) (e : ScriptEdit) (h : Home) (text : List ℕ) (f : ScriptFault) (g : ScriptEditFault) → home s.items e ≡ Ok h → Refuses f g → (f ≡ fault.OutOfMemory) ⊎ IsFaultAt s h text f → Refused s e text g
+pub told_as : (s : Source) (e : ScriptEdit) (h : Home) (text : List ℕ) (f : ScriptFault) (g : EditFault) → home s.items e ≡ Ok h → Refuses f g → (f ≡ fault.OutOfMemory) ⊎ IsFaultAt s h text f → Refused s e text g
 told_as s e h text f g there (inl memory) x = inl memory.1
 told_as s e h text f g there (inr other) (inl memory) = absurd (other.0 memory)
 told_as s e h text f g there (inr other) (inr x) = inr (subst (IsEditFault s e text) (sym other.1) (fault_out s e text (edits.Script f) (h, there, x)))

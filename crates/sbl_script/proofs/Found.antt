@@ -4,9 +4,8 @@ use Rattle.std.specs.Option.{option_or}
 use Rattle.std.proofs.lemmas.Slice.Eq.{bytes_eq-Decides}
 use Rattle.std.specs.Str.{bytes_eq}
 use Rattle.std.specs.Prelude.{String}
-use Rattle.std.specs.Global.{Global, Vec}
-use Rattle.sbl_ast.specs.declared.tree.Argument.{Argument}
-use Rattle.sbl_ast.specs.declared.tree.Term.{Term}
+use Rattle.std.specs.Global.{Global}
+use Rattle.sbl_ast.specs.declared.tree.Grouping as declared-grouping
 use Rattle.sbl_ast.specs.declared.tree.RowOfCommands.{RowOfCommands as Row}
 use Rattle.sbl_ast.specs.declared.tree.Plain as declared
 use Rattle.sbl_ast.specs.declared.tree.Plain.TheVariants as plains
@@ -73,10 +72,10 @@ no_other_routine n items (plains.Routine m b) h e = h m b refl
 no_other_routine n items (plains.Declaration k ns) h e = let no : false ≡ true = found_is (defines kinds.Routine n) items _ e in absurd cc
 no_other_routine n items (plains.StringEscapes a b) h e = let no : false ≡ true = found_is (defines kinds.Routine n) items _ e in absurd cc
 no_other_routine n items (plains.StringDef m b l) h e = let no : false ≡ true = found_is (defines kinds.Routine n) items _ e in absurd cc
-no_other_routine n items (plains.Grouping m a ts) h e = let no : false ≡ true = found_is (defines kinds.Routine n) items _ e in absurd cc
+no_other_routine n items (plains.Grouping g) h e = let no : false ≡ true = found_is (defines kinds.Routine n) items _ e in absurd cc
 
-pub no_other_grouping : (n : List ℕ) (items : List Item) (x : declared.Plain) → ((m : String Global) (a : Argument) (ts : Vec Term) → x ≡ plains.Grouping m a ts → ⊥) → first_passing (defines kinds.Grouping n) items ≡ Some (view_plain x) → ⊥
-no_other_grouping n items (plains.Grouping m a ts) h e = h m a ts refl
+pub no_other_grouping : (n : List ℕ) (items : List Item) (x : declared.Plain) → ((g : declared-grouping.Grouping) → x ≡ plains.Grouping g → ⊥) → first_passing (defines kinds.Grouping n) items ≡ Some (view_plain x) → ⊥
+no_other_grouping n items (plains.Grouping g) h e = h g refl
 no_other_grouping n items (plains.Declaration k ns) h e = let no : false ≡ true = found_is (defines kinds.Grouping n) items _ e in absurd cc
 no_other_grouping n items (plains.StringEscapes a b) h e = let no : false ≡ true = found_is (defines kinds.Grouping n) items _ e in absurd cc
 no_other_grouping n items (plains.StringDef m b l) h e = let no : false ≡ true = found_is (defines kinds.Grouping n) items _ e in absurd cc

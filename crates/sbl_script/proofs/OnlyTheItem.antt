@@ -13,8 +13,8 @@ use Rattle.sbl_ast.specs.declared.tree.DeclarationKind.TheVariants as declared_k
 use Rattle.sbl_tree_amongs.specs.Amongs.{AmongContents, amongs_of_body, nth_held, put_in_body}
 use Rattle.sbl_resolver.specs.declared.occurrences.Site.{Site}
 use Rattle.sbl_resolver.specs.Occurrences.{Occurrence, Notice, declares, defines_routine, defines_grouping, uses, substring, among, string, backwards, region_end, noted_items, occurrences_of}
-use Rattle.sbl_script.specs.declared.edit_fault.ScriptEditFault.{ScriptEditFault}
-use Rattle.sbl_script.specs.declared.edit_fault.ScriptEditFault.TheVariants as edits
+use Rattle.sbl_script.specs.declared.edit_fault.EditFault.{EditFault}
+use Rattle.sbl_script.specs.declared.edit_fault.EditFault.TheVariants as edits
 use Rattle.sbl_ast.specs.Source.{Source}
 use Rattle.sbl_script.specs.Reading.{IsCheckFault}
 use Rattle.sbl_resolver.specs.Bodies.{body_in}
@@ -382,7 +382,7 @@ IsPlaced items e h = (x : TreeOf h.text) → Replaces items e h x
 is_there : (o : Option Plain) (x : Plain) → o ≡ Some x → is_some o ≡ true
 is_there o x e = ap is_some e
 
-home_one : (r : Result Home ScriptEditFault) (h g : Home) → r ≡ Ok h → r ≡ Ok g → h ≡ g
+home_one : (r : Result Home EditFault) (h g : Home) → r ≡ Ok h → r ≡ Ok g → h ≡ g
 home_one r h g a b = cc
 
 place_of : (items : List Item) (e : ScriptEdit) (h : Home) (o : Option Plain) → first_passing (changes e) items ≡ o → home_in items o e ≡ Ok h → IsPlaced items e h

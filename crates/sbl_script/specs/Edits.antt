@@ -17,8 +17,8 @@ use Rattle.sbl_ast.specs.Places.{AtDepth, places, placed_plain}
 use Rattle.sbl_ast.specs.Texts.{Text, TreeOf, places_in}
 use Rattle.sbl_ast.specs.Texts as texts
 use Rattle.sbl_parser.specs.Reading.{IsReadAs}
-use Rattle.sbl_script.specs.declared.edit_fault.ScriptEditFault.{ScriptEditFault}
-use Rattle.sbl_script.specs.declared.edit_fault.ScriptEditFault.TheVariants as edits
+use Rattle.sbl_script.specs.declared.edit_fault.EditFault.{EditFault}
+use Rattle.sbl_script.specs.declared.edit_fault.EditFault.TheVariants as edits
 use Rattle.sbl_script.specs.declared.edits.DefinitionKind.{DefinitionKind}
 use Rattle.sbl_script.specs.declared.edits.DefinitionKind.TheVariants as kinds
 use Rattle.sbl_ast.specs.Source.{Source}
@@ -93,7 +93,7 @@ among_depths ps = map (λ p. p.1) (filter (λ p. is_among p.0) ps)
 
 -- The kind of text that an edit replaces in this definition; otherwise the fault: there is no such definition, or it has no such
 -- among.
-abbrev pub text_in : Option Plain → ScriptEdit → Result Text ScriptEditFault
+abbrev pub text_in : Option Plain → ScriptEdit → Result Text EditFault
 text_in (Some (routine m c os)) (body n) = Ok texts.body
 text_in (Some (routine m c os)) (among n k) = ok_or (option_map (λ p. texts.among p.1) (find (λ p. nat_eq p.0 k) (enumerate_from 1 (among_depths (places_in texts.body (c, os)))))) edits.NoAmong
 text_in (Some (grouping m a ts)) (terms n) = Ok texts.terms
@@ -101,7 +101,7 @@ text_in _ (terms n) = Err edits.NoGrouping
 text_in _ e = Err edits.NoRoutine
 
 -- the same of the first definition that the edit may change
-abbrev pub text_for : List Item → ScriptEdit → Result Text ScriptEditFault
+abbrev pub text_for : List Item → ScriptEdit → Result Text EditFault
 text_for items e = text_in (first_of (changes e) items) e
 
 -- The definition `new` has the among `a` in place of the among of `old` with number k, which is at depth d: there are
@@ -154,7 +154,7 @@ IsEdited s e text t = (w : Text) × (text_for s.items e ≡ Ok w) × IsSubstitut
 
 -- What each fault means: the number of amongs changed; a fault of the text, found in the script with that text in place of the
 -- part; no such part. Running out of memory is not a fault of the edit.
-abbrev pub IsEditFault : Source → ScriptEdit → List ℕ → ScriptEditFault → Type 0
+abbrev pub IsEditFault : Source → ScriptEdit → List ℕ → EditFault → Type 0
 IsEditFault s e text edits.AmongCount = (w : Text) × (text_for s.items e ≡ Ok w) × (t : Source) × IsSubstituted s e w text false t
 IsEditFault s e text (edits.Script f) =
     (w : Text) × (text_for s.items e ≡ Ok w) × (around : TreeOf w → List Item) × ((x : TreeOf w) → IsMade s.items e w x (around x)) × IsFaultIn w (state_before (changes e) s.items) around s.external text f

@@ -14,8 +14,8 @@ use Rattle.sbl_ast.specs.Texts as texts
 use Rattle.sbl_ast.specs.Tree.{Plain, routine, grouping, Item, plain, backward}
 use Rattle.sbl_ast.specs.View.{RowView}
 use Rattle.sbl_parser.specs.Reading.{IsReadAs}
-use Rattle.sbl_script.specs.declared.edit_fault.ScriptEditFault.{ScriptEditFault}
-use Rattle.sbl_script.specs.declared.edit_fault.ScriptEditFault.TheVariants as edits
+use Rattle.sbl_script.specs.declared.edit_fault.EditFault.{EditFault}
+use Rattle.sbl_script.specs.declared.edit_fault.EditFault.TheVariants as edits
 use Rattle.sbl_script.specs.declared.edits.DefinitionKind.TheVariants as kinds
 use Rattle.sbl_ast.specs.Source.{Source}
 use Rattle.sbl_resolver.specs.Checks.{WellDeclared}
@@ -91,13 +91,13 @@ abbrev pub home_of_among : List Item → List ℕ → RowView → ℕ → AmongC
 home_of_among items n b k h =
     home_at items (defines kinds.Routine n) (texts.among h.0) (λ a. routine n (put_in_body b k a).0 (put_in_body b k a).1) (λ a. nat_eq (count_in_among a) (count_in_among (h.1, h.2)))
 
-abbrev pub home_of_held : List Item → List ℕ → RowView → ℕ → Option AmongContents → Result Home ScriptEditFault
+abbrev pub home_of_held : List Item → List ℕ → RowView → ℕ → Option AmongContents → Result Home EditFault
 home_of_held items n b k o = ok_or (option_map (home_of_among items n b k) o) edits.NoAmong
 
 abbrev pub home_of_terms : List Item → List ℕ → Home
 home_of_terms items n = home_at items (defines kinds.Grouping n) texts.terms (λ x. grouping n x.0 x.1) (λ x. true)
 
-abbrev pub home_in : List Item → Option Plain → ScriptEdit → Result Home ScriptEditFault
+abbrev pub home_in : List Item → Option Plain → ScriptEdit → Result Home EditFault
 home_in items (Some (routine m c os)) (body n) = Ok (home_of_body items n)
 home_in items (Some (routine m c os)) (among n k) = home_of_held items n (c, os) k (nth_held k (amongs_of_body (c, os)))
 home_in items (Some (grouping m a ts)) (terms n) = Ok (home_of_terms items n)
@@ -105,7 +105,7 @@ home_in items _ (terms n) = Err edits.NoGrouping
 home_in items _ e = Err edits.NoRoutine
 
 -- the place that an edit changes; or the fault if the script lacks the definition, or else the among
-abbrev pub home : List Item → ScriptEdit → Result Home ScriptEditFault
+abbrev pub home : List Item → ScriptEdit → Result Home EditFault
 home items e = home_in items (first_passing (changes e) items) e
 
 -- ---- the script after an edit
@@ -133,7 +133,7 @@ abbrev pub IsFaultAt : Source → Home → List ℕ → ScriptFault → Type 0
 IsFaultAt s h text f = IsFaultIn h.text h.state h.around s.external text f
 
 -- what each fault of an edit means
-abbrev pub IsEditFaultAt : Source → ScriptEdit → List ℕ → ScriptEditFault → Type 0
+abbrev pub IsEditFaultAt : Source → ScriptEdit → List ℕ → EditFault → Type 0
 IsEditFaultAt s e text edits.AmongCount = (h : Home) × (home s.items e ≡ Ok h) × (t : Source) × IsSubstitutedAt s h text false t
 IsEditFaultAt s e text (edits.Script f) = (h : Home) × (home s.items e ≡ Ok h) × IsFaultAt s h text f
 IsEditFaultAt s e text edits.OutOfMemory = ⊥

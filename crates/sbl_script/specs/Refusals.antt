@@ -2,8 +2,8 @@
 use Rattle.std.specs.Prelude.{◌≡◌, ◌⊎◌}
 use Rattle.sbl_text.specs.declared.fault.ScriptFault.{ScriptFault}
 use Rattle.sbl_text.specs.declared.fault.ScriptFault.TheVariants as fault
-use Rattle.sbl_script.specs.declared.edit_fault.ScriptEditFault.{ScriptEditFault}
-use Rattle.sbl_script.specs.declared.edit_fault.ScriptEditFault.TheVariants as edits
+use Rattle.sbl_script.specs.declared.edit_fault.EditFault.{EditFault}
+use Rattle.sbl_script.specs.declared.edit_fault.EditFault.TheVariants as edits
 
-abbrev pub Refuses : ScriptFault → ScriptEditFault → Type 0
+abbrev pub Refuses : ScriptFault → EditFault → Type 0
 Refuses f e = ((f ≡ fault.OutOfMemory) × (e ≡ edits.OutOfMemory)) ⊎ ((f ≡ fault.OutOfMemory → ⊥) × (e ≡ edits.Script f))

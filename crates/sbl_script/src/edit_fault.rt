@@ -2,7 +2,7 @@
 
 ghost use Rattle.std.specs.Prelude.{◌≡◌};
 ghost use Rattle.sbl_script.specs.Refusals.{Refuses};
-ghost use Rattle.sbl_script.specs.declared.edit_fault.ScriptEditFault.TheVariants.{OutOfMemory};
+ghost use Rattle.sbl_script.specs.declared.edit_fault.EditFault.TheVariants.{OutOfMemory};
 
 use sbl_text::ScriptFault;
 use std::alloc::AllocError;
@@ -10,7 +10,7 @@ use thiserror::Error;
 
 /// Why an edit is refused, with its number. Numbers and names are our own choice.
 #[derive(Debug, Clone, Copy, PartialEq, Eq, Error)]
-pub enum ScriptEditFault {
+pub enum EditFault {
     /// The script defines no routine or external with this name.
     #[error("45 NoRoutine")]
     NoRoutine,
@@ -31,21 +31,21 @@ pub enum ScriptEditFault {
     OutOfMemory,
 }
 
-impl From<ScriptFault> for ScriptEditFault {
+impl From<ScriptFault> for EditFault {
     ghost from_gives = { λ fault refused. Refuses fault refused };
 
-    fn from(fault: ScriptFault) -> ScriptEditFault {
+    fn from(fault: ScriptFault) -> EditFault {
         match fault {
-            ScriptFault::OutOfMemory => ScriptEditFault::OutOfMemory,
-            _ => ScriptEditFault::Script(fault),
+            ScriptFault::OutOfMemory => EditFault::OutOfMemory,
+            _ => EditFault::Script(fault),
         }
     }
 }
 
-impl From<AllocError> for ScriptEditFault {
+impl From<AllocError> for EditFault {
     ghost from_gives = { λ _ refused. refused ≡ OutOfMemory };
 
-    fn from(_error: AllocError) -> ScriptEditFault {
-        ScriptEditFault::OutOfMemory
+    fn from(_error: AllocError) -> EditFault {
+        EditFault::OutOfMemory
     }
 }

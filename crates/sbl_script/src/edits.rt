@@ -9,7 +9,7 @@ ghost use Rattle.sbl_script.specs.declared.edits.DefinitionKind.TheVariants as k
 ghost use Rattle.sbl_script.specs.Edits as spec;
 ghost use Rattle.sbl_script.specs.Homes as homes;
 
-use sbl_ast::{Argument, Base, Plain, RowOfCommands, ScriptItem, Term, copy_plain};
+use sbl_ast::{Argument, Base, Grouping, Plain, RowOfCommands, ScriptItem, Term, copy_plain};
 use sbl_text::{Coding, Escapes, ScriptFault, macro_value};
 use std::alloc::{AllocError, Global};
 
@@ -35,11 +35,7 @@ fn defines(plain: &Plain, kind: DefinitionKind, name: &str) -> bool
             _ => false,
         },
         DefinitionKind::Grouping => match plain {
-            Plain::Grouping {
-                name: defined,
-                first: _,
-                others: _,
-            } => name == defined.as_str(),
+            Plain::Grouping(grouping) => name == grouping.name.as_str(),
             _ => false,
         },
     }
@@ -96,16 +92,12 @@ pub fn routine_of<'a>(items: &'a [ScriptItem], name: &str) -> Option<&'a RowOfCo
     }
 }
 
-/// Returns the terms of the first grouping with this name; `None` if there is none.
-pub fn grouping_of<'a>(items: &'a [ScriptItem], name: &str) -> Option<(&'a Argument, &'a [Term])>
-    ensures { MatchOption result (spec.first_of (spec.defines kinds.Grouping name.now) (view_items items.now) ≡ None) (λ x. spec.first_of (spec.defines kinds.Grouping name.now) (view_items items.now) ≡ Some (trees.grouping name.now (view_argument x.0.now) (map view_term x.1.now))) }
+/// Returns the first grouping with this name; `None` if there is none.
+pub fn grouping_of<'a>(items: &'a [ScriptItem], name: &str) -> Option<&'a Grouping>
+    ensures { MatchOption result (spec.first_of (spec.defines kinds.Grouping name.now) (view_items items.now) ≡ None) (λ x. spec.first_of (spec.defines kinds.Grouping name.now) (view_items items.now) ≡ Some (trees.grouping name.now (view_argument x.now.first) (map view_term x.now.others.items))) }
 {
     match definition_of(items, DefinitionKind::Grouping, name)? {
-        Plain::Grouping {
-            name: _,
-            first,
-            others,
-        } => Some((first, others.as_slice())),
+        Plain::Grouping(grouping) => Some(grouping),
         _ => None,
     }
 }
@@ -230,11 +222,11 @@ pub fn grouping(
     ensures { IfOk result (λ x. view_plain x ≡ trees.grouping name.now (view_argument terms.0) (map view_term terms.1.items)) }
 {
     let (first, others) = terms;
-    Ok(Plain::Grouping {
+    Ok(Plain::Grouping(Grouping {
         name: String::from_str(alloc, name)?,
         first,
         others,
-    })
+    }))
 }
 
 fn plains_with(

@@ -7,8 +7,8 @@ pub mod laws;
 mod same;
 mod script;
 
-pub use edit_fault::ScriptEditFault;
+pub use edit_fault::EditFault;
 pub use sbl_ast as tree;
-pub use sbl_ast::{Among, Command, Mode, Plain, RowOfCommands, ScriptItem, Term};
+pub use sbl_ast::{Among, Command, Grouping, Mode, Plain, RowOfCommands, ScriptItem, Term};
 pub use sbl_text::ScriptFault;
 pub use script::{MAX_SCRIPT, Script};

@@ -15,7 +15,7 @@ ghost use Rattle.sbl_text.specs.Tokens.{MayEnd, placed_of};
 ghost use Rattle.sbl_script.specs.ParsedScript.{source_of};
 ghost use Rattle.sbl_script.specs.Reading as spec;
 
-use crate::edit_fault::ScriptEditFault;
+use crate::edit_fault::EditFault;
 use crate::edits;
 use crate::edits::{DefinitionKind, escapes_before, items_with};
 use sbl_ast::{Among, Argument, Plain, RowOfCommands, ScriptItem, Term};
@@ -190,18 +190,13 @@ impl Script {
     /// Returns `NoRoutine` exactly if the script defines no routine with this name; this does not allocate. Returns
     /// `Script` with the first fault of the text, with its position in the text, or with the fault of the check that
     /// fails in the script with the text. Returns `OutOfMemory` if an allocation fails.
-    pub fn with_routine(
-        &self,
-        alloc: Global,
-        name: &str,
-        text: &str,
-    ) -> Result<Script, ScriptEditFault>
+    pub fn with_routine(&self, alloc: Global, name: &str, text: &str) -> Result<Script, EditFault>
         ensures script { IfOk result (λ s. IsEdited (source_of self.now) (body name.now) text.now (source_of s)) }
-        ensures fault { IfErr result (λ f. (f ≡ ScriptEditFault.OutOfMemory) ⊎ IsEditFault (source_of self.now) (body name.now) text.now f) }
-        ensures missing { (f : ScriptEditFault) → text_for (source_of self.now).items (body name.now) ≡ Err f → result ≡ Err f }
+        ensures fault { IfErr result (λ f. (f ≡ EditFault.OutOfMemory) ⊎ IsEditFault (source_of self.now) (body name.now) text.now f) }
+        ensures missing { (f : EditFault) → text_for (source_of self.now).items (body name.now) ≡ Err f → result ≡ Err f }
     {
         let Some(_replaced) = edits::routine_of(&self.items, name) else {
-            return Err(ScriptEditFault::NoRoutine);
+            return Err(EditFault::NoRoutine);
         };
         let found = self.tokens_in(alloc, DefinitionKind::Routine, name, text)?;
         let body = body_of_tokens(alloc, &found, text.len())?;
@@ -225,16 +220,16 @@ impl Script {
         routine: &str,
         k: u64,
         text: &str,
-    ) -> Result<Script, ScriptEditFault>
+    ) -> Result<Script, EditFault>
         ensures script { IfOk result (λ s. IsEdited (source_of self.now) (among routine.now k) text.now (source_of s)) }
-        ensures fault { IfErr result (λ f. (f ≡ ScriptEditFault.OutOfMemory) ⊎ IsEditFault (source_of self.now) (among routine.now k) text.now f) }
-        ensures missing { (f : ScriptEditFault) → text_for (source_of self.now).items (among routine.now k) ≡ Err f → result ≡ Err f }
+        ensures fault { IfErr result (λ f. (f ≡ EditFault.OutOfMemory) ⊎ IsEditFault (source_of self.now) (among routine.now k) text.now f) }
+        ensures missing { (f : EditFault) → text_for (source_of self.now).items (among routine.now k) ≡ Err f → result ≡ Err f }
     {
         let Some(body) = edits::routine_of(&self.items, routine) else {
-            return Err(ScriptEditFault::NoRoutine);
+            return Err(EditFault::NoRoutine);
         };
         let Some((depth, replaced)) = nth_among(body, k) else {
-            return Err(ScriptEditFault::NoAmong);
+            return Err(EditFault::NoAmong);
         };
         let found = self.tokens_in(alloc, DefinitionKind::Routine, routine, text)?;
         let among = among_of_tokens(alloc, &found, text.len(), depth)?;
@@ -244,7 +239,7 @@ impl Script {
         if has_as_many_amongs(&among, replaced) {
             Ok(script)
         } else {
-            Err(ScriptEditFault::AmongCount)
+            Err(EditFault::AmongCount)
         }
     }
 
@@ -255,18 +250,13 @@ impl Script {
     /// Returns `NoGrouping` exactly if the script defines no grouping with this name; this does not allocate. Returns
     /// `Script` with the first fault of the text, with its position in the text, or with the fault of the check that
     /// fails in the script with the text. Returns `OutOfMemory` if an allocation fails.
-    pub fn with_grouping(
-        &self,
-        alloc: Global,
-        name: &str,
-        text: &str,
-    ) -> Result<Script, ScriptEditFault>
+    pub fn with_grouping(&self, alloc: Global, name: &str, text: &str) -> Result<Script, EditFault>
         ensures script { IfOk result (λ s. IsEdited (source_of self.now) (terms name.now) text.now (source_of s)) }
-        ensures fault { IfErr result (λ f. (f ≡ ScriptEditFault.OutOfMemory) ⊎ IsEditFault (source_of self.now) (terms name.now) text.now f) }
-        ensures missing { (f : ScriptEditFault) → text_for (source_of self.now).items (terms name.now) ≡ Err f → result ≡ Err f }
+        ensures fault { IfErr result (λ f. (f ≡ EditFault.OutOfMemory) ⊎ IsEditFault (source_of self.now) (terms name.now) text.now f) }
+        ensures missing { (f : EditFault) → text_for (source_of self.now).items (terms name.now) ≡ Err f → result ≡ Err f }
     {
         let Some(_replaced) = edits::grouping_of(&self.items, name) else {
-            return Err(ScriptEditFault::NoGrouping);
+            return Err(EditFault::NoGrouping);
         };
         let found = self.tokens_in(alloc, DefinitionKind::Grouping, name, text)?;
         let terms = terms_of_tokens(alloc, &found, text.len())?;

@@ -114,7 +114,7 @@ pub(crate) fn trace_reply(alloc: Global, bench: &Bench, word: &str) -> Reply
     words_fit(bench);
     let mut room = ['\0'; MAX_LOOKED_AT];
     let count = first_characters(word, &mut room);
-    match bench.items_of_trace(&room[..count]) {
+    match bench.touched(&room[..count]) {
         Ok(Some(items)) => report(items_text(alloc, items)),
         Ok(None) => Reply::Fixed(edit_text(Err(EditFault::Absent))),
         Err(refused) => report(Err(refused)),

@@ -117,9 +117,8 @@ fn defines(plain: &Plain, name: &str) -> bool
     ensures { result ≡ spec.defines_name name.now (view_plain plain.now) }
 {
     match plain {
-        Plain::Routine { name: defined, .. } | Plain::Grouping { name: defined, .. } => {
-            name == defined.as_str()
-        }
+        Plain::Routine { name: defined, .. } => name == defined.as_str(),
+        Plain::Grouping(grouping) => name == grouping.name.as_str(),
         _ => false,
     }
 }

@@ -120,24 +120,16 @@ fn differ_plain(alloc: Global, one: &Plain, other: &Plain) -> Result<Option<Vec<
             }
             Ok(None)
         }
-        Plain::Grouping {
-            name,
-            first,
-            others,
-        } => {
-            let Plain::Grouping {
-                name: other_name,
-                first: other_first,
-                others: other_others,
-            } = other
-            else {
+        Plain::Grouping(grouping) => {
+            let Plain::Grouping(other_grouping) = other else {
                 return Ok(None);
             };
-            if name.as_str() != other_name.as_str() {
+            if grouping.name.as_str() != other_grouping.name.as_str() {
                 return Ok(None);
             }
-            let same = same_argument(first, other_first) && same_terms(others, other_others);
-            Ok(Some(grouping_unless(alloc, name, same)?))
+            let same = same_argument(&grouping.first, &other_grouping.first)
+                && same_terms(&grouping.others, &other_grouping.others);
+            Ok(Some(grouping_unless(alloc, &grouping.name, same)?))
         }
     }
 }

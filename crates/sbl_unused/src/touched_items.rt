@@ -40,7 +40,7 @@ fn add_items(items: &mut BTreeSet<Item>, more: BTreeSet<Item>) -> Result<(), All
 fn add_touched(items: &mut BTreeSet<Item>, bench: &Bench, word: &[char]) -> Result<(), AllocError>
     ensures { is_word word.now bench.now.words ≡ true → OnOk result ((test : Item' → Bool) → list_any test (items_in items.new) ≡ (list_any test (touched_items (setting_of bench.now).script word.now (setting_of bench.now).limit) || list_any test (items_in items.old))) }
 {
-    match bench.items_of_trace(word)? {
+    match bench.touched(word)? {
         Some(more) => add_items(items, more),
         None => Ok(()),
     }
@@ -103,15 +103,13 @@ fn add_built_from(
 ) -> Result<(), AllocError>
     ensures { OnOk result ((x : Item') → list_any (same_item x) (items_in items.new) ≡ and_terms (view_plain plain.now) (λ y. list_any (same_item y) (items_in items.old)) x) }
 {
-    if let Plain::Grouping {
-        name,
-        first,
-        others,
-    } = plain
-    {
-        if has_item(items, &Item::Grouping(String::from_str(alloc, name)?)) {
-            add_argument(alloc, items, first)?;
-            add_terms(alloc, items, others)?;
+    if let Plain::Grouping(grouping) = plain {
+        if has_item(
+            items,
+            &Item::Grouping(String::from_str(alloc, &grouping.name)?),
+        ) {
+            add_argument(alloc, items, &grouping.first)?;
+            add_terms(alloc, items, &grouping.others)?;
         }
     }
     Ok(())

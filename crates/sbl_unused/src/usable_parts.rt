@@ -57,12 +57,8 @@ fn put_plain<'a>(alloc: Global, parts: &mut Parts<'a>, plain: &'a Plain) -> Resu
             put_part(parts, routine, Vec::new(alloc))?;
             put_amongs(alloc, parts, name, &amongs_of(alloc, body)?)
         }
-        Plain::Grouping {
-            name,
-            first: _,
-            others: _,
-        } => {
-            let grouping = Item::Grouping(String::from_str(alloc, name)?);
+        Plain::Grouping(grouping) => {
+            let grouping = Item::Grouping(String::from_str(alloc, &grouping.name)?);
             put_part(parts, grouping, Vec::new(alloc))
         }
         Plain::Declaration(_, _)

@@ -4,7 +4,7 @@ ghost use Rattle.sbl_bench.specs.KeptRuns.{contents_of};
 ghost use Rattle.sbl_work.specs.WholeWork.{IsOpened};
 
 use crate::file_words::words_in;
-use sbl_bench::Bench;
+use sbl_bench::{Bench, WordKeys};
 use sbl_input::LoadFault;
 use sbl_script::Script;
 use std::alloc::{AllocError, Global};
@@ -78,7 +78,7 @@ fn bench_of(
         Ok(script) => script,
         Err(fault) => return Err(LoadFault::Script(fault)),
     };
-    match Bench::open(alloc, keys, script, words) {
+    match Bench::open_with_keys(alloc, WordKeys::new(keys), script, words) {
         Ok(bench) => Ok(bench),
         Err(fault) => Err(LoadFault::Open(fault)),
     }

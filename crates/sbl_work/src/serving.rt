@@ -219,7 +219,7 @@ fn work_on<F: Files + AllocGlobal, R: Source + Drop, W: Sink>(
 /// Works on the files of a script and of words: replies to each request of the input in turn, up to `quit` or the end of input.
 /// What follows a line `quit` is not answered. Returns the exit status: 0, or 1 after a fault, which is one line in `errors`;
 /// without a fault nothing is written there. Before each line a prompt is written if `prompts` is true. The keys are those of the
-/// hash by which words are found, as in `Bench::open`.
+/// hash by which words are found, as in `WordKeys::new`.
 ///
 /// If a file cannot be read or has a fault, or an allocation for it fails, no line is read and nothing is written to `writer`.
 pub fn work<F: Files + AllocGlobal, R: Source + Drop, W: Sink, E: Sink>(

@@ -5,10 +5,9 @@ use sbl_input::{LoadFault, load};
 use sbl_io::{Device, Lines};
 use sbl_sessions::serve;
 use std::alloc::Global;
-use std::hash::RandomState;
 use std::process::Abort;
 use std::test::Fail;
-use test_devices::{Pieces, SameBytes, bytes_of, in_pieces};
+use test_devices::{Pieces, bytes_of, in_pieces};
 use test_scripts::{field, number, with_scripts};
 
 /// A reader in memory.
@@ -25,19 +24,11 @@ pub(crate) enum Verb {
 }
 
 /// Runs a session.
-fn session(
-    lines: &mut Lines<Reader<'_>>,
-    writer: &mut Writer,
-) -> Result<Result<(), LoadFault>, Fail> {
-    let keys = RandomState::new(&SameBytes)?;
-    Ok(match load(lines, keys, "stem") {
-        Ok(mut bench) => {
-            let served = serve(&mut bench, lines, writer);
-            bench.leak();
-            served.map_err(LoadFault::Input)
-        }
-        Err(fault) => Err(fault),
-    })
+fn session(lines: &mut Lines<Reader<'_>>, writer: &mut Writer) -> Result<(), LoadFault> {
+    let mut bench = load(lines, "stem")?;
+    let served = serve(&mut bench, lines, writer);
+    bench.leak();
+    served.map_err(LoadFault::Input)
 }
 
 /// Does what the verb says. Returns what is written, and after it `!` and the fault that ends it, if there is one.
@@ -48,7 +39,7 @@ pub(crate) fn run_verb(
     mut writer: Writer,
 ) -> Result<Vec<u8>, Fail> {
     let ending = match verb {
-        Verb::Session => session(lines, &mut writer)?,
+        Verb::Session => session(lines, &mut writer),
         Verb::Filter => filter(lines, "stem", &mut writer),
     };
     let mut text = writer.into_inner().inner;

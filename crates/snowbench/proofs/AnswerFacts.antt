@@ -134,7 +134,7 @@ module _ {E : Type 0} (held : E → Option (List ℕ)) (tally : E → Tally) whe
   pub reports_status : (e : E) (status n : ℕ) (r : Result ℕ LoadFault) → r ≡ Ok n → status ≡ (if n == 0 then 0 else 1) → IsReported held tally e e status r
   reports_status e status n r is so = subst (λ (x : Result ℕ LoadFault). IsReported held tally e e status x) (sym is) (so, Appends-nil (held e))
 
-  writes_line : (e v : E) (bytes line : List ℕ) (r : Result (Unit {0}) ServeFault) → bytes ≡ line → OnOk r (Appends (held e) (held v) bytes)
+  pub writes_line : (e v : E) (bytes line : List ℕ) (r : Result (Unit {0}) ServeFault) → bytes ≡ line → OnOk r (Appends (held e) (held v) bytes)
       → ((n : ℕ) × Appends (held e) (held v) (take n bytes)) → IfErr r (λ f. (f ≡ fault.Write) × HasStopped tally e v)
       → IsWritten held tally e v line
   writes_line e v bytes line (Ok u) is all prefix why = inl (subst (λ (t : List ℕ). Appends (held e) (held v) t) is all)

@@ -7,24 +7,27 @@ ghost use Rattle.sbl_io.specs.HeldInput.{KeepsTime, HasReason, fault_of, input_o
 ghost use Rattle.sbl_script.specs.ParsedScript.{source_of};
 ghost use Rattle.sbl_input.specs.declared.faults.LoadFault.{LoadFault};
 ghost use Rattle.snowbench.specs.Answering.{Answering};
-ghost use Rattle.snowbench.specs.Program.{HasReasons, IsAnswer, IsReported, fault_line};
+ghost use Rattle.snowbench.specs.Program.{HasReasons, IsAnswer, IsReported, RunsOver, fault_line};
 ghost use Rattle.snowbench.specs.StemmedRows.{IsStemmed};
 ghost use Rattle.snowbench.specs.WholeCheck.{ChecksLists, IsWholeCheck, ReadsExpected, ReadsWords};
 ghost use Rattle.snowbench.specs.WholeSession.{IsWholeSession};
 
+use sbl_bench::WordKeys;
 use sbl_check::check;
-use sbl_command_line::{CommandLine, Verb};
+use sbl_command_line::{Verb, Wanted};
 use sbl_filter::filter;
-use sbl_input::{LoadFault, load, load_rows, read_script};
+use sbl_input::{LoadFault, load_rows, load_with_keys, read_script};
 use sbl_io::{Lines, ServeFault, Sink, Source, write_all};
 use sbl_script::Script;
 use sbl_sessions::serve;
-use std::alloc::AllocError;
+use std::alloc::{AllocError, Global};
 use std::fmt::InlineText;
-use std::hash::RandomState;
 
 /// The beginning of the line of a fault.
 const NAME: &str = "snowbench: ";
+
+/// The line of the fault if there is no memory for the buffers of the lines.
+const NO_MEMORY: &str = "snowbench: 49 OutOfMemory\n";
 
 /// The greatest length of the text of a fault in bytes; the longest text is shorter.
 const MAX_FAULT_TEXT: usize = 80;
@@ -32,23 +35,50 @@ const MAX_FAULT_TEXT: usize = 80;
 /// The room for the line of a fault in bytes; the longest line is shorter.
 const MAX_FAULT_LINE: usize = 96;
 
-/// Runs the whole program: does what the command line asks for, reads `lines`, writes to `writer`, and returns the exit
-/// status: 0, or 1 after a fault or a difference. A fault is one line in `errors`: `snowbench: ` and the text of the
-/// fault. What was written before the fault stays in `writer`. The keys are those of the hash by which words are found, as in
-/// `Bench::open`.
+/// Runs the whole program: does what is wanted with the lines of `reader`, writes to `writer`, and returns the exit status: 0, or 1
+/// after a fault or a difference. A fault is one line in `errors`: `snowbench: ` and the text of the fault. What was written
+/// before the fault stays in `writer`. If there is no memory for the buffers of the lines, the fault is `49 OutOfMemory`, and nothing is
+/// read.
+///
+/// The hash by which words are found has keys that are no secret, as in `Bench::open`. If the input comes from others, call
+/// `run_with`.
 ///
 /// `session` loads a bench and answers the commands after it. `stem` writes the row of each word of a vocabulary. `filter`
 /// writes the row of each word before it reads the next.
 /// `check` reads a script block, a block of words and the expected stems up to the end of input, all before it runs
-/// anything, and then writes a row for each difference.
+/// anything, and then writes a row for each difference. `work` reads files, and has an entry of its own: here it reads and writes nothing.
 pub fn run<R: Source + Drop, W: Sink, E: Sink>(
-    command_line: &CommandLine,
-    keys: RandomState,
+    alloc: Global,
+    wanted: &Wanted,
+    reader: R,
+    writer: &mut W,
+    errors: &mut E,
+) -> u8
+    ensures runs { RunsOver R.left R.tally W.held W.tally E.held E.tally wanted.now.verb (string_bytes wanted.now.external) reader writer.old writer.new errors.old errors.new result }
+    ensures status { result ≤ 1 }
+    ensures writes_in_time { WritesInTime W.tally writer.old writer.new }
+    ensures errors_in_time { WritesInTime E.tally errors.old errors.new }
+{
+    match Lines::new(alloc, reader) {
+        Ok(mut lines) => run_with(wanted, WordKeys::constant(), &mut lines, writer, errors),
+        Err(_) => {
+            // The status reports the fault even if its line cannot be written.
+            let _ = write_all(errors, NO_MEMORY.as_bytes());
+            1
+        }
+    }
+}
+
+/// Does what `run` does, over lines and with keys: does what is wanted, reads `lines`, writes to `writer`, and returns the exit status.
+/// The keys are those of the hash by which words are found, as in `Bench::open_with_keys`.
+pub fn run_with<R: Source + Drop, W: Sink, E: Sink>(
+    wanted: &Wanted,
+    keys: WordKeys,
     lines: &mut Lines<R>,
     writer: &mut W,
     errors: &mut E,
 ) -> u8
-    ensures runs { fault_of lines.old ≡ None → (answer : Result ℕ LoadFault) × IsAnswer command_line.now.verb (string_bytes command_line.now.external) (input_of R.left lines.old) (input_of R.left lines.new) (W.held writer.old) (W.held writer.new) answer
+    ensures runs { fault_of lines.old ≡ None → (answer : Result ℕ LoadFault) × IsAnswer wanted.now.verb (string_bytes wanted.now.external) (input_of R.left lines.old) (input_of R.left lines.new) (W.held writer.old) (W.held writer.new) answer
         × IfErr answer (λ fault. HasReasons R.tally W.tally lines.old lines.new writer.old writer.new fault)
         × IsReported E.held E.tally errors.old errors.new result answer }
     ensures status { result ≤ 1 }
@@ -56,7 +86,7 @@ pub fn run<R: Source + Drop, W: Sink, E: Sink>(
     ensures writes_in_time { WritesInTime W.tally writer.old writer.new }
     ensures errors_in_time { WritesInTime E.tally errors.old errors.new }
 {
-    match answer(command_line, keys, lines, writer) {
+    match answer(wanted, keys, lines, writer) {
         Ok(0) => 0,
         Ok(_) => 1,
         Err(fault) => {
@@ -81,16 +111,16 @@ fn line_of_fault(fault: LoadFault) -> InlineText<MAX_FAULT_LINE>
 
 /// Does what the command line asks for, and returns the number of differences.
 fn answer<R: Source + Drop, W: Sink>(
-    command_line: &CommandLine,
-    keys: RandomState,
+    wanted: &Wanted,
+    keys: WordKeys,
     lines: &mut Lines<R>,
     writer: &mut W,
 ) -> Result<u64, LoadFault>
-    ensures answers { fault_of lines.old ≡ None → IsAnswer command_line.now.verb (string_bytes command_line.now.external) (input_of R.left lines.old) (input_of R.left lines.new) (W.held writer.old) (W.held writer.new) result }
+    ensures answers { fault_of lines.old ≡ None → IsAnswer wanted.now.verb (string_bytes wanted.now.external) (input_of R.left lines.old) (input_of R.left lines.new) (W.held writer.old) (W.held writer.new) result }
     ensures answering { Answering R.tally W.tally lines.old lines.new writer.old writer.new result }
 {
-    let external = command_line.external.as_str();
-    match command_line.verb {
+    let external = wanted.external.as_str();
+    match wanted.verb {
         Verb::Session => {
             session(lines, keys, external, writer)?;
             Ok(0)
@@ -112,14 +142,14 @@ fn answer<R: Source + Drop, W: Sink>(
 /// Loads a bench and answers the commands after it.
 fn session<R: Source + Drop, W: Sink>(
     lines: &mut Lines<R>,
-    keys: RandomState,
+    keys: WordKeys,
     external: &str,
     writer: &mut W,
 ) -> Result<(), LoadFault>
     ensures session { fault_of lines.old ≡ None → IsWholeSession (input_of R.left lines.old) (input_of R.left lines.new) external.now (W.held writer.old) (W.held writer.new) result }
     ensures answering { Answering R.tally W.tally lines.old lines.new writer.old writer.new result }
 {
-    let mut bench = load(lines, keys, external)?;
+    let mut bench = load_with_keys(lines, keys, external)?;
     let served = serve(&mut bench, lines, writer);
     bench.leak();
     served?;
@@ -130,7 +160,7 @@ fn session<R: Source + Drop, W: Sink>(
 fn stem<R: Source + Drop, W: Sink>(
     lines: &mut Lines<R>,
     external: &str,
-    keys: RandomState,
+    keys: WordKeys,
     writer: &mut W,
 ) -> Result<(), LoadFault>
     ensures stemmed { fault_of lines.old ≡ None → IsStemmed (input_of R.left lines.old) (input_of R.left lines.new) external.now (W.held writer.old) (W.held writer.new) result }
@@ -170,14 +200,14 @@ fn check_lists<R: Source + Drop, W: Sink>(
     ensures reads_in_time { KeepsTime R.tally lines.old lines.new }
     ensures writes_in_time { WritesInTime W.tally writer.old writer.new }
 {
-    let words = read_words(lines)?;
+    let words = read_word_block(lines)?;
     let expected = read_expected(lines)?;
     check(lines.alloc(), script, &words, &expected, writer)
 }
 
 /// Reads the lines up to a line `.` and returns them, each as `push_line` appends it. Returns `Cut` if the input ends
 /// before.
-fn read_words<R: Source + Drop>(lines: &mut Lines<R>) -> Result<Vec<u8>, ServeFault>
+fn read_word_block<R: Source + Drop>(lines: &mut Lines<R>) -> Result<Vec<u8>, ServeFault>
     ensures reads { fault_of lines.old ≡ None → ReadsWords (input_of R.left lines.old) (input_of R.left lines.new) result }
     ensures remembered { fault_of lines.new ≡ left_by result }
     ensures steady { OnOk result ((R.tally lines.new.reader).failures ≡ (R.tally lines.old.reader).failures) }

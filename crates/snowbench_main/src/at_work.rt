@@ -5,7 +5,7 @@ use crate::talk::{Lead, Talk};
 use crate::watching::{Context, Quiet, WatchedReader, file_text};
 use sbl_diagnostics::fault_of;
 use sbl_work::{Paths, work};
-use snowbench::{CommandLine, Device, Face, Lines, Sink, Source};
+use snowbench::{Device, Face, Lines, Options, Sink, Source, Wanted};
 use std::alloc::{AllocError, Global};
 use std::cell::RefCell;
 use std::fs;
@@ -23,10 +23,13 @@ fn shows_places(rt: &HostRuntime, face: Option<Face>) -> bool {
 
 /// Works on the files of the command line, and returns the exit status. The prompt is written if the face is text, and both
 /// input and output are a terminal.
-pub(crate) fn start_work(rt: &HostRuntime, command_line: CommandLine) -> u8 {
-    let CommandLine {
+pub(crate) fn start_work(rt: &HostRuntime, wanted: Wanted) -> u8 {
+    let Wanted {
         verb: _,
         external,
+        options,
+    } = wanted;
+    let Options {
         script,
         words,
         commands: _,
@@ -34,7 +37,7 @@ pub(crate) fn start_work(rt: &HostRuntime, command_line: CommandLine) -> u8 {
         is_strict: _,
         shows_places: _,
         face,
-    } = command_line;
+    } = options;
     let Some(script) = script else {
         return REFUSED;
     };

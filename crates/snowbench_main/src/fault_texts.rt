@@ -8,7 +8,7 @@ use sbl_bench::MAX_WORD_LENGTH;
 use sbl_diagnostics::{fault_of, offset_of_byte, push_conversion, push_named, script_fault_text};
 use sbl_input::read_script;
 use sbl_source_map::position_of;
-use snowbench::{CommandLine, Device, Lines, Verb};
+use snowbench::{Device, Lines, Verb, Wanted};
 use std::alloc::{AllocError, Global};
 
 /// The line of an input that is cut inside a block.
@@ -27,18 +27,18 @@ const LINE_TOO_LONG: &[u8] = b"snowbench: 72 LineTooLong\n";
 /// standard input.
 pub(crate) fn run_fault_text(
     alloc: Global,
-    command_line: &CommandLine,
+    wanted: &Wanted,
     names: Option<FileNames<'_>>,
     input: &[u8],
     ended: &RunResult,
 ) -> Result<Option<String>, AllocError> {
     let said = ended.said.as_slice();
     if said == CUT {
-        return format!(in alloc; "  {}", cut_text(command_line.verb, input)).map(Some);
+        return format!(in alloc; "  {}", cut_text(wanted.verb, input)).map(Some);
     }
     let is_late = said == LINE_TOO_LONG && overlong_line(input).is_none();
     let is_word = said == NOT_TEXT || said == TOO_LONG || is_late;
-    if command_line.verb == Verb::Filter && is_word {
+    if wanted.verb == Verb::Filter && is_word {
         let rows = count_and_word(alloc, ended.rows, "row", "rows")?;
         return format!(in alloc; "  it is the word after {rows}").map(Some);
     }
@@ -55,7 +55,7 @@ pub(crate) fn run_fault_text(
         Some(names) => file_name(names.script),
         None => STANDARD_INPUT,
     };
-    script_text(alloc, command_line.external.as_str(), title, input, said)
+    script_text(alloc, wanted.external.as_str(), title, input, said)
 }
 
 /// Returns which line of the words, or of what follows them, is not UTF-8, and how to convert it. In standard input lines are counted

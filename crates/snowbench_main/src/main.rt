@@ -17,7 +17,7 @@ use crate::file_names::{FileNames, reads_twice};
 use crate::messages::{NO_MEMORY, REFUSED, fail_memory, print_text};
 use crate::sessions::{run_check, run_filter, run_input, run_session};
 use clap::error::ErrorKind;
-use snowbench::{CommandLine, Verb, read_command_line};
+use snowbench::{Verb, Wanted, read_words};
 use std::io;
 use std::process::ExitCode;
 
@@ -41,8 +41,8 @@ fn main(rt: HostRuntime) -> io::Result<ExitCode> {
         Ok(words) => words,
         Err(error) => return Ok(refuse_words(&rt, &error)),
     };
-    match read_command_line(rt.alloc(), &words) {
-        Ok(command_line) => Ok(ExitCode::from(start(&rt, command_line))),
+    match read_words(rt.alloc(), &words) {
+        Ok(wanted) => Ok(ExitCode::from(start(&rt, wanted))),
         Err(error) if error.kind() == ErrorKind::OutOfMemory => {
             Ok(ExitCode::from(fail_memory(&rt)))
         }
@@ -71,29 +71,29 @@ fn refuse_line(rt: &HostRuntime, error: &clap::Error) -> u8 {
 }
 
 /// Does what the command line asks for, and returns the exit status.
-fn start(rt: &HostRuntime, command_line: CommandLine) -> u8 {
-    if command_line.verb == Verb::Work {
-        return start_work(rt, command_line);
+fn start(rt: &HostRuntime, wanted: Wanted) -> u8 {
+    if wanted.verb == Verb::Work {
+        return start_work(rt, wanted);
     }
-    match &command_line.script {
-        None => run_input(rt, &command_line),
-        Some(script) => run_files(rt, &command_line, script.as_str()),
+    match &wanted.options.script {
+        None => run_input(rt, &wanted),
+        Some(script) => run_files(rt, &wanted, script.as_str()),
     }
 }
 
 /// Runs a session or a check over files, and returns the exit status.
-fn run_files(rt: &HostRuntime, command_line: &CommandLine, script: &str) -> u8 {
-    let words = match &command_line.words {
+fn run_files(rt: &HostRuntime, wanted: &Wanted, script: &str) -> u8 {
+    let words = match &wanted.options.words {
         Some(words) => words.as_str(),
         None => "-",
     };
-    if command_line.verb == Verb::Filter {
-        return run_filter(rt, command_line, script);
+    if wanted.verb == Verb::Filter {
+        return run_filter(rt, wanted, script);
     }
-    if command_line.verb == Verb::Check {
-        return check_files(rt, command_line, script, words);
+    if wanted.verb == Verb::Check {
+        return check_files(rt, wanted, script, words);
     }
-    let rest = text_in(&command_line.commands);
+    let rest = text_in(&wanted.options.commands);
     let names = FileNames {
         script,
         words,
@@ -103,12 +103,12 @@ fn run_files(rt: &HostRuntime, command_line: &CommandLine, script: &str) -> u8 {
         let _ = eprintln!(rt; "{NAMED_TWICE}");
         return REFUSED;
     }
-    run_session(rt, command_line, names)
+    run_session(rt, wanted, names)
 }
 
 /// Compares stems of files, and returns the exit status.
-fn check_files(rt: &HostRuntime, command_line: &CommandLine, script: &str, words: &str) -> u8 {
-    let Some(stems) = text_in(&command_line.stems) else {
+fn check_files(rt: &HostRuntime, wanted: &Wanted, script: &str, words: &str) -> u8 {
+    let Some(stems) = text_in(&wanted.options.stems) else {
         let _ = eprintln!(rt; "{THREE_FILES}");
         return REFUSED;
     };
@@ -121,7 +121,7 @@ fn check_files(rt: &HostRuntime, command_line: &CommandLine, script: &str, words
         let _ = eprintln!(rt; "{NAMED_TWICE_BY_CHECK}");
         return REFUSED;
     }
-    run_check(rt, command_line, names, stems)
+    run_check(rt, wanted, names, stems)
 }
 
 /// Returns the text, if there is one.

@@ -8,7 +8,7 @@ use crate::run_result::RunResult;
 use crate::streams::{FirstBytes, FirstBytesReader, Output};
 use crate::talk::{Lead, Talk};
 use crate::watching::{Context, Quiet, WatchedReader};
-use snowbench::{CommandLine, Device, Lines, Source, Verb, run};
+use snowbench::{Device, Lines, Source, Verb, Wanted, WordKeys, run_with};
 use std::alloc::{AllocError, Global};
 use std::cell::RefCell;
 use std::hash::RandomState;
@@ -24,7 +24,7 @@ const MAX_FAULT_LINE: usize = 96;
 /// Runs what the command line asks for over the lines of a reader.
 fn run_lines<R: Source + Drop>(
     rt: &HostRuntime,
-    command_line: &CommandLine,
+    wanted: &Wanted,
     lines: &mut Lines<R>,
 ) -> Result<RunResult, AllocError> {
     let Ok(keys) = RandomState::new(rt) else {
@@ -33,7 +33,8 @@ fn run_lines<R: Source + Drop>(
     let said = Vec::with_capacity(rt.alloc(), MAX_FAULT_LINE)?;
     let mut writer = Device::new(Output::new(rt.stdout()));
     let mut errors = Device::new(said);
-    let status = run(command_line, keys, lines, &mut writer, &mut errors);
+    let keys = WordKeys::new(keys);
+    let status = run_with(wanted, keys, lines, &mut writer, &mut errors);
     let output = writer.into_inner();
     Ok(RunResult::new(status, errors.into_inner(), &output))
 }
@@ -42,7 +43,7 @@ fn run_lines<R: Source + Drop>(
 /// commands are.
 fn run_watched<'x, R: Read + Drop>(
     rt: &'x HostRuntime,
-    command_line: &'x CommandLine,
+    wanted: &'x Wanted,
     input: &'x str,
     reader: R,
     talk: &'x RefCell<Talk>,
@@ -51,7 +52,7 @@ fn run_watched<'x, R: Read + Drop>(
         return without_keys(rt.alloc());
     };
     let context = Context {
-        external: command_line.external.as_str(),
+        external: wanted.external.as_str(),
         input: Some(input),
         script: None,
         prompts: false,
@@ -61,7 +62,8 @@ fn run_watched<'x, R: Read + Drop>(
     let said = Vec::with_capacity(rt.alloc(), MAX_FAULT_LINE)?;
     let mut writer = Device::new(Quiet::new(Output::new(rt.stdout()), talk));
     let mut errors = Device::new(said);
-    let status = run(command_line, keys, &mut lines, &mut writer, &mut errors);
+    let keys = WordKeys::new(keys);
+    let status = run_with(wanted, keys, &mut lines, &mut writer, &mut errors);
     let output = writer.into_inner().into_inner();
     Ok(RunResult::new(status, errors.into_inner(), &output))
 }
@@ -78,8 +80,8 @@ fn without_keys(alloc: Global) -> Result<RunResult, AllocError> {
 }
 
 /// Returns the exit status: that of the run, and with `--strict` 1 after a refused command.
-fn status_of(command_line: &CommandLine, ended: &RunResult) -> u8 {
-    if command_line.is_strict && ended.has_refusal {
+fn status_of(wanted: &Wanted, ended: &RunResult) -> u8 {
+    if wanted.options.is_strict && ended.has_refusal {
         return FAILED;
     }
     ended.status
@@ -96,7 +98,7 @@ fn print_said(rt: &HostRuntime, ended: &RunResult) {
 /// from standard input. Returns the exit status. A reader of a pipe that has closed it, as `head` does, is no fault.
 fn print_fault(
     rt: &HostRuntime,
-    command_line: &CommandLine,
+    wanted: &Wanted,
     names: Option<FileNames<'_>>,
     input: &[u8],
     ended: &RunResult,
@@ -105,44 +107,44 @@ fn print_fault(
         return CLOSED_PIPE;
     }
     print_said(rt, ended);
-    match run_fault_text(rt.alloc(), command_line, names, input, ended) {
-        Ok(Some(text)) => print_line(rt, Ok(text), status_of(command_line, ended)),
-        Ok(None) => status_of(command_line, ended),
+    match run_fault_text(rt.alloc(), wanted, names, input, ended) {
+        Ok(Some(text)) => print_line(rt, Ok(text), status_of(wanted, ended)),
+        Ok(None) => status_of(wanted, ended),
         Err(_) => fail_memory(rt),
     }
 }
 
 /// Runs what the command line asks for over standard input, and returns the exit status.
-pub(crate) fn run_input(rt: &HostRuntime, command_line: &CommandLine) -> u8 {
-    let kept = RefCell::new(FirstBytes::new(rt.alloc(), command_line.shows_places));
+pub(crate) fn run_input(rt: &HostRuntime, wanted: &Wanted) -> u8 {
+    let kept = RefCell::new(FirstBytes::new(rt.alloc(), wanted.options.shows_places));
     let talk = RefCell::new(Talk::new(rt.alloc(), Lead::Session));
-    let Ok(ended) = run_standard_input(rt, command_line, &kept, &talk) else {
+    let Ok(ended) = run_standard_input(rt, wanted, &kept, &talk) else {
         return fail_memory(rt);
     };
-    if !command_line.shows_places {
+    if !wanted.options.shows_places {
         print_said(rt, &ended);
-        return status_of(command_line, &ended);
+        return status_of(wanted, &ended);
     }
     let kept = kept.into_inner();
     if ended.status == 0 && kept.is_whole() {
-        print_hint(rt, command_line.verb, kept.bytes());
+        print_hint(rt, wanted.verb, kept.bytes());
     }
-    print_fault(rt, command_line, None, kept.bytes(), &ended)
+    print_fault(rt, wanted, None, kept.bytes(), &ended)
 }
 
 /// Runs what the command line asks for over standard input, and keeps its first bytes.
 fn run_standard_input(
     rt: &HostRuntime,
-    command_line: &CommandLine,
+    wanted: &Wanted,
     kept: &RefCell<FirstBytes>,
     talk: &RefCell<Talk>,
 ) -> Result<RunResult, AllocError> {
     let first_reader = FirstBytesReader::new(rt.stdin(), kept);
-    if command_line.shows_places && command_line.verb == Verb::Session {
-        return run_watched(rt, command_line, STANDARD_INPUT, first_reader, talk);
+    if wanted.options.shows_places && wanted.verb == Verb::Session {
+        return run_watched(rt, wanted, STANDARD_INPUT, first_reader, talk);
     }
     let mut lines = Lines::new(rt.alloc(), Device::new(first_reader))?;
-    run_lines(rt, command_line, &mut lines)
+    run_lines(rt, wanted, &mut lines)
 }
 
 /// Prints a hint if the input is not read to its end.
@@ -212,14 +214,10 @@ fn read_block(rt: &HostRuntime, command: &str, path: &str, what: &str) -> Result
 }
 
 /// Runs the commands of a file over a script and words in files, and returns the exit status.
-pub(crate) fn run_session(
-    rt: &HostRuntime,
-    command_line: &CommandLine,
-    names: FileNames<'_>,
-) -> u8 {
+pub(crate) fn run_session(rt: &HostRuntime, wanted: &Wanted, names: FileNames<'_>) -> u8 {
     match session_input(rt, names) {
-        Ok(input) => match run_commands(rt, command_line, names, &input) {
-            Ok(ended) => print_fault(rt, command_line, Some(names), &input, &ended),
+        Ok(input) => match run_commands(rt, wanted, names, &input) {
+            Ok(ended) => print_fault(rt, wanted, Some(names), &input, &ended),
             Err(_) => fail_memory(rt),
         },
         Err(status) => status,
@@ -229,7 +227,7 @@ pub(crate) fn run_session(
 /// Runs a session over these bytes, and shows the place of each block that is refused.
 fn run_commands(
     rt: &HostRuntime,
-    command_line: &CommandLine,
+    wanted: &Wanted,
     names: FileNames<'_>,
     input: &[u8],
 ) -> Result<RunResult, AllocError> {
@@ -238,17 +236,13 @@ fn run_commands(
         Some(path) => file_name(path),
     };
     let talk = RefCell::new(Talk::new(rt.alloc(), Lead::Commands));
-    run_watched(rt, command_line, name, input, &talk)
+    run_watched(rt, wanted, name, input, &talk)
 }
 
 /// Runs what the command line asks for over these bytes.
-fn run_bytes(
-    rt: &HostRuntime,
-    command_line: &CommandLine,
-    input: &[u8],
-) -> Result<RunResult, AllocError> {
+fn run_bytes(rt: &HostRuntime, wanted: &Wanted, input: &[u8]) -> Result<RunResult, AllocError> {
     let mut lines = Lines::new(rt.alloc(), Device::new(input))?;
-    run_lines(rt, command_line, &mut lines)
+    run_lines(rt, wanted, &mut lines)
 }
 
 /// Returns the input of a session. Without a file of commands the command is `stems`.
@@ -270,9 +264,9 @@ fn session_input(rt: &HostRuntime, names: FileNames<'_>) -> Result<Vec<u8>, u8> 
 
 /// Writes the row of each word of standard input by the script of a file, as they come, and returns the exit status. With the
 /// name `-` the script is at the beginning of standard input.
-pub(crate) fn run_filter(rt: &HostRuntime, command_line: &CommandLine, script: &str) -> u8 {
+pub(crate) fn run_filter(rt: &HostRuntime, wanted: &Wanted, script: &str) -> u8 {
     if script == "-" {
-        return run_input(rt, command_line);
+        return run_input(rt, wanted);
     }
     let text = match read_block(rt, "filter", script, "lines of the script") {
         Ok(text) => text,
@@ -286,27 +280,23 @@ pub(crate) fn run_filter(rt: &HostRuntime, command_line: &CommandLine, script: &
         words: "-",
         rest: None,
     };
-    match filter_words(rt, command_line, &input) {
-        Ok(ended) => print_fault(rt, command_line, Some(names), &input, &ended),
+    match filter_words(rt, wanted, &input) {
+        Ok(ended) => print_fault(rt, wanted, Some(names), &input, &ended),
         Err(_) => fail_memory(rt),
     }
 }
 
 /// Runs what the command line asks for over these bytes and then standard input.
-fn filter_words(
-    rt: &HostRuntime,
-    command_line: &CommandLine,
-    input: &[u8],
-) -> Result<RunResult, AllocError> {
+fn filter_words(rt: &HostRuntime, wanted: &Wanted, input: &[u8]) -> Result<RunResult, AllocError> {
     let reader = input.chain(rt.stdin());
     let mut lines = Lines::new(rt.alloc(), Device::new(reader))?;
-    run_lines(rt, command_line, &mut lines)
+    run_lines(rt, wanted, &mut lines)
 }
 
 /// Compares the stems of the words of a file with those of another, and returns the exit status. Prints how many differ.
 pub(crate) fn run_check(
     rt: &HostRuntime,
-    command_line: &CommandLine,
+    wanted: &Wanted,
     names: FileNames<'_>,
     stems: &str,
 ) -> u8 {
@@ -314,10 +304,10 @@ pub(crate) fn run_check(
         Ok(read) => read,
         Err(status) => return status,
     };
-    let Ok(ended) = run_bytes(rt, command_line, &input) else {
+    let Ok(ended) = run_bytes(rt, wanted, &input) else {
         return fail_memory(rt);
     };
-    let status = print_fault(rt, command_line, Some(names), &input, &ended);
+    let status = print_fault(rt, wanted, Some(names), &input, &ended);
     if ended.said.is_empty() {
         let rows = ended.rows;
         let text = counts_text(rt.alloc(), words, rows);

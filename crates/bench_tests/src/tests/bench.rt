@@ -4,7 +4,7 @@ use sbl_bench::EditFault::{
     Absent, AmongCount, BadLimit, EmptyWord, Full, MeterFull, NoAmong, NoGrouping, NoRoutine,
     OutOfMemory, Present, WordTooLong,
 };
-use sbl_bench::{Bench, EditFault, Row};
+use sbl_bench::{Bench, EditFault, Row, WordKeys};
 use sbl_machine::Outcome;
 use sbl_script::{Script, ScriptFault};
 use std::alloc::{AllocError, Global};
@@ -26,12 +26,11 @@ fn words_in(alloc: Global, text: &str) -> Result<Vec<Vec<char>>, AllocError> {
 /// A bench over this script, with `¶` for a line feed or by its name, and these words.
 pub(crate) fn bench_of(alloc: Global, script: &str, words: &str) -> Result<Bench, Fail> {
     let words = words_in(alloc, words)?;
-    let keys = RandomState::new(&SameBytes)?;
     let text = if script == "PLURALS" { PLURALS } else { script };
     let text = with_line_feeds(alloc, text)?;
     // The script comes last: on no path is a script or a bench dropped, whose destructors would be proved here again.
     let script = Script::parse(alloc, text.as_str().as_bytes(), "stem")?;
-    Ok(Bench::open(alloc, keys, script, words)?)
+    Ok(Bench::open(alloc, script, words)?)
 }
 
 /// A row as `WORD STEM`, or `WORD` and the fault.
@@ -119,12 +118,13 @@ fn takes_a_word(rt: &(impl Abort + Print), bench: &mut Bench) -> Result<(), Fail
 // A refused growth leaves the bench as it was, and the same word is taken afterwards.
 #[test]
 fn a_refused_growth_changes_nothing(rt: HostRuntime) -> Result<(), Fail> {
-    let keys = RandomState::new(&SameBytes)?;
+    let keys = WordKeys::new(RandomState::new(&SameBytes)?);
     let Ok(script) = Script::parse(rt.alloc(), PREFIXES.as_bytes(), "stem") else {
         println!(rt; "the script was refused")?;
         return Ok(());
     };
-    let Ok(mut bench) = Bench::open(rt.alloc(), keys, script, Vec::new(rt.alloc())) else {
+    let words = Vec::new(rt.alloc());
+    let Ok(mut bench) = Bench::open_with_keys(rt.alloc(), keys, script, words) else {
         println!(rt; "the bench was refused")?;
         return Ok(());
     };

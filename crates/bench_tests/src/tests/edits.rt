@@ -12,7 +12,8 @@ use test_scripts::{field, fits, letters, number, with_line_feeds};
 /// A case has the script, the words with commas between them, and edits one after another, each on a line: the edit, why it is refused
 /// (empty if it is accepted), the rows and the changes after it (`?`: not asked), and the count of runs (empty: not asked). A `¶` is
 /// a line feed in a script. With the among of the first edit, `tail` takes nothing off. All five words run again, and those that end in
-/// `s` get another stem. A word that is added or removed changes no outcome, and a refused edit leaves what there is.
+/// `s` get another stem. A word that is added or removed changes no outcome, and a refused edit leaves what there is. A refusal that
+/// becomes another one is a change, and one that stays the same is none.
 const CHANGES: &[&str] = &[
     "PLURALS
 cats,boxes,cakes,cake,dog
@@ -21,6 +22,10 @@ add dog|40 Present|?|cats cat;cats cats;boxes box;boxes boxes;cakes cak;cakes ca
 add s||?||11
 routine last true||?|cake cak;cake cake;|
 remove s||?||",
+    "integers ( x )¶externals ( stem )¶define stem as $x = maxint + 1
+ab
+routine stem $x = 1 / 0||ab 65 Divide;|ab 64 Integer;ab 65 Divide;|2
+routine stem $x = 2 / 0||ab 65 Divide;||3",
 ];
 
 /// Makes an edit of a bench.

@@ -39,7 +39,7 @@ grouping c 'a' + a||xa xa;xz xz;ea ;|?|9",
 /// Whether a word touches the external and these groupings of the two, and nothing else.
 fn touches(alloc: Global, bench: &Bench, word: &str, v: bool, w: bool) -> Result<bool, Fail> {
     let word = letters(alloc, word)?;
-    let Some(items) = bench.items_of_trace(word.as_slice())? else {
+    let Some(items) = bench.touched(word.as_slice())? else {
         return Ok(false);
     };
     let first = Item::Grouping(String::from_str(alloc, "v")?);

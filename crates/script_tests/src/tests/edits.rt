@@ -4,7 +4,7 @@ use crate::tests::grouping_edits::{GROUPING_EDITS, GROUPING_TEXTS};
 use crate::tests::script::{fault_in, repeat_part, script_of};
 use crate::tests::script_edits::{AMONG_TEXTS, SCRIPT_EDITS};
 use sbl_script::laws::canonical_is_read;
-use sbl_script::{Script, ScriptEditFault, ScriptFault};
+use sbl_script::{EditFault, Script, ScriptFault};
 use std::alloc::{AllocError, Global};
 use std::process::Abort;
 use std::test::Fail;
@@ -33,12 +33,7 @@ fn part_in(text: &str) -> Part<'_> {
 }
 
 /// Makes an edit.
-fn edit_part(
-    alloc: Global,
-    script: &Script,
-    part: Part,
-    text: &str,
-) -> Result<Script, ScriptEditFault> {
+fn edit_part(alloc: Global, script: &Script, part: Part, text: &str) -> Result<Script, EditFault> {
     match part {
         Part::Body(name) => script.with_routine(alloc, name, text),
         Part::Among(name, k) => script.with_among(alloc, name, k, text),
@@ -202,12 +197,12 @@ fn a_routine_with_its_own_text_is_the_same(rt: HostRuntime) {
 #[test]
 fn faults_of_edits_are_printed_with_their_numbers(rt: HostRuntime) -> Result<(), Fail> {
     let faults = [
-        ScriptEditFault::NoRoutine,
-        ScriptEditFault::NoAmong,
-        ScriptEditFault::AmongCount,
-        ScriptEditFault::Script(ScriptFault::Undeclared { item: 2 }),
-        ScriptEditFault::OutOfMemory,
-        ScriptEditFault::NoGrouping,
+        EditFault::NoRoutine,
+        EditFault::NoAmong,
+        EditFault::AmongCount,
+        EditFault::Script(ScriptFault::Undeclared { item: 2 }),
+        EditFault::OutOfMemory,
+        EditFault::NoGrouping,
     ];
     let want =
         "45 NoRoutine;46 NoAmong;47 AmongCount;48 10 Undeclared in item 2;49 OutOfMemory;53 NoGrouping;";

@@ -1,6 +1,4 @@
-use Rattle.std.proofs.Common.{List, Some, map, ap, ◌∙◌, string_bytes, sym}
-use Rattle.sbl_ast.specs.Tree.{grouping}
-use Rattle.sbl_ast.specs.declared.tree.Term.{Term}
+use Rattle.std.proofs.Common.{Some, map, ap, ◌∙◌, string_bytes, sym}
 use Rattle.sbl_ast.specs.View.{view_argument, view_items, view_plain, view_term}
 use Rattle.sbl_script.specs.declared.edits.DefinitionKind.TheVariants as kinds
 use Rattle.sbl_script.specs.Edits.{defines}
@@ -11,12 +9,11 @@ use Rattle.sbl_script.proofs.edits.grouping_of.Goals as goal
 pub returns-in-Grouping : goal.returns-in-Grouping
 returns-in-Grouping c =
     let n = c.args.name.now in
-    let a = view_argument c.in-Grouping.first in
-    let ts = map view_term c.in-Grouping.others.items in
+    let g = c.in-Grouping.grouping in
     let p = defines kinds.Grouping n in
     let is = view_items c.args.items.now in
-    first_same p is ∙ grouping_found n is (string_bytes c.in-Grouping.name) a ts (sym (first_same p is) ∙ c.in_ok-first.ensures ∙ ap (λ x. Some (view_plain x)) c.in-Grouping.is)
-    ∙ ap (λ (xs : List Term). Some (grouping n a (map view_term xs))) (sym c.as_slice.ensures.value)
+    first_same p is ∙ grouping_found n is (string_bytes g.name) (view_argument g.first) (map view_term g.others.items)
+    (sym (first_same p is) ∙ c.in_ok-first.ensures ∙ ap (λ x. Some (view_plain x)) c.in-Grouping.is)
 
 pub returns-in_default : goal.returns-in_default
 returns-in_default c = absurd (no_other_grouping c.args.name.now (view_items c.args.items.now) c.in_ok-first.field-0.now c.in_default.not-Grouping (sym (first_same (defines kinds.Grouping c.args.name.now) (view_items c.args.items.now)) ∙ c.in_ok-first.ensures))

@@ -12,10 +12,10 @@ use Rattle.sbl_unused.proofs.touched_items.add_built_from.Goals as goal
 pub returns-in_ok-add_terms : goal.returns-in_ok-add_terms
 returns-in_ok-add_terms c = λ x.
     let picked = λ (k : List ℕ). same_item x (Grouping k) in
-    let one = names picked (view_argument c.in-Grouping.first) in
-    let others = any_names picked (map view_term c.in-Grouping.others.items) in
+    let one = names picked (view_argument c.in-Grouping.grouping.first) in
+    let others = any_names picked (map view_term c.in-Grouping.grouping.others.items) in
     let old = list_any (same_item x) (items_in c.args.items.now) in
-    let has : list_any (same_item (Grouping (string_bytes c.in-Grouping.name))) (items_in c.args.items.now) ≡ true =
+    let has : list_any (same_item (Grouping (string_bytes c.in-Grouping.grouping.name))) (items_in c.args.items.now) ≡ true =
     ap (λ (n : List ℕ). list_any (same_item (Grouping n)) (items_in c.args.items.now)) (sym c.deref.ensures ∙ sym c.in_ok-from_str.ensures.ok)
     ∙ sym c.has_item.ensures ∙ c.if-has_item.true in
     c.in_ok-add_terms.ensures (same_item x)

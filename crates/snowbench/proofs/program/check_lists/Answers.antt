@@ -10,21 +10,21 @@ pub returns-in_err-words-clause-checked : goal.returns-in_err-words-clause-check
 returns-in_err-words-clause-checked g c = λ none.
     let left = g.R.Source.left in
     let p = err_from_is_err_and c.from_residual.result c.from_residual.ensures.1 in
-    rw (p.1, p.2) (lists_no_words (source_of c.args.script.now) (input_of left c.args.lines.now) (input_of left c.read_words.new.lines) (g.W.Sink.held c.args.writer.now) c.in_err-words.field-0.0
+    rw (p.1, p.2) (lists_no_words (source_of c.args.script.now) (input_of left c.args.lines.now) (input_of left c.read_word_block.new.lines) (g.W.Sink.held c.args.writer.now) c.in_err-words.field-0.0
     (c.in_err-words.ensures.reads none))
 
 pub returns-in_err-words-clause-why : goal.returns-in_err-words-clause-why
 returns-in_err-words-clause-why g c = λ none.
     let left = g.R.Source.left in
     let p = err_from_is_err_and c.from_residual.result c.from_residual.ensures.1 in
-    rw (p.1, p.2) (words_reasons g.R.Source.tally g.W.Sink.tally c.args.lines.now c.read_words.new.lines c.args.writer.now c.args.writer.now
-    c.in_err-words.field-0.0 (input_of left c.args.lines.now) (input_of left c.read_words.new.lines) none c.in_err-words.ensures.why (c.in_err-words.ensures.reads none))
+    rw (p.1, p.2) (words_reasons g.R.Source.tally g.W.Sink.tally c.args.lines.now c.read_word_block.new.lines c.args.writer.now c.args.writer.now
+    c.in_err-words.field-0.0 (input_of left c.args.lines.now) (input_of left c.read_word_block.new.lines) none c.in_err-words.ensures.why (c.in_err-words.ensures.reads none))
 
 pub returns-in_err-expected-clause-checked : goal.returns-in_err-expected-clause-checked
 returns-in_err-expected-clause-checked g c = λ none.
     let left = g.R.Source.left in
     let p = err_from_is_err_and c.from_residual-in_err-expected.result c.from_residual-in_err-expected.ensures.1 in
-    rw (p.1, p.2) (lists_no_expected (source_of c.args.script.now) (input_of left c.args.lines.now) (input_of left c.read_words.new.lines) (input_of left c.read_expected.new.lines) (g.W.Sink.held c.args.writer.now)
+    rw (p.1, p.2) (lists_no_expected (source_of c.args.script.now) (input_of left c.args.lines.now) (input_of left c.read_word_block.new.lines) (input_of left c.read_expected.new.lines) (g.W.Sink.held c.args.writer.now)
     c.in_ok-words.words c.in_err-expected.field-0.0 (c.in_ok-words.ensures.reads none) (c.in_err-expected.ensures.reads c.in_ok-words.ensures.remembered))
 
 pub returns-in_err-expected-clause-why : goal.returns-in_err-expected-clause-why
@@ -32,16 +32,16 @@ returns-in_err-expected-clause-why g c = λ none.
     let left = g.R.Source.left in
     let ready = c.in_ok-words.ensures.remembered in
     let p = err_from_is_err_and c.from_residual-in_err-expected.result c.from_residual-in_err-expected.ensures.1 in
-    rw (p.1, p.2) (reasons_later g.R.Source.tally g.W.Sink.tally c.args.lines.now c.read_words.new.lines c.read_expected.new.lines
-    c.args.writer.now c.args.writer.now (Input c.in_err-expected.field-0.0) c.in_ok-words.ensures.steady c.read_words.ensures.bound
-    (expected_reasons g.R.Source.tally g.W.Sink.tally c.read_words.new.lines c.read_expected.new.lines c.args.writer.now c.args.writer.now
-    c.in_err-expected.field-0.0 (input_of left c.read_words.new.lines) (input_of left c.read_expected.new.lines) ready c.in_err-expected.ensures.why (c.in_err-expected.ensures.reads ready)))
+    rw (p.1, p.2) (reasons_later g.R.Source.tally g.W.Sink.tally c.args.lines.now c.read_word_block.new.lines c.read_expected.new.lines
+    c.args.writer.now c.args.writer.now (Input c.in_err-expected.field-0.0) c.in_ok-words.ensures.steady c.read_word_block.ensures.bound
+    (expected_reasons g.R.Source.tally g.W.Sink.tally c.read_word_block.new.lines c.read_expected.new.lines c.args.writer.now c.args.writer.now
+    c.in_err-expected.field-0.0 (input_of left c.read_word_block.new.lines) (input_of left c.read_expected.new.lines) ready c.in_err-expected.ensures.why (c.in_err-expected.ensures.reads ready)))
 
 pub returns-clause-checked : goal.returns-clause-checked
 returns-clause-checked g c = λ none.
     let left = g.R.Source.left in
     let held = g.W.Sink.held in
-    lists_checked (source_of c.args.script.now) (input_of left c.args.lines.now) (input_of left c.read_words.new.lines) (input_of left c.read_expected.new.lines) (held c.args.writer.now) (held c.check.new.writer)
+    lists_checked (source_of c.args.script.now) (input_of left c.args.lines.now) (input_of left c.read_word_block.new.lines) (input_of left c.read_expected.new.lines) (held c.args.writer.now) (held c.check.new.writer)
     c.in_ok-words.words c.in_ok-expected.expected c.deref.result.now c.deref-2.result.now c.check.result (c.in_ok-words.ensures.reads none) (c.in_ok-expected.ensures.reads c.in_ok-words.ensures.remembered)
     c.deref.ensures.value c.deref-2.ensures.value c.check.ensures.checked
 

@@ -8,5 +8,4 @@ returns-clause-input g c = at_end c.in_ok-chunk.chunk.items 0 0 (g.R.Source.left
 pub returns-clause-in_time : goal.returns-clause-in_time
 returns-clause-in_time g c = λ h.
     let within = h.none in
-    let least = c.min.ensures in
     (record { in_time = h.in_time; known = λ e. sym h.not_ended ∙ e; within = omega arith }, λ e. h.rested)

@@ -2,7 +2,7 @@ use Rattle.std.proofs.Common.{◌≡◌, List, ℕ}
 use Rattle.sbl_formats.specs.Block.{BlockLines}
 use Rattle.snowbench.specs.WholeCheck.{list_text}
 use Rattle.sbl_io.specs.HeldInput.{KeepsTime, Took, fault_of, fuel_of, input_of, reads_bound}
-use Rattle.snowbench.proofs.program.read_words.Given as goal
+use Rattle.snowbench.proofs.program.read_word_block.Given as goal
 
 -- the lines so far, which were read in time
 abbrev pub invariant-loop-text : goal.invariant-loop-text

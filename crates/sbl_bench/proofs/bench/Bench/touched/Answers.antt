@@ -6,7 +6,7 @@ use Rattle.sbl_bench.specs.KeptRuns.{KeptRuns, setting_of}
 use Rattle.sbl_rows.specs.Setting.{under}
 use Rattle.sbl_bench.specs.Traces.{trace_of}
 use Rattle.sbl_bench.proofs.Tracing.{no_trace, not_absent, trace_found}
-use Rattle.sbl_bench.proofs.bench.Bench.items_of_trace.Goals as goal
+use Rattle.sbl_bench.proofs.bench.Bench.touched.Goals as goal
 
 pub returns-in_err-items-in-Some-clause-absent : goal.returns-in_err-items-in-Some-clause-absent
 returns-in_err-items-in-Some-clause-absent c = λ absent.

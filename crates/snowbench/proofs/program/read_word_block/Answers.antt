@@ -5,7 +5,7 @@ use Rattle.sbl_io.proofs.Bytes.{took-kept, took-none, took-trans}
 use Rattle.sbl_formats.specs.Block.{BlockLines, point}
 use Rattle.sbl_formats.proofs.BlockFacts.{all_fit-push, broken_block, no_point-push}
 use Rattle.snowbench.proofs.ListFacts.{list-push, words_broken}
-use Rattle.snowbench.proofs.program.read_words.Goals as goal
+use Rattle.snowbench.proofs.program.read_word_block.Goals as goal
 
 pub loop-text-init : goal.loop-text-init
 loop-text-init g c = ([], (tt, tt), took-none _, c.new-text.ensures.items, refl, refl, refl, λ timely. timely)

@@ -5,8 +5,8 @@ use Rattle.clap.specs.Words.{App, Row, Text, first_of, first_value, found_of, is
 use Rattle.clap.specs.declared.parser.matches.Found.{Found}
 use Rattle.clap.proofs.WalkLemmas.{first_value-rows, one_text-rows}
 use Rattle.sbl_command_line.specs.CommandLine.{IsVerb, flag_in, program, value_in}
-use Rattle.sbl_command_line.proofs.command_line.read_command_line.Goals as goal
-use Rattle.sbl_command_line.proofs.command_line.read_command_line.Goals.{in-run, in-session, in-stem, in-filter, in-check, in-work}
+use Rattle.sbl_command_line.proofs.command_line.read_words.Goals as goal
+use Rattle.sbl_command_line.proofs.command_line.read_words.Goals.{in-run, in-session, in-stem, in-filter, in-check, in-work}
 
 some_same : {X : Type 0} (x y : X) → Some x ≡ Some y → x ≡ y
 some_same x y e = cc
