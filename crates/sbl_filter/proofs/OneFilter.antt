@@ -17,7 +17,7 @@ use Rattle.sbl_script.specs.OneReading.{FaultIsOne, ScriptIsOne, ScriptOrFault}
 use Rattle.sbl_ast.specs.Source.{Source}
 use Rattle.sbl_script.specs.Reading.{IsFaultOf, IsScriptOf}
 use Rattle.sbl_input.proofs.InputFacts.{AtEnd, AtLong, AtNoText, AtPoint, LinesEnd, end-end, end-long, end-point, lines_end}
-use Rattle.sbl_formats.specs.Block.{BlockLines, Breaks, made_text, point}
+use Rattle.sbl_formats.specs.Block.{BlockLines, Breaks, made_text, max_script, point}
 use Rattle.sbl_input.specs.Loading.{TookFault, TookSource, WordLines}
 use Rattle.sbl_input.specs.declared.faults.LoadFault.{LoadFault}
 use Rattle.sbl_input.specs.declared.faults.LoadFault.TheVariants.{Input, Open, Script}
@@ -260,8 +260,8 @@ module _ (bytes external t : List ℕ) (new : Option (List ℕ)) where
   script_fault None f told took none = absurd took.1.1
   script_fault (Some rest) f told took none = by took.2
     where
-      by : (f ≡ script.OutOfMemory) ⊎ IsFaultOf (made_text took.0) external f → Is (Err (Script f))
-      by (inl is) = let differ : IsToldByBytes (Err (Script script.OutOfMemory)) = subst (λ (x : ScriptFault). IsToldByBytes (Err (Script x))) is told in absurd differ
+      by : ((f ≡ script.OutOfMemory) × (length (made_text took.0) ≤ max_script)) ⊎ IsFaultOf (made_text took.0) external f → Is (Err (Script f))
+      by (inl is) = let differ : IsToldByBytes (Err (Script script.OutOfMemory)) = subst (λ (x : ScriptFault). IsToldByBytes (Err (Script x))) is.0 told in absurd differ
       by (inr is) = subst (λ (e : LinesEnd). IsEnding external e t (Err (Script f))) (sym (block_end bytes rest took.0 took.1.0 took.1.1)) (inr (f, is, refl, none))
 
   filtered-ending : (r : Ending) → IsToldByBytes r → IsFiltered (Some bytes) new external (Some []) (Some t) r → Is r

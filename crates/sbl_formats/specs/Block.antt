@@ -7,6 +7,8 @@ use Rattle.sbl_io.specs.HeldInput.{AllFit, BeginsLong, BreaksOff, Took}
 use Rattle.sbl_formats.specs.declared.block_text.BlockFault.{BlockFault}
 use Rattle.sbl_formats.specs.declared.block_text.BlockFault.TheVariants.{TooLong, OutOfMemory}
 use Rattle.sbl_formats.specs.declared.block_text.BlockText.{BlockText}
+use Rattle.sbl_formats.specs.declared.block_text.KeptText.{KeptText}
+use Rattle.sbl_formats.specs.declared.block_text.KeptText.TheVariants as kept
 use Rattle.sbl_io.specs.declared.faults.ServeFault.{ServeFault}
 use Rattle.sbl_io.specs.declared.faults.ServeFault.TheVariants as fault
 
@@ -38,14 +40,20 @@ Breaks Good old new fault.Read =
     (lines : List (List ℕ)) × (next : Option (List ℕ)) × (part : List ℕ) × Good lines × Took old next lines × BreaksOff next new part
 Breaks Good old new f = ⊥
 
--- these bytes are the text of the lines; or it is too long, or an allocation failed
+-- These bytes are the text of the lines. Or there are none: the text is too long, or it is not and an allocation failed.
 abbrev pub HasText : Option BlockFault → List ℕ → List (List ℕ) → Type 0
 HasText None bytes lines = (bytes ≡ made_text lines) × (length (made_text lines) ≤ max_script)
 HasText (Some TooLong) bytes lines = max_script < length (made_text lines)
-HasText (Some OutOfMemory) bytes lines = ⊤
+HasText (Some OutOfMemory) bytes lines = length (made_text lines) ≤ max_script
+
+-- what is kept of the text of the lines: its bytes; or, after a failed allocation, how many they are; or that it is too long
+abbrev pub KeepsText : KeptText → List (List ℕ) → Type 0
+KeepsText (kept.Whole bytes) lines = HasText None bytes.items lines
+KeepsText (kept.Counted n) lines = (n ≡ length (made_text lines)) × HasText (Some OutOfMemory) [] lines
+KeepsText kept.TooLong lines = HasText (Some TooLong) [] lines
 
 abbrev pub HoldsText : BlockText → List (List ℕ) → Type 0
-HoldsText text lines = HasText text.fault text.bytes.items lines
+HoldsText text lines = KeepsText text.kept lines
 
 -- The result of reading a block: its text, or why a block that was read to its end has none; or why there is no whole block.
 abbrev pub ReadsBlock : Option (List ℕ) → Option (List ℕ) → Result BlockText ServeFault → Type 0

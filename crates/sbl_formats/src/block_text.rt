@@ -1,7 +1,7 @@
 //! The text of a block: the lines up to a line `.`.
-ghost use Rattle.std.specs.Prelude.{◌≡◌, ◌<◌, ◌≤◌, ◌++◌, [], ◌∷◌, List, ℕ, OnOk, IfOk, IfErr, None, Some, length};
+ghost use Rattle.std.specs.Prelude.{◌≡◌, ◌+◌, ◌++◌, [], ◌∷◌, List, ℕ, OnOk, IfOk, IfErr, None, Some, length, nat_le};
 ghost use Rattle.std.specs.Io.KnownBytes.{Keeps};
-ghost use Rattle.sbl_formats.specs.Block.{HasText, HoldsText, ReadsBlock, made_text, max_script};
+ghost use Rattle.sbl_formats.specs.Block.{HasText, HoldsText, KeepsText, ReadsBlock, max_script};
 ghost use Rattle.sbl_io.specs.Faults.{serve_fault_of};
 ghost use Rattle.sbl_io.specs.HeldInput.{Reading, fault_of, input_of};
 ghost use Rattle.sbl_io.specs.declared.faults.LineFault.{LineFault};
@@ -15,15 +15,26 @@ use std::alloc::{AllocError, Global};
 pub enum BlockFault {
     /// The text has more than 1,048,576 bytes.
     TooLong,
-    /// An allocation failed.
+    /// An allocation failed, and the text is not too long.
     OutOfMemory,
 }
 
-/// The text so far. After a fault, only the fault is kept.
+/// The text so far.
 #[derive(Drop)]
 pub struct BlockText {
-    bytes: Vec<u8>,
-    fault: Option<BlockFault>,
+    kept: KeptText,
+}
+
+/// What is kept of a text. After a failed allocation its bytes are still counted: a text that gets too long is refused for that,
+/// whatever memory there was.
+#[derive(Drop)]
+enum KeptText {
+    /// The text.
+    Whole(Vec<u8>),
+    /// An allocation failed. The number of bytes of the text.
+    Counted(usize),
+    /// The text has more than 1,048,576 bytes.
+    TooLong,
 }
 
 impl BlockText {
@@ -32,8 +43,7 @@ impl BlockText {
         ensures { HoldsText result [] }
     {
         BlockText {
-            bytes: Vec::new(alloc),
-            fault: None,
+            kept: KeptText::Whole(Vec::new(alloc)),
         }
     }
 
@@ -41,30 +51,53 @@ impl BlockText {
     fn push_line(&mut self, line: &[u8])
         ensures { (lines : List (List ℕ)) → HoldsText self.old lines → HoldsText self.new (lines ++ line.now ∷ []) }
     {
-        if self.fault.is_some() {
-            return;
-        }
-        if line.len() >= MAX_SCRIPT || self.bytes.len() >= MAX_SCRIPT - line.len() {
-            self.fault = Some(BlockFault::TooLong);
-            self.bytes.clear();
-            return;
-        }
-        if push_ended(&mut self.bytes, line).is_err() {
-            self.fault = Some(BlockFault::OutOfMemory);
-            self.bytes.clear();
-        }
+        self.kept.push_line(line);
     }
 
-    /// Returns the text, or the fault.
+    /// Returns the text, or the fault: `TooLong` exactly if the text is too long, whatever memory there was.
     pub fn whole(self) -> Result<Vec<u8>, BlockFault>
         ensures text { IfOk result (λ text. (lines : List (List ℕ)) → HoldsText self lines → HasText None text.items lines) }
         ensures fault { IfErr result (λ fault. (lines : List (List ℕ)) → HoldsText self lines → HasText (Some fault) [] lines) }
     {
-        match self.fault {
-            Some(fault) => Err(fault),
-            None => Ok(self.bytes),
+        match self.kept {
+            KeptText::Whole(bytes) => Ok(bytes),
+            KeptText::Counted(_) => Err(BlockFault::OutOfMemory),
+            KeptText::TooLong => Err(BlockFault::TooLong),
         }
     }
+}
+
+impl KeptText {
+    /// Appends a line and a line feed.
+    fn push_line(&mut self, line: &[u8])
+        ensures { (lines : List (List ℕ)) → KeepsText self.old lines → KeepsText self.new (lines ++ line.now ∷ []) }
+    {
+        match self {
+            KeptText::Whole(bytes) => {
+                let size = bytes.len();
+                if !fits(size, line) {
+                    *self = KeptText::TooLong;
+                } else if push_ended(bytes, line).is_err() {
+                    *self = KeptText::Counted(size + line.len() + 1);
+                }
+            }
+            KeptText::Counted(size) => {
+                if fits(*size, line) {
+                    *size += line.len() + 1;
+                } else {
+                    *self = KeptText::TooLong;
+                }
+            }
+            KeptText::TooLong => {}
+        }
+    }
+}
+
+/// Returns whether a text of this many bytes is not too long with a line and a line feed more.
+fn fits(size: usize, line: &[u8]) -> bool
+    ensures { result ≡ nat_le (size + (length line.now + 1)) max_script }
+{
+    line.len() < MAX_SCRIPT && size < MAX_SCRIPT - line.len()
 }
 
 /// Appends a line and a line feed. Returns `AllocError` if an allocation fails.

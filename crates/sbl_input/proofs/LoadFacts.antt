@@ -12,7 +12,7 @@ use Rattle.sbl_script.specs.Reading.{IsFaultOf, IsScriptOf}
 use Rattle.sbl_bench.specs.Contents.{IsFaultOrMemory, Contents, Opens, opening_fault}
 use Rattle.sbl_bench.specs.declared.fault.EditFault.{EditFault}
 use Rattle.sbl_bench.specs.declared.fault.EditFault.TheVariants as edit
-use Rattle.sbl_formats.specs.Block.{BlockLines, Breaks, NoPoint, point}
+use Rattle.sbl_formats.specs.Block.{BlockLines, Breaks, NoPoint, made_text, max_script, point}
 use Rattle.sbl_io.specs.HeldInput.{AllFit, Took}
 use Rattle.sbl_io.specs.Faults.{serve_fault_of}
 use Rattle.sbl_input.specs.Loading.{AllText, IsLoaded, ReadsScript, TookFault, TookSource, TookWords, WordLines}
@@ -76,7 +76,12 @@ script_parsed old new text bytes external p reads whole is =
 pub script_refused : (old new : Option (List ℕ)) (text : Vec ℕ Global) (bytes external : List ℕ) (f : ScriptFault) → ReadsScript old new (Ok text) → bytes ≡ text.items
     → (f ≡ script.OutOfMemory) ⊎ IsFaultOf bytes external f → TookFault old new external f
 script_refused old new text bytes external f reads whole why =
-    (reads.0, reads.1, subst (λ (t : List ℕ). (f ≡ script.OutOfMemory) ⊎ IsFaultOf t external f) (whole ∙ reads.2) why)
+    (reads.0, reads.1, by (subst (λ (t : List ℕ). (f ≡ script.OutOfMemory) ⊎ IsFaultOf t external f) (whole ∙ reads.2) why))
+  where
+    by : (f ≡ script.OutOfMemory) ⊎ IsFaultOf (made_text reads.0) external f
+        → ((f ≡ script.OutOfMemory) × (length (made_text reads.0) ≤ max_script)) ⊎ IsFaultOf (made_text reads.0) external f
+    by (inl is) = inl (is, reads.3)
+    by (inr is) = inr is
 
 -- a script block that gave no text
 pub script_unread : {B : Type 0} (old new : Option (List ℕ)) (external : List ℕ) (state : B → Contents) (fault : LoadFault)

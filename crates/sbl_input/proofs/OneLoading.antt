@@ -1,5 +1,5 @@
 -- An input has one loading.
-use Rattle.std.proofs.Common.{◌≡◌, ◌⊎◌, inl, inr, ◌∙◌, ◌++◌, ℕ, true, false, List, [], ◌∷◌, Option, Some, None, Result, Ok, Err, refl, sym, ap, subst, map, append_assoc}
+use Rattle.std.proofs.Common.{◌≡◌, ◌⊎◌, inl, inr, ◌∙◌, ◌++◌, ◌≤◌, ℕ, true, false, List, [], ◌∷◌, Option, Some, None, Result, Ok, Err, refl, sym, ap, subst, map, length, append_assoc}
 use Rattle.std.proofs.lemmas.List.{append-nil}
 use Rattle.std.specs.Io.KnownBytes.{IsAtEnd}
 use Rattle.std.specs.Str.{chars}
@@ -11,7 +11,7 @@ use Rattle.sbl_ast.specs.Source.{Source}
 use Rattle.sbl_script.specs.Reading.{IsFaultOf, IsScriptOf}
 use Rattle.sbl_text.specs.declared.fault.ScriptFault.{ScriptFault}
 use Rattle.sbl_text.specs.declared.fault.ScriptFault.TheVariants as script
-use Rattle.sbl_formats.specs.Block.{BlockLines, Breaks, made_text, point}
+use Rattle.sbl_formats.specs.Block.{BlockLines, Breaks, made_text, max_script, point}
 use Rattle.sbl_io.specs.HeldInput.{BeginsLong, StandFirst, Took}
 use Rattle.sbl_io.specs.LinesOf.{lines_of}
 use Rattle.sbl_input.specs.Loading.{IsInput, IsLoaded, TookFault, TookNoText, TookSource, TookWords, WordLines}
@@ -143,8 +143,8 @@ script_ending : (bytes external : List ℕ) (new : Option (List ℕ)) (f : Scrip
 script_ending bytes external None f told took = absurd took.1.1
 script_ending bytes external (Some rest) f told took = by took.2
   where
-    by : (f ≡ script.OutOfMemory) ⊎ IsFaultOf (made_text took.0) external f → IsEnding external (lines_end false (lines_of bytes)) (Err (Script f))
-    by (inl is) = absurd (told_not_memory f told is)
+    by : ((f ≡ script.OutOfMemory) × (length (made_text took.0) ≤ max_script)) ⊎ IsFaultOf (made_text took.0) external f → IsEnding external (lines_end false (lines_of bytes)) (Err (Script f))
+    by (inl is) = absurd (told_not_memory f told is.0)
     by (inr is) = subst (λ (e : LinesEnd). IsEnding external e (Err (Script f))) (sym (block_end bytes rest took.0 took.1.0 took.1.1)) (inr (f, is, refl))
 
 -- a script and words were taken, which have this verdict

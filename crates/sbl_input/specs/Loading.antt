@@ -33,14 +33,18 @@ TookWords old new words = WordLines words × (Took old new (words ++ point ∷ [
 
 -- ---- reading
 
--- the text of the script block; or a block that was read to its end is too long or an allocation for it failed; or the block
--- has no end
+-- a block was taken whose text is not too long
+abbrev pub TookFitting : Option (List ℕ) → Option (List ℕ) → Type 0
+TookFitting old new = (lines : List (List ℕ)) × TookBlock old new lines × (length (made_text lines) ≤ max_script)
+
+-- The text of the script block. Or a block that was read to its end is too long, or it is not and an allocation for it failed. Or the
+-- block has no end.
 abbrev pub ReadsScript : Option (List ℕ) → Option (List ℕ) → Result (Vec ℕ Global) LoadFault → Type 0
 ReadsScript old new (Ok text) = (lines : List (List ℕ)) × TookBlock old new lines × (text.items ≡ made_text lines) × (length (made_text lines) ≤ max_script)
 ReadsScript old new (Err (Script script.ScriptTooLong)) = (lines : List (List ℕ)) × TookBlock old new lines × (max_script < length (made_text lines))
 ReadsScript old new (Err (Script f)) = ⊥
 ReadsScript old new (Err (Open f)) = ⊥
-ReadsScript old new (Err (Input fault.OutOfMemory)) = (lines : List (List ℕ)) × TookBlock old new lines
+ReadsScript old new (Err (Input fault.OutOfMemory)) = TookFitting old new
 ReadsScript old new (Err (Input f)) = Breaks BlockLines old new f
 
 -- ---- loading
@@ -50,10 +54,11 @@ abbrev pub TookSource : Option (List ℕ) → Option (List ℕ) → List ℕ →
 TookSource old new external s =
     (lines : List (List ℕ)) × TookBlock old new lines × IsScriptOf (made_text lines) external s
 
--- A script block was taken, and with this external its text has this fault; or an allocation failed.
+-- A script block was taken, and with this external its text has this fault; or the text is not too long and an allocation failed.
 abbrev pub TookFault : Option (List ℕ) → Option (List ℕ) → List ℕ → ScriptFault → Type 0
 TookFault old new external f =
-    (lines : List (List ℕ)) × TookBlock old new lines × ((f ≡ script.OutOfMemory) ⊎ IsFaultOf (made_text lines) external f)
+    (lines : List (List ℕ)) × TookBlock old new lines
+    × (((f ≡ script.OutOfMemory) × (length (made_text lines) ≤ max_script)) ⊎ IsFaultOf (made_text lines) external f)
 
 -- An input is a script block that is read as this script with this external, followed by these words.
 abbrev pub IsInput : Option (List ℕ) → Option (List ℕ) → List ℕ → Source → List (List ℕ) → Type 0
@@ -81,8 +86,7 @@ IsLoaded old new external state (Err (Input fault.NotText)) =
     AfterSource old external (λ between. (done : List (List ℕ)) × (first : List ℕ) × WordLines done × (first ≢ point) × (length first ≤ max_line)
     × (is_utf8 first ≡ false) × Took between new (done ++ first ∷ []))
 IsLoaded old new external state (Err (Input fault.OutOfMemory)) =
-    ((lines : List (List ℕ)) × TookBlock old new lines)
-    ⊎ AfterSource old external (λ between. (lines : List (List ℕ)) × BlockLines lines × Took between new lines)
+    TookFitting old new ⊎ AfterSource old external (λ between. (lines : List (List ℕ)) × BlockLines lines × Took between new lines)
 IsLoaded old new external state (Err (Input f)) = Breaks BlockLines old new f ⊎ AfterSource old external (λ between. Breaks WordLines between new f)
 
 -- a fault of reading is caused by the reader or a bound, or the lines returned it before

@@ -29,8 +29,8 @@ use std::alloc::Global;
 /// # Errors
 ///
 /// Returns `Cut` if the input ends before the line `.`. Returns `Read` and `LineTooLong` as the lines do; the lines keep these
-/// two faults, return them again, and then read nothing. Returns `ScriptTooLong` or `OutOfMemory` after the whole block was
-/// read.
+/// two faults, return them again, and then read nothing. After the whole block was read, returns `ScriptTooLong` exactly if its text
+/// is too long, whatever memory there was, or `OutOfMemory` if it is not and an allocation failed.
 pub fn read_script<R: Source + Drop>(lines: &mut Lines<R>) -> Result<Vec<u8>, LoadFault>
     ensures reads { fault_of lines.old ≡ None → ReadsScript (input_of R.left lines.old) (input_of R.left lines.new) result }
     ensures ready { OnOk result (fault_of lines.old ≡ None) }
@@ -166,7 +166,7 @@ fn open_words(
 /// the line `.`. Then returns the first fault of the script, with its position or item; no word is read then. All words are
 /// read before they are checked: returns `Read`, `LineTooLong`, or `NotText` at a line that is not UTF-8. Then returns the
 /// faults of the vocabulary, `WordTooLong` and `Full`. Returns `OutOfMemory` if an allocation fails; in the script block, only
-/// after the block was read to its end.
+/// after the block was read to its end, and not in place of `ScriptTooLong`.
 ///
 /// After `Cut`, the input is at its end. After a fault of the script, the next line is the one after its block. After
 /// `NotText`, it is the one after the line that is not UTF-8. The lines keep `Read` and `LineTooLong` and return them again,

@@ -2,7 +2,11 @@
 #![tactic(auto)]
 
 #[cfg(test)]
+mod benches;
+#[cfg(test)]
 mod checks;
+#[cfg(test)]
+mod cuts;
 #[cfg(test)]
 mod devices;
 #[cfg(test)]

@@ -13,7 +13,7 @@ returns-in-Grouping c =
     let p = defines kinds.Grouping n in
     let is = view_items c.args.items.now in
     first_same p is ∙ grouping_found n is (string_bytes g.name) (view_argument g.first) (map view_term g.others.items)
-    (sym (first_same p is) ∙ c.in_ok-first.ensures ∙ ap (λ x. Some (view_plain x)) c.in-Grouping.is)
+    (sym (first_same p is) ∙ c.in_ok-grouping.ensures ∙ ap (λ x. Some (view_plain x)) c.in-Grouping.is)
 
 pub returns-in_default : goal.returns-in_default
-returns-in_default c = absurd (no_other_grouping c.args.name.now (view_items c.args.items.now) c.in_ok-first.field-0.now c.in_default.not-Grouping (sym (first_same (defines kinds.Grouping c.args.name.now) (view_items c.args.items.now)) ∙ c.in_ok-first.ensures))
+returns-in_default c = absurd (no_other_grouping c.args.name.now (view_items c.args.items.now) c.in_ok-grouping.field-0.now c.in_default.not-Grouping (sym (first_same (defines kinds.Grouping c.args.name.now) (view_items c.args.items.now)) ∙ c.in_ok-grouping.ensures))

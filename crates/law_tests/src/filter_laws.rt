@@ -1,0 +1,46 @@
+//! Laws of sbl_filter (specs/Laws.antt), written out.
+
+ghost use Rattle.std.specs.Prelude.{◌≡◌, ◌++◌, ℕ, List, [], Option, Some, Result, Ok};
+ghost use Rattle.sbl_ast.specs.Source.{Source};
+ghost use Rattle.sbl_bench.specs.Contents.{Contents, opening_contents};
+ghost use Rattle.sbl_bench.specs.Vocabulary.{vocabulary};
+ghost use Rattle.sbl_filter.specs.Filter.{IsFiltered, filter_output};
+ghost use Rattle.sbl_filter.specs.Laws.{IsToldByBytes, NoRepeats};
+ghost use Rattle.sbl_input.specs.Loading.{IsLoaded};
+ghost use Rattle.sbl_input.specs.declared.faults.LoadFault.{LoadFault};
+ghost use Rattle.sbl_listings.specs.Listings.{stems_text};
+
+use sbl_filter::laws::{filtering_is_one, inputs_are_one, parts_make_whole, stem_is_filter};
+
+/// Needs the whole of the law `parts_make_whole`.
+pub fn needs_parts_make_whole()
+    ensures { (s : Source) (first rest : List (List ℕ)) → filter_output s (first ++ rest) ≡ filter_output s first ++ filter_output s rest }
+{
+    parts_make_whole();
+}
+
+/// Needs the whole of the law `stem_is_filter`.
+pub fn needs_stem_is_filter()
+    ensures vocabulary { (s : Source) (words : List (List ℕ)) → stems_text (opening_contents s words) ≡ filter_output s (vocabulary words) }
+    ensures same { (s : Source) (words : List (List ℕ)) → NoRepeats words → filter_output s words ≡ stems_text (opening_contents s words) }
+{
+    stem_is_filter();
+}
+
+/// Needs the whole of the law `inputs_are_one`.
+pub fn needs_inputs_are_one()
+    ensures { (bytes external : List ℕ) (a b : Option (List ℕ)) (c : Contents) (text : List ℕ)
+        → IsLoaded (Some bytes) a external (λ c. c) (Ok c) → IsFiltered (Some bytes) b external (Some []) (Some text) (Ok tt)
+        → (s : Source) × (words : List (List ℕ)) × (c ≡ opening_contents s words) × (text ≡ filter_output s words) }
+{
+    inputs_are_one();
+}
+
+/// Needs the whole of the law `filtering_is_one`.
+pub fn needs_filtering_is_one()
+    ensures { (bytes external : List ℕ) (a b : Option (List ℕ)) (text other : List ℕ) (r q : Result (Unit {0}) LoadFault)
+        → IsToldByBytes r → IsToldByBytes q → IsFiltered (Some bytes) a external (Some []) (Some text) r
+        → IsFiltered (Some bytes) b external (Some []) (Some other) q → (r ≡ q) × (text ≡ other) }
+{
+    filtering_is_one();
+}

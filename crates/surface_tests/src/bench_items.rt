@@ -1,0 +1,254 @@
+//! sbl_bench: the rows and classes of a vocabulary, its edits, and why they are refused.
+
+use crate::common::{GROUPINGS, PLURALS, body_parsed, displays, letters, lists, parsed, text_of};
+use sbl_bench::{Bench, Class, EditFault, Row};
+use sbl_machine::{Item, Outcome};
+use sbl_script::ScriptFault;
+use std::alloc::{AllocError, Global};
+use std::process::Abort;
+use std::test::Fail;
+
+/// A bench over the words of a text, which have commas between them.
+fn bench_over(alloc: Global, script: &str, words: &str) -> Result<Bench, Fail> {
+    let words = lists(alloc, words)?;
+    Ok(Bench::open(alloc, parsed(alloc, script)?, words)?)
+}
+
+/// A row as `WORD STEM;`, or as `WORD` and the fault.
+fn row_text(alloc: Global, row: &Row<'_>) -> Result<String, AllocError> {
+    let word = text_of(alloc, row.word)?;
+    match row.outcome {
+        Outcome::Stem(stem) => {
+            let stem = text_of(alloc, stem)?;
+            format!(in alloc; "{word} {stem};")
+        }
+        Outcome::Refused(fault) => format!(in alloc; "{word} {fault};"),
+    }
+}
+
+/// The rows of a bench.
+fn rows_text(alloc: Global, bench: &Bench) -> Result<String, AllocError> {
+    let mut text = String::new(alloc);
+    let rows = bench.rows()?;
+    for row in &rows {
+        text.push_str(row_text(alloc, row)?.as_str())?;
+    }
+    Ok(text)
+}
+
+/// A class as `STEM,WORD,WORD;`.
+fn class_text(alloc: Global, class: &Class) -> Result<String, AllocError> {
+    let mut text = text_of(alloc, &class.stem)?;
+    for word in &class.words {
+        text.push(',')?;
+        text.push_str(text_of(alloc, word)?.as_str())?;
+    }
+    text.push(';')?;
+    Ok(text)
+}
+
+/// The classes of a bench.
+fn classes_text(alloc: Global, bench: &Bench) -> Result<String, AllocError> {
+    let mut text = String::new(alloc);
+    let classes = bench.classes()?;
+    for class in &classes {
+        text.push_str(class_text(alloc, class)?.as_str())?;
+    }
+    Ok(text)
+}
+
+/// The class of a word, `none` if there is none.
+fn class_of_text(alloc: Global, bench: &Bench, word: &str) -> Result<String, AllocError> {
+    match bench.class_of(&letters(alloc, word)?)? {
+        Some(class) => class_text(alloc, &class),
+        None => String::from_str(alloc, "none"),
+    }
+}
+
+/// The names of the routines that a word touched, `none` if the word is not there.
+fn touched_text(alloc: Global, bench: &Bench, word: &str) -> Result<String, AllocError> {
+    let Some(items) = bench.touched(&letters(alloc, word)?)? else {
+        return String::from_str(alloc, "none");
+    };
+    let mut text = String::new(alloc);
+    for item in items.iter() {
+        let shown = match item {
+            Item::Routine(name) | Item::Grouping(name) => format!(in alloc; "{name};")?,
+            Item::Among(name, k) => format!(in alloc; "{name} {k};")?,
+        };
+        text.push_str(shown.as_str())?;
+    }
+    Ok(text)
+}
+
+/// Asserts the rows, the classes and the count of runs of a bench.
+fn shows(
+    rt: &impl Abort,
+    alloc: Global,
+    bench: &Bench,
+    rows: &str,
+    classes: &str,
+    runs: u64,
+) -> Result<(), Fail> {
+    assert!(rt; rows_text(alloc, bench)?.as_str() == rows, "{rows}");
+    assert!(rt;
+        classes_text(alloc, bench)?.as_str() == classes,
+        "{classes}"
+    );
+    assert!(rt; bench.runs() == runs, "{runs}");
+    Ok(())
+}
+
+/// Asserts what a bench over `cats`, `boxes`, `cakes`, `cake`, `dog` shows.
+fn asks(rt: &impl Abort, alloc: Global, bench: &Bench) -> Result<(), Fail> {
+    let rows = "cats cat;boxes box;cakes cak;cake cak;dog dog;";
+    let classes = "box,boxes;cak,cake,cakes;cat,cats;dog,dog;";
+    shows(rt, alloc, bench, rows, classes, 5)?;
+    assert!(rt; bench.len() == 5);
+    assert!(rt; bench.row(5).is_none());
+    let row = bench.row(1).expect(rt, "a second row");
+    assert!(rt; row_text(alloc, &row)?.as_str() == "boxes box;");
+    assert!(rt; class_of_text(alloc, bench, "cakes")?.as_str() == "cak,cake,cakes;");
+    assert!(rt; class_of_text(alloc, bench, "cak")?.as_str() == "none");
+    assert!(rt; touched_text(alloc, bench, "dog")?.as_str() == "stem;tail;tail 1;");
+    assert!(rt; touched_text(alloc, bench, "cak")?.as_str() == "none");
+    let printed = bench.script().print(alloc)?;
+    assert!(rt;
+        printed
+            .as_str()
+            .starts_with("externals ( stem )\nroutines ( tail last sib )\n")
+    );
+    Ok(())
+}
+
+// Empty words and repeats are skipped.
+#[test]
+fn a_bench_has_rows_and_classes(rt: HostRuntime) -> Result<(), Fail> {
+    let words = "cats,boxes,,cakes,cake,boxes,dog";
+    let bench = bench_over(rt.alloc(), PLURALS, words)?;
+    let done = asks(&rt, rt.alloc(), &bench);
+    drop(bench);
+    done
+}
+
+/// Makes each edit of a word or of the script, and asserts what there is after it.
+fn edits(rt: &impl Abort, alloc: Global, bench: &mut Bench) -> Result<(), Fail> {
+    let word = ['b', 'o', 'x', 'e', 's'];
+    assert!(rt; bench.replace_routine("last", "true") == Ok(()));
+    let classes = "box,boxes;cake,cake,cakes;cat,cats;dog,dog;";
+    let rows = "cats cat;boxes box;cakes cake;cake cake;dog dog;";
+    shows(rt, alloc, bench, rows, classes, 7)?;
+    assert!(rt; bench.remove(&word) == Ok(()));
+    assert!(rt; bench.add(&word) == Ok(()));
+    let rows = "cats cat;cakes cake;cake cake;dog dog;boxes box;";
+    shows(rt, alloc, bench, rows, classes, 8)?;
+    assert!(rt; bench.replace_among("tail", 1, "among ( 's' () )") == Ok(()));
+    let rows = "cats cats;cakes cakes;cake cake;dog dog;boxes boxes;";
+    let classes = "boxes,boxes;cake,cake;cakes,cakes;cats,cats;dog,dog;";
+    shows(rt, alloc, bench, rows, classes, 13)
+}
+
+#[test]
+fn a_bench_runs_what_an_edit_concerns(rt: HostRuntime) -> Result<(), Fail> {
+    let mut bench = bench_over(rt.alloc(), PLURALS, "cats,boxes,cakes,cake,dog")?;
+    let done = edits(&rt, rt.alloc(), &mut bench);
+    drop(bench);
+    done
+}
+
+/// Asserts what an edit of a grouping, and another limit, give.
+fn edits_groupings(rt: &impl Abort, alloc: Global, bench: &mut Bench) -> Result<(), Fail> {
+    shows(rt, alloc, bench, "xyb b;ab b;xb xb;", "b,ab,xyb;xb,xb;", 3)?;
+    assert!(rt; touched_text(alloc, bench, "ab")?.as_str() == "stem;v;");
+    assert!(rt; bench.replace_grouping("w", "v + 'b'") == Ok(()));
+    let classes = ",xb;b,ab;xyb,xyb;";
+    shows(rt, alloc, bench, "xyb xyb;ab b;xb ;", classes, 5)?;
+    assert!(rt; bench.set_limit(1) == Ok(()));
+    let rows = "xyb 60 Steps;ab 60 Steps;xb 60 Steps;";
+    shows(rt, alloc, bench, rows, "", 8)?;
+    assert!(rt; class_of_text(alloc, bench, "ab")?.as_str() == "none");
+    Ok(())
+}
+
+#[test]
+fn a_bench_takes_a_grouping_and_a_limit(rt: HostRuntime) -> Result<(), Fail> {
+    let mut bench = bench_over(rt.alloc(), GROUPINGS, "xyb,ab,xb")?;
+    let done = edits_groupings(&rt, rt.alloc(), &mut bench);
+    drop(bench);
+    done
+}
+
+/// Asserts why edits are refused, in the order of the checks.
+fn refuses(rt: &impl Abort, alloc: Global, bench: &mut Bench) -> Result<(), Fail> {
+    let among = "among ( 's' () )";
+    let more = "among ( 's' (among ( 'e' (delete) )) )";
+    let undeclared = EditFault::Script(ScriptFault::Undeclared { item: 4 });
+    assert!(rt; bench.add(&['d', 'o', 'g']) == Err(EditFault::Present));
+    assert!(rt; bench.remove(&['d', 'o']) == Err(EditFault::Absent));
+    assert!(rt; bench.add(&[]) == Err(EditFault::EmptyWord));
+    assert!(rt; bench.add(&['a'; 256]) == Err(EditFault::WordTooLong));
+    assert!(rt; bench.replace_routine("nope", "true") == Err(EditFault::NoRoutine));
+    assert!(rt; bench.replace_routine("tail", "nowhere") == Err(undeclared));
+    assert!(rt; bench.replace_among("nope", 1, among) == Err(EditFault::NoRoutine));
+    assert!(rt; bench.replace_among("tail", 0, among) == Err(EditFault::NoAmong));
+    assert!(rt; bench.replace_among("tail", 1, more) == Err(EditFault::AmongCount));
+    assert!(rt; bench.replace_grouping("tail", "'a'") == Err(EditFault::NoGrouping));
+    assert!(rt; bench.set_limit(0) == Err(EditFault::BadLimit));
+    assert!(rt; bench.set_limit(10_000_001) == Err(EditFault::BadLimit));
+    shows(rt, alloc, bench, "dog dog;", "dog,dog;", 1)
+}
+
+#[test]
+fn a_bench_refuses_edits(rt: HostRuntime) -> Result<(), Fail> {
+    let mut bench = bench_over(rt.alloc(), PLURALS, "dog")?;
+    let done = refuses(&rt, rt.alloc(), &mut bench);
+    drop(bench);
+    done
+}
+
+/// The fault of a bench that is opened over these words.
+fn fault_over(alloc: Global, words: Vec<Vec<char>>) -> Result<Option<EditFault>, Fail> {
+    match Bench::open(alloc, body_parsed(alloc, "true")?, words) {
+        Ok(bench) => {
+            drop(bench);
+            Ok(None)
+        }
+        Err(fault) => Ok(Some(fault)),
+    }
+}
+
+#[test]
+fn a_bench_is_opened_or_refused(rt: HostRuntime) -> Result<(), Fail> {
+    let alloc = rt.alloc();
+    assert!(rt; fault_over(alloc, Vec::new(alloc))? == None);
+    let mut words = lists(alloc, "a,b")?;
+    words.push(vec![in alloc; 'a'; 256]?)?;
+    assert!(rt; fault_over(alloc, words)? == Some(EditFault::WordTooLong));
+    Ok(())
+}
+
+#[test]
+fn the_faults_of_a_bench_are_displayed(rt: HostRuntime) -> Result<(), Fail> {
+    let words = [
+        EditFault::Present,
+        EditFault::Absent,
+        EditFault::EmptyWord,
+        EditFault::WordTooLong,
+        EditFault::Full,
+        EditFault::NoRoutine,
+        EditFault::NoAmong,
+    ];
+    let want = "40 Present;41 Absent;42 EmptyWord;43 WordTooLong;44 Full;45 NoRoutine;46 NoAmong;";
+    assert_eq!(rt; displays(rt.alloc(), &words)?.as_str(), want);
+    let others = [
+        EditFault::AmongCount,
+        EditFault::Script(ScriptFault::Undeclared { item: 4 }),
+        EditFault::OutOfMemory,
+        EditFault::MeterFull,
+        EditFault::BadLimit,
+        EditFault::NoGrouping,
+    ];
+    let want = "47 AmongCount;48 Undeclared;49 OutOfMemory;50 MeterFull;51 BadLimit;53 NoGrouping;";
+    assert_eq!(rt; displays(rt.alloc(), &others)?.as_str(), want);
+    Ok(())
+}

@@ -1,0 +1,73 @@
+//! What several files of these tests share: scripts, and texts of characters.
+
+use sbl_script::{Script, ScriptFault};
+use std::alloc::{AllocError, Global};
+use std::fmt::Display;
+
+/// Three routines in backward mode. They remove plural endings, and then an `e`.
+pub(crate) const PLURALS: &str = "externals ( stem )
+routines ( tail last sib )
+backwardmode (
+  define sib as ( 'x' or 's' )
+  define tail as ( [substring] among ( 's' (delete) 'es' sib (delete) ) )
+  define last as ( ['e'] delete )
+)
+define stem as ( backwards ( do tail do ( test 'e' last ) ) )";
+
+/// Two groupings. The second is built from the first.
+pub(crate) const GROUPINGS: &str = "groupings ( v w )
+externals ( stem )
+define v 'ae'
+define w v + 'y'
+define stem as ( [ ( 'x' w ) or v ] delete )";
+
+/// Removes a first `un` or `re`.
+pub(crate) const PREFIXES: &str = "externals ( stem )
+define stem as ( [ among ( 'un' () 're' () ) ] delete )";
+
+/// The script of a text that runs `stem`.
+pub(crate) fn parsed(alloc: Global, text: &str) -> Result<Script, ScriptFault> {
+    Script::parse(alloc, text.as_bytes(), "stem")
+}
+
+/// The script that runs this body.
+pub(crate) fn body_parsed(alloc: Global, body: &str) -> Result<Script, ScriptFault> {
+    let text = format!(in alloc; "externals ( stem ) define stem as {body}")?;
+    parsed(alloc, text.as_str())
+}
+
+/// The characters of a text.
+pub(crate) fn letters(alloc: Global, text: &str) -> Result<Vec<char>, AllocError> {
+    let mut letters = Vec::new(alloc);
+    for letter in text.chars() {
+        letters.push(letter)?;
+    }
+    Ok(letters)
+}
+
+/// The characters of texts with commas between them.
+pub(crate) fn lists(alloc: Global, texts: &str) -> Result<Vec<Vec<char>>, AllocError> {
+    let mut lists = Vec::new(alloc);
+    for text in texts.split(',') {
+        lists.push(letters(alloc, text)?)?;
+    }
+    Ok(lists)
+}
+
+/// The text of characters.
+pub(crate) fn text_of(alloc: Global, letters: &[char]) -> Result<String, AllocError> {
+    let mut text = String::new(alloc);
+    for letter in letters {
+        text.push(*letter)?;
+    }
+    Ok(text)
+}
+
+/// The displays of values, each with a semicolon.
+pub(crate) fn displays<T: Display>(alloc: Global, values: &[T]) -> Result<String, AllocError> {
+    let mut text = String::new(alloc);
+    for value in values {
+        text.push_str(format!(in alloc; "{value};")?.as_str())?;
+    }
+    Ok(text)
+}

@@ -1,0 +1,256 @@
+//! sbl_machine: searches of an among's strings, runs, and why they are refused.
+
+ghost use Rattle.std.specs.Prelude.{◌≤◌, length, IfOk};
+
+use crate::common::{GROUPINGS, PLURALS, body_parsed, displays, letters, lists, parsed, text_of};
+use sbl_machine::{
+    AmongSearch, Item, LinkedTable, Machine, Meter, Outcome, PlainTable, Ran, RunFault, RunStop,
+};
+use sbl_script::{Mode, Script};
+use std::alloc::{AllocError, Global};
+use std::collections::BTreeSet;
+use std::process::Abort;
+use std::test::Fail;
+
+/// Asserts what a table of `a`, `abc`, `ab` finds forwards.
+fn finds_forwards<S: AmongSearch>(rt: &impl Abort, alloc: Global) -> Result<(), Fail> {
+    let table = S::build(alloc, &lists(alloc, "a,abc,ab")?, Mode::Forward)?;
+    let text = ['a', 'b', 'd'];
+    assert!(rt; table.longest(&text, 0, 3) == Some(2));
+    assert!(rt; table.longest(&text, 2, 3) == None);
+    assert!(rt; table.next_shorter(1) == Some(2));
+    assert!(rt; table.next_shorter(2) == Some(0));
+    assert!(rt; table.next_shorter(0) == None);
+    Ok(())
+}
+
+/// Asserts what a table of `s`, `es` finds backwards.
+fn finds_backwards<S: AmongSearch>(rt: &impl Abort, alloc: Global) -> Result<(), Fail> {
+    let table = S::build(alloc, &lists(alloc, "s,es")?, Mode::Backward)?;
+    let text = ['b', 'o', 'x', 'e', 's'];
+    assert!(rt; table.longest(&text, 5, 0) == Some(1));
+    assert!(rt; table.longest(&text, 5, 4) == Some(0));
+    assert!(rt; table.next_shorter(1) == Some(0));
+    Ok(())
+}
+
+/// Asserts what tables of no string, and of the empty one, find.
+fn finds_empty<S: AmongSearch>(rt: &impl Abort, alloc: Global) -> Result<(), Fail> {
+    let none = S::build(alloc, &Vec::new(alloc), Mode::Forward)?;
+    assert!(rt; none.longest(&['a'], 0, 1) == None);
+    let empty = S::build(alloc, &lists(alloc, "")?, Mode::Forward)?;
+    assert!(rt; empty.longest(&[], 0, 0) == Some(0));
+    assert!(rt; empty.next_shorter(0) == None);
+    Ok(())
+}
+
+#[test]
+fn both_tables_find_the_longest_and_the_next_shorter(rt: HostRuntime) -> Result<(), Fail> {
+    finds_forwards::<PlainTable>(&rt, rt.alloc())?;
+    finds_forwards::<LinkedTable>(&rt, rt.alloc())?;
+    finds_backwards::<PlainTable>(&rt, rt.alloc())?;
+    finds_backwards::<LinkedTable>(&rt, rt.alloc())?;
+    finds_empty::<PlainTable>(&rt, rt.alloc())?;
+    finds_empty::<LinkedTable>(&rt, rt.alloc())
+}
+
+/// The machine of a script, which is dropped: a machine owns what it needs.
+fn machine_of<S: AmongSearch>(alloc: Global, script: Script) -> Result<Machine<S>, AllocError> {
+    let machine = Machine::new(alloc, &script);
+    drop(script);
+    machine
+}
+
+/// A word for a run.
+fn word_of(rt: &impl Abort, alloc: Global, text: &str) -> Result<Vec<char>, AllocError>
+    ensures { IfOk result (λ word. length word.items ≤ 255) }
+{
+    let word = letters(alloc, text)?;
+    assert!(rt; word.len() <= 255);
+    Ok(word)
+}
+
+/// Items as the rows of a trace, without their line ends.
+fn items_text(alloc: Global, items: &BTreeSet<Item>) -> Result<String, AllocError> {
+    let mut text = String::new(alloc);
+    for item in items.iter() {
+        let row = match item {
+            Item::Routine(name) => format!(in alloc; "routine,{name};")?,
+            Item::Among(name, number) => format!(in alloc; "among,{name},{number};")?,
+            Item::Grouping(name) => format!(in alloc; "grouping,{name};")?,
+        };
+        text.push_str(row.as_str())?;
+    }
+    Ok(text)
+}
+
+/// What a run gives: its stem or its fault, the steps that it used, and what it touched.
+fn ran_text(alloc: Global, ran: &Ran) -> Result<String, AllocError> {
+    let Ran {
+        outcome,
+        touched,
+        used,
+    } = ran;
+    let items = items_text(alloc, touched)?;
+    match outcome {
+        Outcome::Stem(stem) => {
+            let stem = text_of(alloc, stem)?;
+            format!(in alloc; "{stem} {used} {items}")
+        }
+        Outcome::Refused(fault) => format!(in alloc; "{fault} {used} {items}"),
+    }
+}
+
+/// Runs a machine with a new meter. Returns what the run gives, and the count of the meter.
+fn run_text<S: AmongSearch>(
+    alloc: Global,
+    machine: &Machine<S>,
+    meter: &mut Meter,
+    word: &[char],
+    limit: u32,
+) -> Result<String, Fail>
+    requires { length word.now ≤ 255 }
+{
+    let ran: Result<Ran, RunStop> = machine.run(alloc, meter, word, limit);
+    let text = ran_text(alloc, &ran?)?;
+    let count = meter.count();
+    Ok(format!(in alloc; "{text} {count}")?)
+}
+
+/// The same, with a new meter.
+fn metered<S: AmongSearch>(
+    alloc: Global,
+    machine: &Machine<S>,
+    word: &[char],
+    limit: u32,
+) -> Result<String, Fail>
+    requires { length word.now ≤ 255 }
+{
+    let mut meter = Meter::new();
+    let text = run_text(alloc, machine, &mut meter, word, limit);
+    drop(meter);
+    text
+}
+
+/// Asserts what a run of a script gives.
+fn gives<S: AmongSearch>(
+    rt: &impl Abort,
+    alloc: Global,
+    script: Script,
+    word: &str,
+    limit: u32,
+    want: &str,
+) -> Result<(), Fail> {
+    let machine: Machine<S> = machine_of(alloc, script)?;
+    let text = run_word(rt, alloc, &machine, word, limit);
+    drop(machine);
+    let text = text?;
+    assert!(rt; text.as_str() == want, "{word}: {text}");
+    Ok(())
+}
+
+/// Runs a machine over a word.
+fn run_word<S: AmongSearch>(
+    rt: &impl Abort,
+    alloc: Global,
+    machine: &Machine<S>,
+    word: &str,
+    limit: u32,
+) -> Result<String, Fail> {
+    let word = word_of(rt, alloc, word)?;
+    metered(alloc, machine, &word, limit)
+}
+
+/// Scripts, words, limits of steps, and what a first run gives.
+const RUNS: &[(&str, &str, u32, &str)] = &[
+    (
+        PLURALS,
+        "s",
+        16,
+        " 16 routine,stem;routine,tail;among,tail,1; 1",
+    ),
+    (
+        PLURALS,
+        "cakes",
+        100_000,
+        "cak 27 routine,last;routine,sib;routine,stem;routine,tail;among,tail,1; 1",
+    ),
+    (
+        PLURALS,
+        "dog",
+        100_000,
+        "dog 12 routine,stem;routine,tail;among,tail,1; 1",
+    ),
+    (GROUPINGS, "ab", 100_000, "b 8 routine,stem;grouping,v; 1"),
+];
+
+#[test]
+fn a_run_gives_its_outcome_its_steps_and_what_it_touched(rt: HostRuntime) -> Result<(), Fail> {
+    let alloc = rt.alloc();
+    for (text, word, limit, want) in RUNS {
+        gives::<PlainTable>(&rt, alloc, parsed(alloc, text)?, word, *limit, want)?;
+        gives::<LinkedTable>(&rt, alloc, parsed(alloc, text)?, word, *limit, want)?;
+    }
+    Ok(())
+}
+
+/// Bodies, words, limits of steps, and what a first run gives.
+const REFUSALS: &[(&str, &str, u32, &str)] = &[
+    ("loop 2 next", "ab", 3, "ab 3 routine,stem; 1"),
+    ("loop 2 next", "ab", 2, "60 Steps 3 routine,stem; 1"),
+    ("stem", "a", 100_000, "61 Depth 32 routine,stem; 1"),
+    (
+        "( next ] tolimit [ delete )",
+        "ab",
+        100_000,
+        "62 Slice 6 routine,stem; 1",
+    ),
+    (
+        "backwards ( [ next next ] do delete )",
+        "ab",
+        100_000,
+        "63 Cursor 8 routine,stem; 1",
+    ),
+    (
+        "hop ( maxint + 1 )",
+        "a",
+        100_000,
+        "64 Integer 1 routine,stem; 1",
+    ),
+    ("hop ( 1 / 0 )", "a", 100_000, "65 Divide 1 routine,stem; 1"),
+    (
+        "repeat <+ 'aa'",
+        "a",
+        100_000,
+        "66 TooLong 513 routine,stem; 1",
+    ),
+];
+
+#[test]
+fn a_run_is_refused_with_its_fault(rt: HostRuntime) -> Result<(), Fail> {
+    let alloc = rt.alloc();
+    for (body, word, limit, want) in REFUSALS {
+        gives::<PlainTable>(&rt, alloc, body_parsed(alloc, body)?, word, *limit, want)?;
+        gives::<LinkedTable>(&rt, alloc, body_parsed(alloc, body)?, word, *limit, want)?;
+    }
+    Ok(())
+}
+
+#[test]
+fn the_faults_of_runs_are_displayed(rt: HostRuntime) -> Result<(), Fail> {
+    let faults = [
+        RunFault::Steps,
+        RunFault::Depth,
+        RunFault::Slice,
+        RunFault::Cursor,
+        RunFault::Integer,
+        RunFault::Divide,
+        RunFault::TooLong,
+    ];
+    let want = "60 Steps;61 Depth;62 Slice;63 Cursor;64 Integer;65 Divide;66 TooLong;";
+    assert_eq!(rt; displays(rt.alloc(), &faults)?.as_str(), want);
+    let stops = [RunStop::OutOfMemory, RunStop::MeterFull];
+    let want = "49 OutOfMemory;50 MeterFull;";
+    assert_eq!(rt; displays(rt.alloc(), &stops)?.as_str(), want);
+    Ok(())
+}

@@ -1,0 +1,213 @@
+//! snowbench: lines, sessions, checks, and why they end early.
+
+use crate::common::{PREFIXES, displays, parsed};
+use crate::device_items::{Single, Slow};
+use sbl_bench::EditFault;
+use sbl_script::ScriptFault;
+use snowbench::{Device, Lines, LoadFault, ServeFault, Sink, Source, check, load, serve};
+use std::alloc::Global;
+use std::process::Abort;
+use std::test::Fail;
+
+/// A session: its script block, an empty block of words, and commands.
+fn session_of(alloc: Global, commands: &str) -> Result<String, Fail> {
+    Ok(format!(in alloc; "{PREFIXES}\n.\n.\n{commands}")?)
+}
+
+/// Serves a bench over lines.
+fn served<R: Source + Drop, W: Sink>(
+    lines: &mut Lines<R>,
+    writer: &mut W,
+) -> Result<(), LoadFault> {
+    let mut bench = load(lines, "stem")?;
+    let ending = serve(&mut bench, lines, writer);
+    drop(bench);
+    Ok(ending?)
+}
+
+/// What is written, and then the fault if there is one.
+fn with_ending(
+    alloc: Global,
+    mut text: Vec<u8>,
+    ending: Result<(), LoadFault>,
+) -> Result<Vec<u8>, Fail> {
+    if let Err(fault) = ending {
+        text.extend_from_slice(format!(in alloc; "{fault}")?.as_bytes())?;
+    }
+    Ok(text)
+}
+
+/// What a session writes, by devices of std.
+fn written(alloc: Global, input: &[u8]) -> Result<Vec<u8>, Fail> {
+    let mut text = Vec::new(alloc);
+    let mut lines = Lines::new(alloc, Device::new(input))?;
+    let ending = served(&mut lines, &mut Device::new(&mut text));
+    with_ending(alloc, text, ending)
+}
+
+/// The same, by devices that take one byte at a time, and by so many reads.
+fn written_slowly(alloc: Global, input: &[u8], most: u64) -> Result<Vec<u8>, Fail> {
+    let mut text = Vec::new(alloc);
+    let mut lines = Lines::with_reads(alloc, Single::new(Device::new(input)), most)?;
+    let ending = served(&mut lines, &mut Slow::new(Device::new(&mut text)));
+    with_ending(alloc, text, ending)
+}
+
+/// Commands of a session, and what it writes.
+const SESSIONS: &[(&str, &str)] = &[
+    (
+        "add undo\nadd redo\nstems\n",
+        "ok\nok\nundo,stem,do\nredo,stem,do\n",
+    ),
+    (
+        "add dog\nadd dog\nadd\nclasses\nruns",
+        "ok\nno 40 Present\nno 42 EmptyWord\ndog,dog\n1\n",
+    ),
+    (
+        "add red\nroutine stem\ntrue\n.\ntrace red\nclass red\nremove red\nlimit x\nnothing\n",
+        "ok\nok\nroutine,stem\nred,red\nok\nno 51 BadLimit\nno 52 BadCommand\n",
+    ),
+    ("add red\nroutine stem\ntrue\n", "ok\n73 Cut"),
+];
+
+#[test]
+fn a_session_is_served(rt: HostRuntime) -> Result<(), Fail> {
+    let alloc = rt.alloc();
+    for (commands, want) in SESSIONS {
+        let input = session_of(alloc, commands)?;
+        let text = written(alloc, input.as_bytes())?;
+        assert!(rt; text.as_slice() == want.as_bytes(), "{commands}");
+        let text = written_slowly(alloc, input.as_bytes(), 1_000)?;
+        assert!(rt; text.as_slice() == want.as_bytes(), "{commands}");
+    }
+    let input = session_of(alloc, "stems\n")?;
+    let text = written_slowly(alloc, input.as_bytes(), 10)?;
+    assert!(rt; text.as_slice() == b"70 Read".as_slice());
+    Ok(())
+}
+
+/// The fault of a session whose writer has room for three bytes.
+fn fault_without_room(alloc: Global, input: &[u8]) -> Result<Option<LoadFault>, Fail> {
+    let mut room = [0; 3];
+    let mut lines = Lines::new(alloc, Device::new(input))?;
+    let ending = served(&mut lines, &mut Device::new(room.as_mut_slice()));
+    Ok(ending.err())
+}
+
+#[test]
+fn a_writer_may_fail(rt: HostRuntime) -> Result<(), Fail> {
+    let input = session_of(rt.alloc(), "add undo\nadd redo\n")?;
+    let fault = fault_without_room(rt.alloc(), input.as_bytes())?;
+    assert_eq!(rt; fault, Some(LoadFault::Input(ServeFault::Write)));
+    Ok(())
+}
+
+#[test]
+fn a_line_may_be_too_long(rt: HostRuntime) -> Result<(), Fail> {
+    let mut input = session_of(rt.alloc(), "add undo\n")?;
+    for _ in 0..65_537 {
+        input.push('a')?;
+    }
+    let text = written(rt.alloc(), input.as_bytes())?;
+    assert!(rt; text.as_slice() == b"ok\n72 LineTooLong".as_slice());
+    Ok(())
+}
+
+/// Inputs that make no bench, and the fault.
+const UNLOADED: &[(&[u8], LoadFault)] = &[
+    (b"externals ( stem )", LoadFault::Input(ServeFault::Cut)),
+    (
+        b"externals ( stem )\n.\n",
+        LoadFault::Script(ScriptFault::NoExternal),
+    ),
+    (
+        b"externals ( stem ) define stem as true\n.\na\n\xff\n",
+        LoadFault::Input(ServeFault::NotText),
+    ),
+];
+
+/// The fault of an input that makes no bench.
+fn fault_of_load(alloc: Global, input: &[u8]) -> Result<Option<LoadFault>, Fail> {
+    let mut lines = Lines::new(alloc, Device::new(input))?;
+    match load(&mut lines, "stem") {
+        Ok(bench) => {
+            drop(bench);
+            Ok(None)
+        }
+        Err(fault) => Ok(Some(fault)),
+    }
+}
+
+#[test]
+fn a_bench_is_not_loaded(rt: HostRuntime) -> Result<(), Fail> {
+    for (input, want) in UNLOADED {
+        let fault = fault_of_load(rt.alloc(), input)?;
+        assert_eq!(rt; fault, Some(*want));
+    }
+    Ok(())
+}
+
+/// Words, expected stems, the result, and what is written.
+const CHECKS: &[(&str, &str, Result<u64, ServeFault>, &str)] = &[
+    ("undo\ndo\n", "do\ndo\n", Ok(0), ""),
+    ("undo\ndo\n", "do\nda\n", Ok(1), "2,do,da,do\n"),
+    (
+        "undo\ndo\n",
+        "do\nda\nx\n",
+        Err(ServeFault::LengthsDiffer),
+        "2,do,da,do\n",
+    ),
+];
+
+/// Checks lists.
+fn checked(
+    alloc: Global,
+    words: &str,
+    expected: &str,
+) -> Result<(Result<u64, ServeFault>, Vec<u8>), Fail> {
+    let mut text = Vec::new(alloc);
+    let script = parsed(alloc, PREFIXES)?;
+    let mut writer = Device::new(&mut text);
+    let result = check(
+        alloc,
+        &script,
+        words.as_bytes(),
+        expected.as_bytes(),
+        &mut writer,
+    );
+    drop(script);
+    Ok((result, text))
+}
+
+#[test]
+fn a_check_counts_differences(rt: HostRuntime) -> Result<(), Fail> {
+    for (words, expected, want, rows) in CHECKS {
+        let (result, text) = checked(rt.alloc(), words, expected)?;
+        assert_eq!(rt; result, *want);
+        assert!(rt; text.as_slice() == rows.as_bytes(), "{rows}");
+    }
+    Ok(())
+}
+
+#[test]
+fn the_faults_of_sessions_are_displayed(rt: HostRuntime) -> Result<(), Fail> {
+    let faults = [
+        ServeFault::Read,
+        ServeFault::Write,
+        ServeFault::LineTooLong,
+        ServeFault::Cut,
+        ServeFault::LengthsDiffer,
+        ServeFault::NotText,
+        ServeFault::OutOfMemory,
+    ];
+    let want = "70 Read;71 Write;72 LineTooLong;73 Cut;74 LengthsDiffer;75 NotText;49 OutOfMemory;";
+    assert_eq!(rt; displays(rt.alloc(), &faults)?.as_str(), want);
+    let others = [
+        LoadFault::Input(ServeFault::Cut),
+        LoadFault::Script(ScriptFault::UnclosedString { place: 34 }),
+        LoadFault::Open(EditFault::Full),
+    ];
+    let want = "73 Cut;2 UnclosedString at 34;44 Full;";
+    assert_eq!(rt; displays(rt.alloc(), &others)?.as_str(), want);
+    Ok(())
+}
