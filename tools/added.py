@@ -1,11 +1,14 @@
-"""The words that are added at the terminal. They are in no file until `append` puts them into one."""
-import contextlib
+"""The words that are added at the terminal. They are in no file until `append` of the program puts them into one."""
+import errno
 import os
+import subprocess
 
-from files import is_crlf, is_same
+from child import memory_file
+from files import is_same
 from near import listed
 from plain import named
-from warn import BOM, read
+from screen import say
+from warn import BOM
 
 # How many words a sentence names.
 MOST = 4
@@ -26,7 +29,7 @@ class Added:
 
     def missing(self):
         """Returns the words that no file has."""
-        there = set(lines_of(self.path)) | self.kept if self.words else set()
+        there = lines_of(self.path) | self.kept if self.words else set()
         return [word for word in self.words if word not in there]
 
     def doubts(self):
@@ -40,23 +43,29 @@ class Added:
         keeps = "append puts %s into %s" % (it, named(self.path)) if os.path.isfile(self.path) else "append FILE writes %s" % it
         return ["%s (%s): %s, quit again drops %s." % (what, listed(names, "and"), keeps, it)]
 
-    def append(self, path):
-        """Puts the words that no file has at the end of a file, that of the words by default. Returns whether that was done, and a sentence."""
-        path, words = path or self.path, self.missing()
-        why = self.refusal(path) if words else "There are no added words that no file has."
+    def append(self, path, child):
+        """Has the program put the words that a file lacks at its end, that of the words by default. Returns whether that was done, and a
+        sentence. If it was broken off or the program has ended, the first is None, and the second None if it has ended."""
+        path = path or self.path
+        words = self.lacking(path) if path else self.words
+        why = self.refusal(path) if words or self.missing() else "There are no added words that no file has."
+        if not why and not words:
+            why = "%s has each word that you added." % named(path)
         if why:
             return False, why
-        former = read(path) or b""
-        try:
-            with open(path, "ab") as file:
-                file.write(ended(former, words))
-        except OSError as error:
-            with contextlib.suppress(OSError):
-                os.truncate(path, len(former))
-            return False, "%s cannot be written: %s. Nothing was added to it." % (named(path), error.strerror)
+        answer = child.run(["append " + path], say) if child.copy is None else by_another(child, path, words)
+        if answer is None or answer is False:
+            return None, "" if answer is False else None
+        if answer != ["ok"]:
+            return False, "%s cannot be written: %s. Nothing was added to it." % (named(path), why_unwritten(path))
         self.kept.update(words)
         self.made.add(os.path.realpath(path))
         return True, "%s of %s." % ("1 word is now at the end" if len(words) == 1 else "%d words are now at the end" % len(words), named(path))
+
+    def lacking(self, path):
+        """Returns the added words that a file lacks."""
+        there = lines_of(path)
+        return [word for word in self.words if word not in there]
 
     def refusal(self, path):
         """Returns why words are not put into a file, or nothing if they may be."""
@@ -73,13 +82,32 @@ class Added:
 
 def lines_of(path):
     """Returns the words of a file."""
-    text = (read(path) if path else None) or b""
-    lines = text.removeprefix(BOM).decode("utf-8", "surrogateescape").split("\n")
-    return [line.removesuffix("\r") for line in lines]
+    try:
+        with open(path, "rb") as file:
+            lines = {line.removesuffix(b"\n").removesuffix(b"\r") for line in file}
+            file.seek(0)
+            lines.add(file.readline().removeprefix(BOM).removesuffix(b"\n").removesuffix(b"\r"))
+    except (OSError, TypeError):
+        return set()
+    return {line.decode("utf-8", "surrogateescape") for line in lines}
 
 
-def ended(former, words):
-    """Returns what comes after the bytes of a file so that it has more words."""
-    end = b"\r\n" if is_crlf(former) else b"\n"
-    start = end if former and not former.endswith(b"\n") else b""
-    return start + b"".join(word.encode("utf-8", "surrogateescape") + end for word in words)
+def by_another(child, path, words):
+    """Has another program put words into a file: one that was started anew reads its files by other names. Returns its reply."""
+    script = memory_file(child.first[0])
+    names, put = (["/dev/fd/%d" % script, path], "append") if os.path.exists(path) else (["/dev/fd/%d" % script], "append " + path)
+    lines = ["add " + word for word in words] + [put]
+    typed = "".join(line + "\n" for line in lines).encode("utf-8", "surrogateescape")
+    done = subprocess.run([*child.command, "--rows", "--", *names], input=typed, capture_output=True, pass_fds=[script], check=False)
+    os.close(script)
+    return done.stdout.decode("utf-8", "surrogateescape").splitlines()[len(words) :]
+
+
+def why_unwritten(path):
+    """Returns why a file cannot be written, as far as that can be seen."""
+    folder = os.path.dirname(path) or "."
+    if not os.path.exists(folder):
+        return os.strerror(errno.ENOENT)
+    if not os.access(path if os.path.exists(path) else folder, os.W_OK):
+        return os.strerror(errno.EACCES)
+    return "perhaps the disk is full"

@@ -5,8 +5,9 @@ import unicodedata
 
 from faults import reason, replacing
 from near import listed, meant, near
-from plain import named
+from plain import cut, named
 from rows import rows_of
+from warn import read
 
 PLAIN = "stems classes script runs reload undo redo mark changes stats unused help quit".split()
 ONE_LINE = "add append remove class trace why tests events integers limit largest show save echo".split()
@@ -43,7 +44,7 @@ class Advice:
             return of_code(word, argument, command)
         if code in (47, 48):
             return [self.nothing_changed(word, has_lines=len(command) > 2)]
-        return [SENTENCES[code].replace("COMMAND", named(word)).replace("THE_WORD", named(argument))] if code in SENTENCES else []
+        return [SENTENCES[code].replace("COMMAND", cut(word)).replace("THE_WORD", cut(argument))] if code in SENTENCES else []
 
     def nothing_changed(self, word, has_lines):
         if word == "reload":
@@ -54,11 +55,12 @@ class Advice:
         words = self.words()
         if not argument:
             return ["%s needs a word: %s WORD." % (word, word)]
-        others = [other for other in words if folded(other) == folded(argument)][:4] or near(argument, words)
+        meant_word = folded(argument)
+        others = [other for other in words if folded(other) == meant_word][:4] or near(argument, words)
         question = " Did you mean %s?" % listed([in_quotes(other) for other in others]) if others else ""
         if others and unicodedata.normalize("NFC", others[0]) == unicodedata.normalize("NFC", argument):
             question = " It is there in another form of Unicode (NFC and NFD are different words)."
-        add = "" if word == "remove" or argument != argument.strip() else ' "add %s" adds it.' % named(argument)
+        add = "" if word == "remove" or argument != argument.strip() else ' "add %s" adds it.' % cut(argument)
         return ["%s is not in the vocabulary.%s%s" % (in_quotes(argument), question, add)]
 
     def lines_45(self, word, argument, command):
@@ -72,16 +74,16 @@ class Advice:
         names = self.names()
         there = names.of(*kinds, "grouping") if word == "show" else names.of(*kinds)
         name, _, rest = argument.partition(" ")
-        begin = "%s %s: " % (word, named(name))
+        begin = "%s %s: " % (word, cut(name))
         if not name:
             return "%s needs a name: %s NAME." % (word, word)
         if name in there and rest and word == "show":
             return "show takes one name."
         if name in there and rest:
-            return '%sthe text goes on the lines after it, and a line with a single point ends it. Type only "%s %s" first.' % (begin, word, name)
+            return '%sthe text goes on the lines after it, and a line with a single point ends it. Type only "%s %s" first.' % (begin, word, cut(name))
         if word != "show" and names.kinds.get(name) and name in names.defined:
             kind = names.kinds[name]
-            return '%sthis is a %s. Use "%s %s".' % (begin, kind, "grouping" if kind == "grouping" else "routine", name)
+            return '%sthis is a %s. Use "%s %s".' % (begin, kind, "grouping" if kind == "grouping" else "routine", cut(name))
         if names.kinds.get(name) in VARIABLES:
             kind = names.kinds[name]
             shows = " show shows routines and groupings." + VARIABLES[kind] if word == "show" else ""
@@ -97,9 +99,9 @@ class Advice:
     def amongs_of(self, name):
         count = self.count(name)
         if count == 0:
-            return "%s has no among." % name
+            return "%s has no among." % cut(name)
         numbers = "1" if count == 1 else "1 or 2" if count == 2 else "1 to %d" % count
-        return "%s has %s, so K is %s (those inside others count, too)." % (name, amount(count), numbers)
+        return "%s has %s, so K is %s (those inside others count, too)." % (cut(name), amount(count), numbers)
 
     def count(self, name):
         escapes = ""
@@ -137,7 +139,7 @@ class Advice:
             return "A command begins at the beginning of the line."
         if word in VERBS:
             return "%s is not a command here. In a shell: ./snowbench %s %s." % (word, word, VERBS[word])
-        return "%s is not a command.%s help lists the commands." % (named((word or line.strip())[:60]), command_meant(word) if word else "")
+        return "%s is not a command.%s help lists the commands." % (cut(word or line.strip()), command_meant(word) if word else "")
 
     def lines_57(self, word, argument, command):
         if word == "save":
@@ -152,16 +154,20 @@ class Advice:
         folder = os.path.dirname(path) or "."
         if os.path.realpath(path) == os.path.realpath(self.desk.script) and not os.path.lexists(path):
             return "%s is not there any more, and was not written: save to another file." % named(path)
-        if self.desk.files.is_script(path) and os.access(path, os.W_OK):
+        if os.path.isfile(path) and os.access(path, os.W_OK) and read(path) == self.desk.child.text():
+            return "%s has the script now, but its folder could not be flushed to the disk. Save to it again." % named(path)
+        if self.desk.files.is_script(path) and os.access(path, os.W_OK) and self.desk.files.seen != read(path):
             return "%s has changed since it was read, and was not overwritten. Enter reads it again; save to another file to keep both." % named(path)
         if not os.path.isdir(folder):
             return "%s cannot be written: there is no folder %s." % (named(path), named(folder))
         if os.path.isdir(path):
             return "%s cannot be written: it is a folder. Name a file in it." % named(path)
+        if os.access(path if os.path.exists(path) else folder, os.W_OK):
+            return "%s cannot be written: perhaps the disk is full.%s" % (named(path), " It has its former text." if os.path.exists(path) else "")
         return "%s cannot be written: you may not write there. Save to another file." % named(path)
 
     def lines_75(self, word, argument, command):
-        end = replacing(named(argument)) if argument else "OLD > NEW"
+        end = replacing(argument) if argument else "OLD > NEW"
         return ["%s is not UTF-8. If it is Latin-1: iconv -f latin1 -t utf-8 %s" % (named(argument or "The text"), end)]
 
     def early(self, line):
@@ -189,7 +195,7 @@ class Advice:
         word, argument = split(command[0])
         if word == "add" and argument != argument.strip():
             at = "beginning" if argument != argument.lstrip() else "end"
-            return ['The word that was added is "%s", with a blank at its %s. "remove %s" takes it out.' % (named(argument), at, named(argument))]
+            return ['The word that was added is "%s", with a blank at its %s. "remove %s" takes it out.' % (cut(argument), at, cut(argument))]
         return []
 
 
@@ -217,12 +223,12 @@ class Names:
     """What a script declares and defines, by its canonical lines."""
 
     def __init__(self, lines):
-        self.kinds, self.defined = {}, []
+        self.kinds, self.defined = {}, {}
         for words in map(str.split, lines):
             if words[0] in DECLARATIONS:
                 self.kinds.update((name, words[0][:-1]) for name in words[2:-1] if name not in self.kinds)
-            elif words[0] == "define" and words[1] not in self.defined:
-                self.defined.append(words[1])
+            elif words[0] == "define":
+                self.defined[words[1]] = True
 
     def of(self, *kinds):
         """Returns the defined names of these kinds, in the order of their definitions."""
@@ -231,7 +237,7 @@ class Names:
 
 def in_quotes(word):
     """Returns the word as a terminal shows it, in quotes if a blank is at its beginning or end."""
-    return '"%s"' % named(word) if word != word.strip() else named(word)
+    return '"%s"' % cut(word) if word != word.strip() else cut(word)
 
 
 def folded(word):

@@ -1,7 +1,7 @@
 """Lays out for people what `changes`, `largest`, `stats` and `families` write."""
 import csv
 
-from plain import named
+from plain import cut, named
 from rows import rows_of
 
 # How many words, and classes of a kind, are shown after an edit; `changes` shows all.
@@ -31,8 +31,8 @@ class Changes:
         rows = rows_of(self.answer)
         part = [row for row in rows if any(text in name for name in self.names_in(row))]
         if rows and not part:
-            return ['no change has %s: "changes" shows all' % named(text)]
-        return ["Only what has %s:" % named(text)] * bool(part) + lay_out_rows(part, self.outcomes, is_part=True)
+            return ['no change has %s: "changes" shows all' % cut(text)]
+        return ["Only what has %s:" % cut(text)] * bool(part) + lay_out_rows(part, self.outcomes, is_part=True)
 
     def names_in(self, row):
         """Returns the words and stems in a row."""

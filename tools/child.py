@@ -1,5 +1,5 @@
-"""The program of the desk, and how it came to its state: Ctrl-C ends it in the middle of an edit, and then it is started anew and
-accepts again what it had accepted before.
+"""The program of the desk, and how it came to its state: if Ctrl-C ends it in the middle of an edit, or something else ends it, it is
+started anew and accepts again what it had accepted before.
 """
 import contextlib
 import os
@@ -9,15 +9,16 @@ import signal
 import subprocess
 import sys
 import termios
+import time
 
 from faults import with_files, without_mark
+from keys import Interrupts, let_interrupt, open_terminal, set_keys
 from warn import BOM, read
 
 # The accepted commands that change what the program has.
 KEPT = "add remove mark limit reload undo redo routine among grouping replace".split()
 # After how many seconds a sentence says that an edit still runs.
 PATIENCE = 2
-INTERRUPT = b"\x03"
 LONG = 'This takes long. %sIf the script loops, "limit 1000" lets each run end sooner.'
 # What Ctrl-C does during a command.
 BREAKS_OFF = "Ctrl-C breaks it off. "
@@ -34,6 +35,7 @@ class Child:
         # The script of a program that was started anew.
         self.copy = None
         self.terminal = open_terminal()
+        self.interrupts = Interrupts(self.terminal)
         # Ctrl-C rings it.
         self.bell = os.pipe()
         for end in self.bell:
@@ -41,6 +43,8 @@ class Child:
         # The program saves the text of the script in force into it.
         self.paper = os.pipe()
         os.set_blocking(self.paper[0], False)
+        # What brings the program back if something has ended it, perhaps not for the last time, and returns whether it did.
+        self.bring_back_lost = lambda is_last: False
         self.open()
 
     def open(self):
@@ -55,11 +59,41 @@ class Child:
         words = [*self.command, *(["--", *names] if names else [])]
         pipes = [int(name.removeprefix("/dev/fd/")) for name in names if re.fullmatch(r"/dev/fd/\d+", name) and os.path.exists(name)]
         self.process = subprocess.Popen(words, stdin=pipe, stdout=pipe, stderr=pipe, pass_fds={*files, *pipes, self.paper[1]})
-        os.set_blocking(self.process.stderr.fileno(), False)
+        for stream in (self.process.stdout, self.process.stderr):
+            os.set_blocking(stream.fileno(), False)
+        # What the program has written to standard output and standard error, and nobody has taken; the stream that it still has.
+        self.output, self.errors, self.streams = bytearray(), bytearray(), [self.process.stdout, self.process.stderr]
+        # Whether it was seen that the program has ended, and whether it was ended from here.
+        self.has_ended, self.is_stopped = False, False
+
+    def wait(self, others=(), timeout=None):
+        """Takes what the program has written, of both streams: it stops if one of them is full. Waits until standard output or one of the
+        other files has something, or has ended, or the time is over. Returns these files."""
+        end = None if timeout is None else time.monotonic() + timeout
+        while self.process.stdout in self.streams:
+            left = None if end is None else max(0, end - time.monotonic())
+            ready = select.select([*self.streams, *others], [], [], left)[0]
+            self.take(ready)
+            ready = [file for file in ready if file is not self.process.stderr]
+            if ready or left == 0:
+                return ready
+        return [self.process.stdout]
+
+    def take(self, streams):
+        """Takes what is there of these streams of the program."""
+        for stream, taken in ((self.process.stdout, self.output), (self.process.stderr, self.errors)):
+            if stream in streams:
+                with contextlib.suppress(BlockingIOError):
+                    part = os.read(stream.fileno(), 1 << 16)
+                    taken += part
+                    if not part:
+                        self.streams.remove(stream)
 
     def said(self):
         """Returns the lines that the program has written to standard error since the last call. It writes them before the mark."""
-        said = (self.process.stderr.read() or b"").decode("utf-8", "surrogateescape")
+        while self.process.stderr in self.streams and select.select([self.process.stderr], [], [], 0)[0]:
+            self.take([self.process.stderr])
+        said, self.errors[:] = self.errors.decode("utf-8", "surrogateescape"), b""
         if self.copy is not None:
             # (a program that was started anew reads the script by another name)
             said = re.sub(r"^/dev/fd/\d+(?=:\d+:\d+: |: )", lambda name: self.script, said, flags=re.M)
@@ -67,16 +101,21 @@ class Child:
         return without_mark(lines, self.script, self.last_script) if (self.last_script or b"").startswith(BOM) else lines
 
     def query(self, lines):
-        """Sends lines to the program, and returns the lines of its answer, or nothing if it has ended."""
-        return self.answer() if self.send(lines) else None
+        """Sends a command that changes nothing to the program, and returns the lines of its answer, or nothing if it has ended."""
+        return self.query_each(lines)[0]
 
     def text(self):
         """Returns the text of the script in force, as `save` writes it; or nothing if it cannot be had."""
+        with self.interrupts.held():
+            text = self.text_once()
+            return self.text_once() if text is None and self.is_lost() and self.bring_back_lost(False) else text
+
+    def text_once(self):
         if not self.send(["save /dev/fd/%d" % self.paper[1]]):
             return None
         text, ready = bytearray(), []
         while self.process.stdout not in ready:
-            ready = select.select([self.process.stdout, self.paper[0]], [], [])[0]
+            ready = self.wait([self.paper[0]])
             with contextlib.suppress(BlockingIOError):
                 text += os.read(self.paper[0], 65536)
         is_whole = self.answer() == ["ok"]
@@ -86,10 +125,23 @@ class Child:
         return bytes(text) if is_whole else None
 
     def query_each(self, *commands):
-        """Sends commands at once, and returns the answer of each."""
+        """Sends commands that change nothing at once, and returns the answer of each. If something has ended the program, it is brought back
+        and asked again."""
+        with self.interrupts.held():
+            answers = self.answers(commands)
+            for has_asked_again in (False, True):
+                if None in answers and self.is_lost() and self.bring_back_lost(has_asked_again):
+                    answers = self.answers(commands)
+            return answers
+
+    def answers(self, commands):
         if not self.send([line for lines in commands for line in [*lines, "echo " + self.mark]][:-1]):
             return [None for _ in commands]
         return [self.answer() for _ in commands]
+
+    def is_lost(self):
+        """Returns whether the program has ended, by a signal that is not from here."""
+        return self.has_ended and not self.is_stopped and self.process.wait() < 0
 
     def send(self, lines):
         sent = "".join(line + "\n" for line in [*lines, "echo " + self.mark])
@@ -98,16 +150,24 @@ class Child:
             self.process.stdin.flush()
             return True
         except BrokenPipeError:
+            self.has_ended = True
             return False
 
     def answer(self):
-        answer = []
-        for line in self.process.stdout:
-            line = line.decode("utf-8", "surrogateescape")[:-1]
-            if line == self.mark:
+        """Returns the lines of an answer, up to the mark; or nothing if the program ends before it."""
+        end, start = b"%s\n" % self.mark.encode(), 0
+        while True:
+            at = self.output.find(end, start)
+            if at == 0 or at > 0 and self.output[at - 1 : at] == b"\n":
+                answer = self.output[:at].decode("utf-8", "surrogateescape").split("\n")[:-1]
+                del self.output[: at + len(end)]
                 return answer
-            answer.append(line)
-        return None
+            start = at + 1 if at > 0 else max(0, len(self.output) - len(end))
+            if at < 0 and self.process.stdout not in self.streams:
+                self.has_ended = True
+                return None
+            if at < 0:
+                self.wait()
 
     def run(self, lines, say, text=None):
         """Does as `query`, and notes what is accepted. Ctrl-C breaks it off: then the result is false. `text` is what `reload` reads."""
@@ -137,15 +197,16 @@ class Child:
         """Waits for the first line of an answer. Returns whether Ctrl-C came before it."""
         keys = self.take_interrupts() if can_break else None
         # (no request comes before this one is answered: what can be read of standard input is its end)
-        awaited = [self.process.stdout, self.bell[0], sys.stdin]
-        ready = select.select(awaited, [], [], PATIENCE)[0]
+        awaited = [self.bell[0], sys.stdin]
+        ready = self.wait(awaited, PATIENCE)
         if not ready:
             say([sentence % (keys_do if can_break else "")])
-            ready = select.select(awaited, [], [])[0]
+            ready = self.wait(awaited)
         if keys:
             set_keys(self.terminal, keys)
             signal.signal(signal.SIGINT, signal.SIG_IGN)
         if sys.stdin in ready:
+            self.is_stopped = True
             self.process.kill()
         return self.bell[0] in ready and self.process.stdout not in ready
 
@@ -165,16 +226,11 @@ class Child:
         # (a handler may run only after `select` has returned, but what rings here is the signal itself)
         signal.set_wakeup_fd(self.bell[1])
         signal.signal(signal.SIGINT, lambda number, frame: None)
-        keys = keys_of(self.terminal)
-        if keys:
-            # (with NOFLSH the signal drops no output that is on its way)
-            other = [*keys[:3], (keys[3] | termios.NOFLSH) & ~termios.ECHO, *keys[4:6], list(keys[6])]
-            other[6][termios.VINTR] = INTERRUPT
-            set_keys(self.terminal, other)
-        return keys
+        return let_interrupt(self.terminal)
 
     def stop(self):
         """Ends the program at once."""
+        self.is_stopped = True
         self.process.kill()
         self.process.wait()
         for pipe in (self.process.stdin, self.process.stdout, self.process.stderr):
@@ -188,21 +244,24 @@ class Child:
         return "Breaking off. The program starts again, which may take as long as the start took."
 
     def bring_back(self):
-        """Starts the program anew, and brings it to where it was after the last accepted command."""
+        """Starts the program anew, and brings it to where it was after the last accepted command. Returns whether it is there."""
         self.stop()
+        if None in self.first:
+            return False
         files = [memory_file(data) for data in self.first]
         if self.copy is not None:
             os.close(self.copy)
         self.copy = files[0]
         self.start(["/dev/fd/%d" % file for file in files], files)
         # (now it has read them)
-        self.query(["echo"])
+        is_there = self.answers([["echo"]]) == [[""]]
         for lines, text in self.accepted:
             if text is not None:
                 fill(self.copy, text)
-            self.query(lines)
+            is_there = is_there and self.answers([lines]) == [["ok"]]
         for file in files[1:]:
             os.close(file)
+        return is_there
 
 
 def memory_file(data):
@@ -216,24 +275,3 @@ def fill(file, data):
     at = 0
     while at < len(data):
         at += os.pwrite(file, data[at:], at)
-
-
-def open_terminal():
-    try:
-        return os.open("/dev/tty", os.O_RDWR | os.O_NOCTTY | os.O_CLOEXEC)
-    except OSError:
-        return None
-
-
-def keys_of(terminal):
-    try:
-        return termios.tcgetattr(terminal)
-    except termios.error:
-        return None
-
-
-def set_keys(terminal, keys):
-    try:
-        termios.tcsetattr(terminal, termios.TCSANOW, keys)
-    except termios.error:
-        pass

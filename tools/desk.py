@@ -9,8 +9,10 @@ it was read, and `watch` has the parent get SIGWINCH each time that one is. `wor
 For each request it writes `ok`, `refused` or `ended` as a line on descriptor 3; for `start` also `waits`, if a file has a fault; for `saved`
 also `words`, if only the file of words was saved, which is not read again.
 """
+import contextlib
 import os
 import re
+import signal
 import sys
 
 from added import Added
@@ -18,16 +20,18 @@ from advice import Advice, correct_in
 from changes import Changes, added_words, lay_out_families, lay_out_largest, lay_out_stats
 from child import Child
 from conditions import Conditions
-from files import Files
+from files import Files, state_of
 from history import EDITS, TYPED, aside_sentence, digest
+from keys import BrokenOff
+from near import listed
 from opening import Opening
-from plain import named
+from plain import cut, named
 from rows import rows_of
 from screen import say, say_program, write
 from shows import Shows
 from whys import lay_out_why
 from warn import BOM, read, warnings_on
-from watch import watch
+from watch import end_with_input, watch
 
 REFUSAL = re.compile(r"^no (\d\d) ([A-Za-z0-9]+)$")
 # What is shown for replies without a row.
@@ -38,6 +42,17 @@ EMPTY = {
 }
 # The most bytes of a line.
 LONGEST = 65536
+
+
+class Lost(Exception):
+    """Something has ended the program, and it could not be brought back."""
+
+# What a sentence says of a command in the middle of which something ended the program.
+LOST = {
+    "reload": "The file was not read: Enter reads it.",
+    "save": "The file has its former text or the new one: type save again.",
+    "append": "The file has its former words or the new ones, too: type append again.",
+}
 
 
 class Desk:
@@ -51,6 +66,9 @@ class Desk:
         self.is_save_enough = False
         self.files, self.added = Files(script, words), Added(script, words)
         self.child = Child(program, options, script, words)
+        self.child.bring_back_lost = self.bring_back_lost
+        # Whether all requests are answered.
+        self.is_done = False
         self.advice = Advice(self)
         self.shows, self.conditions = Shows(self), Conditions(self)
         self.opening = Opening(self)
@@ -101,27 +119,29 @@ class Desk:
         return verdict
 
     def run(self, word, argument, lines, is_edit):
-        former = read(argument) if word == "save" else None
+        former, state = (read(argument), state_of(argument)) if word == "save" else (None, None)
         typed, text = self.before_reload() if word == "reload" else ({}, None)
         replaced = self.definition(argument.partition(" ")[0]) if word in TYPED else None
         if is_edit and self.changes is None:
             self.changes = self.changes_now(self.query(["changes"]))
-        is_own = word == "save" and self.files.has_crlf()
-        answer = self.files.write_crlf(argument, self.child.text()) if is_own else self.child.run(lines, say, text)
+        answer = self.child.run(lines, say, text)
         if answer is None:
-            say(list(filter(None, [word == "save" and self.files.put_back(argument, former)])))
-            return self.end()
+            return self.end(word)
         if answer is False:
-            return self.bring_back(word == "reload")
+            return self.bring_back(word == "reload", argument if word == "save" and state_of(argument) != state else None)
         refusal = REFUSAL.match(answer[0]) if len(answer) == 1 else None
         if refusal:
-            self.refuse(answer, int(refusal[1]), lines, former)
             if word == "reload" and text is not None:
                 self.files.refused = text
+            self.refuse(answer, int(refusal[1]), lines)
             return "refused"
-        write(self.lay_out(lines[0], answer), is_text=word in ("show", "script", "echo"))
+        # (what was accepted has to be noted)
+        with self.child.interrupts.allowed() if answer != ["ok"] else contextlib.nullcontext():
+            shown = self.lay_out(lines[0], answer)
+        write(shown, is_text=word in ("show", "script", "echo"))
         say(self.advice.note(lines))
         if word == "save":
+            say(self.files.note_in_place(argument, state))
             say(self.files.note_saved(argument, former))
             self.history.note_saved(argument)
         if word in ("add", "remove"):
@@ -149,16 +169,17 @@ class Desk:
         rows = rows_of(self.query(["stems"]) or []) if added else []
         return Changes(answer, {row[0]: row[1:] for row in rows if row[0] in added})
 
-    def refuse(self, answer, code, lines, former):
-        """Shows a refusal and what to do. `former` is what the file of `save` had before."""
-        word, _, argument = lines[0].partition(" ")
+    def refuse(self, answer, code, lines):
+        """Shows a refusal and what to do."""
+        word = lines[0].partition(" ")[0]
         write(answer)
-        cut = self.files.put_back(argument, former) if word == "save" else None
         say_program(self.child.said())
         # (of a text that is not UTF-8 the program has said what it may be)
         if word == "reload" and answer != ["no 48 NotUtf8"]:
             self.warn([self.script])
-        say([cut] if cut else self.advice.lines(code, lines))
+        with self.child.interrupts.allowed():
+            sentences = self.advice.lines(code, lines)
+        say(sentences)
 
     def show_changes(self, text):
         """Shows the rows of `changes` that have a text."""
@@ -200,11 +221,12 @@ class Desk:
             return self.end()
         refusal = REFUSAL.match(answer[0])
         if refusal:
-            self.refuse(answer, int(refusal[1]), ["tests " + word], None)
+            self.refuse(answer, int(refusal[1]), ["tests " + word])
             return "refused"
-        lines = self.conditions.lay_out(word, rows_of(answer), int(rows_of(figures)[0][1]))
+        with self.child.interrupts.allowed():
+            lines = self.conditions.lay_out(word, rows_of(answer), int(rows_of(figures)[0][1]))
         write(lines or [])
-        say([] if lines else ["The tests of this run cannot be shown: it is too long, or near a limit. events %s shows its events." % named(word)])
+        say([] if lines else ["The tests of this run cannot be shown: it is too long, or near a limit. events %s shows its events." % cut(word)])
         return "ok"
 
     def may_save(self, path):
@@ -244,7 +266,9 @@ class Desk:
     def append(self, path):
         """Puts the added words into a file."""
         is_new = self.files.has_new_words()
-        is_done, sentence = self.added.append(path)
+        is_done, sentence = self.added.append(path, self.child)
+        if is_done is None:
+            return self.end("append") if sentence is None else self.bring_back(is_reload=False)
         if not is_new:
             self.files.note_words()
         write(["ok"] if is_done else [])
@@ -253,7 +277,8 @@ class Desk:
 
     def peek(self, line):
         """Returns `ok` if a block may follow a line; otherwise says what is wrong with it."""
-        wrong = self.advice.early(line)
+        with self.child.interrupts.allowed():
+            wrong = self.advice.early(line)
         say(wrong + ["Nothing was done."] if wrong else [])
         return "refused" if wrong else "ok"
 
@@ -262,21 +287,56 @@ class Desk:
         self.files.look()
         return self.definitions(), read(self.script)
 
-    def bring_back(self, is_reload):
-        """Has the program begin anew and go to where it was, after an edit that Ctrl-C broke off. The script's file keeps its text."""
+    def bring_back(self, is_reload, written=None):
+        """Has the program begin anew and go to where it was, after a command that Ctrl-C broke off. `written` is the file of a `save` that has
+        another text now."""
         say([self.child.break_sentence()])
-        try:
-            self.child.bring_back()
-            is_back = digest(self.query(["script"]) or []) == self.history.script
-        except OSError:
-            is_back = False
-        if not is_back:
+        if not self.is_brought_back() or digest(self.query(["script"]) or []) != self.history.script:
             say(["The command was broken off, but the edits before it could not be made again. Start again."])
             self.child.stop()
             self.status = 1
             return "ended"
+        if written is not None:
+            return self.note_broken_save(written)
         say(["The command was broken off. Nothing changed.", *([correct_in(self.script, self.is_save_enough)] if is_reload else [])])
         return "refused"
+
+    def is_brought_back(self):
+        try:
+            return self.child.bring_back()
+        except OSError:
+            return False
+
+    def bring_back_lost(self, is_last=False):
+        """Has the program begin anew and go to where it was, after something has ended it. Returns true; if it cannot, or if something ended it
+        for the last time, says what is lost, and raises `Lost`."""
+        number = -self.child.process.returncode
+        cause = "perhaps since memory was short" if number == signal.SIGKILL else signal.strsignal(number)
+        ended = "The program was ended from outside, by signal %d (%s)." % (number, cause)
+        if not self.history:
+            say([ended])
+            return False
+        if not is_last:
+            say(["%s It starts again and repeats the earlier edits." % ended])
+        if not is_last and self.is_brought_back():
+            return True
+        lost = list(dict.fromkeys(edit.command for edit in self.history.unsaved()))
+        edits = "These edits are in no file and are lost: %s." % listed(lost, "and") if lost else "No edit is lost."
+        words = " Words that you added are in no file." if self.added.missing() else ""
+        say(["It could not be brought back. %s%s Start again." % (edits, words)])
+        self.child.stop()
+        self.status = 1
+        raise Lost
+
+    def note_broken_save(self, path):
+        """Says what a file has after a `save` of it that Ctrl-C broke off too late."""
+        if self.child.text() != read(path):
+            say(["The command was broken off. %s has another text than before: save to it again." % named(path)])
+            return "refused"
+        self.files.note_saved(path, None)
+        self.history.note_saved(path)
+        say(["The script was saved to %s before the command was broken off." % named(path)])
+        return "ok"
 
     def definitions(self):
         """Returns the definition of each part that is typed and in force, by its name; the whole script has no name."""
@@ -292,7 +352,7 @@ class Desk:
         before, command, is_reload = self.history.script, lines[0], lines[0] == "reload"
         is_new, edit = self.history.note(command, lines[1:-1], script, replaced)
         if edit:
-            write(["%s: %s" % ("undid" if command == "undo" else "redid", edit.command)])
+            write(["%s: %s" % ("undid" if command == "undo" else "redid", cut(edit.command))])
             if command == "undo" and self.history.in_file != self.history.script and (edit.word == "reload" or self.history.script_file in edit.files):
                 say(["%s still has what undo took back: Enter reads it again." % named(self.script)])
         elif not is_new and not is_reload and command not in ("undo", "redo"):
@@ -314,8 +374,11 @@ class Desk:
                 self.warned.append(line)
                 say([line], is_text=True)
 
-    def end(self):
-        """Says why the program has ended."""
+    def end(self, word=""):
+        """Says why the program has ended. If something ended it in the middle of a command, whose first word is given, it is brought back."""
+        if self.child.is_lost() and self.bring_back_lost():
+            say([LOST.get(word, "The command was not done: type it again.")])
+            return "refused"
         self.child.process.wait()
         self.last_message = self.child.said()
         say_program(self.last_message)
@@ -341,8 +404,18 @@ def requests():
         yield record(), [record() for _ in range(int(count))]
 
 
+def reply_to(desk, kind, lines):
+    """Returns what is written for a request, also if Ctrl-C breaks its sentences off or the program cannot be brought back."""
+    try:
+        return reply(desk, kind, lines)
+    except BrokenOff:
+        say(["It was broken off."])
+        return "refused"
+    except Lost:
+        return "ended"
+
+
 def reply(desk, kind, lines):
-    """Returns what is written for a request."""
     if kind == "start":
         return desk.opening.start(lines == ["--watch"])
     if kind == "peek":
@@ -363,18 +436,20 @@ def reply(desk, kind, lines):
 def main():
     program, script, words, *options = sys.argv[1:]
     desk = Desk(program, script, words, options)
+    end_with_input(desk)
     with os.fdopen(3, "w") as replies:
         for kind, lines in requests():
-            said = reply(desk, kind, lines)
+            said = reply_to(desk, kind, lines)
             print(said, file=replies, flush=True)
             if said == "ended":
                 break
+    desk.is_done = True
     try:
         desk.child.process.stdin.close()
     except BrokenPipeError:
         pass
     status = desk.child.process.wait()
-    return status if desk.status is None else desk.status
+    return desk.status if desk.status is not None else 1 if status < 0 else status
 
 
 if __name__ == "__main__":

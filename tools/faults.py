@@ -3,9 +3,8 @@ of the first line; an editor does not. It does not name the file that has to be 
 import errno
 import os
 import re
-import shlex
 
-from plain import is_hidden
+from plain import in_shell, is_hidden
 from source import decoded
 
 INDENT = 4
@@ -24,7 +23,7 @@ def reason(number):
 
 def replacing(name):
     """Returns the end of a command that converts a file to another one, which then takes its place."""
-    return "%s > NEW. Then, if NEW is right: mv NEW %s" % (shlex.quote(name), shlex.quote(name))
+    return "%s > NEW. Then, if NEW is right: mv NEW %s" % (in_shell(name), in_shell(name))
 
 
 def with_files(lines, path):

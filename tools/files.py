@@ -1,9 +1,9 @@
 """The files of the desk: which of them `save` may write."""
-import contextlib
 import os
 import re
 
 from plain import named
+from source import comments_in, decoded
 from warn import read
 
 
@@ -79,38 +79,14 @@ class Files:
         lost = count_comments(self.seen if former is None else former) - count_comments(read(path))
         return [] if lost <= 0 else ["%s of the parts that you typed %s no longer in %s." % (*amount(lost), named(path))]
 
-    def has_crlf(self):
-        """Returns whether each line of the script's file ended by a carriage return and a line feed when it was read."""
-        return is_crlf(self.seen or b"")
-
-    def write_crlf(self, path, text):
-        """Writes the text of the script to a file with such line ends, also in the parts that were typed. Returns what the program replies."""
-        if text is None or (self.is_script(path) and self.seen != read(path)):
-            return ["no 57 NoFile"]
-        try:
-            with open(path, "wb") as file:
-                file.write(with_crlf(text))
-        except OSError:
-            return ["no 57 NoFile"]
-        return ["ok"]
-
-    def put_back(self, path, former):
-        """Gives a file its former text back, if a save that failed has begun to write it. Returns the sentence on that, or nothing."""
-        if read(path) == former:
-            return None
-        begin = "%s cannot be written: perhaps the disk is full." % named(path)
-        if former is None:
-            with contextlib.suppress(OSError):
-                os.remove(path)
-            return begin + " What was written of it was removed."
-        try:
-            with open(path, "wb") as file:
-                file.write(former)
-        except OSError:
-            return begin + " It has lost its text: save the script to another file."
-        if self.is_script(path):
-            self.look()
-        return begin + " It has its former text."
+    def note_in_place(self, path, before):
+        """Returns the sentence on a file that was written in place, if it was: it is the file that it was `before`, as `state_of` returned."""
+        after = state_of(path)
+        if before is None or after is None or before[:2] != after[:2] or not os.path.isfile(path):
+            return []
+        names = os.stat(path).st_nlink
+        why = "has %d names" % names if names > 1 else "cannot be replaced by a new file"
+        return ["%s %s, so it was written in place." % (named(path), why)]
 
     def note_read(self):
         """Notes that the script was read. Returns whether it has other bytes than before."""
@@ -118,20 +94,9 @@ class Files:
         return self.seen != before
 
 
-def is_crlf(text):
-    return 0 < text.count(b"\n") == text.count(b"\r\n")
-
-
-def with_crlf(text):
-    """Returns a text with a carriage return before each line feed. The line feed that the program puts after a typed part with a comment goes:
-    in such a file the line ends there anyway."""
-    return re.sub(rb"(?<!\r)\n", b"\r\n", re.sub(rb"(?<!\r)\n(?=\r\n)", b"", text))
-
-
 def count_comments(text):
     """Returns the number of comments of a script."""
-    tokens = re.findall(rb"'(?:\{[^}]*\}|\{(?![^}]*\})|[^'{])*'|//[^\n]*|/\*.*?\*/", text or b"", re.S)
-    return sum(token.startswith(b"/") for token in tokens)
+    return comments_in(decoded(text))
 
 
 def amount(comments):

@@ -7,7 +7,7 @@ from advice import correct_in
 from changes import counted
 from child import BREAKS_OFF
 from history import History
-from plain import named
+from plain import cut, in_shell, named
 from rows import rows_of
 from screen import say
 
@@ -70,7 +70,7 @@ class Opening:
         if not self.is_waiting and (path is None or not all(map(os.path.isfile, desk.child.paths))):
             return "ended"
         self.is_waiting = True
-        say([OF_WORDS[code].replace("FILE", named(path))] if OF_WORDS.get(code) else [])
+        say([OF_WORDS[code].replace("FILE", in_shell(path))] if OF_WORDS.get(code) else [])
         say([] if is_new else [unchanged(desk.child.paths)])
         say([how_to_go_on(path, is_save_enough, any("use --external" in line for line in desk.last_message))])
         # (its line numbers may be others when the file is read again)
@@ -94,7 +94,7 @@ class Opening:
         reason = ": the script loops on it, or needs more than 100,000 steps" if loops else ""
         shows = '"tests %s" shows the tests of its run' if loops else '"why %s" shows where its run ends'
         said = "The first refused word is %s (%s%s). " + shows + ', "trace %s" its routines.'
-        say([said % (named(word), name, reason, named(word), named(word))])
+        say([said % (cut(word), name, reason, cut(word), cut(word))])
 
 
 def how_to_go_on(path, is_save_enough, may_be_option=False):

@@ -11,6 +11,10 @@ DIRECTIVES = ("stringescapes", "stringdef")
 # What may be before the literal of a macro.
 BASES = {"hex": 16, "decimal": 10}
 PLAIN = re.compile(r"[A-Za-z][A-Za-z0-9_]*|[0-9]+|<-|<\+|->|=>|[=!<>+\-*/]=|.", re.S)
+# The rest of a literal without insertions, and the name of a macro.
+REST, MACRO = re.compile("[^'\n]*'?"), re.compile("[^%s]*" % WHITE)
+# A comment, a word, or the quote at which a literal begins.
+BEGIN = re.compile("%s|[A-Za-z][A-Za-z0-9_]*|'" % COMMENT.pattern, re.S)
 
 
 class Token:
@@ -28,37 +32,68 @@ class Token:
 
 def tokens_of(text, escapes=""):
     """Returns the tokens of a script. `escapes` are the two insert characters in force at its beginning."""
-    tokens, at, before = [], 0, ""
+    tokens, at, before, last = [], 0, "", last_insertion(text, escapes)
     while at < len(text):
         skipped = (BLANK if before else SKIPPED).match(text, at)
         if skipped:
             at = skipped.end()
             continue
-        end = end_of_token(text, at, before, escapes)
+        end = end_of_token(text, at, before, escapes, last)
         token = Token(text[at:end], at, end)
         tokens.append(token)
         if before == "stringescapes":
-            escapes = token.text
+            escapes, last = token.text, last_insertion(text, token.text)
         at, before = end, "" if before or token.text not in DIRECTIVES else token.text
     return tokens
 
 
-def end_of_token(text, at, before, escapes):
-    """Returns where the token that begins here ends. `before` is the directive before it, or nothing."""
+def end_of_token(text, at, before, escapes, last):
+    """Returns where the token that begins here ends. `before` is the directive before it, or nothing; no insertion ends after `last`."""
     if before == "stringescapes":
         return min(at + 2, len(text))
     if before == "stringdef":
-        return re.compile("[^%s]*" % WHITE).match(text, at).end()
+        return MACRO.match(text, at).end()
     if text[at] == "'":
-        return literal(escapes).match(text, at).end()
+        return end_of_literal(text, at, escapes, last)
     return PLAIN.match(text, at).end()
 
 
-def literal(escapes):
-    """Returns the pattern of a literal. A quote in an insertion, between the two insert characters, ends no literal."""
-    begin, end = map(re.escape, escapes) if len(escapes) == 2 else ("", "")
-    insertion = "%s[^%s]*%s|" % (begin, end, end) if escapes else ""
-    return re.compile("'(?:%s[^'\n])*'?" % insertion)
+def last_insertion(text, escapes):
+    """Returns the offset of the last character of a text that can end an insertion, or -1."""
+    return text.rfind(escapes[1]) if len(escapes) == 2 else -1
+
+
+def end_of_literal(text, at, escapes, last):
+    """Returns where the literal ends that begins here. A quote in an insertion, between the two insert characters, ends no literal."""
+    end = REST.match(text, at + 1).end()
+    begin = text.find(escapes[0], at + 1, end) if last >= 0 else -1
+    while 0 <= begin < last:
+        at = text.index(escapes[1], begin + 1) + 1
+        # (up to here `end` is that of the text after the insertion, too)
+        end = end if at < end else REST.match(text, at).end()
+        begin = text.find(escapes[0], at, end)
+    return end
+
+
+def comments_in(text):
+    """Returns the number of comments of a script."""
+    count, at, escapes, last = 0, 0, "", -1
+    begin = BEGIN.search(text)
+    while begin:
+        at, word = begin.end(), begin[0]
+        if word == "'":
+            at = end_of_literal(text, begin.start(), escapes, last)
+        elif word in DIRECTIVES:
+            blank = BLANK.match(text, at)
+            start = blank.end() if blank else at
+            at = end_of_token(text, start, word, escapes, last)
+            if word == "stringescapes":
+                escapes = text[start:at]
+                last = last_insertion(text, escapes)
+        else:
+            count += word.startswith("/")
+        begin = BEGIN.search(text, at)
+    return count
 
 
 class Definition:

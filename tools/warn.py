@@ -8,7 +8,7 @@ import stat
 import sys
 import unicodedata
 
-from plain import named
+from plain import in_shell, named
 
 # The script reads only regular files that are not larger.
 LARGEST = 1 << 26
@@ -46,20 +46,20 @@ def lines_that(lines, condition):
     return [number for number, line in enumerate(lines, 1) if condition(line)]
 
 
-def on_encoding(name, data, lines):
+def on_encoding(path, data, lines):
     """Warnings on what both files may have: a byte order mark, other encodings, decomposed letters."""
-    said = []
+    said, name, quoted = [], named(path), in_shell(path)
     if data.startswith(BOM):
-        said.append(name + ":1: a byte order mark, which is left out. To take it away: sed -i '1s/^\\xEF\\xBB\\xBF//' " + name)
+        said.append(name + ":1: a byte order mark, which is left out. To take it away: sed -i '1s/^\\xEF\\xBB\\xBF//' " + quoted)
     text = "\n".join(lines)
     if is_not_utf8(text):
         found = lines_that(lines, is_not_utf8)
-        said.append(name + from_line(found, "not UTF-8", "lines") + ". If it is Latin-1: iconv -f latin1 -t utf-8 " + name + " > NEW. Then, if NEW is right: mv NEW " + name)
+        said.append(name + from_line(found, "not UTF-8", "lines") + ". If it is Latin-1: iconv -f latin1 -t utf-8 " + quoted + " > NEW. Then, if NEW is right: mv NEW " + quoted)
     elif not text.isascii() and is_decomposed(text):
         found = lines_that(lines, is_decomposed)
         said.append(
             name + from_line(found, "a letter and its accent are two characters (NFD)", "lines") + ", and one character (NFC) does not match them."
-            " To compose them: uconv -x any-nfc " + name + " > NEW"
+            " To compose them: uconv -x any-nfc " + quoted + " > NEW"
         )
     return said
 
@@ -76,9 +76,9 @@ def on_script(name, lines):
     return [name + from_line(found, "more than 65,536 bytes", "lines") + ". run, check, filter and session refuse such a line (72 LineTooLong). Break it"]
 
 
-def on_words(name, lines):
+def on_words(path, lines):
     """Warnings on what only a list of words may have."""
-    said = []
+    said, name, quoted = [], named(path), in_shell(path)
     found = lines_that(lines, is_overlong)
     if found:
         return [name + from_line(found, "more than 65,536 bytes, which no line may have", "lines") + ". Write one word on each line"]
@@ -87,10 +87,10 @@ def on_words(name, lines):
         return [name + ": this looks like a script, and each of its lines is a word here"]
     if re.search(r"[^\S\n](?:\n|\Z)|(?:\n|\A)[^\S\n]", text):
         found = lines_that(lines, lambda line: line != line.strip())
-        said.append(name + from_line(found, "a blank at an end of the word, which belongs to it", "lines") + ". To take them away: sed -i 's/^[ \\t]*//; s/[ \\t]*$//' " + name)
+        said.append(name + from_line(found, "a blank at an end of the word, which belongs to it", "lines") + ". To take them away: sed -i 's/^[ \\t]*//; s/[ \\t]*$//' " + quoted)
     found = lines_that(lines, lambda line: "\t" in line.strip()) if "\t" in text else []
     if found:
-        said.append(name + from_line(found, "a tab inside the word, which belongs to it", "lines") + ". If this is a table: cut -f1 " + name + " > NEW")
+        said.append(name + from_line(found, "a tab inside the word, which belongs to it", "lines") + ". If this is a table: cut -f1 " + quoted + " > NEW")
     found = lines_that(lines, lambda line: line == ".")
     if found:
         said.append(name + from_line(found, "a single point. In a session it ends the list; here it is a word", "lines"))
@@ -110,21 +110,21 @@ def warnings_on(script, words=""):
         if data is None:
             continue
         if data.startswith(GZIP):
-            said.append(named(path) + ": compressed by gzip. To unpack it: gzip -d < " + named(path) + " > NEW")
+            said.append(named(path) + ": compressed by gzip. To unpack it: gzip -d < " + in_shell(path) + " > NEW")
             continue
         if data.startswith(UTF16):
-            said.append(named(path) + ": UTF-16. To make it UTF-8: iconv -f utf-16 -t utf-8 " + named(path) + " > NEW. Then, if NEW is right: mv NEW " + named(path))
+            said.append(named(path) + ": UTF-16. To make it UTF-8: iconv -f utf-16 -t utf-8 " + in_shell(path) + " > NEW. Then, if NEW is right: mv NEW " + in_shell(path))
             continue
         if b"\r" in data[:-1] and b"\n" not in data:
-            said.append(named(path) + ": no line feed, so all of it is one line. To make each carriage return one: tr '\\r' '\\n' < " + named(path) + " > NEW")
+            said.append(named(path) + ": no line feed, so all of it is one line. To make each carriage return one: tr '\\r' '\\n' < " + in_shell(path) + " > NEW")
             continue
         lines = [line[:-1] if line.endswith("\r") else line for line in data.decode("utf-8", "surrogateescape").split("\n")]
         if data.endswith(b"\n") or not data:
             lines.pop()
         if lines and data.startswith(BOM):
             lines[0] = lines[0][1:]
-        said += on_encoding(named(path), data, lines)
-        said += (on_words if path is words else on_script)(named(path), lines)
+        said += on_encoding(path, data, lines)
+        said += on_words(path, lines) if path is words else on_script(named(path), lines)
     return said
 
 

@@ -1,7 +1,7 @@
 """Lays out the rows of `why` for people: the strings that were taken, what other routines were asked, and the changes of the text."""
 from itertools import groupby
 
-from plain import named
+from plain import cut, named
 
 # What to look for if a run was refused.
 REFUSALS = {
@@ -11,8 +11,8 @@ REFUSALS = {
     "the text shorter before a command puts the cursor back (do, test, not, try, or, and, repeat, goto, backwards) or sends it to a limit.",
     "TooLong": "the text would have more than 1,024 characters. Look for <+, insert, attach or <- in a repeat or a loop.",
 }
-# How many rows are shown at most, before those that are left out and after them; and how many characters of a text.
-FIRST, LAST, LONGEST = 40, 19, 60
+# How many rows are shown at most, before those that are left out and after them.
+FIRST, LAST = 40, 19
 
 
 class Call:
@@ -47,7 +47,7 @@ def lay_out_why(rows, word, figures, notes):
         elif kind == "put":
             calls[-1].asks_only, calls[-1].acts = False, True
             start, end = int(row[3]), int(row[4])
-            lines.append((row[2], "%s -> %s   %s -> %s" % (quoted(text[start:end]), quoted(row[5]), shortened(text), shortened(row[6]))))
+            lines.append((row[2], "%s -> %s   %s -> %s" % (quoted(text[start:end]), quoted(row[5]), cut(text), cut(row[6]))))
             text = row[6]
         elif kind == "more":
             lines.append(("..", "%s more events" % row[1]))
@@ -57,7 +57,7 @@ def lay_out_why(rows, word, figures, notes):
     is_one = len(lines) == 1
     lines = most_of(folded(lines), word)
     column = max(len(name) for name, _ in lines)
-    more = "  nothing took a string or changed the text: \"events %s\" shows the searches, \"tests %s\" the tests" % (named(word), named(word))
+    more = "  nothing took a string or changed the text: \"events %s\" shows the searches, \"tests %s\" the tests" % (cut(word), cut(word))
     return [more] * is_one + [("  %-*s  %s" % (column, name, what)).rstrip() for name, what in lines] + meaning_of(rows[-1])
 
 
@@ -77,7 +77,7 @@ def most_of(lines, word):
     if len(lines) <= FIRST + 1 + LAST:
         return lines
     left_out = "{:,}".format(len(lines) - FIRST - LAST)
-    return [*lines[:FIRST], ("..", '%s rows are left out: "events %s" shows the events' % (left_out, named(word))), *lines[-LAST:]]
+    return [*lines[:FIRST], ("..", '%s rows are left out: "events %s" shows the events' % (left_out, cut(word))), *lines[-LAST:]]
 
 
 def lay_out_figures(figures):
@@ -88,10 +88,4 @@ def lay_out_figures(figures):
 
 
 def quoted(text):
-    return "'%s'" % shortened(text)
-
-
-def shortened(text):
-    """Returns a text, without its middle if it is long."""
-    half = (LONGEST - 2) // 2
-    return named(text) if len(text) <= LONGEST else named(text[:half]) + ".." + named(text[-half:])
+    return "'%s'" % cut(text)

@@ -4,13 +4,19 @@ ghost use Rattle.std.specs.Prelude.{◌≡◌, ◌++◌, ℕ, List, [], Option, 
 ghost use Rattle.sbl_ast.specs.Source.{Source};
 ghost use Rattle.sbl_bench.specs.Contents.{Contents, opening_contents};
 ghost use Rattle.sbl_bench.specs.Vocabulary.{vocabulary};
-ghost use Rattle.sbl_filter.specs.Filter.{IsFiltered, filter_output};
+ghost use Rattle.sbl_filter.specs.Filter.{Filters, IsFiltered, filter_output};
 ghost use Rattle.sbl_filter.specs.Laws.{IsToldByBytes, NoRepeats};
+ghost use Rattle.sbl_filter.specs.ToEnd.{FiltersToEnd, without_line};
+ghost use Rattle.sbl_filter.specs.declared.word_fault.WordFault.{WordFault};
+ghost use Rattle.sbl_formats.specs.Block.{NoPoint};
 ghost use Rattle.sbl_input.specs.Loading.{IsLoaded};
 ghost use Rattle.sbl_input.specs.declared.faults.LoadFault.{LoadFault};
+ghost use Rattle.sbl_io.specs.LinesOf.{lines_of};
 ghost use Rattle.sbl_listings.specs.Listings.{stems_text};
 
-use sbl_filter::laws::{filtering_is_one, inputs_are_one, parts_make_whole, stem_is_filter};
+use sbl_filter::laws::{
+    filtering_is_one, inputs_are_one, parts_make_whole, stem_is_filter, to_end_is_filter,
+};
 
 /// Needs the whole of the law `parts_make_whole`.
 pub fn needs_parts_make_whole()
@@ -25,6 +31,14 @@ pub fn needs_stem_is_filter()
     ensures same { (s : Source) (words : List (List ℕ)) → NoRepeats words → filter_output s words ≡ stems_text (opening_contents s words) }
 {
     stem_is_filter();
+}
+
+/// Needs the whole of the law `to_end_is_filter`.
+pub fn needs_to_end_is_filter()
+    ensures { (s : Source) (bytes : List ℕ) (new held new_held : Option (List ℕ)) (r : Result (Unit {0}) WordFault) → NoPoint (lines_of bytes)
+        → FiltersToEnd s (Some bytes) new held new_held r → Filters s (Some bytes) new held new_held (without_line r) }
+{
+    to_end_is_filter();
 }
 
 /// Needs the whole of the law `inputs_are_one`.

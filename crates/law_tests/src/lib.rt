@@ -22,7 +22,6 @@ pub mod places_laws;
 pub mod resolver_laws;
 pub mod rows_classes_are_sound;
 pub mod script_canonical_text;
-pub mod script_literals;
 pub mod script_only_the_item;
 pub mod sessions_one_answer;
 pub mod snowbench_whole_check;

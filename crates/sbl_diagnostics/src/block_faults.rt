@@ -1,5 +1,6 @@
 //! The place of a fault in a block that was typed.
 
+use crate::characters::cut;
 use crate::places::{Title, fault_of, fault_text, offset_of_byte, push_title, script_fault_text};
 use crate::sentences::Faulty;
 use sbl_script::{EditFault, Script, ScriptFault};
@@ -25,9 +26,9 @@ pub struct TypedBlock<'a> {
 /// Returns the command of an edit.
 fn title_of(alloc: Global, part: Part<'_>) -> Result<String, AllocError> {
     match part {
-        Part::Body(name) => format!(in alloc; "routine {name}"),
-        Part::Among(name, k) => format!(in alloc; "among {name} {k}"),
-        Part::Terms(name) => format!(in alloc; "grouping {name}"),
+        Part::Body(name) => format!(in alloc; "routine {}", cut(alloc, name)?),
+        Part::Among(name, k) => format!(in alloc; "among {} {k}", cut(alloc, name)?),
+        Part::Terms(name) => format!(in alloc; "grouping {}", cut(alloc, name)?),
     }
 }
 

@@ -1,5 +1,6 @@
 //! What can come in a construct of the language that a place is in, in a sentence.
 
+use crate::characters::cut;
 use crate::declarations::{DeclaredName, declaration_of, declared_in};
 use crate::foreign::advice_on;
 use crate::grammar::{Outlook, Symbol, is_constant};
@@ -61,6 +62,7 @@ pub(crate) fn push_operator(
         Some(symbol) => symbol.has_command(),
         None => false,
     };
+    let name = cut(alloc, name)?;
     let sentence = match word {
         Kind::Word(Word::Set | Word::Unset) => {
             format!(in alloc; "set {name} makes {name} true, unset {name} makes it false.")?
@@ -163,9 +165,10 @@ pub(crate) fn push_missing_define(
     if name.kind != Kind::Name || next.kind != Kind::Word(Word::As) {
         return Ok(false);
     }
+    let name = cut(alloc, name.text)?;
     push_text(
         shown,
-        format!(in alloc; "Before {} define is missing.", name.text)?,
+        format!(in alloc; "Before {name} define is missing.")?,
     )
 }
 
@@ -273,6 +276,7 @@ pub(crate) fn push_body(
         return Ok(true);
     }
     let Definition { name, is_closed } = definition;
+    let name = cut(alloc, name)?;
     let sentence = if !site.has_command() {
         format!(in alloc;
             "The body of a routine is one command, or several with or or and between them."
@@ -307,7 +311,7 @@ pub(crate) fn push_form(
     shown: &mut String,
     declared: DeclaredName<'_>,
 ) -> Result<bool, AllocError> {
-    let name = declared.name;
+    let name = cut(alloc, declared.name)?;
     let sentence = match declared.word {
         Word::Groupings => {
             format!(in alloc; "The definition of a grouping has no as: define {name} 'a' + 'b'.")?

@@ -1,6 +1,6 @@
 //! Faults of names whose definition is missing, comes too late or is in the other mode.
 
-use crate::characters::push_named;
+use crate::characters::{cut, push_cut};
 use crate::declarations::{declaration_of, declared_in};
 use crate::sentences::{Faulty, Place, tokens_before};
 use sbl_source_map::Part;
@@ -102,7 +102,7 @@ pub(crate) fn push_undefined(
         );
     }
     shown.push_str(" is declared, but not defined: add define ")?;
-    push_named(shown, spot.token)?;
+    push_cut(shown, spot.token)?;
     let declared = declared_in(alloc, faulty.script)?;
     shown.push_str(match declaration_of(&declared, spot.token) {
         Some(declaration) if declaration.word == Word::Groupings => " '..'",
@@ -158,7 +158,7 @@ pub(crate) fn push_wrong_mode(
             shown.push_str(
                 " is defined in backward mode, but used in forward mode: take a routine that is defined outside of backwardmode as backwards ",
             )?;
-            push_named(shown, spot.token)
+            push_cut(shown, spot.token)
         }
         Some(Definition::Backward) => shown.push_str(
             " is defined in backward mode, but used in forward mode: write backwards before it. If it is to run forwards, move its define out of backwardmode",
@@ -173,8 +173,8 @@ pub(crate) fn push_no_definition(
     shown: &mut String,
     faulty: Faulty<'_>,
 ) -> Result<(), AllocError> {
-    let wanted = faulty.external;
-    let text = match definition_of(alloc, faulty.script, wanted) {
+    let wanted = cut(alloc, faulty.external)?;
+    let text = match definition_of(alloc, faulty.script, faulty.external) {
         Some(Definition::Backward) => format!(in alloc;
             "{wanted} is defined in backward mode, but a run begins in forward mode: outside of backwardmode write define {wanted} as backwards ( .. )"
         )?,
@@ -182,5 +182,5 @@ pub(crate) fn push_no_definition(
             "{wanted} is declared in externals, but not defined: add define {wanted} as .."
         )?,
     };
-    push_named(shown, text.as_str())
+    shown.push_str(text.as_str())
 }

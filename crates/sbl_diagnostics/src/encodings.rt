@@ -1,6 +1,6 @@
 //! Texts that are not UTF-8: how they may be encoded, and how to make them UTF-8.
 
-use crate::characters::push_named;
+use crate::characters::push_named_character;
 use std::alloc::AllocError;
 
 /// How a text that is not UTF-8 may be encoded.
@@ -29,6 +29,37 @@ pub fn push_conversion(shown: &mut String, text: &[u8], name: &str) -> Result<()
     };
     shown.push_str(guess)?;
     shown.push_str(command)?;
-    push_named(shown, name)?;
+    push_in_shell(shown, name)?;
     shown.push_str(" > NEW")
+}
+
+/// Returns whether no character of a name means anything to a shell.
+fn is_plain_in_shell(name: &str) -> bool {
+    for character in name.chars() {
+        let is_sign = matches!(
+            character,
+            '_' | '@' | '%' | '+' | '=' | ':' | ',' | '.' | '/' | '-'
+        );
+        if !is_sign && !character.is_ascii_alphanumeric() {
+            return false;
+        }
+    }
+    true
+}
+
+/// Appends the name of a file as a command of a shell has it.
+fn push_in_shell(shown: &mut String, name: &str) -> Result<(), AllocError> {
+    let quote = if is_plain_in_shell(name) { "" } else { "'" };
+    if name.starts_with('-') {
+        shown.push_str("./")?;
+    }
+    shown.push_str(quote)?;
+    for character in name.chars() {
+        if character == '\'' {
+            shown.push_str("'\"'\"'")?;
+        } else {
+            push_named_character(shown, character)?;
+        }
+    }
+    shown.push_str(quote)
 }

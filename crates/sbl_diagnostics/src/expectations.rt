@@ -1,5 +1,6 @@
 //! What can come at a place, in a sentence for the author of a script.
 
+use crate::characters::cut;
 use crate::constructs::{
     NAMES, last_definition, push_body, push_form, push_items, push_names, push_number,
     push_operator, push_rows, push_sums, push_terms,
@@ -60,11 +61,11 @@ fn push_follower(
     let Some(what) = what_follows(required, last.kind) else {
         return Ok(false);
     };
-    let after = last.text;
+    let after = cut(alloc, last.text)?;
     let is_inside = required == Symbol::Factor && last.kind == Kind::Sign(Sign::Open);
     let sentence = match (site.prior, site.spot.kind) {
         (Some(prior), _) if is_inside => {
-            let before = prior.text;
+            let before = cut(alloc, prior.text)?;
             format!(in alloc; "After {before} ( comes {what}.")?
         }
         (_, Some(Kind::Word(word))) if required == Symbol::Name && !begins_item(word) => {
@@ -102,6 +103,7 @@ fn push_definition(
 fn push_macro(alloc: Global, shown: &mut String, site: Site<'_>) -> Result<bool, AllocError> {
     match site.last_of(Kind::MacroName) {
         Some(name) => {
+            let name = cut(alloc, name)?;
             push_text(
                 shown,
                 format!(in alloc;
@@ -118,7 +120,7 @@ fn push_loop(alloc: Global, shown: &mut String, site: Site<'_>) -> Result<bool, 
     let Some(last) = site.last else {
         return Ok(false);
     };
-    let after = last.text;
+    let after = cut(alloc, last.text)?;
     push_text(
         shown,
         format!(in alloc; "After {after} comes a command, after loop a number: loop 3 next.")?,
@@ -130,7 +132,7 @@ fn push_arrow(alloc: Global, shown: &mut String, site: Site<'_>) -> Result<bool,
     if site.spot.kind != Some(Kind::Literal) {
         return push_follower(alloc, shown, site, Symbol::Name);
     }
-    let literal = site.spot.token;
+    let literal = cut(alloc, site.spot.token)?;
     push_text(
         shown,
         format!(in alloc; "After -> comes the name of a string; <- {literal} replaces the slice.")?,
@@ -260,7 +262,7 @@ pub(crate) fn push_use(
         ),
         Some(Symbol::Definition) => push_advice(shown, GROUPINGS),
         Some(role) if role.has_command() && declared.word == Word::Integers => {
-            let name = site.spot.token;
+            let name = cut(alloc, site.spot.token)?;
             push_text(
                 shown,
                 format!(in alloc; "An integer is no command, but ${name} > 0 is one.")?,

@@ -1,6 +1,6 @@
 //! What is wrong at the place of a fault, in a sentence.
 
-use crate::characters::{push_hexadecimal, push_named};
+use crate::characters::{cut, push_cut, push_hexadecimal};
 use crate::declarations::{declaration_of, declared_in, kind_text, names_of};
 use crate::definitions::{push_no_definition, push_undefined, push_wrong_mode};
 use crate::encodings::push_conversion;
@@ -113,7 +113,7 @@ fn push_thing(shown: &mut String, spot: Spot<'_>) -> Result<(), AllocError> {
     if spot.token.is_empty() {
         return shown.push_str("the end");
     }
-    push_named(shown, spot.token)
+    push_cut(shown, spot.token)
 }
 
 /// Appends where the parenthesis is that is still open.
@@ -148,10 +148,11 @@ fn push_beginning(
     if other == name {
         return Ok(false);
     }
+    let (other, name) = (cut(alloc, other)?, cut(alloc, name)?);
     let text = format!(in alloc;
         "the text begins with the definition of {other}, and {word} {name} replaces that of {name}"
     )?;
-    push_named(shown, text.as_str())?;
+    shown.push_str(text.as_str())?;
     Ok(true)
 }
 
@@ -305,20 +306,21 @@ pub(crate) fn push_external(
     let declared = declared_in(alloc, faulty.script)?;
     let there = names_of(alloc, &declared, true)?;
     let Some(first) = there.first() else {
+        let wanted = cut(alloc, wanted)?;
         let text = format!(in alloc;
             "the script declares no external: write externals ( {wanted} ), and define {wanted} as .."
         )?;
-        return push_named(shown, text.as_str());
+        return shown.push_str(text.as_str());
     };
     if there.contains(&wanted) {
         return push_no_definition(alloc, shown, faulty);
     }
     shown.push_str("the script has no external ")?;
-    push_named(shown, wanted)?;
+    push_cut(shown, wanted)?;
     shown.push_str(". It has ")?;
     push_listed(shown, &there, " and ")?;
-    let text = format!(in alloc; ": use --external {first}")?;
-    shown.push_str(text.as_str())
+    shown.push_str(": use --external ")?;
+    push_cut(shown, first)
 }
 
 /// Appends that a byte is not UTF-8.
@@ -370,8 +372,9 @@ fn push_left_out(alloc: Global, shown: &mut String, place: Place<'_>) -> Result<
     let Place { faulty, spot } = place;
     if spot.kind == Some(Kind::Sign(Sign::Dollar)) {
         if let Some(name) = integer_after(alloc, faulty, spot.begin)? {
-            let text = format!(in alloc; "after ${name} comes a sign such as =, += or >")?;
-            return shown.push_str(text.as_str());
+            shown.push_str("after $")?;
+            push_cut(shown, name)?;
+            return shown.push_str(" comes a sign such as =, += or >");
         }
     }
     push_thing(shown, spot)?;

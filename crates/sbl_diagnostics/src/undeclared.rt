@@ -1,5 +1,6 @@
 //! Names that are not declared: what may be meant, and how to declare them.
 
+use crate::characters::{cut, push_cut};
 use crate::declarations::{DeclaredName, declaration_of, names_of};
 use crate::definitions::is_at_terms;
 use crate::foreign::advice_on;
@@ -193,7 +194,7 @@ fn push_declaration(
     lead: &str,
     rest: &str,
 ) -> Result<(), AllocError> {
-    let name = place.spot.token;
+    let name = cut(alloc, place.spot.token)?;
     let word = declaring_text(need.word);
     let there = match place.faulty.part {
         Some(_) => " in the script",
@@ -229,7 +230,7 @@ fn push_way_out(
             " Declare",
             ", or put characters in quotes: '",
         )?;
-        shown.push_str(name)?;
+        push_cut(shown, name)?;
         return shown.push_str("'");
     }
     if let Some(advice) = advice_on(alloc, faulty.script, name) {
@@ -262,8 +263,9 @@ pub(crate) fn push_undeclared(
     }
     shown.push_str(" is not declared.")?;
     if name == place.faulty.external && names_of(alloc, declared, true)?.is_empty() {
-        let text = format!(in alloc; " Declare it: externals ( {name} )")?;
-        return shown.push_str(text.as_str());
+        shown.push_str(" Declare it: externals ( ")?;
+        push_cut(shown, name)?;
+        return shown.push_str(" )");
     }
     push_way_out(alloc, shown, declared, place)
 }

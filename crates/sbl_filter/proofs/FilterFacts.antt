@@ -31,7 +31,7 @@ use Rattle.sbl_rows.specs.Setting.{under}
 use Rattle.sbl_bench.specs.declared.fault.EditFault.TheVariants as edit
 use Rattle.sbl_formats.specs.RowRecords.{row_fields}
 
-all_short-push : (lines : List (List ℕ)) (l : List ℕ) → AllShort lines → length (chars l) ≤ 255 → AllShort (lines ++ l ∷ [])
+pub all_short-push : (lines : List (List ℕ)) (l : List ℕ) → AllShort lines → length (chars l) ≤ 255 → AllShort (lines ++ l ∷ [])
 all_short-push [] l h short = (short, tt)
 all_short-push (x ∷ lines) l h short = (h.0, all_short-push lines l h.1 short)
 

@@ -1,4 +1,5 @@
 pub mod RowFacts
 pub mod FilterFacts
+pub mod ToEndFacts
 pub mod LawFacts
 pub mod OneFilter

@@ -2,7 +2,11 @@
 use Rattle.std.specs.Prelude.{◌≡◌, ◌++◌, ◌&&◌, ℕ, false, List, [], ◌∷◌, Option, Some, Result, Ok, Err, ⊤}
 use Rattle.sbl_bench.specs.Contents.{Contents, opening_contents}
 use Rattle.sbl_bench.specs.Vocabulary.{is_word, vocabulary}
-use Rattle.sbl_filter.specs.Filter.{IsFiltered, filter_output, is_filled}
+use Rattle.sbl_filter.specs.Filter.{Filters, IsFiltered, filter_output, is_filled}
+use Rattle.sbl_filter.specs.ToEnd.{FiltersToEnd, without_line}
+use Rattle.sbl_filter.specs.declared.word_fault.WordFault.{WordFault}
+use Rattle.sbl_formats.specs.Block.{NoPoint}
+use Rattle.sbl_io.specs.LinesOf.{lines_of}
 use Rattle.sbl_io.specs.declared.faults.ServeFault.TheVariants as fault
 use Rattle.sbl_ast.specs.Source.{Source}
 use Rattle.sbl_input.specs.Loading.{IsLoaded}
@@ -34,6 +38,12 @@ SameInput =
     (bytes external : List ℕ) (a b : Option (List ℕ)) (c : Contents) (text : List ℕ) → IsLoaded (Some bytes) a external (λ c. c) (Ok c)
     → IsFiltered (Some bytes) b external (Some []) (Some text) (Ok tt)
     → (s : Source) × (words : List (List ℕ)) × (c ≡ opening_contents s words) × (text ≡ filter_output s words)
+
+-- A filter of words up to the end of input that have no line `.` ends and writes as a filter of words up to a line `.`.
+abbrev pub ToEndIsFilter : Type 0
+ToEndIsFilter =
+    (s : Source) (bytes : List ℕ) (new held new_held : Option (List ℕ)) (r : Result (Unit {0}) WordFault) → NoPoint (lines_of bytes)
+    → FiltersToEnd s (Some bytes) new held new_held r → Filters s (Some bytes) new held new_held (without_line r)
 
 -- the bytes alone determine the result: the reader and the writer did not stop, and no allocation failed
 abbrev pub IsToldByBytes : Result (Unit {0}) LoadFault → Type 0

@@ -24,7 +24,7 @@ use std::alloc::Global;
 /// Writes the row of the word in a line; an empty line has no row. Returns `NotText` if the line is not UTF-8, `WordTooLong`
 /// if it has more than 255 characters, `OutOfMemory` if an allocation fails, all with nothing written, and `Write` as
 /// `write_all` does.
-fn filter_line<W: Sink>(
+pub(crate) fn filter_line<W: Sink>(
     alloc: Global,
     machine: &Machine<Table>,
     meter: &mut Meter,

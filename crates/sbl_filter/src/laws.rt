@@ -16,6 +16,11 @@ pub fn stem_is_filter()
     ensures same { spec.SameWithoutRepeats }
 {}
 
+/// `filter_to_end` ends and writes as `filter` does for the same words, if no line of them is a single point.
+pub fn to_end_is_filter()
+    ensures { spec.ToEndIsFilter }
+{}
+
 /// If `load` makes a bench of an input and `filter` writes all rows of the same input, both are of one script and one list of
 /// words.
 pub fn inputs_are_one()

@@ -5,5 +5,9 @@ mod filtering;
 pub mod laws;
 mod lines;
 mod row_writer;
+mod to_end;
+mod word_fault;
 
 pub use filtering::filter;
+pub use to_end::filter_to_end;
+pub use word_fault::WordFault;

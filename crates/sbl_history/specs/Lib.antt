@@ -3,3 +3,4 @@ pub mod History
 pub mod Desks
 pub mod Editing
 pub mod Splicing
+pub mod LineEnds

@@ -4,9 +4,11 @@
 
 mod desk;
 mod history;
+mod line_ends;
 mod marks;
 mod splice;
 mod steps;
 
 pub use desk::Desk;
 pub use history::HistoryFault;
+pub use line_ends::{has_crlf, push_crlf};

@@ -2,6 +2,7 @@
 ghost use Rattle.std.specs.Prelude.{◌≡◌, IfOk, IfSome, string_bytes};
 ghost use Rattle.sbl_history.specs.Splicing.{Reads};
 
+use crate::line_ends::{has_crlf, push_crlf};
 use sbl_script::{Script, ScriptFault};
 use sbl_source_map::{Excerpt, Part, cut_at_part};
 use std::alloc::{AllocError, Global};
@@ -13,14 +14,34 @@ pub(crate) struct SplicedText {
     pub(crate) canonical: String,
 }
 
-/// Returns a text that is cut at a part, with another part in its place. A line feed follows a part that has a comment up to
+/// Appends a typed part, without blanks at its ends. In a text whose lines all end in a carriage return and a line feed, its lines do
+/// so, too.
+fn push_part(text: &mut Vec<u8>, part: &str, is_crlf: bool) -> Result<(), AllocError> {
+    if is_crlf {
+        push_crlf(text, part.as_bytes())
+    } else {
+        text.extend_from_slice(part.as_bytes())
+    }
+}
+
+/// Returns whether a text begins with the end of a line.
+fn begins_with_end(text: &[u8], is_crlf: bool) -> bool {
+    text.first() == Some(&b'\n') || (is_crlf && text.starts_with(b"\r\n".as_slice()))
+}
+
+/// Returns a text that is cut at a part, with another part in its place. The end of a line follows a part that has a comment up to
 /// the end of its line.
-fn put_in(alloc: Global, cut: &Excerpt<'_>, part: &str) -> Result<Vec<u8>, AllocError> {
+fn put_in(
+    alloc: Global,
+    cut: &Excerpt<'_>,
+    part: &str,
+    is_crlf: bool,
+) -> Result<Vec<u8>, AllocError> {
     let part = part.trim();
     let mut new = Vec::from_slice(alloc, cut.before)?;
-    new.extend_from_slice(part.as_bytes())?;
-    if part.contains("//") && cut.after.first() != Some(&b'\n') {
-        new.extend_from_slice(b"\n")?;
+    push_part(&mut new, part, is_crlf)?;
+    if part.contains("//") && !begins_with_end(cut.after, is_crlf) {
+        push_part(&mut new, "\n", is_crlf)?;
     }
     new.extend_from_slice(cut.after)?;
     Ok(new)
@@ -33,11 +54,12 @@ fn with_part(
     target: Part<'_>,
     part: &str,
 ) -> Result<Option<Vec<u8>>, AllocError> {
+    let is_crlf = has_crlf(text);
     let Ok(text) = str::from_utf8(text) else {
         return Ok(None);
     };
     match cut_at_part(alloc, text, target)? {
-        Some(cut) => Ok(Some(put_in(alloc, &cut, part)?)),
+        Some(cut) => Ok(Some(put_in(alloc, &cut, part, is_crlf)?)),
         None => Ok(None),
     }
 }

@@ -1,3 +1,5 @@
 pub mod Bytes
 pub mod TextFacts
 pub mod Utf8
+pub mod Taking
+pub mod ReportFacts

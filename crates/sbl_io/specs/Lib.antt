@@ -5,3 +5,4 @@ pub mod Faults
 pub mod LinesOf
 pub mod HeldInput
 pub mod Records
+pub mod Reports

@@ -3,11 +3,12 @@ ghost use Rattle.std.specs.Prelude.{◌≡◌, ◌++◌, ◌∷◌, [], ℕ, IfO
 ghost use Rattle.csv.specs.Records.{fields_of, partial_of};
 ghost use Rattle.sbl_changes.specs.Rows.{texts_of};
 ghost use Rattle.sbl_io.specs.Records as spec;
+ghost use Rattle.sbl_io.specs.Reports.{TakesMore};
 ghost use Rattle.sbl_reports.specs.Blank.{IsBlank};
 ghost use Rattle.sbl_reports.specs.Reports.{stem_fields};
 
 use csv::ByteRecord;
-use sbl_io::{push_line, push_text};
+use sbl_io::{Report, ReportLength, ReportText, push_text};
 use std::alloc::{AllocError, Global};
 
 /// A value that is written as one record.
@@ -25,21 +26,35 @@ pub(crate) trait Record {
 pub(crate) fn lines_of<T: Record>(alloc: Global, values: &[T]) -> Result<Vec<u8>, AllocError>
     ensures { IfOk result (λ lines. lines.items ≡ spec.records_text (map T.fields values.now)) }
 {
-    let mut out = Vec::new(alloc);
+    let mut length = ReportLength::new();
+    push_values(alloc, &mut length, values)?;
+    let mut out = ReportText::with_length(alloc, &length)?;
+    push_values(alloc, &mut out, values)?;
+    Ok(out.into_bytes())
+}
+
+/// Appends the lines of values. Returns `AllocError` if an allocation fails.
+fn push_values<T: Record, R: Report>(
+    alloc: Global,
+    out: &mut R,
+    values: &[T],
+) -> Result<(), AllocError>
+    ensures { OnOk result (TakesMore R.has_taken out.old out.new (spec.records_text (map T.fields values.now))) }
+{
     for value in values {
-        push_value(alloc, &mut out, value)?;
+        push_value(alloc, out, value)?;
     }
-    Ok(out)
+    Ok(())
 }
 
 /// Appends the line of a value. Returns `AllocError` if an allocation fails.
-fn push_value<T: Record>(alloc: Global, out: &mut Vec<u8>, value: &T) -> Result<(), AllocError>
-    ensures { OnOk result (out.new.items ≡ out.old.items ++ spec.record_line (T.fields value.now)) }
+fn push_value<T: Record, R: Report>(alloc: Global, out: &mut R, value: &T) -> Result<(), AllocError>
+    ensures { OnOk result (TakesMore R.has_taken out.old out.new (spec.record_line (T.fields value.now))) }
 {
     let mut text = String::new(alloc);
     let mut csv_record = ByteRecord::new(alloc);
     value.fill(&mut text, &mut csv_record)?;
-    push_line(alloc, out, &csv_record)
+    out.push(&csv_record)
 }
 
 /// Appends texts to a record, each as one field. Returns `AllocError` if an allocation fails.

@@ -7,6 +7,7 @@ ghost use Rattle.sbl_bench.specs.KeptRuns.{setting_of};
 ghost use Rattle.sbl_rows.specs.Setting.{Setting};
 ghost use Rattle.sbl_semantics.specs.TouchedItems.{item_of};
 ghost use Rattle.sbl_io.specs.Records.{record_line, records_text};
+ghost use Rattle.sbl_io.specs.Reports.{TakesMore};
 ghost use Rattle.sbl_unused.specs.Unused as spec;
 ghost use Rattle.sbl_unused.specs.Views.{HasMet, HasTaken, texts_of, view_parts};
 
@@ -16,7 +17,7 @@ use crate::touched_items::{has_item, met_by_words};
 use crate::usable_parts::{Parts, parts_of};
 use csv::ByteRecord;
 use sbl_bench::Bench;
-use sbl_io::{record_line, text_of};
+use sbl_io::{Report, ReportLength, ReportText, text_of};
 use sbl_machine::Item;
 use std::alloc::{AllocError, Global};
 use std::collections::BTreeSet;
@@ -49,42 +50,40 @@ fn kind(item: &Item) -> &'static str
 }
 
 /// Appends the line of an item. Returns `AllocError` if an allocation fails.
-fn push_item(alloc: Global, out: &mut Vec<u8>, item: &Item) -> Result<(), AllocError>
-    ensures { OnOk result (out.new.items ≡ out.old.items ++ record_line (spec.item_row (item_of item.now))) }
+fn push_item<T: Report>(alloc: Global, out: &mut T, item: &Item) -> Result<(), AllocError>
+    ensures { OnOk result (TakesMore T.has_taken out.old out.new (record_line (spec.item_row (item_of item.now)))) }
 {
     let mut csv_record = ByteRecord::new(alloc);
     csv_record.push_field(kind(item).as_bytes())?;
     push_place(alloc, &mut csv_record, item)?;
-    let line = record_line(alloc, &csv_record)?;
-    out.extend_from_slice(&line)
+    out.push(&csv_record)
 }
 
 /// Appends the line of a string of an among. Returns `AllocError` if an allocation fails.
-fn push_entry(
+fn push_entry<T: Report>(
     alloc: Global,
-    out: &mut Vec<u8>,
+    out: &mut T,
     among: &Item,
     string: &[char],
 ) -> Result<(), AllocError>
-    ensures { OnOk result (out.new.items ≡ out.old.items ++ record_line (spec.entry_row (item_of among.now, string.now))) }
+    ensures { OnOk result (TakesMore T.has_taken out.old out.new (record_line (spec.entry_row (item_of among.now, string.now)))) }
 {
     let mut csv_record = ByteRecord::new(alloc);
     csv_record.push_field(b"entry")?;
     push_place(alloc, &mut csv_record, among)?;
     let text = text_of(alloc, string)?;
     csv_record.push_field(text.as_bytes())?;
-    let line = record_line(alloc, &csv_record)?;
-    out.extend_from_slice(&line)
+    out.push(&csv_record)
 }
 
 /// Appends the line of an item, unless a word meets it. Returns `AllocError` if an allocation fails.
-fn push_unmet(
+fn push_unmet<T: Report>(
     alloc: Global,
-    out: &mut Vec<u8>,
+    out: &mut T,
     met: &BTreeSet<Item>,
     item: &Item,
 ) -> Result<(), AllocError>
-    ensures { (s : Setting) (words : List (List ℕ)) → HasMet s words met.now → OnOk result (out.new.items ≡ out.old.items ++ records_text (spec.item_rows s words (item_of item.now))) }
+    ensures { (s : Setting) (words : List (List ℕ)) → HasMet s words met.now → OnOk result (TakesMore T.has_taken out.old out.new (records_text (spec.item_rows s words (item_of item.now)))) }
 {
     if has_item(met, item) {
         Ok(())
@@ -94,14 +93,14 @@ fn push_unmet(
 }
 
 /// Appends the line of a string of an among, unless a word takes it there. Returns `AllocError` if an allocation fails.
-fn push_untaken(
+fn push_untaken<T: Report>(
     alloc: Global,
-    out: &mut Vec<u8>,
+    out: &mut T,
     taken: &Takes,
     among: &Item,
     string: &[char],
 ) -> Result<(), AllocError>
-    ensures { (s : Setting) (words : List (List ℕ)) → HasTaken s words taken.now → OnOk result (out.new.items ≡ out.old.items ++ records_text (spec.string_rows s words (item_of among.now, string.now))) }
+    ensures { (s : Setting) (words : List (List ℕ)) → HasTaken s words taken.now → OnOk result (TakesMore T.has_taken out.old out.new (records_text (spec.string_rows s words (item_of among.now, string.now)))) }
 {
     if has_take(alloc, taken, among, string)? {
         Ok(())
@@ -111,14 +110,14 @@ fn push_untaken(
 }
 
 /// Appends the lines of the strings of an among that no word takes there. Returns `AllocError` if an allocation fails.
-fn push_strings(
+fn push_strings<T: Report>(
     alloc: Global,
-    out: &mut Vec<u8>,
+    out: &mut T,
     taken: &Takes,
     among: &Item,
     strings: &[&[char]],
 ) -> Result<(), AllocError>
-    ensures { (s : Setting) (words : List (List ℕ)) → HasTaken s words taken.now → OnOk result (out.new.items ≡ out.old.items ++ records_text (flat_map (λ q. spec.string_rows s words (item_of among.now, q)) (texts_of strings.now))) }
+    ensures { (s : Setting) (words : List (List ℕ)) → HasTaken s words taken.now → OnOk result (TakesMore T.has_taken out.old out.new (records_text (flat_map (λ q. spec.string_rows s words (item_of among.now, q)) (texts_of strings.now)))) }
 {
     for string in strings {
         push_untaken(alloc, out, taken, among, string)?;
@@ -127,13 +126,13 @@ fn push_strings(
 }
 
 /// Appends the lines of the items that no word meets. Returns `AllocError` if an allocation fails.
-fn push_items(
+fn push_items<T: Report>(
     alloc: Global,
-    out: &mut Vec<u8>,
+    out: &mut T,
     met: &BTreeSet<Item>,
     parts: &Parts<'_>,
 ) -> Result<(), AllocError>
-    ensures { (s : Setting) (words : List (List ℕ)) → HasMet s words met.now → OnOk result (out.new.items ≡ out.old.items ++ records_text (flat_map (λ p. spec.item_rows s words p.0) (view_parts parts.now.entries))) }
+    ensures { (s : Setting) (words : List (List ℕ)) → HasMet s words met.now → OnOk result (TakesMore T.has_taken out.old out.new (records_text (flat_map (λ p. spec.item_rows s words p.0) (view_parts parts.now.entries)))) }
 {
     for (item, _) in parts.iter() {
         push_unmet(alloc, out, met, item)?;
@@ -142,15 +141,15 @@ fn push_items(
 }
 
 /// Appends the lines of the strings of one part, if a word meets it. Returns `AllocError` if an allocation fails.
-fn push_part(
+fn push_part<T: Report>(
     alloc: Global,
-    out: &mut Vec<u8>,
+    out: &mut T,
     met: &BTreeSet<Item>,
     taken: &Takes,
     item: &Item,
     strings: &[&[char]],
 ) -> Result<(), AllocError>
-    ensures { (s : Setting) (words : List (List ℕ)) → HasMet s words met.now → HasTaken s words taken.now → OnOk result (out.new.items ≡ out.old.items ++ records_text (spec.entry_rows s words (item_of item.now, texts_of strings.now))) }
+    ensures { (s : Setting) (words : List (List ℕ)) → HasMet s words met.now → HasTaken s words taken.now → OnOk result (TakesMore T.has_taken out.old out.new (records_text (spec.entry_rows s words (item_of item.now, texts_of strings.now)))) }
 {
     if !has_item(met, item) {
         return Ok(());
@@ -159,19 +158,33 @@ fn push_part(
 }
 
 /// Appends the lines of the strings that no word takes. Returns `AllocError` if an allocation fails.
-fn push_entries(
+fn push_entries<T: Report>(
     alloc: Global,
-    out: &mut Vec<u8>,
+    out: &mut T,
     met: &BTreeSet<Item>,
     taken: &Takes,
     parts: &Parts<'_>,
 ) -> Result<(), AllocError>
-    ensures { (s : Setting) (words : List (List ℕ)) → HasMet s words met.now → HasTaken s words taken.now → OnOk result (out.new.items ≡ out.old.items ++ records_text (flat_map (spec.entry_rows s words) (view_parts parts.now.entries))) }
+    ensures { (s : Setting) (words : List (List ℕ)) → HasMet s words met.now → HasTaken s words taken.now → OnOk result (TakesMore T.has_taken out.old out.new (records_text (flat_map (spec.entry_rows s words) (view_parts parts.now.entries)))) }
 {
     for (item, strings) in parts.iter() {
         push_part(alloc, out, met, taken, item, strings)?;
     }
     Ok(())
+}
+
+/// Appends the lines of what no word uses. Returns `AllocError` if an allocation fails.
+fn push_rows<T: Report>(
+    alloc: Global,
+    out: &mut T,
+    met: &BTreeSet<Item>,
+    taken: &Takes,
+    parts: &Parts<'_>,
+) -> Result<(), AllocError>
+    ensures { (s : Setting) (words : List (List ℕ)) → HasMet s words met.now → HasTaken s words taken.now → OnOk result (TakesMore T.has_taken out.old out.new (records_text (flat_map (λ p. spec.item_rows s words p.0) (view_parts parts.now.entries) ++ flat_map (spec.entry_rows s words) (view_parts parts.now.entries)))) }
+{
+    push_items(alloc, out, met, parts)?;
+    push_entries(alloc, out, met, taken, parts)
 }
 
 /// Returns the rows of what no word of the vocabulary uses, under the script and the limit of the bench: the routines, amongs and
@@ -186,8 +199,9 @@ pub fn unused_text(alloc: Global, bench: &Bench) -> Result<Vec<u8>, AllocError>
     let words = words_of(alloc, bench)?;
     let met = met_by_words(alloc, bench, &words)?;
     let taken = takes_by_words(alloc, bench, &words)?;
-    let mut out = Vec::new(alloc);
-    push_items(alloc, &mut out, &met, &parts)?;
-    push_entries(alloc, &mut out, &met, &taken, &parts)?;
-    Ok(out)
+    let mut length = ReportLength::new();
+    push_rows(alloc, &mut length, &met, &taken, &parts)?;
+    let mut out = ReportText::with_length(alloc, &length)?;
+    push_rows(alloc, &mut out, &met, &taken, &parts)?;
+    Ok(out.into_bytes())
 }

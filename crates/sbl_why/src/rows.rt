@@ -4,6 +4,7 @@ ghost use Rattle.csv.specs.Records.{fields_of, partial_of};
 ghost use Rattle.sbl_bench.specs.KeptRuns.{setting_of};
 ghost use Rattle.sbl_semantics.specs.Outcome.{outcome_of};
 ghost use Rattle.sbl_io.specs.Records.{record_line, records_text};
+ghost use Rattle.sbl_io.specs.Reports.{TakesMore};
 ghost use Rattle.sbl_semantics.specs.Events.{Finds, event_of};
 ghost use Rattle.sbl_moments.specs.Moments.{after};
 ghost use Rattle.sbl_why.specs.Places.{names_at};
@@ -12,7 +13,7 @@ ghost use Rattle.sbl_why.specs.WhyRows as spec;
 
 use csv::ByteRecord;
 use sbl_bench::Bench;
-use sbl_io::{push_line, push_text};
+use sbl_io::{Report, push_text};
 use sbl_machine::Outcome;
 use sbl_moments::Moment;
 use sbl_run_state::Event;
@@ -153,26 +154,30 @@ impl<'a> Place<'a> {
 }
 
 /// Appends the line of an event, and goes past it. Returns `AllocError` if an allocation fails.
-pub(crate) fn push_event(
+pub(crate) fn push_event<T: Report>(
     alloc: Global,
-    out: &mut Vec<u8>,
+    out: &mut T,
     bench: &Bench,
     moment: &mut Moment,
     event: &Event,
 ) -> Result<(), AllocError>
-    ensures line { OnOk result (out.new.items ≡ out.old.items ++ record_line (spec.row_of (spec.routine_names (setting_of bench.now)) moment.old (event_of event.now))) }
+    ensures line { OnOk result (TakesMore T.has_taken out.old out.new (record_line (spec.row_of (spec.routine_names (setting_of bench.now)) moment.old (event_of event.now)))) }
     ensures after { OnOk result (moment.new ≡ after (event_of event.now) moment.old) }
 {
     let mut csv_record = ByteRecord::new(alloc);
     Place::new(alloc, bench, moment).fill_before(&mut csv_record, event)?;
     moment.pass(event)?;
     Place::new(alloc, bench, moment).fill_after(&mut csv_record, event)?;
-    push_line(alloc, out, &csv_record)
+    out.push(&csv_record)
 }
 
 /// Appends the line of the number of events that have no row, if there are any. Returns `AllocError` if an allocation fails.
-pub(crate) fn push_more(alloc: Global, out: &mut Vec<u8>, number: usize) -> Result<(), AllocError>
-    ensures { OnOk result (out.new.items ≡ out.old.items ++ records_text (spec.more_rows number)) }
+pub(crate) fn push_more<T: Report>(
+    alloc: Global,
+    out: &mut T,
+    number: usize,
+) -> Result<(), AllocError>
+    ensures { OnOk result (TakesMore T.has_taken out.old out.new (records_text (spec.more_rows number))) }
 {
     if number == 0 {
         return Ok(());
@@ -180,7 +185,7 @@ pub(crate) fn push_more(alloc: Global, out: &mut Vec<u8>, number: usize) -> Resu
     let mut csv_record = ByteRecord::new(alloc);
     csv_record.push_field(b"more")?;
     push_number(alloc, &mut csv_record, number)?;
-    push_line(alloc, out, &csv_record)
+    out.push(&csv_record)
 }
 
 /// Appends the fields of an outcome to an empty record. Returns `AllocError` if an allocation fails.
@@ -206,14 +211,14 @@ fn fill_outcome(
 }
 
 /// Appends the line of an outcome. Returns `AllocError` if an allocation fails.
-pub(crate) fn push_outcome(
+pub(crate) fn push_outcome<T: Report>(
     alloc: Global,
-    out: &mut Vec<u8>,
+    out: &mut T,
     outcome: &Outcome,
 ) -> Result<(), AllocError>
-    ensures { OnOk result (out.new.items ≡ out.old.items ++ record_line (spec.outcome_row (outcome_of outcome.now))) }
+    ensures { OnOk result (TakesMore T.has_taken out.old out.new (record_line (spec.outcome_row (outcome_of outcome.now)))) }
 {
     let mut csv_record = ByteRecord::new(alloc);
     fill_outcome(alloc, &mut csv_record, outcome)?;
-    push_line(alloc, out, &csv_record)
+    out.push(&csv_record)
 }

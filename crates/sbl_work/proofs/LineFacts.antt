@@ -4,7 +4,7 @@ use Rattle.std.proofs.lemmas.List.Sums.{position_or_len_is}
 use Rattle.std.proofs.lemmas.List.{drop_all}
 use Rattle.std.specs.Str.{bytes_eq, is_utf8}
 use Rattle.sbl_sessions.specs.Commands.{line_command}
-use Rattle.sbl_work.specs.Commands.{Echo, Nothing, Session, alone_command, is_comment, positive, text_command}
+use Rattle.sbl_work.specs.Commands.{Echo, Nothing, Session, alone_command, is_comment, positive, text_command, utf8_command}
 use Rattle.sbl_sessions.specs.Words.{argument, command_word, is_space}
 use Rattle.sbl_sessions.proofs.CommandFacts.{NoSpace}
 
@@ -29,20 +29,19 @@ pub comment_none : (line : List ℕ) → length line ≡ 0 → is_comment line �
 comment_none [] none = refl
 comment_none (b ∷ line) none = absurd (omega (arith, none))
 
-pub is_nothing : (file : Option (List ℕ)) (line : List ℕ) → is_comment line ≡ true → Nothing ≡ alone_command file line
-unfolding alone_command
+pub is_nothing : (file : Option (List ℕ)) (line : List ℕ) → is_comment line ≡ true → Nothing ≡ utf8_command file line
 is_nothing file line comment = rw comment refl
 
-pub is_echo : (file : Option (List ℕ)) (line : List ℕ) → is_comment line ≡ false → bytes_eq (command_word line) (codes "echo") ≡ true → Echo (argument line) ≡ alone_command file line
-unfolding alone_command
+pub is_echo : (file : Option (List ℕ)) (line : List ℕ) → is_comment line ≡ false → bytes_eq (command_word line) (codes "echo") ≡ true → Echo (argument line) ≡ utf8_command file line
 is_echo file line other echo = rw (other, echo) refl
 
-pub is_text : (file : Option (List ℕ)) (line : List ℕ) → is_comment line ≡ false → bytes_eq (command_word line) (codes "echo") ≡ false → is_utf8 line ≡ true
-    → text_command file line ≡ alone_command file line
-unfolding alone_command
-is_text file line other silent utf8 = rw (other, silent, utf8) refl
+pub is_other : (file : Option (List ℕ)) (line : List ℕ) → is_comment line ≡ false → bytes_eq (command_word line) (codes "echo") ≡ false → text_command file line ≡ utf8_command file line
+is_other file line other silent = rw (other, silent) refl
 
-pub is_no_text : (file : Option (List ℕ)) (line : List ℕ) → is_comment line ≡ false → bytes_eq (command_word line) (codes "echo") ≡ false → is_utf8 line ≡ false
-    → Session (line_command line) ≡ alone_command file line
+pub is_text : (file : Option (List ℕ)) (line : List ℕ) → is_utf8 line ≡ true → utf8_command file line ≡ alone_command file line
 unfolding alone_command
-is_no_text file line other silent bytes = rw (other, silent, bytes) refl
+is_text file line utf8 = rw utf8 refl
+
+pub is_no_text : (file : Option (List ℕ)) (line : List ℕ) → is_utf8 line ≡ false → Session (line_command line) ≡ alone_command file line
+unfolding alone_command
+is_no_text file line bytes = rw bytes refl

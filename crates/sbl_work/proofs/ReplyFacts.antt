@@ -1,5 +1,5 @@
 -- The replies to lines with a block.
-use Rattle.std.proofs.Common.{◌≡◌, ◌⊎◌, inl, inr, ◌<◌, ◌≤◌, ℕ, Bool, true, false, List, [], Option, Some, None, Result, Ok, Err, if◌then◌else◌, length, nat_lt, codes, refl, sym, ap, subst, arith}
+use Rattle.std.proofs.Common.{◌≡◌, ◌⊎◌, inl, inr, ◌<◌, ◌≤◌, ℕ, Bool, true, false, List, [], ◌∷◌, Option, Some, None, Result, Ok, Err, if◌then◌else◌, length, nat_lt, codes, refl, sym, ap, subst, arith}
 use Rattle.std.proofs.lemmas.Bool.Decides.{nat_tests}
 use Rattle.std.specs.Option.{is_some}
 use Rattle.std.specs.Prelude.{IfErr, IfOk, MatchResult, Vec}
@@ -73,6 +73,21 @@ pub whole_refused : (s : Contents) (d : State) (bytes : List ℕ) (f : EditFault
     → Replaces (Err f) (Whole bytes) (Some bytes) s d s d
 whole_refused s d bytes f (inl long) = subst (λ (g : EditFault). Replaces (Err g) (Whole bytes) (Some bytes) s d s d) (sym long.0) (too_long s bytes long.1, refl)
 whole_refused s d bytes f (inr memory) = subst (λ (g : EditFault). Replaces (Err g) (Whole bytes) (Some bytes) s d s d) (sym memory) (nothing_tried s bytes, refl)
+
+-- memory for the file of the script is refused
+pub reload_memory : (s : Contents) (d : State) (line : List ℕ) (r : Reply) → command.EditWhole [] ≡ alone_command (Some []) line → IsReply r (edit_text (Some fault.OutOfMemory)) → IsFileAnswer s d line r s d
+reload_memory s d line r is shown =
+    (Some [], same_command s s d d (command.EditWhole []) (alone_command (Some []) line) r is (edit_text (Some fault.OutOfMemory), shown, (Err fault.OutOfMemory, whole_refused s d [] fault.OutOfMemory (inr refl), refl)))
+
+-- memory for a file of families is refused
+pub families_memory : (s : Contents) (d : State) (line : List ℕ) (r : Reply) → command.families_in_file [] ≡ alone_command (Some []) line → IsReply r (edit_text (Some fault.OutOfMemory)) → IsFileAnswer s d line r s d
+families_memory s d line r is shown =
+    (Some [], same_command s s d d (command.families_in_file []) (alone_command (Some []) line) r is (edit_text (Some fault.OutOfMemory), shown, inr (refl, refl, refl)))
+
+-- memory for the words to be appended is refused
+pub append_memory : (s : Contents) (d : State) (line : List ℕ) (r : Reply) → command.Saved ≡ alone_command (Some (0 ∷ [])) line → IsReply r (edit_text (Some fault.OutOfMemory)) → IsFileAnswer s d line r s d
+append_memory s d line r is shown =
+    (Some (0 ∷ []), same_command s s d d command.Saved (alone_command (Some (0 ∷ [])) line) r is (edit_text (Some fault.OutOfMemory), shown, inr (refl, refl, refl)))
 
 -- `replace` alone
 pub replace_good : (s t : Contents) (d e : State) (line : List ℕ) (lines : List (List ℕ)) (result : Result (Unit {0}) EditFault) (r : Reply) → bytes_eq line (codes "replace") ≡ true

@@ -14,8 +14,8 @@ use Rattle.sbl_text.specs.declared.fault.ScriptFault.TheVariants as fault
 
 -- Nothing, for a comment or `help`; a command of a session; a text for a part of the script; the bytes of a whole script; the
 -- edit before or after; the mark; what differs from it; figures; so many of the largest classes, none if the number is bad; the
--- bytes of families; why a word has its stem; the integer variables after its run; what no word uses; a definition; a file that was written; a file that was not read or written; a
--- text.
+-- bytes of families; why a word has its stem; the integer variables after its run; what no word uses; a definition; a file that was written;
+-- no words that were to be put into a file; a file that was not read or written; a text.
 pub data WorkCommand : Type 0 where
   Nothing : WorkCommand
   Session : session.Command → WorkCommand
@@ -33,6 +33,7 @@ pub data WorkCommand : Type 0 where
   Integers : List ℕ → WorkCommand
   Show : List ℕ → WorkCommand
   Saved : WorkCommand
+  NoWords : WorkCommand
   NoFile : WorkCommand
   Echo : List ℕ → WorkCommand
 
@@ -60,6 +61,11 @@ with_file command (Some bytes) = command bytes
 abbrev pub families_in_file : List ℕ → WorkCommand
 families_in_file bytes = Families (made_text (lines_of bytes))
 
+-- lines that were put at the end of a file; none if it lacks no word that was added
+abbrev pub append_command : List ℕ → WorkCommand
+append_command [] = NoWords
+append_command (b ∷ lines) = Saved
+
 -- the command of a line by its command word
 abbrev pub word_command : Option (List ℕ) → List ℕ → WorkCommand
 word_command file line =
@@ -70,9 +76,10 @@ word_command file line =
     else (if bytes_eq (command_word line) (codes "integers") then Integers (chars (argument line))
     else (if bytes_eq (command_word line) (codes "show") then Show (argument line)
     else (if bytes_eq (command_word line) (codes "save") then with_file (λ bytes. Saved) file
-    else Session (session.line_command line)))))))
+    else (if bytes_eq (command_word line) (codes "append") then with_file append_command file
+    else Session (session.line_command line))))))))
 
--- the command of a line that is UTF-8
+-- the command of a line that is no comment and no `echo`
 abbrev pub text_command : Option (List ℕ) → List ℕ → WorkCommand
 text_command file line =
     if bytes_eq line (codes "reload") then with_file EditWhole file
@@ -90,15 +97,18 @@ abbrev pub is_comment : List ℕ → Bool
 is_comment [] = false
 is_comment (b ∷ line) = b == 35
 
--- The command of a line without a block. The file has these bytes: the script's for `reload`, the one that the line names for
--- `families` and `save`; none if it could not be read or written. The text of `echo` may be any bytes. Any other line that is
--- not UTF-8 is a command of a session, where it is bad.
-unfoldable pub alone_command : Option (List ℕ) → List ℕ → WorkCommand
-alone_command file line =
+-- The command of a line that is UTF-8: a comment, a text to be echoed, or one of the others.
+abbrev pub utf8_command : Option (List ℕ) → List ℕ → WorkCommand
+utf8_command file line =
     if is_comment line then Nothing
     else (if bytes_eq (command_word line) (codes "echo") then Echo (argument line)
-    else (if is_utf8 line then text_command file line
-    else Session (session.line_command line)))
+    else text_command file line)
+
+-- The command of a line without a block. The file has these bytes: the script's for `reload`, the one that the line names for
+-- `families`; for `save` any if it was written, and for `append` the lines that were put at its end; none if it could not be read or
+-- written. A line that is not UTF-8 is a command of a session, where it is bad.
+unfoldable pub alone_command : Option (List ℕ) → List ℕ → WorkCommand
+alone_command file line = if is_utf8 line then utf8_command file line else Session (session.line_command line)
 
 -- ---- a line and its block
 

@@ -13,7 +13,7 @@ use Rattle.sbl_sessions.specs.Edits.{fault_in}
 use Rattle.sbl_unused.specs.Unused as unused
 use Rattle.sbl_why.specs.Integers as integers
 use Rattle.sbl_why.specs.WhyRows as rows
-use Rattle.sbl_work.specs.Commands.{WorkCommand, Nothing, Session, EditPart, EditWhole, Undo, Redo, Mark, Changes, Stats, Unused, Largest, Families, Why, Integers, Show, Saved, NoFile, Echo}
+use Rattle.sbl_work.specs.Commands.{WorkCommand, Nothing, Session, EditPart, EditWhole, Undo, Redo, Mark, Changes, Stats, Unused, Largest, Families, Why, Integers, Show, Saved, NoWords, NoFile, Echo}
 use Rattle.sbl_source_map.specs.Definitions.{definition_text}
 use Rattle.sbl_history.specs.Desks.{Redoes, State, Undoes}
 use Rattle.sbl_history.specs.Editing.{IsLimitNoted, Replaces, ReplacesPart}
@@ -42,6 +42,9 @@ bad_number_text = with_line_feed (codes "no 56 BadNumber")
 
 abbrev pub no_file_text : List ℕ
 no_file_text = with_line_feed (codes "no 57 NoFile")
+
+abbrev pub no_words_text : List ℕ
+no_words_text = with_line_feed (codes "no 58 NothingToAppend")
 
 abbrev pub not_text_text : List ℕ
 not_text_text = with_line_feed (codes "no 75 NotText")
@@ -112,5 +115,6 @@ IsWorkReply s d (Why word) text t e = TellsReport (why_reply_text s word) s d te
 IsWorkReply s d (Integers word) text t e = TellsReport (integers_reply_text s word) s d text t e
 IsWorkReply s d (Show name) text t e = IsDefinitionReply (definition_text s.setting.script name) s d text t e
 IsWorkReply s d Saved text t e = TellsReport (edit_text None) s d text t e
+IsWorkReply s d NoWords text t e = TellsAlone no_words_text s d text t e
 IsWorkReply s d NoFile text t e = TellsAlone no_file_text s d text t e
 IsWorkReply s d (Echo echoed) text t e = TellsReport (with_line_feed echoed) s d text t e

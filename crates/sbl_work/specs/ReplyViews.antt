@@ -16,7 +16,7 @@ use Rattle.sbl_sessions.specs.Requests.{asks_block}
 use Rattle.sbl_sessions.specs.declared.replies.Reply.{Reply}
 use Rattle.sbl_text.specs.declared.fault.ScriptFault.TheVariants as script
 use Rattle.sbl_work.specs.Commands as command
-use Rattle.sbl_work.specs.Commands.{WorkCommand, alone_command, count_in, families_in_file, is_replace, with_file}
+use Rattle.sbl_work.specs.Commands.{WorkCommand, alone_command, append_command, count_in, families_in_file, is_replace, with_file}
 use Rattle.sbl_history.specs.Desks.{State}
 use Rattle.sbl_history.specs.Editing.{ReplacesPart}
 use Rattle.sbl_source_map.specs.Heads.{IsWithoutHead}
@@ -46,6 +46,7 @@ view_request file line (variants.Why word) = command.Why (chars word.now)
 view_request file line (variants.Integers word) = command.Integers (chars word.now)
 view_request file line (variants.Show name) = command.Show name.now
 view_request file line (variants.Save path) = with_file (λ bytes. command.Saved) file
+view_request file line (variants.Append path) = with_file append_command file
 view_request file line (variants.Echo text) = command.Echo text.now
 view_request file line variants.Help = command.Nothing
 view_request file line variants.Session = command.Session (line_command line)

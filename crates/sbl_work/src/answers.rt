@@ -11,7 +11,7 @@ ghost use Rattle.sbl_reports.specs.Reports as reports;
 ghost use Rattle.sbl_work.specs.ReplyViews.{IsWorkAnswer, view_file};
 
 use crate::parts::families_reply;
-use crate::replies::{BAD_NUMBER, NO_FILE, edit_reply, memory_reply, redo_reply, undo_reply};
+use crate::replies::{BAD_NUMBER, NOTHING_TO_APPEND, NO_FILE, edit_reply, memory_reply, redo_reply, undo_reply};
 use crate::requests::{Request, count_in, request_of};
 use crate::whys::{integers_reply, why_reply};
 use sbl_bench::{Bench, EditFault};
@@ -156,6 +156,17 @@ fn save_reply(bench: &Bench, file: Option<&[u8]>) -> Reply
     }
 }
 
+/// Returns the reply to `append`, for the lines that were put at the end of the file.
+fn append_reply(bench: &Bench, file: Option<&[u8]>) -> Reply
+    ensures { (d : State) → IsWorkAnswer (contents_of bench.now) d (spec.with_file spec.append_command (view_file file.entry)) result (contents_of bench.now) d }
+{
+    match file {
+        Some([]) => Reply::Fixed(NOTHING_TO_APPEND),
+        Some([_, ..]) => edit_reply(Ok(())),
+        None => Reply::Fixed(NO_FILE),
+    }
+}
+
 /// Returns a text and a line feed.
 fn echo_text(alloc: Global, text: &[u8]) -> Result<Vec<u8>, AllocError>
     ensures { IfOk result (λ line. line.items ≡ with_line_feed text.now) }
@@ -186,8 +197,8 @@ fn session(alloc: Global, desk: &mut Desk, bench: &mut Bench, line: &[u8]) -> Re
 /// Makes the edit or the report that a line without a block asks for, and returns the reply.
 ///
 /// `file` has the bytes of the file that the line needs: of the script's for `reload`, of the one that `families` names. It is
-/// `None` if the file could not be read. For `save` it has any bytes if the file was written, and is `None` if it was not. Other
-/// commands do not look at it.
+/// `None` if the file could not be read. For `save` it has any bytes if the file was written, and for `append` the lines that were put at
+/// the file's end; it is `None` if the file was not written. Other commands do not look at it.
 ///
 /// If an allocation fails, the reply is `no 49 OutOfMemory`.
 pub fn answer_line(
@@ -214,6 +225,7 @@ pub fn answer_line(
         Request::Integers(word) => integers(alloc, bench, word),
         Request::Show(name) => show(alloc, bench, name),
         Request::Save(_) => save_reply(bench, file),
+        Request::Append(_) => append_reply(bench, file),
         Request::Echo(text) => echo(alloc, bench, text),
         Request::Help => Reply::Fixed(""),
         Request::Session => session(alloc, desk, bench, line),

@@ -8,7 +8,7 @@ use std::alloc::Global;
 const BYTE_ORDER_MARK: &[u8] = b"\xEF\xBB\xBF";
 
 /// Returns the bytes without a byte order mark at their start.
-fn without_mark(bytes: &[u8]) -> &[u8] {
+pub(crate) fn without_mark(bytes: &[u8]) -> &[u8] {
     match bytes.strip_prefix(BYTE_ORDER_MARK) {
         Some(rest) => rest,
         None => bytes,

@@ -3,9 +3,11 @@ ghost use Rattle.std.specs.Prelude.{IfOk, string_bytes};
 ghost use Rattle.sbl_bench.specs.KeptRuns.{contents_of};
 ghost use Rattle.sbl_work.specs.WholeWork.{IsOpened};
 
+use crate::appending::{Added, lines_to_append};
 use crate::file_words::words_in;
 use sbl_bench::{Bench, WordKeys};
 use sbl_input::LoadFault;
+use sbl_saving::{Former, ReadFault, SaveFault, is_same_file, read_file, save_file};
 use sbl_script::Script;
 use std::alloc::{AllocError, Global};
 use std::hash::RandomState;
@@ -98,32 +100,130 @@ pub(crate) fn open<F: Files + AllocGlobal>(
     Ok((bench, text))
 }
 
-/// Whether a file has exactly these bytes.
-fn has_bytes<F: Files + AllocGlobal>(files: &F, path: &str, bytes: &[u8]) -> bool {
-    match fs::read(files, path) {
-        Ok(read) => read.as_slice() == bytes,
-        Err(_) => false,
+/// Returns a text whose lines end in a carriage return and a line feed if each line of the old text does.
+fn with_ends_of(alloc: Global, old: &[u8], text: Vec<u8>) -> Result<Vec<u8>, AllocError> {
+    if !has_crlf(old) || has_crlf(&text) {
+        return Ok(text);
     }
+    let mut ended = Vec::new(alloc);
+    push_crlf(&mut ended, &text)?;
+    Ok(ended)
 }
 
-/// Writes the text of the script in force to a file. The file of the script is written only if it still has the bytes that
-/// were read from it last, `seen`. Returns whether the file was written.
+/// Writes the text of the script in force to a file. The file of the script, by whatever name, is written only if it still has the
+/// bytes that were read from it last, `seen`.
+///
+/// # Errors
+///
+/// Returns the faults of `save_file`.
 pub(crate) fn save<F: Files + AllocGlobal>(
     files: &F,
     paths: &Paths,
     seen: &mut Vec<u8>,
     path: &str,
     text: Vec<u8>,
-) -> bool {
-    let is_script = path == paths.script.as_str();
-    if is_script && !has_bytes(files, path, seen.as_slice()) {
-        return false;
+) -> Result<(), SaveFault> {
+    if !is_same_file(files, path, paths.script.as_str()) {
+        return save_file(files, path, &text, Former::Any);
     }
-    if fs::write(files, path, text.as_slice()).is_err() {
-        return false;
-    }
-    if is_script {
+    let text = with_ends_of(files.alloc(), seen.as_slice(), text)?;
+    let saved = save_file(files, path, &text, Former::Bytes(seen.as_slice()));
+    if saved.is_ok() || saved == Err(SaveFault::NotSettled) {
         *seen = text;
     }
-    true
+    saved
+}
+
+/// Returns whether `append` may put words into a file that is there: the file of words, or one that it has made.
+fn may_append<F: Files>(files: &F, paths: &Paths, added: &Added, path: &str) -> bool {
+    if is_same_file(files, path, paths.script.as_str()) {
+        return false;
+    }
+    if let Some(words) = &paths.words {
+        if is_same_file(files, path, words.as_str()) {
+            return true;
+        }
+    }
+    for made in added.files() {
+        if is_same_file(files, path, made.as_str()) {
+            return true;
+        }
+    }
+    false
+}
+
+/// Returns whether a path names nothing, not even a link.
+fn is_free<F: Files>(files: &F, path: &str) -> bool {
+    match fs::symlink_metadata(files, path) {
+        Ok(_) => false,
+        Err(error) => error.kind() == io::ErrorKind::NotFound,
+    }
+}
+
+/// Returns whether a path names an ordinary file.
+fn is_ordinary<F: Files>(files: &F, path: &str) -> bool {
+    match fs::metadata(files, path) {
+        Ok(found) => found.is_file(),
+        Err(_) => false,
+    }
+}
+
+/// Puts the words that a file lacks at the end of its bytes. Returns the lines that were put there.
+fn append_to<F: Files + AllocGlobal>(
+    files: &F,
+    words: &[String],
+    path: &str,
+    old: &[u8],
+    former: Former<'_>,
+) -> Result<Vec<u8>, SaveFault> {
+    let lines = lines_to_append(files.alloc(), words, old)?;
+    if lines.is_empty() {
+        return Ok(lines);
+    }
+    let mut text = Vec::with_capacity(files.alloc(), old.len().saturating_add(lines.len()))?;
+    text.extend_from_slice(old)?;
+    text.extend_from_slice(&lines)?;
+    save_file(files, path, &text, former)?;
+    Ok(lines)
+}
+
+/// Puts the words that were added, and that a file lacks, at its end; that of the words if the path is empty. The file is that of the
+/// words, one that `append` has made, or a new one. Returns the lines that were put there, none if it lacks none.
+///
+/// # Errors
+///
+/// Returns the faults of `save_file`, and `NotWritten` also for another file, and if the path is empty and there is no file of words.
+pub(crate) fn append<F: Files + AllocGlobal>(
+    files: &F,
+    paths: &Paths,
+    added: &mut Added,
+    bench: &Bench,
+    path: &str,
+) -> Result<Vec<u8>, SaveFault> {
+    let words = added.words(files.alloc(), bench)?;
+    let path = match &paths.words {
+        Some(words) if path.is_empty() => words.as_str(),
+        _ => path,
+    };
+    if is_free(files, path) {
+        let made = added.name_to_make(files.alloc(), path)?;
+        let appended = append_to(files, &words, path, &[], Former::Missing);
+        let is_made = match &appended {
+            Ok(lines) => !lines.is_empty(),
+            Err(fault) => *fault == SaveFault::NotSettled,
+        };
+        if is_made {
+            added.note_made(made);
+        }
+        return appended;
+    }
+    if !may_append(files, paths, added, path) || !is_ordinary(files, path) {
+        return Err(SaveFault::NotWritten);
+    }
+    let old = match read_file(files, path) {
+        Ok(old) => old,
+        Err(ReadFault::OutOfMemory) => return Err(SaveFault::OutOfMemory),
+        Err(ReadFault::Unreadable) => return Err(SaveFault::NotWritten),
+    };
+    append_to(files, &words, path, &old, Former::Bytes(&old))
 }

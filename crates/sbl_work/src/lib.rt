@@ -2,6 +2,7 @@
 #![tactic(auto)]
 
 mod answers;
+mod appending;
 mod file_words;
 mod files;
 mod parts;

@@ -22,6 +22,9 @@ pub(crate) const BAD_NUMBER: &str = "no 56 BadNumber\n";
 /// The reply if a file cannot be read or written.
 pub(crate) const NO_FILE: &str = "no 57 NoFile\n";
 
+/// The reply to `append` if the file has each word that was added.
+pub(crate) const NOTHING_TO_APPEND: &str = "no 58 NothingToAppend\n";
+
 /// The reply if the bytes of families are not UTF-8.
 pub(crate) const NOT_TEXT: &str = "no 75 NotText\n";
 

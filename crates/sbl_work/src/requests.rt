@@ -21,6 +21,8 @@ pub(crate) enum Request<'a> {
     Redo,
     /// Writes the script to a file.
     Save(&'a str),
+    /// Puts the words that were added at the end of a file; of the file of words if the name is empty.
+    Append(&'a str),
     /// Sets the mark.
     Mark,
     /// Reports what differs from the mark.
@@ -116,20 +118,27 @@ fn is_comment(line: &[u8]) -> bool
 pub(crate) fn request_of(line: &[u8]) -> Request<'_>
     ensures { (file : Option (List ℕ)) → view_request file line.now result ≡ spec.alone_command file line.now }
 {
-    if is_comment(line) {
-        return Request::Comment;
-    }
-    let (word, argument) = split(line);
-    if word == b"echo".as_slice() {
-        return Request::Echo(argument);
-    }
     match str::from_utf8(line) {
-        Ok(text) => text_request(text),
+        Ok(text) => line_request(text),
         Err(_) => Request::Session,
     }
 }
 
 /// Returns what a line that is UTF-8 asks for.
+fn line_request(line: &str) -> Request<'_>
+    ensures { (file : Option (List ℕ)) → view_request file line.now result ≡ spec.utf8_command file line.now }
+{
+    if is_comment(line.as_bytes()) {
+        return Request::Comment;
+    }
+    let (word, argument) = split(line.as_bytes());
+    if word == b"echo".as_slice() {
+        return Request::Echo(argument);
+    }
+    text_request(line)
+}
+
+/// Returns what a line asks for that is no comment and no `echo`.
 fn text_request(line: &str) -> Request<'_>
     ensures { (file : Option (List ℕ)) → view_request file line.now result ≡ spec.text_command file line.now }
 {
@@ -158,6 +167,7 @@ fn word_request(line: &str) -> Request<'_>
         "integers" => Request::Integers(argument),
         "show" => Request::Show(argument),
         "save" => Request::Save(argument),
+        "append" => Request::Append(argument),
         _ => Request::Session,
     }
 }

@@ -13,7 +13,8 @@ ghost use Rattle.sbl_work.specs.Serving.{IsWork, with_prompt};
 ghost use Rattle.sbl_work.specs.WholeWork.{IsWholeWork, WorksOrMemory, status_of};
 
 use crate::answers::answer_line;
-use crate::files::{OpenFault, Paths, open, save};
+use crate::appending::Added;
+use crate::files::{OpenFault, Paths, append, open, save};
 use crate::parts::answer_block;
 use crate::replies::edit_reply;
 use crate::requests::{Request, block_request, is_quit, request_of};
@@ -22,9 +23,9 @@ use sbl_formats::read_block;
 use sbl_history::Desk;
 use sbl_input::LoadFault;
 use sbl_io::{Lines, ServeFault, Sink, Source, write_all};
+use sbl_saving::{ReadFault, SaveFault, read_file};
 use sbl_sessions::{Reply, write_reply};
-use std::alloc::{AllocError, Global};
-use std::fs;
+use std::alloc::Global;
 use std::hash::RandomState;
 use std::rt::Files;
 
@@ -34,24 +35,24 @@ const PROMPT: &[u8] = b"> ";
 /// What is written if an allocation fails for the line that says why there is no desk.
 const NO_MEMORY: &[u8] = b"snowbench: 49 OutOfMemory\n";
 
-/// The files of work, and the bytes that were read last from the file of the script.
+/// The files of work, the bytes that were read last from the file of the script, and the words that were added.
 #[derive(Drop)]
 struct Folder<'a, F> {
     files: &'a F,
     paths: &'a Paths,
     seen: Vec<u8>,
+    added: Added,
 }
 
-/// Writes the text of the script in force to a file, and returns whether it was written. Returns `AllocError` if an allocation for
-/// the text fails.
+/// Writes the text of the script in force to a file.
 fn save_text<F: Files + AllocGlobal>(
     folder: &mut Folder<'_, F>,
     desk: &Desk,
     bench: &Bench,
     path: &str,
-) -> Result<bool, AllocError> {
+) -> Result<(), SaveFault> {
     let text = desk.text(bench)?;
-    Ok(save(folder.files, folder.paths, &mut folder.seen, path, text))
+    save(folder.files, folder.paths, &mut folder.seen, path, text)
 }
 
 /// Makes the edit or the report that a line without a block asks for, and returns the reply.
@@ -65,25 +66,51 @@ fn answer_alone<F: Files + AllocGlobal>(
     ensures { IsFileAnswer (contents_of bench.old) (state_of desk.old) line.now result (contents_of bench.new) (state_of desk.new) }
 {
     match request_of(line) {
-        Request::Reload => match fs::read(folder.files, folder.paths.script.as_str()) {
+        Request::Reload => match read_file(folder.files, folder.paths.script.as_str()) {
             Ok(bytes) => {
                 let reply = answer_line(alloc, desk, bench, line, Some(bytes.as_slice()));
                 folder.seen = bytes;
                 reply
             }
-            Err(_) => answer_line(alloc, desk, bench, line, None),
+            Err(ReadFault::Unreadable) => answer_line(alloc, desk, bench, line, None),
+            Err(ReadFault::OutOfMemory) => edit_reply(Err(EditFault::OutOfMemory)),
         },
-        Request::Families(path) => match fs::read(folder.files, path) {
+        Request::Families(path) => match read_file(folder.files, path) {
             Ok(bytes) => answer_line(alloc, desk, bench, line, Some(bytes.as_slice())),
-            Err(_) => answer_line(alloc, desk, bench, line, None),
+            Err(ReadFault::Unreadable) => answer_line(alloc, desk, bench, line, None),
+            Err(ReadFault::OutOfMemory) => edit_reply(Err(EditFault::OutOfMemory)),
         },
         Request::Save(path) => match save_text(folder, desk, bench, path) {
-            Ok(true) => answer_line(alloc, desk, bench, line, Some(b"".as_slice())),
-            Ok(false) => answer_line(alloc, desk, bench, line, None),
-            Err(_) => edit_reply(Err(EditFault::OutOfMemory)),
+            Ok(()) => answer_line(alloc, desk, bench, line, Some(b"".as_slice())),
+            Err(SaveFault::OutOfMemory) => edit_reply(Err(EditFault::OutOfMemory)),
+            Err(_) => answer_line(alloc, desk, bench, line, None),
+        },
+        Request::Append(path) => match append(folder.files, folder.paths, &mut folder.added, bench, path) {
+            Ok(lines) => answer_line(alloc, desk, bench, line, Some(lines.as_slice())),
+            Err(SaveFault::OutOfMemory) => edit_reply(Err(EditFault::OutOfMemory)),
+            Err(_) => answer_line(alloc, desk, bench, line, None),
         },
         _ => answer_line(alloc, desk, bench, line, None),
     }
+}
+
+/// Makes the edit or the report that a line without a block asks for, and returns the reply. Notes if it removed a word of the start.
+fn answer_noted<F: Files + AllocGlobal>(
+    folder: &mut Folder<'_, F>,
+    desk: &mut Desk,
+    bench: &mut Bench,
+    alloc: Global,
+    line: &[u8],
+) -> Reply
+    ensures { IsFileAnswer (contents_of bench.old) (state_of desk.old) line.now result (contents_of bench.new) (state_of desk.new) }
+{
+    let before = bench.len();
+    let is_added = folder.added.is_removed_by(bench, line);
+    let reply = answer_alone(folder, desk, bench, alloc, line);
+    if bench.len() < before && !is_added {
+        folder.added.note_removed();
+    }
+    reply
 }
 
 /// Makes the edit or the report that the current line asks for, with the block after it if it asks for one, and returns the
@@ -100,7 +127,7 @@ fn answer<F: Files + AllocGlobal, R: Source + Drop>(
     ensures reading { Reading R.left R.tally lines.old lines.new result }
 {
     match block_request(lines.alloc(), lines.line()) {
-        None => Ok(answer_alone(folder, desk, bench, lines.alloc(), lines.line())),
+        None => Ok(answer_noted(folder, desk, bench, lines.alloc(), lines.line())),
         Some(request) => {
             let block = read_block(lines)?;
             Ok(answer_block(lines.alloc(), desk, bench, request, block))
@@ -207,7 +234,13 @@ fn work_on<F: Files + AllocGlobal, R: Source + Drop, W: Sink>(
     ensures writes_in_time { WritesInTime W.tally writer.old writer.new }
 {
     let (mut bench, seen) = open(files, keys, paths)?;
-    let mut folder = Folder { files, paths, seen };
+    let added = Added::new(files.alloc(), bench.len());
+    let mut folder = Folder {
+        files,
+        paths,
+        seen,
+        added,
+    };
     let served = serve_bench(&mut folder, &mut bench, prompt, lines, writer);
     bench.leak();
     match served {

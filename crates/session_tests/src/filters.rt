@@ -33,3 +33,23 @@ undo¶||||!21 NoExternal|undo";
 fn a_filter_writes_a_row_for_each_word_up_to_a_fault(rt: HostRuntime) -> Result<(), Fail> {
     all_give(&rt, rt.alloc(), Verb::Filter, ROWS)
 }
+
+/// Rows as of `all_give`. Nothing but the end of input ends the words: a line `.` is a word. A fault of a word has the number of its line
+/// among the words; empty lines count.
+const ROWS_TO_END: &str = "||||!73 Cut
+= externals ( stem )¶define stem as ( [ among ( 'un' () 're' () ) ] delete )¶.¶
+undo¶.¶redo¶||||undo,stem,do¶.,stem,.¶redo,stem,do¶
+¶.\r¶\r¶undo||||.,stem,.¶undo,stem,do¶
+undo¶¶.¶ÿ¶redo¶||||undo,stem,do¶.,stem,.¶!4:75 NotText|redo
+undo¶ⅱ¶redo¶||||undo,stem,do¶!2:43 WordTooLong|redo
+.¶ⅳ||||.,stem,.¶!2:72 LineTooLong
+undo¶.¶||3||undo,ste!1:71 Write|.
+= externals ( stem )¶
+||||!73 Cut
+= externals ( other ) define other as true¶.¶
+undo¶||||!21 NoExternal|undo";
+
+#[test]
+fn a_filter_to_the_end_of_input_takes_a_point_as_a_word(rt: HostRuntime) -> Result<(), Fail> {
+    all_give(&rt, rt.alloc(), Verb::FilterToEnd, ROWS_TO_END)
+}

@@ -1,8 +1,9 @@
 //! A session or a filter over a reader and a writer in memory, from its script to its end.
 
-use sbl_filter::filter;
-use sbl_input::{LoadFault, load};
+use sbl_filter::{WordFault, filter, filter_to_end};
+use sbl_input::{LoadFault, load, read_script};
 use sbl_io::{Device, Lines};
+use sbl_script::Script;
 use sbl_sessions::serve;
 use std::alloc::Global;
 use std::process::Abort;
@@ -21,6 +22,7 @@ pub(crate) type Writer = Device<Pieces<Vec<u8>>>;
 pub(crate) enum Verb {
     Session,
     Filter,
+    FilterToEnd,
 }
 
 /// Runs a session.
@@ -31,7 +33,26 @@ fn session(lines: &mut Lines<Reader<'_>>, writer: &mut Writer) -> Result<(), Loa
     served.map_err(LoadFault::Input)
 }
 
-/// Does what the verb says. Returns what is written, and after it `!` and the fault that ends it, if there is one.
+/// Runs a filter of a script block and of words up to the end of input. A fault of the script has line 0.
+fn to_end(lines: &mut Lines<Reader<'_>>, writer: &mut Writer) -> Result<(), WordFault> {
+    match script_of(lines) {
+        Ok(script) => {
+            let filtered = filter_to_end(lines, &script, writer);
+            script.discard();
+            filtered
+        }
+        Err(fault) => Err(WordFault { line: 0, fault }),
+    }
+}
+
+/// Reads a script block.
+fn script_of(lines: &mut Lines<Reader<'_>>) -> Result<Script, LoadFault> {
+    let text = read_script(lines)?;
+    Ok(Script::parse(lines.alloc(), &text, "stem")?)
+}
+
+/// Does what the verb says. Returns what is written, and after it `!`, the number of the line if a filter to the end has one, and the
+/// fault that ends it, if there is one.
 pub(crate) fn run_verb(
     alloc: Global,
     verb: Verb,
@@ -41,6 +62,15 @@ pub(crate) fn run_verb(
     let ending = match verb {
         Verb::Session => session(lines, &mut writer),
         Verb::Filter => filter(lines, "stem", &mut writer),
+        Verb::FilterToEnd => match to_end(lines, &mut writer) {
+            Ok(()) => Ok(()),
+            Err(WordFault { line: 0, fault }) => Err(fault),
+            Err(WordFault { line, fault }) => {
+                let mut text = writer.into_inner().inner;
+                text.extend_from_slice(format!(in alloc; "!{line}:{fault}")?.as_bytes())?;
+                return Ok(text);
+            }
+        },
     };
     let mut text = writer.into_inner().inner;
     if let Err(fault) = ending {

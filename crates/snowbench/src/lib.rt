@@ -1,9 +1,11 @@
 //! The program over readers and writers: sessions, the stems of a vocabulary, and the comparison of stems with the expected stems.
 #![tactic(auto)]
 
+mod file_filter;
 mod laws;
 mod program;
 
+pub use file_filter::{FilterEnd, run_filter};
 pub use laws::lists_are_read;
 pub use program::{run, run_with};
 pub use sbl_bench::WordKeys;

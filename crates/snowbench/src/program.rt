@@ -1,5 +1,5 @@
 //! The program over the lines of a reader and two writers.
-ghost use Rattle.std.specs.Prelude.{◌≡◌, ◌≤◌, ◌++◌, ◌∷◌, [], ℕ, List, Result, None, IfOk, IfErr, OnOk, string_bytes};
+ghost use Rattle.std.specs.Prelude.{◌≡◌, ◌≤◌, ◌++◌, ◌∷◌, [], ℕ, List, Result, Err, None, IfOk, IfErr, OnOk, string_bytes};
 ghost use Rattle.std.specs.Fmt.InlineText.{inline_text};
 ghost use Rattle.sbl_io.specs.Devices.{WritesInTime};
 ghost use Rattle.sbl_io.specs.Faults.{left_by};
@@ -90,12 +90,19 @@ pub fn run_with<R: Source + Drop, W: Sink, E: Sink>(
         Ok(0) => 0,
         Ok(_) => 1,
         Err(fault) => {
-            let line = line_of_fault(fault);
-            // The status reports the fault even if its line cannot be written.
-            let _ = write_all(errors, line.as_str().as_bytes());
+            push_fault(errors, fault);
             1
         }
     }
+}
+
+/// Writes the line of a fault. The status reports the fault even if its line cannot be written.
+pub(crate) fn push_fault<E: Sink>(errors: &mut E, fault: LoadFault)
+    ensures reported { (answer : Result ℕ LoadFault) → answer ≡ Err fault → IsReported E.held E.tally errors.old errors.new 1 answer }
+    ensures in_time { WritesInTime E.tally errors.old errors.new }
+{
+    let line = line_of_fault(fault);
+    let _ = write_all(errors, line.as_str().as_bytes());
 }
 
 /// Returns the line of a fault: `snowbench: `, the text of the fault, and a line feed.

@@ -95,6 +95,46 @@ fn part_not_utf8<'x>(names: FileNames<'x>, input: &'x [u8]) -> (&'x str, &'x [u8
     }
 }
 
+/// Returns where the fault of a word is, and what to do, if the fault is of the word: `line` is the number of its line in standard
+/// input, and `word` what was read of the line.
+pub(crate) fn word_fault_text(
+    alloc: Global,
+    said: &[u8],
+    line: u64,
+    word: &[u8],
+) -> Result<Option<String>, AllocError> {
+    let mut shown = format!(in alloc; "{STANDARD_INPUT}:{line}: ")?;
+    if said == NOT_TEXT {
+        shown.push_str("not UTF-8. ")?;
+        push_conversion(&mut shown, word, "OLD")?;
+    } else if said == TOO_LONG {
+        push_long_word(&mut shown)?;
+    } else if said == LINE_TOO_LONG {
+        push_long_line(&mut shown, InputPart::Words)?;
+    } else {
+        return Ok(None);
+    }
+    Ok(Some(shown))
+}
+
+/// Appends that a word has too many characters.
+fn push_long_word(shown: &mut String) -> Result<(), AllocError> {
+    let text = format!(in *shown.allocator();
+        "more than {MAX_WORD_LENGTH} characters, which no word may have"
+    )?;
+    shown.push_str(text.as_str())
+}
+
+/// Appends that a line of this part has too many bytes, and what to do.
+fn push_long_line(shown: &mut String, part: InputPart) -> Result<(), AllocError> {
+    shown.push_str("more than 65,536 bytes, which no line may have. ")?;
+    shown.push_str(match part {
+        InputPart::Script => "Break it",
+        InputPart::Words => "Write one word on each line",
+        InputPart::Rest => "Shorten it",
+    })
+}
+
 /// Returns which line of the words has too many characters for a word.
 fn long_word_text(
     alloc: Global,
@@ -113,10 +153,9 @@ fn long_word_text(
     };
     let mut shown = String::new(alloc);
     push_named(&mut shown, name)?;
-    let place = format!(in alloc;
-        ":{line}: more than {MAX_WORD_LENGTH} characters, which no word may have"
-    )?;
+    let place = format!(in alloc; ":{line}: ")?;
     shown.push_str(place.as_str())?;
+    push_long_word(&mut shown)?;
     Ok(Some(shown))
 }
 
@@ -136,15 +175,9 @@ fn overlong_line_text(
     };
     let mut shown = String::new(alloc);
     push_named(&mut shown, name)?;
-    let advice = match part {
-        InputPart::Script => "Break it",
-        InputPart::Words => "Write one word on each line",
-        InputPart::Rest => "Shorten it",
-    };
-    let place = format!(in alloc;
-        ":{number}: more than 65,536 bytes, which no line may have. {advice}"
-    )?;
+    let place = format!(in alloc; ":{number}: ")?;
     shown.push_str(place.as_str())?;
+    push_long_line(&mut shown, part)?;
     Ok(Some(shown))
 }
 

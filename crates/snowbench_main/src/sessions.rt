@@ -1,14 +1,14 @@
 //! Runs over files, and over standard input.
 
 use crate::blocks::{compose, line_count, point_line, script_block};
-use crate::fault_texts::{hint, run_fault_text};
+use crate::fault_texts::{hint, run_fault_text, word_fault_text};
 use crate::file_names::{FileNames, STANDARD_INPUT, file_name};
 use crate::messages::{FAILED, NO_KEYS, REFUSED, count_and_word, fail_memory, print_line};
 use crate::run_result::RunResult;
 use crate::streams::{FirstBytes, FirstBytesReader, Output};
 use crate::talk::{Lead, Talk};
 use crate::watching::{Context, Quiet, WatchedReader};
-use snowbench::{Device, Lines, Source, Verb, Wanted, WordKeys, run_with};
+use snowbench::{Device, Lines, Source, Verb, Wanted, WordKeys, run_filter as run_words, run_with};
 use std::alloc::{AllocError, Global};
 use std::cell::RefCell;
 use std::hash::RandomState;
@@ -263,7 +263,7 @@ fn session_input(rt: &HostRuntime, names: FileNames<'_>) -> Result<Vec<u8>, u8> 
 }
 
 /// Writes the row of each word of standard input by the script of a file, as they come, and returns the exit status. With the
-/// name `-` the script is at the beginning of standard input.
+/// name `-` the script is at the beginning of standard input, and a line `.` may end the words.
 pub(crate) fn run_filter(rt: &HostRuntime, wanted: &Wanted, script: &str) -> u8 {
     if script == "-" {
         return run_input(rt, wanted);
@@ -275,22 +275,47 @@ pub(crate) fn run_filter(rt: &HostRuntime, wanted: &Wanted, script: &str) -> u8 
     let Ok(input) = script_block(rt.alloc(), &text) else {
         return fail_memory(rt);
     };
-    let names = FileNames {
-        script,
-        words: "-",
-        rest: None,
+    let Ok((ended, text)) = filter_words(rt, wanted.external.as_str(), &input) else {
+        return fail_memory(rt);
     };
-    match filter_words(rt, wanted, &input) {
-        Ok(ended) => print_fault(rt, wanted, Some(names), &input, &ended),
-        Err(_) => fail_memory(rt),
+    match text {
+        Ok(Some(text)) => print_word_fault(rt, &ended, Ok(text)),
+        Err(error) => print_word_fault(rt, &ended, Err(error)),
+        Ok(None) => {
+            let names = FileNames {
+                script,
+                words: "-",
+                rest: None,
+            };
+            print_fault(rt, wanted, Some(names), &input, &ended)
+        }
     }
 }
 
-/// Runs what the command line asks for over these bytes and then standard input.
-fn filter_words(rt: &HostRuntime, wanted: &Wanted, input: &[u8]) -> Result<RunResult, AllocError> {
+/// Prints the line of a fault of a word, and where it is. Returns the exit status.
+fn print_word_fault(rt: &HostRuntime, ended: &RunResult, text: Result<String, AllocError>) -> u8 {
+    print_said(rt, ended);
+    print_line(rt, text, ended.status)
+}
+
+/// How a filter has ended, and what there is to say on the fault of a word.
+type EndOfFilter = (RunResult, Result<Option<String>, AllocError>);
+
+/// Writes the row of each word of standard input, by the script in these bytes.
+fn filter_words(rt: &HostRuntime, external: &str, input: &[u8]) -> Result<EndOfFilter, AllocError> {
     let reader = input.chain(rt.stdin());
     let mut lines = Lines::new(rt.alloc(), Device::new(reader))?;
-    run_lines(rt, wanted, &mut lines)
+    let said = Vec::with_capacity(rt.alloc(), MAX_FAULT_LINE)?;
+    let mut writer = Device::new(Output::new(rt.stdout()));
+    let mut errors = Device::new(said);
+    let end = run_words(external, &mut lines, &mut writer, &mut errors);
+    let output = writer.into_inner();
+    let ended = RunResult::new(end.status, errors.into_inner(), &output);
+    let text = match end.line {
+        Some(line) => word_fault_text(rt.alloc(), ended.said.as_slice(), line, lines.line()),
+        None => Ok(None),
+    };
+    Ok((ended, text))
 }
 
 /// Compares the stems of the words of a file with those of another, and returns the exit status. Prints how many differ.

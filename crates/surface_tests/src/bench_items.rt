@@ -1,9 +1,8 @@
 //! sbl_bench: the rows and classes of a vocabulary, its edits, and why they are refused.
 
-use crate::common::{GROUPINGS, PLURALS, body_parsed, displays, letters, lists, parsed, text_of};
-use sbl_bench::{Bench, Class, EditFault, Row};
+use crate::common::{displays, letters, lists, parse_body, parse_text, text_of};
+use sbl_bench::{Bench, Class, EditFault, Row, ScriptFault};
 use sbl_machine::{Item, Outcome};
-use sbl_script::ScriptFault;
 use std::alloc::{AllocError, Global};
 use std::process::Abort;
 use std::test::Fail;
@@ -11,7 +10,7 @@ use std::test::Fail;
 /// A bench over the words of a text, which have commas between them.
 fn bench_over(alloc: Global, script: &str, words: &str) -> Result<Bench, Fail> {
     let words = lists(alloc, words)?;
-    Ok(Bench::open(alloc, parsed(alloc, script)?, words)?)
+    Ok(Bench::open(alloc, parse_text(alloc, script)?, words)?)
 }
 
 /// A row as `WORD STEM;`, or as `WORD` and the fault.
@@ -125,7 +124,7 @@ fn asks(rt: &impl Abort, alloc: Global, bench: &Bench) -> Result<(), Fail> {
 #[test]
 fn a_bench_has_rows_and_classes(rt: HostRuntime) -> Result<(), Fail> {
     let words = "cats,boxes,,cakes,cake,boxes,dog";
-    let bench = bench_over(rt.alloc(), PLURALS, words)?;
+    let bench = bench_over(rt.alloc(), "PLURALS", words)?;
     let done = asks(&rt, rt.alloc(), &bench);
     drop(bench);
     done
@@ -150,7 +149,7 @@ fn edits(rt: &impl Abort, alloc: Global, bench: &mut Bench) -> Result<(), Fail> 
 
 #[test]
 fn a_bench_runs_what_an_edit_concerns(rt: HostRuntime) -> Result<(), Fail> {
-    let mut bench = bench_over(rt.alloc(), PLURALS, "cats,boxes,cakes,cake,dog")?;
+    let mut bench = bench_over(rt.alloc(), "PLURALS", "cats,boxes,cakes,cake,dog")?;
     let done = edits(&rt, rt.alloc(), &mut bench);
     drop(bench);
     done
@@ -172,7 +171,7 @@ fn edits_groupings(rt: &impl Abort, alloc: Global, bench: &mut Bench) -> Result<
 
 #[test]
 fn a_bench_takes_a_grouping_and_a_limit(rt: HostRuntime) -> Result<(), Fail> {
-    let mut bench = bench_over(rt.alloc(), GROUPINGS, "xyb,ab,xb")?;
+    let mut bench = bench_over(rt.alloc(), "GROUPINGS", "xyb,ab,xb")?;
     let done = edits_groupings(&rt, rt.alloc(), &mut bench);
     drop(bench);
     done
@@ -200,7 +199,7 @@ fn refuses(rt: &impl Abort, alloc: Global, bench: &mut Bench) -> Result<(), Fail
 
 #[test]
 fn a_bench_refuses_edits(rt: HostRuntime) -> Result<(), Fail> {
-    let mut bench = bench_over(rt.alloc(), PLURALS, "dog")?;
+    let mut bench = bench_over(rt.alloc(), "PLURALS", "dog")?;
     let done = refuses(&rt, rt.alloc(), &mut bench);
     drop(bench);
     done
@@ -208,7 +207,7 @@ fn a_bench_refuses_edits(rt: HostRuntime) -> Result<(), Fail> {
 
 /// The fault of a bench that is opened over these words.
 fn fault_over(alloc: Global, words: Vec<Vec<char>>) -> Result<Option<EditFault>, Fail> {
-    match Bench::open(alloc, body_parsed(alloc, "true")?, words) {
+    match Bench::open(alloc, parse_body(alloc, "true")?, words) {
         Ok(bench) => {
             drop(bench);
             Ok(None)

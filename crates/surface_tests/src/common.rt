@@ -25,15 +25,21 @@ define stem as ( [ ( 'x' w ) or v ] delete )";
 pub(crate) const PREFIXES: &str = "externals ( stem )
 define stem as ( [ among ( 'un' () 're' () ) ] delete )";
 
-/// The script of a text that runs `stem`.
-pub(crate) fn parsed(alloc: Global, text: &str) -> Result<Script, ScriptFault> {
+/// The script of a text, or of one of the names above, that runs `stem`.
+pub(crate) fn parse_text(alloc: Global, text: &str) -> Result<Script, ScriptFault> {
+    let text = match text {
+        "PLURALS" => PLURALS,
+        "GROUPINGS" => GROUPINGS,
+        "PREFIXES" => PREFIXES,
+        _ => text,
+    };
     Script::parse(alloc, text.as_bytes(), "stem")
 }
 
 /// The script that runs this body.
-pub(crate) fn body_parsed(alloc: Global, body: &str) -> Result<Script, ScriptFault> {
+pub(crate) fn parse_body(alloc: Global, body: &str) -> Result<Script, ScriptFault> {
     let text = format!(in alloc; "externals ( stem ) define stem as {body}")?;
-    parsed(alloc, text.as_str())
+    parse_text(alloc, text.as_str())
 }
 
 /// The characters of a text.
@@ -68,6 +74,30 @@ pub(crate) fn displays<T: Display>(alloc: Global, values: &[T]) -> Result<String
     let mut text = String::new(alloc);
     for value in values {
         text.push_str(format!(in alloc; "{value};")?.as_str())?;
+    }
+    Ok(text)
+}
+
+/// The field of a row with this number, from 0; an empty one if there are fewer. Fields are separated by `|`.
+pub(crate) fn field(row: &str, number: usize) -> &str {
+    for (at, text) in row.split('|').enumerate() {
+        if at == number {
+            return text;
+        }
+    }
+    ""
+}
+
+/// The number in the field of a row, 0 if there is none.
+pub(crate) fn number(row: &str, at: usize) -> u32 {
+    field(row, at).parse().unwrap_or(0)
+}
+
+/// The field of a row with a line feed for each `¶`.
+pub(crate) fn field_lines(alloc: Global, row: &str, number: usize) -> Result<String, AllocError> {
+    let mut text = String::new(alloc);
+    for letter in field(row, number).chars() {
+        text.push(if letter == '¶' { '\n' } else { letter })?;
     }
     Ok(text)
 }

@@ -1,8 +1,9 @@
-//! snowbench: a source and a sink that are made outside of it.
+//! snowbench: devices, and a source and a sink that are made outside of it.
 
 ghost use Rattle.std.specs.Prelude.{◌≡◌};
 
-use snowbench::{Sink, Source, Stop};
+use snowbench::{Device, Sink, Source, Stop};
+use std::test::Fail;
 
 /// A source that gives one byte at a time, of a source inside it.
 #[derive(Drop)]
@@ -54,4 +55,30 @@ impl<D: Sink> Sink for Slow<D> {
         let most = bytes.len().min(1);
         self.inner.write(&bytes[..most])
     }
+}
+
+/// What a read or a write did.
+fn answer_text(answer: Result<usize, Stop>) -> &'static str {
+    match answer {
+        Ok(0) => "nothing",
+        Ok(1) => "one byte",
+        Ok(_) => "bytes",
+        Err(Stop::Interrupted) => "interrupted",
+        Err(Stop::Failed) => "failed",
+    }
+}
+
+#[test]
+fn devices_read_and_write(rt: HostRuntime) -> Result<(), Fail> {
+    let mut bytes = [0; 8];
+    let mut source = Device::new(b"abc".as_slice());
+    assert_eq!(rt; answer_text(source.read(&mut bytes)), "bytes");
+    assert_eq!(rt; answer_text(source.read(&mut bytes)), "nothing");
+    let mut room = [0; 2];
+    let mut sink = Device::new(room.as_mut_slice());
+    assert_eq!(rt; answer_text(sink.write(b"a")), "one byte");
+    assert_eq!(rt; answer_text(sink.write(b"b")), "one byte");
+    // a write that takes none of some bytes has failed
+    assert_eq!(rt; answer_text(sink.write(b"c")), "failed");
+    Ok(())
 }

@@ -1,123 +1,78 @@
 //! sbl_script: the three edits of a script, and why they are refused.
 
-use crate::common::{GROUPINGS, PLURALS, displays, parsed};
+use crate::common::{displays, field, parse_text};
 use sbl_script::{EditFault, Script, ScriptFault};
 use std::alloc::{AllocError, Global};
 use std::test::Fail;
 
-/// What an edit replaces: a routine's body, an among of a routine, a grouping's terms.
-#[derive(Clone, Copy)]
-enum Replaced {
-    Routine(&'static str),
-    Among(&'static str, u64),
-    Grouping(&'static str),
-}
-
-use Replaced::{Among, Grouping, Routine};
-
-/// Makes an edit.
-fn edited(
+/// Makes an edit: of `routine NAME`, `among NAME K` or `grouping NAME`.
+fn edit_script(
     alloc: Global,
     script: &Script,
-    replaced: Replaced,
+    part: &str,
     text: &str,
 ) -> Result<Script, EditFault> {
-    match replaced {
-        Routine(name) => script.with_routine(alloc, name, text),
-        Among(routine, k) => script.with_among(alloc, routine, k, text),
-        Grouping(name) => script.with_grouping(alloc, name, text),
+    let (word, name) = part.split_once(' ').unwrap_or((part, ""));
+    match word {
+        "routine" => script.with_routine(alloc, name, text),
+        "grouping" => script.with_grouping(alloc, name, text),
+        _ => {
+            let (routine, k) = name.split_once(' ').unwrap_or((name, ""));
+            script.with_among(alloc, routine, k.parse().unwrap_or(0), text)
+        }
     }
 }
 
-/// The fault of an edit, if it has one.
-fn fault_of(made: Result<Script, EditFault>) -> Option<EditFault> {
+/// The display of the fault of an edit, empty if it has none.
+fn fault_text(alloc: Global, made: Result<Script, EditFault>) -> Result<String, AllocError> {
     match made {
         Ok(script) => {
             drop(script);
-            None
+            Ok(String::new(alloc))
         }
-        Err(fault) => Some(fault),
+        Err(fault) => format!(in alloc; "{fault}"),
     }
 }
 
-/// Scripts, edits of them, and their faults. An item is the one that is replaced.
-const EDITS: &[(&str, Replaced, &str, Option<EditFault>)] = &[
-    (PLURALS, Routine("last"), "true", None),
-    (PLURALS, Routine("nope"), "true", Some(EditFault::NoRoutine)),
-    (
-        PLURALS,
-        Routine("tail"),
-        "nowhere",
-        Some(EditFault::Script(ScriptFault::Undeclared { item: 4 })),
-    ),
-    (
-        PLURALS,
-        Routine("tail"),
-        "",
-        Some(EditFault::Script(ScriptFault::Syntax { place: 0 })),
-    ),
-    (PLURALS, Among("tail", 1), "among ( 's' () )", None),
-    (
-        PLURALS,
-        Among("tail", 0),
-        "among ( 's' () )",
-        Some(EditFault::NoAmong),
-    ),
-    (
-        PLURALS,
-        Among("tail", 2),
-        "among ( 's' () )",
-        Some(EditFault::NoAmong),
-    ),
-    (
-        PLURALS,
-        Among("tail", 1),
-        "among ( 's' (among ( 'e' (delete) )) )",
-        Some(EditFault::AmongCount),
-    ),
-    (GROUPINGS, Grouping("w"), "v + 'b'", None),
-    (
-        GROUPINGS,
-        Grouping("stem"),
-        "'a'",
-        Some(EditFault::NoGrouping),
-    ),
-    (
-        GROUPINGS,
-        Grouping("v"),
-        "w",
-        Some(EditFault::Script(ScriptFault::Undefined { item: 3 })),
-    ),
-];
+/// A script, what is replaced, the text, and the fault. An item is the one that is replaced.
+const EDITS: &str = "PLURALS|routine last|true|
+PLURALS|routine nope|true|45 NoRoutine
+PLURALS|routine tail|nowhere|48 10 Undeclared in item 4
+PLURALS|routine tail||48 7 Syntax at 0
+PLURALS|among tail 1|among ( 's' () )|
+PLURALS|among tail 0|among ( 's' () )|46 NoAmong
+PLURALS|among tail 2|among ( 's' () )|46 NoAmong
+PLURALS|among nope 1|among ( 's' () )|45 NoRoutine
+PLURALS|among tail 1|among ( 's' (among ( 'e' (delete) )) )|47 AmongCount
+GROUPINGS|grouping w|v + 'b'|
+GROUPINGS|grouping stem|'a'|53 NoGrouping
+GROUPINGS|grouping v|w|48 13 Undefined in item 3
+GROUPINGS|grouping w||48 7 Syntax at 0";
 
 #[test]
 fn edits_of_a_script_are_made_or_refused(rt: HostRuntime) -> Result<(), Fail> {
     let alloc = rt.alloc();
-    for (text, replaced, new, want) in EDITS {
-        let script = parsed(alloc, text)?;
-        let fault = fault_of(edited(alloc, &script, *replaced, new));
+    for row in EDITS.split('\n') {
+        let script = parse_text(alloc, field(row, 0))?;
+        let made = edit_script(alloc, &script, field(row, 1), field(row, 2));
         drop(script);
-        assert_eq!(rt; fault, *want, "{new}");
+        let fault = fault_text(alloc, made)?;
+        assert!(rt; fault.as_str() == field(row, 3), "{row}: {fault}");
     }
     Ok(())
 }
 
 /// The canonical texts of a script before and after an edit, and again of the script that was edited.
-fn print_edit(
-    alloc: Global,
-    text: &str,
-    replaced: Replaced,
-    new: &str,
-) -> Result<(String, String), Fail> {
-    let script = parsed(alloc, text)?;
-    let made = print_edited(edited(alloc, &script, replaced, new), alloc);
+fn print_edit(alloc: Global, text: &str, part: &str, new: &str) -> Result<(String, String), Fail> {
+    let script = parse_text(alloc, text)?;
+    let made = print_result(edit_script(alloc, &script, part, new), alloc);
     let kept = script.print(alloc);
     drop(script);
     Ok((made?, kept?))
 }
 
 /// The canonical text of an edit.
-fn print_edited(made: Result<Script, EditFault>, alloc: Global) -> Result<String, EditFault> {
+fn print_result(made: Result<Script, EditFault>, alloc: Global) -> Result<String, EditFault> {
     let script = made?;
     let text: Result<String, AllocError> = script.print(alloc);
     drop(script);
@@ -149,9 +104,9 @@ define stem as next
 #[test]
 fn an_edit_leaves_the_script_alone(rt: HostRuntime) -> Result<(), Fail> {
     let alloc = rt.alloc();
-    let (made, kept) = print_edit(alloc, GROUPINGS, Grouping("w"), "v + 'b'")?;
+    let (made, kept) = print_edit(alloc, "GROUPINGS", "grouping w", "v + 'b'")?;
     assert!(rt; made.as_str() == REGROUPED && kept.as_str() == GROUPED);
-    let (made, kept) = print_edit(alloc, GROUPINGS, Routine("stem"), "next")?;
+    let (made, kept) = print_edit(alloc, "GROUPINGS", "routine stem", "next")?;
     assert!(rt; made.as_str() == REWRITTEN && kept.as_str() == GROUPED);
     Ok(())
 }
@@ -162,10 +117,12 @@ fn the_faults_of_edits_have_their_numbers(rt: HostRuntime) -> Result<(), Fail> {
         EditFault::NoRoutine,
         EditFault::NoAmong,
         EditFault::AmongCount,
+        EditFault::Script(ScriptFault::TooDeep { place: 3 }),
         EditFault::NoGrouping,
         EditFault::OutOfMemory,
     ];
-    let want = "45 NoRoutine;46 NoAmong;47 AmongCount;53 NoGrouping;49 OutOfMemory;";
+    let want =
+        "45 NoRoutine;46 NoAmong;47 AmongCount;48 8 TooDeep at 3;53 NoGrouping;49 OutOfMemory;";
     assert_eq!(rt; displays(rt.alloc(), &faults)?.as_str(), want);
     Ok(())
 }

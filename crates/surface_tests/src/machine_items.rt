@@ -2,9 +2,10 @@
 
 ghost use Rattle.std.specs.Prelude.{◌≤◌, length, IfOk};
 
-use crate::common::{GROUPINGS, PLURALS, body_parsed, displays, letters, lists, parsed, text_of};
+use crate::common::{displays, field, letters, lists, number, parse_body, parse_text, text_of};
 use sbl_machine::{
     AmongSearch, Item, LinkedTable, Machine, Meter, Outcome, PlainTable, Ran, RunFault, RunStop,
+    ScriptFault,
 };
 use sbl_script::{Mode, Script};
 use std::alloc::{AllocError, Global};
@@ -54,13 +55,6 @@ fn both_tables_find_the_longest_and_the_next_shorter(rt: HostRuntime) -> Result<
     finds_empty::<LinkedTable>(&rt, rt.alloc())
 }
 
-/// The machine of a script, which is dropped: a machine owns what it needs.
-fn machine_of<S: AmongSearch>(alloc: Global, script: Script) -> Result<Machine<S>, AllocError> {
-    let machine = Machine::new(alloc, &script);
-    drop(script);
-    machine
-}
-
 /// A word for a run.
 fn word_of(rt: &impl Abort, alloc: Global, text: &str) -> Result<Vec<char>, AllocError>
     ensures { IfOk result (λ word. length word.items ≤ 255) }
@@ -101,7 +95,7 @@ fn ran_text(alloc: Global, ran: &Ran) -> Result<String, AllocError> {
     }
 }
 
-/// Runs a machine with a new meter. Returns what the run gives, and the count of the meter.
+/// Runs a machine. Returns what the run gives, and the count of the meter.
 fn run_text<S: AmongSearch>(
     alloc: Global,
     machine: &Machine<S>,
@@ -117,121 +111,78 @@ fn run_text<S: AmongSearch>(
     Ok(format!(in alloc; "{text} {count}")?)
 }
 
-/// The same, with a new meter.
-fn metered<S: AmongSearch>(
+/// Runs a machine over the word of a row, with a new meter.
+fn run_once<S: AmongSearch>(
+    rt: &impl Abort,
     alloc: Global,
     machine: &Machine<S>,
-    word: &[char],
-    limit: u32,
-) -> Result<String, Fail>
-    requires { length word.now ≤ 255 }
-{
+    row: &str,
+) -> Result<String, Fail> {
+    let word = word_of(rt, alloc, field(row, 1))?;
     let mut meter = Meter::new();
-    let text = run_text(alloc, machine, &mut meter, word, limit);
+    let text = run_text(alloc, machine, &mut meter, &word, number(row, 2));
     drop(meter);
     text
 }
 
-/// Asserts what a run of a script gives.
+/// Asserts what a run of a script gives. The machine owns what it needs of the script.
 fn gives<S: AmongSearch>(
     rt: &impl Abort,
     alloc: Global,
-    script: Script,
-    word: &str,
-    limit: u32,
-    want: &str,
+    script: &Script,
+    row: &str,
 ) -> Result<(), Fail> {
-    let machine: Machine<S> = machine_of(alloc, script)?;
-    let text = run_word(rt, alloc, &machine, word, limit);
+    let machine: Machine<S> = Machine::new(alloc, script)?;
+    let text = run_once(rt, alloc, &machine, row);
     drop(machine);
     let text = text?;
-    assert!(rt; text.as_str() == want, "{word}: {text}");
+    assert!(rt; text.as_str() == field(row, 3), "{row}: {text}");
     Ok(())
 }
 
-/// Runs a machine over a word.
-fn run_word<S: AmongSearch>(
-    rt: &impl Abort,
-    alloc: Global,
-    machine: &Machine<S>,
-    word: &str,
-    limit: u32,
-) -> Result<String, Fail> {
-    let word = word_of(rt, alloc, word)?;
-    metered(alloc, machine, &word, limit)
+/// A script, a word, a limit of steps, and what a first run gives.
+const RUNS: &str = "PLURALS|s|16| 16 routine,stem;routine,tail;among,tail,1; 1
+PLURALS|s|15|60 Steps 16 routine,stem;routine,tail;among,tail,1; 1
+PLURALS|cakes|100000|cak 27 routine,last;routine,sib;routine,stem;routine,tail;among,tail,1; 1
+PLURALS|dog|100000|dog 12 routine,stem;routine,tail;among,tail,1; 1
+GROUPINGS|ab|100000|b 8 routine,stem;grouping,v; 1";
+
+/// A body, a word, a limit of steps, and what a first run gives.
+const BODIES: &str = "loop 2 next|ab|3|ab 3 routine,stem; 1
+loop 2 next|ab|2|60 Steps 3 routine,stem; 1
+stem|a|100000|61 Depth 32 routine,stem; 1
+( next ] tolimit [ delete )|ab|100000|62 Slice 6 routine,stem; 1
+( next ] tolimit [ delete )|a|100000|a 6 routine,stem; 1
+backwards ( [ next next ] do delete )|ab|100000|63 Cursor 8 routine,stem; 1
+hop ( maxint + 1 )|a|100000|64 Integer 1 routine,stem; 1
+hop ( 1 / 0 )|a|100000|65 Divide 1 routine,stem; 1
+repeat <+ 'aa'|a|100000|66 TooLong 513 routine,stem; 1";
+
+/// Asserts what a run of a machine with each table gives.
+fn runs(rt: &impl Abort, alloc: Global, script: &Script, row: &str) -> Result<(), Fail> {
+    gives::<PlainTable>(rt, alloc, script, row)?;
+    gives::<LinkedTable>(rt, alloc, script, row)
 }
 
-/// Scripts, words, limits of steps, and what a first run gives.
-const RUNS: &[(&str, &str, u32, &str)] = &[
-    (
-        PLURALS,
-        "s",
-        16,
-        " 16 routine,stem;routine,tail;among,tail,1; 1",
-    ),
-    (
-        PLURALS,
-        "cakes",
-        100_000,
-        "cak 27 routine,last;routine,sib;routine,stem;routine,tail;among,tail,1; 1",
-    ),
-    (
-        PLURALS,
-        "dog",
-        100_000,
-        "dog 12 routine,stem;routine,tail;among,tail,1; 1",
-    ),
-    (GROUPINGS, "ab", 100_000, "b 8 routine,stem;grouping,v; 1"),
-];
+/// The script of a row of `RUNS`.
+fn script_named(alloc: Global, row: &str) -> Result<Script, ScriptFault> {
+    parse_text(alloc, field(row, 0))
+}
 
 #[test]
 fn a_run_gives_its_outcome_its_steps_and_what_it_touched(rt: HostRuntime) -> Result<(), Fail> {
     let alloc = rt.alloc();
-    for (text, word, limit, want) in RUNS {
-        gives::<PlainTable>(&rt, alloc, parsed(alloc, text)?, word, *limit, want)?;
-        gives::<LinkedTable>(&rt, alloc, parsed(alloc, text)?, word, *limit, want)?;
+    for row in RUNS.split('\n') {
+        let script = script_named(alloc, row)?;
+        let done = runs(&rt, alloc, &script, row);
+        drop(script);
+        done?;
     }
-    Ok(())
-}
-
-/// Bodies, words, limits of steps, and what a first run gives.
-const REFUSALS: &[(&str, &str, u32, &str)] = &[
-    ("loop 2 next", "ab", 3, "ab 3 routine,stem; 1"),
-    ("loop 2 next", "ab", 2, "60 Steps 3 routine,stem; 1"),
-    ("stem", "a", 100_000, "61 Depth 32 routine,stem; 1"),
-    (
-        "( next ] tolimit [ delete )",
-        "ab",
-        100_000,
-        "62 Slice 6 routine,stem; 1",
-    ),
-    (
-        "backwards ( [ next next ] do delete )",
-        "ab",
-        100_000,
-        "63 Cursor 8 routine,stem; 1",
-    ),
-    (
-        "hop ( maxint + 1 )",
-        "a",
-        100_000,
-        "64 Integer 1 routine,stem; 1",
-    ),
-    ("hop ( 1 / 0 )", "a", 100_000, "65 Divide 1 routine,stem; 1"),
-    (
-        "repeat <+ 'aa'",
-        "a",
-        100_000,
-        "66 TooLong 513 routine,stem; 1",
-    ),
-];
-
-#[test]
-fn a_run_is_refused_with_its_fault(rt: HostRuntime) -> Result<(), Fail> {
-    let alloc = rt.alloc();
-    for (body, word, limit, want) in REFUSALS {
-        gives::<PlainTable>(&rt, alloc, body_parsed(alloc, body)?, word, *limit, want)?;
-        gives::<LinkedTable>(&rt, alloc, body_parsed(alloc, body)?, word, *limit, want)?;
+    for row in BODIES.split('\n') {
+        let script = parse_body(alloc, field(row, 0))?;
+        let done = runs(&rt, alloc, &script, row);
+        drop(script);
+        done?;
     }
     Ok(())
 }

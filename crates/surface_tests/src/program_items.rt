@@ -1,6 +1,6 @@
 //! snowbench: what the words of a command line want, and what the program does.
 
-use crate::common::PREFIXES;
+use crate::common::{PREFIXES, field, field_lines, number};
 use snowbench::{Device, Verb, Wanted, read_words, run};
 use std::alloc::{AllocError, Global};
 use std::process::Abort;
@@ -22,22 +22,40 @@ fn wanted_by(alloc: Global, line: &str) -> Result<Option<Wanted>, AllocError> {
     Ok(wanted.ok())
 }
 
-/// Lines, and what they want.
-const LINES: &[(&str, Verb, &str)] = &[
-    ("snowbench session", Verb::Session, "stem"),
-    ("snowbench stem --external=x", Verb::Stem, "x"),
-    ("snowbench check --external go", Verb::Check, "go"),
-];
+/// A verb as a word.
+fn verb_text(verb: Verb) -> &'static str {
+    match verb {
+        Verb::Session => "session",
+        Verb::Stem => "stem",
+        Verb::Check => "check",
+        _ => "another",
+    }
+}
+
+/// A line, and the verb and the external that it wants.
+const LINES: &str = "snowbench session|session stem
+snowbench stem --external=x|stem x
+snowbench check --external go|check go
+snowbench|refused
+snowbench --help|refused
+snowbench stem stem|refused";
+
+/// What a line wants, or that it is refused.
+fn wanted_text(alloc: Global, line: &str) -> Result<String, AllocError> {
+    match wanted_by(alloc, line)? {
+        Some(wanted) => {
+            let Wanted { verb, external, .. } = &wanted;
+            format!(in alloc; "{} {external}", verb_text(*verb))
+        }
+        None => String::from_str(alloc, "refused"),
+    }
+}
 
 #[test]
 fn words_want_a_verb_and_an_external(rt: HostRuntime) -> Result<(), Fail> {
-    for (line, want, name) in LINES {
-        let wanted = wanted_by(rt.alloc(), line)?.expect(&rt, "a line that is not refused");
-        let Wanted { verb, external, .. } = &wanted;
-        assert!(rt; verb == want && external.as_str() == *name, "{line}");
-    }
-    for line in ["snowbench", "snowbench --help", "snowbench stem stem"] {
-        assert!(rt; wanted_by(rt.alloc(), line)?.is_none(), "{line}");
+    for row in LINES.split('\n') {
+        let shown = wanted_text(rt.alloc(), field(row, 0))?;
+        assert!(rt; shown.as_str() == field(row, 1), "{row}");
     }
     Ok(())
 }
@@ -68,74 +86,31 @@ fn run_over(alloc: Global, wanted: &Wanted, input: &[u8]) -> Ended {
     }
 }
 
-/// Command lines, what follows the script, the status, what is written, and the fault line.
-const RUNS: &[(&str, &str, u8, &str, &str)] = &[
-    (
-        "snowbench stem",
-        "\n.\nundo\nredo\n.\n",
-        0,
-        "undo,stem,do\nredo,stem,do\n",
-        "",
-    ),
-    (
-        "snowbench session",
-        "\n.\n.\nadd undo\nadd redo\nstems\n",
-        0,
-        "ok\nok\nundo,stem,do\nredo,stem,do\n",
-        "",
-    ),
-    (
-        "snowbench check",
-        "\n.\nundo\ndo\n.\ndo\nda\n",
-        1,
-        "2,do,da,do\n",
-        "",
-    ),
-    (
-        "snowbench check",
-        "\n.\nundo\ndo\n.\ndo\nda\nx\n",
-        1,
-        "2,do,da,do\n",
-        "snowbench: 74 LengthsDiffer\n",
-    ),
-    (
-        "snowbench session",
-        " 'ab\n.\n",
-        1,
-        "",
-        "snowbench: 2 UnclosedString at 75\n",
-    ),
-    (
-        "snowbench stem --external go",
-        "\n.\n",
-        1,
-        "",
-        "snowbench: 21 NoExternal\n",
-    ),
-];
+/// A command line, what follows the script, the status, what is written, and the fault line.
+const RUNS: &str = "snowbench stem|¶.¶undo¶redo¶.¶|0|undo,stem,do¶redo,stem,do¶|
+snowbench session|¶.¶.¶add undo¶add redo¶stems¶|0|ok¶ok¶undo,stem,do¶redo,stem,do¶|
+snowbench check|¶.¶undo¶do¶.¶do¶da¶|1|2,do,da,do¶|
+snowbench check|¶.¶undo¶do¶.¶do¶da¶x¶|1|2,do,da,do¶|snowbench: 74 LengthsDiffer¶
+snowbench session| 'ab¶.¶|1||snowbench: 2 UnclosedString at 75¶
+snowbench stem --external go|¶.¶|1||snowbench: 21 NoExternal¶";
 
 /// Asserts what a run of the program gives.
-fn gives(
-    rt: &impl Abort,
-    alloc: Global,
-    wanted: &Wanted,
-    input: &[u8],
-    want: (&str, u8, &str),
-) -> Result<(), Fail> {
-    let ended = run_over(alloc, wanted, input);
-    assert!(rt; ended.text.as_slice() == want.0.as_bytes());
-    assert!(rt; ended.status == want.1);
-    assert!(rt; ended.errors.as_slice() == want.2.as_bytes());
+fn gives(rt: &impl Abort, alloc: Global, row: &str) -> Result<(), Fail> {
+    let input = format!(in alloc; "{PREFIXES}{}", field_lines(alloc, row, 1)?)?;
+    let wanted = wanted_by(alloc, field(row, 0))?.expect(rt, "a line that is not refused");
+    let ended = run_over(alloc, &wanted, input.as_bytes());
+    let text = field_lines(alloc, row, 3)?;
+    let errors = field_lines(alloc, row, 4)?;
+    assert!(rt; u32::from(ended.status) == number(row, 2), "{row}");
+    assert!(rt; ended.text.as_slice() == text.as_bytes(), "{row}");
+    assert!(rt; ended.errors.as_slice() == errors.as_bytes(), "{row}");
     Ok(())
 }
 
 #[test]
 fn the_program_runs(rt: HostRuntime) -> Result<(), Fail> {
-    for (line, rest, status, text, errors) in RUNS {
-        let input = format!(in rt.alloc(); "{PREFIXES}{rest}")?;
-        let wanted = wanted_by(rt.alloc(), line)?.expect(&rt, "a line that is not refused");
-        let want = (*text, *status, *errors);
-        gives(&rt, rt.alloc(), &wanted, input.as_bytes(), want)?;
+    for row in RUNS.split('\n') {
+        gives(&rt, rt.alloc(), row)?;
     }
     Ok(())
 }

@@ -1,18 +1,18 @@
 //! sbl_script: trees, parsing and printing, and the faults of a script.
 
-use crate::common::{PLURALS, body_parsed, displays, parsed};
+use crate::common::{displays, field, parse_body, parse_text};
 use sbl_script::{Among, Command, Grouping, Mode, Plain, Script, ScriptFault, ScriptItem};
 use std::alloc::{AllocError, Global};
 use std::test::Fail;
 
-/// The fault of a script, if it has one.
-fn fault_of(made: Result<Script, ScriptFault>) -> Option<ScriptFault> {
+/// The display of the fault of a script, empty if it has none.
+fn fault_text(alloc: Global, made: Result<Script, ScriptFault>) -> Result<String, AllocError> {
     match made {
         Ok(script) => {
             drop(script);
-            None
+            Ok(String::new(alloc))
         }
-        Err(fault) => Some(fault),
+        Err(fault) => format!(in alloc; "{fault}"),
     }
 }
 
@@ -37,7 +37,7 @@ define stem as ( $ x = 7 non - v [ substring ] among ( 's' ( delete ) ) )
 #[test]
 fn the_canonical_text_is_read_as_the_script(rt: HostRuntime) -> Result<(), Fail> {
     for text in [LOOSE, CANONICAL] {
-        let script = parsed(rt.alloc(), text)?;
+        let script = parse_text(rt.alloc(), text)?;
         let text = print_and_drop(rt.alloc(), script)?;
         assert_eq!(rt; text.as_str(), CANONICAL);
     }
@@ -82,7 +82,7 @@ fn a_tree_is_of_public_types(rt: HostRuntime) -> Result<(), Fail> {
     let alloc = rt.alloc();
     let text =
         "groupings ( v ) externals ( stem ) define v 'ab' + 'c' define stem as among ( 'a' () 'b' () )";
-    let script = parsed(alloc, text)?;
+    let script = parse_text(alloc, text)?;
     let shown = tree_text(alloc, script.items());
     drop(script);
     assert_eq!(rt; shown?.as_str(), "item;item;v of 2;among of 2;");
@@ -90,89 +90,84 @@ fn a_tree_is_of_public_types(rt: HostRuntime) -> Result<(), Fail> {
     Ok(())
 }
 
-/// Bodies, and the fault of the script that runs each. Its text begins at byte 34.
-const BODIES: &[(&str, ScriptFault)] = &[
-    ("'ab", ScriptFault::UnclosedString { place: 34 }),
-    ("( get )", ScriptFault::OutOfProfile { place: 36 }),
-    ("( next next", ScriptFault::Syntax { place: 45 }),
-    ("'a' 'b'", ScriptFault::Syntax { place: 38 }),
-    ("( $x 3 )", ScriptFault::OutOfProfile { place: 36 }),
-    (
-        "((((((((((((((((((((((((((((((((((((((((((((((((((((((((((((((((next))))))))))))))))))))))))))))))))))))))))))))))))))))))))))))))))",
-        ScriptFault::TooDeep { place: 98 },
-    ),
-    ("nowhere", ScriptFault::Undeclared { item: 2 }),
-    ("set stem", ScriptFault::WrongKind { item: 2 }),
-    (
-        "next define stem as next",
-        ScriptFault::DefinedTwice { item: 3 },
-    ),
-    ("substring", ScriptFault::Substring { item: 2 }),
-    (
-        "( substring among ( ( next ) 'a' ) )",
-        ScriptFault::Starter { item: 2 },
-    ),
-    (
-        "among ( 'a' 'b' ( next ) 'a' )",
-        ScriptFault::RepeatedString { item: 2 },
-    ),
-    ("among ( )", ScriptFault::EmptyAmong { item: 2 }),
-    (
-        "backwards ( backwards next )",
-        ScriptFault::NestedBackwards { item: 2 },
-    ),
-];
+/// A body, and the fault of the script that runs it. Its text begins at byte 34.
+const BODIES: &str = "'ab|2 UnclosedString at 34
+( get )|20 OutOfProfile at 36
+( next next|7 Syntax at 45
+'a' 'b'|7 Syntax at 38
+( $x 3 )|20 OutOfProfile at 36
+((((((((((((((((((((((((((((((((((((((((((((((((((((((((((((((((next))))))))))))))))))))))))))))))))))))))))))))))))))))))))))))))))|8 TooDeep at 98
+nowhere|10 Undeclared in item 2
+set stem|11 WrongKind in item 2
+next define stem as next|12 DefinedTwice in item 3
+substring|15 Substring in item 2
+( substring among ( ( next ) 'a' ) )|16 Starter in item 2
+among ( 'a' 'b' ( next ) 'a' )|17 RepeatedString in item 2
+among ( )|18 EmptyAmong in item 2
+backwards ( backwards next )|19 NestedBackwards in item 2
+next|";
+
+/// A script, and its fault.
+const SCRIPTS: &str = "PLURALS|
+externals ( stem ) routines ( stem )|9 DeclaredTwice in item 2
+routines ( r ) externals ( stem ) define stem as r|13 Undefined in item 3
+routines ( r ) externals ( stem ) backwardmode ( define r as next ) define stem as r|14 WrongMode in item 4
+externals ( stem )|21 NoExternal";
 
 #[test]
-fn a_body_is_refused_with_its_fault(rt: HostRuntime) -> Result<(), Fail> {
-    for (body, want) in BODIES {
-        let fault = fault_of(body_parsed(rt.alloc(), body));
-        assert_eq!(rt; fault, Some(*want), "{body}");
-    }
-    Ok(())
-}
-
-/// Scripts, and their faults.
-const SCRIPTS: &[(&str, Option<ScriptFault>)] = &[
-    (PLURALS, None),
-    (
-        "externals ( stem ) routines ( stem )",
-        Some(ScriptFault::DeclaredTwice { item: 2 }),
-    ),
-    (
-        "routines ( r ) externals ( stem ) define stem as r",
-        Some(ScriptFault::Undefined { item: 3 }),
-    ),
-    (
-        "routines ( r ) externals ( stem ) backwardmode ( define r as next ) define stem as r",
-        Some(ScriptFault::WrongMode { item: 4 }),
-    ),
-    ("externals ( stem )", Some(ScriptFault::NoExternal)),
-];
-
-#[test]
-fn a_script_is_refused_with_its_fault(rt: HostRuntime) -> Result<(), Fail> {
+fn a_script_is_accepted_or_refused_with_its_fault(rt: HostRuntime) -> Result<(), Fail> {
     let alloc = rt.alloc();
-    for (text, want) in SCRIPTS {
-        assert_eq!(rt; fault_of(parsed(alloc, text)), *want, "{text}");
+    for row in BODIES.split('\n') {
+        let fault = fault_text(alloc, parse_body(alloc, field(row, 0)))?;
+        assert!(rt; fault.as_str() == field(row, 1), "{row}");
     }
-    let fault = fault_of(Script::parse(alloc, &[255], "stem"));
-    assert_eq!(rt; fault, Some(ScriptFault::NotUtf8));
-    let long = vec![in alloc; b' '; 1_048_577]?;
-    let fault = fault_of(Script::parse(alloc, &long, "stem"));
-    assert_eq!(rt; fault, Some(ScriptFault::ScriptTooLong));
+    for row in SCRIPTS.split('\n') {
+        let fault = fault_text(alloc, parse_text(alloc, field(row, 0)))?;
+        assert!(rt; fault.as_str() == field(row, 1), "{row}");
+    }
     Ok(())
 }
 
 #[test]
-fn the_faults_of_a_script_are_displayed(rt: HostRuntime) -> Result<(), Fail> {
+fn bytes_are_a_text_that_is_not_too_long(rt: HostRuntime) -> Result<(), Fail> {
+    let alloc = rt.alloc();
+    let fault = fault_text(alloc, Script::parse(alloc, &[255], "stem"))?;
+    assert_eq!(rt; fault.as_str(), "23 NotUtf8");
+    let long = vec![in alloc; b' '; 1_048_577]?;
+    let fault = fault_text(alloc, Script::parse(alloc, &long, "stem"))?;
+    assert_eq!(rt; fault.as_str(), "24 ScriptTooLong");
+    Ok(())
+}
+
+#[test]
+fn the_faults_of_a_script_have_a_place_or_an_item(rt: HostRuntime) -> Result<(), Fail> {
     let faults = [
         ScriptFault::Syntax { place: 7 },
-        ScriptFault::WrongMode { item: 6 },
+        ScriptFault::TooDeep { place: 8 },
+        ScriptFault::OutOfProfile { place: 20 },
         ScriptFault::NoExternal,
+        ScriptFault::NotUtf8,
+        ScriptFault::ScriptTooLong,
         ScriptFault::OutOfMemory,
     ];
-    let want = "7 Syntax at 7;14 WrongMode in item 6;21 NoExternal;49 OutOfMemory;";
+    let want =
+        "7 Syntax at 7;8 TooDeep at 8;20 OutOfProfile at 20;21 NoExternal;23 NotUtf8;24 ScriptTooLong;49 OutOfMemory;";
+    assert_eq!(rt; displays(rt.alloc(), &faults)?.as_str(), want);
+    let faults = [
+        ScriptFault::DeclaredTwice { item: 1 },
+        ScriptFault::Undeclared { item: 1 },
+        ScriptFault::WrongKind { item: 1 },
+        ScriptFault::DefinedTwice { item: 1 },
+        ScriptFault::Undefined { item: 1 },
+        ScriptFault::WrongMode { item: 1 },
+        ScriptFault::Substring { item: 1 },
+        ScriptFault::Starter { item: 1 },
+        ScriptFault::RepeatedString { item: 1 },
+        ScriptFault::EmptyAmong { item: 1 },
+        ScriptFault::NestedBackwards { item: 1 },
+    ];
+    let want =
+        "9 DeclaredTwice in item 1;10 Undeclared in item 1;11 WrongKind in item 1;12 DefinedTwice in item 1;13 Undefined in item 1;14 WrongMode in item 1;15 Substring in item 1;16 Starter in item 1;17 RepeatedString in item 1;18 EmptyAmong in item 1;19 NestedBackwards in item 1;";
     assert_eq!(rt; displays(rt.alloc(), &faults)?.as_str(), want);
     Ok(())
 }

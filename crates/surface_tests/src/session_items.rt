@@ -1,10 +1,11 @@
 //! snowbench: lines, sessions, checks, and why they end early.
 
-use crate::common::{PREFIXES, displays, parsed};
+use crate::common::{PREFIXES, displays, field_lines, parse_text};
 use crate::device_items::{Single, Slow};
 use sbl_bench::EditFault;
-use sbl_script::ScriptFault;
-use snowbench::{Device, Lines, LoadFault, ServeFault, Sink, Source, check, load, serve};
+use snowbench::{
+    Device, Lines, LoadFault, ScriptFault, ServeFault, Sink, Source, check, load, serve,
+};
 use std::alloc::Global;
 use std::process::Abort;
 use std::test::Fail;
@@ -15,7 +16,7 @@ fn session_of(alloc: Global, commands: &str) -> Result<String, Fail> {
 }
 
 /// Serves a bench over lines.
-fn served<R: Source + Drop, W: Sink>(
+fn serve_lines<R: Source + Drop, W: Sink>(
     lines: &mut Lines<R>,
     writer: &mut W,
 ) -> Result<(), LoadFault> {
@@ -38,50 +39,46 @@ fn with_ending(
 }
 
 /// What a session writes, by devices of std.
-fn written(alloc: Global, input: &[u8]) -> Result<Vec<u8>, Fail> {
+fn session_text(alloc: Global, input: &[u8]) -> Result<Vec<u8>, Fail> {
     let mut text = Vec::new(alloc);
     let mut lines = Lines::new(alloc, Device::new(input))?;
-    let ending = served(&mut lines, &mut Device::new(&mut text));
+    let ending = serve_lines(&mut lines, &mut Device::new(&mut text));
     with_ending(alloc, text, ending)
 }
 
 /// The same, by devices that take one byte at a time, and by so many reads.
-fn written_slowly(alloc: Global, input: &[u8], most: u64) -> Result<Vec<u8>, Fail> {
+fn slow_text(alloc: Global, input: &[u8], most: u64) -> Result<Vec<u8>, Fail> {
     let mut text = Vec::new(alloc);
     let mut lines = Lines::with_reads(alloc, Single::new(Device::new(input)), most)?;
-    let ending = served(&mut lines, &mut Slow::new(Device::new(&mut text)));
+    let ending = serve_lines(&mut lines, &mut Slow::new(Device::new(&mut text)));
     with_ending(alloc, text, ending)
 }
 
-/// Commands of a session, and what it writes.
-const SESSIONS: &[(&str, &str)] = &[
-    (
-        "add undo\nadd redo\nstems\n",
-        "ok\nok\nundo,stem,do\nredo,stem,do\n",
-    ),
-    (
-        "add dog\nadd dog\nadd\nclasses\nruns",
-        "ok\nno 40 Present\nno 42 EmptyWord\ndog,dog\n1\n",
-    ),
-    (
-        "add red\nroutine stem\ntrue\n.\ntrace red\nclass red\nremove red\nlimit x\nnothing\n",
-        "ok\nok\nroutine,stem\nred,red\nok\nno 51 BadLimit\nno 52 BadCommand\n",
-    ),
-    ("add red\nroutine stem\ntrue\n", "ok\n73 Cut"),
-];
+/// Commands of a session, and what it writes, with its fault at the end if there is one.
+const SESSIONS: &str = "add undo¶add redo¶stems¶|ok¶ok¶undo,stem,do¶redo,stem,do¶
+add dog¶add dog¶add¶classes¶runs|ok¶no 40 Present¶no 42 EmptyWord¶dog,dog¶1¶
+add red¶routine stem¶true¶.¶trace red¶class red¶remove red¶limit x¶nothing¶|ok¶ok¶routine,stem¶red,red¶ok¶no 51 BadLimit¶no 52 BadCommand¶
+add red¶among stem 1¶among ( 'r' () )¶.¶stems¶grouping g¶.¶script¶|ok¶ok¶red,stem,ed¶no 53 NoGrouping¶externals ( stem )¶define stem as ( [ among ( 'r' ( ) ) ] delete )¶
+add red¶routine stem¶true¶|ok¶73 Cut";
 
 #[test]
 fn a_session_is_served(rt: HostRuntime) -> Result<(), Fail> {
     let alloc = rt.alloc();
-    for (commands, want) in SESSIONS {
-        let input = session_of(alloc, commands)?;
-        let text = written(alloc, input.as_bytes())?;
-        assert!(rt; text.as_slice() == want.as_bytes(), "{commands}");
-        let text = written_slowly(alloc, input.as_bytes(), 1_000)?;
-        assert!(rt; text.as_slice() == want.as_bytes(), "{commands}");
+    for row in SESSIONS.split('\n') {
+        let input = session_of(alloc, field_lines(alloc, row, 0)?.as_str())?;
+        let want = field_lines(alloc, row, 1)?;
+        let text = session_text(alloc, input.as_bytes())?;
+        assert!(rt; text.as_slice() == want.as_bytes(), "{row}");
+        let text = slow_text(alloc, input.as_bytes(), 1_000)?;
+        assert!(rt; text.as_slice() == want.as_bytes(), "{row}");
     }
-    let input = session_of(alloc, "stems\n")?;
-    let text = written_slowly(alloc, input.as_bytes(), 10)?;
+    Ok(())
+}
+
+#[test]
+fn a_reader_is_read_so_often(rt: HostRuntime) -> Result<(), Fail> {
+    let input = session_of(rt.alloc(), "stems\n")?;
+    let text = slow_text(rt.alloc(), input.as_bytes(), 10)?;
     assert!(rt; text.as_slice() == b"70 Read".as_slice());
     Ok(())
 }
@@ -90,7 +87,7 @@ fn a_session_is_served(rt: HostRuntime) -> Result<(), Fail> {
 fn fault_without_room(alloc: Global, input: &[u8]) -> Result<Option<LoadFault>, Fail> {
     let mut room = [0; 3];
     let mut lines = Lines::new(alloc, Device::new(input))?;
-    let ending = served(&mut lines, &mut Device::new(room.as_mut_slice()));
+    let ending = serve_lines(&mut lines, &mut Device::new(room.as_mut_slice()));
     Ok(ending.err())
 }
 
@@ -108,7 +105,7 @@ fn a_line_may_be_too_long(rt: HostRuntime) -> Result<(), Fail> {
     for _ in 0..65_537 {
         input.push('a')?;
     }
-    let text = written(rt.alloc(), input.as_bytes())?;
+    let text = session_text(rt.alloc(), input.as_bytes())?;
     assert!(rt; text.as_slice() == b"ok\n72 LineTooLong".as_slice());
     Ok(())
 }
@@ -147,27 +144,18 @@ fn a_bench_is_not_loaded(rt: HostRuntime) -> Result<(), Fail> {
     Ok(())
 }
 
-/// Words, expected stems, the result, and what is written.
-const CHECKS: &[(&str, &str, Result<u64, ServeFault>, &str)] = &[
-    ("undo\ndo\n", "do\ndo\n", Ok(0), ""),
-    ("undo\ndo\n", "do\nda\n", Ok(1), "2,do,da,do\n"),
-    (
-        "undo\ndo\n",
-        "do\nda\nx\n",
-        Err(ServeFault::LengthsDiffer),
-        "2,do,da,do\n",
-    ),
-];
+/// Words, expected stems, what is written, and then the number of differences or the fault.
+const CHECKS: &str = "undo¶do¶|do¶do¶|0
+undo¶do¶|do¶da¶|2,do,da,do¶1
+undo¶do¶|do¶da¶x¶|2,do,da,do¶74 LengthsDiffer
+a¶|a¶b¶|74 LengthsDiffer";
 
-/// Checks lists.
-fn checked(
-    alloc: Global,
-    words: &str,
-    expected: &str,
-) -> Result<(Result<u64, ServeFault>, Vec<u8>), Fail> {
+/// Checks the lists of a row.
+fn check_lists(alloc: Global, row: &str) -> Result<Vec<u8>, Fail> {
+    let (words, expected) = (field_lines(alloc, row, 0)?, field_lines(alloc, row, 1)?);
     let mut text = Vec::new(alloc);
-    let script = parsed(alloc, PREFIXES)?;
     let mut writer = Device::new(&mut text);
+    let script = parse_text(alloc, "PREFIXES")?;
     let result = check(
         alloc,
         &script,
@@ -176,15 +164,22 @@ fn checked(
         &mut writer,
     );
     drop(script);
-    Ok((result, text))
+    let result: String = match result {
+        Ok(differences) => format!(in alloc; "{differences}")?,
+        Err(fault) => format!(in alloc; "{fault}")?,
+    };
+    text.extend_from_slice(result.as_bytes())?;
+    Ok(text)
 }
 
 #[test]
 fn a_check_counts_differences(rt: HostRuntime) -> Result<(), Fail> {
-    for (words, expected, want, rows) in CHECKS {
-        let (result, text) = checked(rt.alloc(), words, expected)?;
-        assert_eq!(rt; result, *want);
-        assert!(rt; text.as_slice() == rows.as_bytes(), "{rows}");
+    for row in CHECKS.split('\n') {
+        let want = field_lines(rt.alloc(), row, 2)?;
+        assert!(rt;
+            check_lists(rt.alloc(), row)?.as_slice() == want.as_bytes(),
+            "{row}"
+        );
     }
     Ok(())
 }

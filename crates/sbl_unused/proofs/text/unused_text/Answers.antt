@@ -1,13 +1,13 @@
-use Rattle.std.proofs.Common.{◌≡◌, ◌∙◌, ◌++◌, List, ℕ, ap, subst, sym}
+use Rattle.std.proofs.Common.{◌≡◌, ◌∙◌, ◌++◌, [], List, ℕ, ap, subst, sym}
 use Rattle.std.specs.Borrow.{Bor}
 use Rattle.std.specs.List.{flat_map}
 use Rattle.sbl_bench.specs.KeptRuns.{setting_of}
 use Rattle.sbl_io.specs.Records.{records_text}
+use Rattle.sbl_io.specs.Reports.{HasText}
 use Rattle.sbl_script.specs.ParsedScript.{ParsedScript, source_of}
 use Rattle.sbl_unused.specs.Parts.{Part, parts_of}
 use Rattle.sbl_unused.specs.Unused.{entry_rows, item_rows, unused_text}
 use Rattle.sbl_unused.specs.Views.{HasMet, HasTaken, texts_of, view_parts}
-use Rattle.sbl_unused.proofs.Lines.{both_texts}
 use Rattle.sbl_unused.proofs.text.unused_text.Goals as goal
 
 pub returns : goal.returns
@@ -20,10 +20,6 @@ returns c =
     let met : HasMet s words c.in_ok-met.met = c.in_ok-met.ensures are in
     let taken : HasTaken s words c.in_ok-taken.taken = subst (λ (ws : List (List ℕ)). HasTaken s ws c.in_ok-taken.taken) also c.in_ok-taken.ensures in
     let parts : view_parts c.in_ok-parts.parts.entries ≡ parts_of s.script = c.in_ok-parts.ensures ∙ ap (λ (p : ParsedScript). parts_of (source_of p)) c.script.ensures in
-    let items = λ (ps : List Part). flat_map (λ (p : Part). item_rows s words p.0) ps in
-    let entries = λ (ps : List Part). flat_map (entry_rows s words) ps in
-    c.in_ok-push_entries.ensures s words met taken
-    ∙ ap (λ (t : List ℕ). t ++ records_text (entries (view_parts c.in_ok-parts.parts.entries)))
-    (c.in_ok-push_items.ensures s words met ∙ ap (λ (t : List ℕ). t ++ records_text (items (view_parts c.in_ok-parts.parts.entries))) c.new-out.ensures.items)
-    ∙ sym (both_texts (items (view_parts c.in_ok-parts.parts.entries)) (entries (view_parts c.in_ok-parts.parts.entries)))
-    ∙ ap (λ (ps : List Part). records_text (items ps ++ entries ps)) parts
+    let rows = λ (ps : List Part). records_text (flat_map (λ (p : Part). item_rows s words p.0) ps ++ flat_map (entry_rows s words) ps) in
+    let text : HasText c.push_rows-2.new.out (rows (view_parts c.in_ok-parts.parts.entries)) = c.in_ok-push_rows-2.ensures s words met taken [] c.in_ok-out.ensures.text in
+    c.into_bytes.ensures (rows (view_parts c.in_ok-parts.parts.entries)) text ∙ ap rows parts

@@ -1,6 +1,6 @@
 use Rattle.std.specs.Str.{chars}
 use Rattle.sbl_bench.specs.KeptRuns.{contents_of}
-use Rattle.sbl_work.specs.Commands.{Echo, Integers, Largest, Saved, Show, Stats, Unused, Why, alone_command, count_in, families_in_file, with_file}
+use Rattle.sbl_work.specs.Commands.{Echo, Integers, Largest, Saved, Show, Stats, Unused, Why, alone_command, append_command, count_in, families_in_file, with_file}
 use Rattle.sbl_history.specs.Desks.{state_of}
 use Rattle.sbl_work.specs.ReplyViews.{view_file}
 use Rattle.sbl_work.proofs.ReplyFacts.{same_command}
@@ -53,6 +53,12 @@ returns-in-Save c =
     let s = contents_of c.args.bench.now in
     let d = state_of c.args.desk.now in
     same_command s s d d (with_file (λ bytes. Saved) (view_file c.args.file)) (alone_command (view_file c.args.file) c.args.line.now) c.save_reply.result (c.in-Save.ensures (view_file c.args.file)) (c.save_reply.ensures d)
+
+pub returns-in-Append : goal.returns-in-Append
+returns-in-Append c =
+    let s = contents_of c.args.bench.now in
+    let d = state_of c.args.desk.now in
+    same_command s s d d (with_file append_command (view_file c.args.file)) (alone_command (view_file c.args.file) c.args.line.now) c.append_reply.result (c.in-Append.ensures (view_file c.args.file)) (c.append_reply.ensures d)
 
 pub returns-in-Echo : goal.returns-in-Echo
 returns-in-Echo c =

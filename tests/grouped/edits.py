@@ -1,0 +1,131 @@
+"""Wrong bodies and controls: edits of a crate, and which functions each one changes."""
+from __future__ import annotations
+
+import os
+from dataclasses import dataclass, field
+
+from kit import Kit
+from sources import Function, functions_of
+
+
+@dataclass(frozen=True)
+class Span:
+    """A text of a file that an edit replaces: its offsets, and the new text."""
+
+    file: str
+    start: int
+    end: int
+    new: str
+
+
+@dataclass
+class Edit:
+    """An edit of a crate."""
+
+    crate: str
+    name: str
+    # A control means the same as the code, so that it must not be refused.
+    is_control: bool
+    # The texts of the files with this edit alone.
+    texts: dict[str, str]
+    # Why it cannot be applied, or an empty text.
+    misfit: str = ""
+    spans: list[Span] = field(default_factory=list)
+    # Why it cannot be tried together with others, or an empty text.
+    alone: str = ""
+    # The functions that it changes, and their paths as a check names them.
+    functions: list[Function] = field(default_factory=list)
+    paths: list[str] = field(default_factory=list)
+
+    @property
+    def label(self) -> str:
+        return f"{self.crate}/{'controls/' if self.is_control else ''}{self.name}"
+
+
+class Sources:
+    """The files of a crate as they are, and their functions."""
+
+    def __init__(self, folder: str) -> None:
+        self.folder = folder
+        self.texts: dict[str, str] = {}
+        self.functions: dict[str, list[Function]] = {}
+
+    def text(self, file: str) -> str:
+        if file not in self.texts:
+            with open(f"{self.folder}/{file}", encoding="utf-8") as it:
+                self.texts[file] = it.read()
+        return self.texts[file]
+
+    def functions_in(self, file: str) -> list[Function]:
+        if file not in self.functions:
+            self.functions[file] = functions_of(file, self.text(file))
+        return self.functions[file]
+
+    def with_spans(self, spans: list[Span]) -> dict[str, str]:
+        """Returns the texts of the files of these spans, with each span replaced."""
+        texts: dict[str, str] = {}
+        for span in sorted(spans, key=lambda it: (it.file, -it.start)):
+            text = texts.get(span.file, self.text(span.file))
+            texts[span.file] = text[: span.start] + span.new + text[span.end :]
+        return texts
+
+
+def pairs_of(text: str) -> list[tuple[str, str, str]]:
+    """Returns the pairs of an edit: the file, the old text and the new one."""
+    found, file, old = [], "", ""
+    for line in text.split("\n"):
+        if line.startswith("file: "):
+            file = line[len("file: ") :].strip()
+        elif line.startswith("old: "):
+            old = line[len("old: ") :]
+        elif line.startswith("new:"):
+            found.append((file, old, line[len("new:") :].removeprefix(" ")))
+    return found
+
+
+def read_edit(kit: Kit, sources: Sources, crate: str, file: str, is_control: bool = False) -> Edit:
+    """Reads an edit, and finds the texts that it replaces."""
+    texts, why = kit.read_edit(file, crate)
+    edit = Edit(crate, os.path.basename(file)[: -len(".edit")], is_control, texts or {}, why)
+    if why:
+        return edit
+    with open(file, encoding="utf-8") as it:
+        pairs = pairs_of(it.read())
+    for path, old, new in pairs:
+        text = sources.text(path)
+        if text.count(old) != 1:
+            edit.alone = "its pairs build on one another"
+            return edit
+        at = text.index(old)
+        edit.spans.append(Span(path, at, at + len(old), new))
+    return edit
+
+
+def find_functions(edit: Edit, sources: Sources) -> None:
+    """Finds the functions whose bodies the edit changes; an edit of another text is to be tried alone."""
+    for span in edit.spans:
+        if not span.file.startswith("src/"):
+            edit.alone = f"it changes {span.file}"
+            return
+        inside = [it for it in sources.functions_in(span.file) if it.body < span.start and span.end <= it.end]
+        if not inside:
+            edit.alone = "it changes a text outside of bodies"
+            return
+        if inside[0] not in edit.functions:
+            edit.functions.append(inside[0])
+
+
+def find_paths(edit: Edit, proved: list[str]) -> None:
+    """Finds the paths of the edit's functions among those that a check proved."""
+    for function in edit.functions:
+        path = function.path_among(edit.crate, proved)
+        if not path:
+            edit.alone = f"the check names no function, or several, for {function.name}"
+            return
+        edit.paths.append(path)
+
+
+def edit_files(folder: str) -> list[str]:
+    """Returns the files of edits in this folder, in the order of their names."""
+    names = sorted(os.listdir(folder)) if os.path.isdir(folder) else []
+    return [f"{folder}/{it}" for it in names if it.endswith(".edit")]

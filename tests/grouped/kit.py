@@ -1,0 +1,124 @@
+"""What this uses of the kit: the crates of a checkout, how `rt` reads an edit, and one check of a crate with other texts."""
+from __future__ import annotations
+
+import importlib.machinery
+import importlib.util
+import os
+import re
+import shutil
+import subprocess
+import sys
+import tempfile
+from dataclasses import dataclass
+from types import ModuleType
+
+ERROR = re.compile(r"\berror\[[\w-]+\]")
+
+
+def load_rt() -> ModuleType:
+    """Returns the command `rt` as a module."""
+    page = subprocess.run(["rt", "doc"], stdout=subprocess.PIPE, check=True, text=True).stdout.strip()
+    folder = f"{os.path.dirname(page)}/bin"
+    sys.path.insert(0, folder)
+    loader = importlib.machinery.SourceFileLoader("rt", f"{folder}/rt")
+    module = importlib.util.module_from_spec(importlib.util.spec_from_loader("rt", loader))
+    sys.modules["rt"] = module
+    loader.exec_module(module)
+    return module
+
+
+def messages_of(said: str) -> list[str]:
+    """Returns the messages of a check, each with its further lines in one: antt breaks a long one in the middle of a sentence."""
+    found: list[str] = []
+    for line in said.rstrip("\n").split("\n"):
+        if line.startswith("  ") and found:
+            found[-1] += " " + line.strip()
+        else:
+            found.append(line)
+    return found
+
+
+@dataclass(frozen=True)
+class Check:
+    """How a check ended, and its messages."""
+
+    status: int
+    said: list[str]
+
+    @property
+    def is_refusal(self) -> bool:
+        """Whether the prover came to its end and did not prove all."""
+        return self.status == 1 and self.said[-1].startswith(("logic=not-proved", "only="))
+
+    def error(self) -> str:
+        """Returns the first error of the compiler, or an empty text."""
+        return next((it for it in self.said if ERROR.search(it)), "") if self.status == 1 else ""
+
+
+class Kit:
+    """The command `rt`, over the crates of one checkout."""
+
+    def __init__(self, top: str) -> None:
+        self.rt = load_rt()
+        os.chdir(top)
+        self.crates = {it.name: it for it in self.rt.rtlib.crates_below(os.getcwd())}
+        self.rt.rtlib.guarded()
+
+    def folder(self, crate: str) -> str:
+        return self.crates[crate].folder
+
+    def read_edit(self, file: str, crate: str) -> tuple[dict[str, str] | None, str]:
+        """Returns the texts of the files that an edit changes, or none and why it cannot be applied."""
+        texts, why = self.rt.read_edit(file, self.folder(crate))
+        return texts, why or ""
+
+    def unread_message(self, check: Check, texts: dict[str, str]) -> str:
+        """Returns the first message that says that the prover could not read an edited text, or an empty text."""
+        return next((it for it in check.said if self.rt.unread(it, texts)), "")
+
+    def limit_message(self, check: Check) -> str:
+        """Returns the message by which the prover stopped at a limit of its own, or an empty text."""
+        return next((it for it in check.said if check.status == 3 and self.rt.LIMITS.search(it)), "")
+
+    def check(self, crate: str, texts: dict[str, str], seed: str | None, only: list[str] | None = None) -> Check:
+        """Checks the crate with these texts, over a copy of what the seed keeps; or only these functions."""
+        words = ["--jobs", "1"]
+        for path in only or []:
+            words += ["--only", path]
+        with tempfile.TemporaryDirectory(prefix=f"grouped-{os.getpid()}-") as room:
+            over = f"{room}/over" if seed else None
+            if seed:
+                self.rt.linked(seed, over)
+            ran = self.rt.checked(self.crates[crate], texts, words, over)
+            if ran.returncode < 0:
+                # It was killed, most likely for memory.
+                ran = self.rt.checked(self.crates[crate], texts, words, over)
+        return Check(ran.returncode, messages_of(ran.stdout))
+
+    def prove(self, crate: str, seed: str) -> Check:
+        """Checks the crate as it is, and keeps in the seed what was proved."""
+        os.makedirs(seed, exist_ok=True)
+        ran = self.rt.checked(self.crates[crate], {}, ["--jobs", "1"], seed)
+        return Check(ran.returncode, messages_of(ran.stdout))
+
+    def take_libraries(self, crates: set[str]) -> str:
+        """Gives the libraries below these crates to the checkout: those that are built there, or else those that rt ci has kept on this
+        machine. Returns the name of the first one that is neither, or an empty text."""
+        below = {dep for it in crates for dep in self.crates[it].below()}
+        if all(it.is_built() for it in below):
+            return ""
+        kept = self.rt.Kept(list(self.crates.values()))
+        for it in sorted(below, key=lambda it: len(it.below())):
+            shutil.rmtree(f"{it.folder}/out", ignore_errors=True)
+            if not kept.give(it, False, kept.key(it)):
+                return it.name
+            kept.is_built(it)
+        return ""
+
+    def compiles(self, crate: str, texts: dict[str, str]) -> Check:
+        """Reads and compiles the crate with these texts, and proves nothing."""
+        return self.check(crate, texts, None, [""])
+
+    def files(self, folder: str) -> dict[str, tuple[int, int, int]]:
+        """Returns what tells whether a file of the folder was changed, lost or added."""
+        return self.rt.listing(folder)

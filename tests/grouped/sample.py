@@ -1,0 +1,85 @@
+"""A choice of edits by the checksum of a commit. Each is tried in a check of the functions that it changes, from nothing.
+
+Such a check needs the libraries below its crate, as rt ci has proved and kept them on this machine, and nothing else. It says nothing of
+the other functions of the crate: these rt ci has proved.
+"""
+from __future__ import annotations
+
+import hashlib
+from concurrent.futures import ThreadPoolExecutor
+
+from edits import Edit, Sources, find_functions
+from judging import Kind, Verdict, judge
+from kit import Kit
+from sources import module_of
+from trial import changes_of, verdict_of
+
+
+def choose(edits: list[Edit], number: int, commit: str) -> list[Edit]:
+    """Returns so many of the edits, the same ones for the same commit."""
+    order = sorted(edits, key=lambda it: hashlib.sha256(f"{commit} {it.label}".encode()).hexdigest())
+    return order[:number]
+
+
+def name_paths(edit: Edit) -> None:
+    """Names the functions of an edit as a check does."""
+    for it in edit.functions:
+        owner = f"::{it.owner}" if it.owner else ""
+        edit.paths.append(f"{edit.crate}{module_of(it.file)}{owner}::{it.name}")
+
+
+def groups_by_crate(edits: list[Edit]) -> list[list[Edit]]:
+    """Puts edits of one crate together, no two of one function."""
+    groups: list[list[Edit]] = []
+    for edit in edits:
+        for group in groups:
+            if group[0].crate == edit.crate and not any(set(it.paths) & set(edit.paths) for it in group):
+                group.append(edit)
+                break
+        else:
+            groups.append([edit])
+    return groups
+
+
+class Sample:
+    """Edits of bodies, of crates that are proved. Edits of other texts are left to a whole check."""
+
+    def __init__(self, kit: Kit, sources: dict[str, Sources], edits: list[Edit]) -> None:
+        self.kit, self.sources = kit, sources
+        self.edits = []
+        for edit in edits:
+            if not edit.misfit and not edit.alone:
+                find_functions(edit, sources[edit.crate])
+            if not edit.misfit and not edit.alone:
+                name_paths(edit)
+                self.edits.append(edit)
+
+    def run(self, number: int, commit: str, jobs: int) -> list[tuple[Edit, Verdict]]:
+        """Tries so many edits, and returns what is said of each."""
+        edits = choose(self.edits, number, commit)
+        missing = self.kit.take_libraries({it.crate for it in edits})
+        if missing:
+            return [(it, Verdict(Kind.UNKNOWN, f"{missing} is not proved here: run rt ci first")) for it in edits]
+        with ThreadPoolExecutor(jobs) as pool:
+            return [it for found in pool.map(self.try_group, groups_by_crate(edits)) for it in found]
+
+    def try_group(self, edits: list[Edit]) -> list[tuple[Edit, Verdict]]:
+        """Tries edits of one crate in one check, and alone what that does not settle."""
+        if len(edits) == 1:
+            return [(edits[0], self.try_alone(edits[0]))]
+        crate, paths = edits[0].crate, [path for it in edits for path in it.paths]
+        texts = self.sources[crate].with_spans([span for it in edits for span in it.spans])
+        ran = self.kit.check(crate, texts, None, paths)
+        found = []
+        for edit in edits:
+            verdict = judge(changes_of(edit), ran.said) if ran.is_refusal and not self.kit.unread_message(ran, texts) else None
+            is_settled = verdict and verdict.kind in (Kind.REFUSED, Kind.RENAMED, Kind.FORM)
+            found.append((edit, verdict if is_settled else self.try_alone(edit)))
+        return found
+
+    def try_alone(self, edit: Edit) -> Verdict:
+        """Tries one edit alone."""
+        ran = self.kit.check(edit.crate, edit.texts, None, edit.paths)
+        if ran.said[-1].startswith("only=0"):
+            return Verdict(Kind.UNKNOWN, f"the check names no function {', '.join(edit.paths)}")
+        return verdict_of(self.kit, edit, ran)
