@@ -1,7 +1,7 @@
 -- The tokens of a part are tokens of the text, one after another, and their range is in the text.
-use Rattle.std.proofs.Common.{◌≡◌, ◌∙◌, ◌++◌, ◌≤◌, ◌<◌, ◌+◌, ◌-◌, ℕ, suc, Bool, true, false, ◌&&◌, List, [], ◌∷◌, Option, Some, None, length, drop, map, get_or, refl, sym, ap, subst, arith}
-use Rattle.std.specs.Prelude.{if◌then◌else◌, nat_eq, nat_le, take, slice_get, option_and_then, IfSome}
-use Rattle.std.proofs.lemmas.Option.{slice_get-get_or}
+use Rattle.std.proofs.Common.{◌≡◌, ◌∙◌, ◌++◌, ◌≤◌, ◌<◌, ◌+◌, ◌-◌, ℕ, suc, Bool, true, false, ◌&&◌, List, [], ◌∷◌, Option, Some, None, length, drop, map, refl, sym, ap, subst, inl, arith}
+use Rattle.std.specs.Prelude.{not, zero, if◌then◌else◌, nat_eq, nat_le, take, slice_get, option_and_then, IfSome}
+use Rattle.std.proofs.lemmas.List.{length-map, take-map}
 use Rattle.std.specs.Option.{option_map, option_or}
 use Rattle.std.specs.Str.{bytes_eq, chars, IsUtf8}
 use Rattle.std.proofs.lemmas.Str.{encodes-chars}
@@ -9,11 +9,12 @@ use Rattle.sbl_token.specs.declared.token.Token.{Token}
 use Rattle.sbl_token.specs.Lexemes.{Lexeme}
 use Rattle.sbl_text.specs.Directives.{Directives}
 use Rattle.sbl_text.specs.Literals.{byte_length}
-use Rattle.sbl_text.specs.Tokens.{AreCut, ArePlaced, Piece, PlacedToken, placed_from, placed_of, put_placed}
+use Rattle.sbl_text.specs.Tokens.{AreCut, ArePlaced, Piece, PlacedToken, after_piece, placed_from, placed_of, put_placed}
 use Rattle.sbl_text.proofs.Lists.{bytes_append}
 use Rattle.sbl_script.specs.Edits.{ScriptEdit, among, body, terms}
 use Rattle.sbl_source_map.specs.SubjectTokens.{is_among}
-use Rattle.sbl_source_map.specs.PartTokens.{after_first_head, after_head, closes, definition_tokens, depth_after, ends_item, from_among, is_as, is_define, last_end, part_tokens, until_closed, until_end}
+use Rattle.sbl_source_map.specs.declared.parts.Excerpt.{Excerpt}
+use Rattle.sbl_source_map.specs.PartTokens.{IsCutAtPart, IsCutAtRange, after_first_head, after_head, closes, definition_tokens, depth_after, ends_item, from_among, is_as, is_define, last_end, part_tokens, range_of, until_closed, until_end}
 use Rattle.sbl_source_map.specs.Walks.{InOrder}
 
 -- ---- prefixes
@@ -35,6 +36,13 @@ until_closed_prefix depth (t ∷ ts) = by (closes t.lexeme && nat_le depth 1) (u
         → take (length (t ∷ (if b then [] else until_closed (depth_after t.lexeme depth) ts))) (t ∷ ts) ≡ t ∷ (if b then [] else until_closed (depth_after t.lexeme depth) ts)
     by true more = refl
     by false more = ap (λ (us : List PlacedToken). t ∷ us) more
+
+-- the first n tokens, if they are these
+pub prefix_is : (ts : List Token) (us : List PlacedToken) (n : ℕ) → n ≡ length us → take (length us) (map placed_of ts) ≡ us
+    → (n ≡ length (take n ts)) × (map placed_of (take n ts) ≡ us)
+prefix_is ts us n e prefix =
+    let same : map placed_of (take n ts) ≡ us = sym (take-map placed_of n ts) ∙ ap (λ (m : ℕ). take m (map placed_of ts)) e ∙ prefix in
+    (e ∙ sym (ap length same) ∙ length-map (take n ts) placed_of, same)
 
 -- ---- order
 
@@ -89,7 +97,7 @@ head_in_order false name n [] end h = tt
 head_in_order false name n (d ∷ []) end h = tt
 head_in_order false name n (d ∷ x ∷ []) end h = tt
 head_in_order false name n (d ∷ x ∷ t ∷ ts) end h =
-    if_in_order (is_define d.lexeme && (bytes_eq x.text name && (if is_as t.lexeme then false else true))) n (t ∷ ts) end
+    if_in_order (is_define d.lexeme && (bytes_eq x.text name && not (is_as t.lexeme))) n (t ∷ ts) end
     (order_after n x (t ∷ ts) end (order_after n d (x ∷ t ∷ ts) end h))
 
 or_in_order : (n : ℕ) (o p : Option (List PlacedToken)) (end : ℕ) → MayBeInOrder n o end → MayBeInOrder n p end → MayBeInOrder n (option_or o p) end
@@ -145,7 +153,7 @@ cut_in_order s t text rest [] n end c le = omega (arith, le)
 cut_in_order s t text rest (p ∷ ps) n end c le =
     let b : byte_length text ≡ byte_length p.text + byte_length c.0 = ap byte_length c.1 ∙ bytes_append p.text c.0 in
     put_in_order n p.text p.lexeme (placed_from (n + byte_length p.text) ps) end
-    (cut_in_order _ t c.0 rest ps (n + byte_length p.text) end c.4 (omega (arith, b, le)))
+    (cut_in_order (after_piece s p.lexeme) t c.0 rest ps (n + byte_length p.text) end c.4 (omega (arith, b, le)))
 
 pub text_in_order : (text : List ℕ) (ts : List PlacedToken) → IsUtf8 text → ArePlaced (chars text) ts → InOrder 0 ts (length text)
 text_in_order text ts utf8 h =
@@ -169,52 +177,42 @@ some_same t u e = cc
 pub last_end_some : (t : PlacedToken) (us : List Token) (w : Token) → slice_get us (length us - 1) ≡ Some w → last_end t (map placed_of us) ≡ w.end
 last_end_some t [] w e = absurd cc
 last_end_some t (u ∷ []) w e = ap (λ (v : Token). v.end) (some_same u w e)
-last_end_some t (u ∷ v ∷ vs) w e = last_end_some (placed_of u) (v ∷ vs) w e
+last_end_some t (u ∷ v ∷ vs) w e =
+    let n : suc (length (v ∷ vs) - 1) ≡ length (u ∷ v ∷ vs) - 1 = omega arith in
+    last_end_some (placed_of u) (v ∷ vs) w (ap (slice_get (u ∷ v ∷ vs)) n ∙ e)
 
-pub last_end_none : (t : PlacedToken) (us : List Token) → slice_get us (length us - 1) ≡ None → last_end t (map placed_of us) ≡ t.end
-last_end_none t [] e = refl
-last_end_none t (u ∷ us) e = let s : slice_get (u ∷ us) (length us) ≡ Some (get_or (u ∷ us) (length us) u) = slice_get-get_or (u ∷ us) (length us) u (omega arith) in absurd cc
+-- the range of tokens of a text is in the text
+pub range_in_order : (ts : List Token) (t : Token) (end : ℕ) → InOrder 0 (map placed_of ts) end → slice_get ts 0 ≡ Some t
+    → (t.start ≤ last_end (placed_of t) (map placed_of (drop 1 ts))) × (last_end (placed_of t) (map placed_of (drop 1 ts)) ≤ end)
+range_in_order [] t end h e = absurd cc
+range_in_order (u ∷ ts) t end h e =
+    subst (λ (v : Token). (v.start ≤ last_end (placed_of v) (map placed_of ts)) × (last_end (placed_of v) (map placed_of ts) ≤ end)) (some_same u t e)
+    (last_in_order 0 (placed_of u) (map placed_of ts) end h)
+
+-- ---- the text cut at a part
+
+pub part_found_in_order : (what : ScriptEdit) (text : List ℕ) (ts found : List PlacedToken) → IsUtf8 text → ArePlaced (chars text) ts → Some found ≡ part_tokens what ts → InOrder 0 found (length text)
+part_found_in_order what text ts found utf8 placed e =
+    subst (λ (o : Option (List PlacedToken)). MayBeInOrder 0 o (length text)) (sym e) (part_in_order what 0 ts (length text) (text_in_order text ts utf8 placed))
+
+pub cut_at_found : (what : ScriptEdit) (text : List ℕ) (ts found : List PlacedToken) (cut : Option Excerpt) → ArePlaced (chars text) ts → Some found ≡ part_tokens what ts
+    → IsCutAtRange text (range_of found) cut → IsCutAtPart what text cut
+cut_at_found what text ts found cut placed e h = inl (ts, placed, subst (λ (o : Option (List PlacedToken)). IsCutAtRange text (option_and_then range_of o) cut) e h)
+
+pub not_cut : (what : ScriptEdit) (text : List ℕ) (ts : List PlacedToken) → ArePlaced (chars text) ts → None ≡ part_tokens what ts → IsCutAtPart what text None
+not_cut what text ts placed e = inl (ts, placed, subst (λ (o : Option (List PlacedToken)). IsCutAtRange text (option_and_then range_of o) None) e refl)
 
 -- ---- one token after another
 
--- the head does not begin here
-pub past_other : (r : Bool) (name : List ℕ) (ts : List Token) (i : ℕ) → i < length ts → after_head r name (map placed_of (drop i ts)) ≡ None
+head_after : (r : Bool) (name : List ℕ) (ts : List Token) (i : ℕ) → i < length ts → after_head r name (map placed_of (drop i ts)) ≡ None
     → after_first_head r name (map placed_of (drop (suc i) ts)) ≡ after_first_head r name (map placed_of (drop i ts))
-past_other r name [] i lt e = absurd (omega (arith, lt))
-past_other r name (t ∷ ts) 0 lt e = sym (ap (λ (o : Option (List PlacedToken)). option_or o (after_first_head r name (map placed_of ts))) e)
-past_other r name (t ∷ ts) (suc i) lt e = past_other r name ts i (omega (arith, lt)) e
+head_after r name [] i lt e = absurd (omega (arith, lt))
+head_after r name (t ∷ ts) zero lt e = sym (ap (λ (o : Option (List PlacedToken)). option_or o (after_first_head r name (map placed_of ts))) e)
+head_after r name (t ∷ ts) (suc i) lt e = head_after r name ts i (omega (arith, lt)) e
 
--- the head begins here
-pub head_here : (r : Bool) (name : List ℕ) (ts rest : List PlacedToken) → after_head r name ts ≡ Some rest → after_first_head r name ts ≡ Some rest
-head_here true name [] rest e = absurd cc
-head_here false name [] rest e = absurd cc
-head_here r name (t ∷ ts) rest e = ap (λ (o : Option (List PlacedToken)). option_or o (after_first_head r name ts)) e
-
--- the token at i is another word than `among`
-pub past_no_among : (k : ℕ) (ts : List Token) (i : ℕ) (t : Token) → slice_get ts i ≡ Some t → is_among (placed_of t).lexeme ≡ false
-    → from_among k (map placed_of (drop (suc i) ts)) ≡ from_among k (map placed_of (drop i ts))
-past_no_among k [] i t at e = absurd cc
-past_no_among k (u ∷ ts) 0 t at e =
-    sym (ap (λ (b : Bool). if b then (if nat_eq k 1 then Some (map placed_of (u ∷ ts)) else from_among (k - 1) (map placed_of ts)) else from_among k (map placed_of ts))
-    (ap (λ (v : Token). is_among (placed_of v).lexeme) (some_same u t at) ∙ e))
-past_no_among k (u ∷ ts) (suc i) t at e = past_no_among k ts i t at e
-
--- it is the word `among`, but not the one that is wanted
-pub past_among : (k : ℕ) (ts : List Token) (i : ℕ) (t : Token) → slice_get ts i ≡ Some t → is_among (placed_of t).lexeme ≡ true → nat_eq k 1 ≡ false
-    → from_among (k - 1) (map placed_of (drop (suc i) ts)) ≡ from_among k (map placed_of (drop i ts))
-past_among k [] i t at e n = absurd cc
-past_among k (u ∷ ts) 0 t at e n =
-    sym (ap (λ (b : Bool). if b then (if nat_eq k 1 then Some (map placed_of (u ∷ ts)) else from_among (k - 1) (map placed_of ts)) else from_among k (map placed_of ts))
-    (ap (λ (v : Token). is_among (placed_of v).lexeme) (some_same u t at) ∙ e)
-    ∙ ap (λ (b : Bool). if b then Some (map placed_of (u ∷ ts)) else from_among (k - 1) (map placed_of ts)) n)
-past_among k (u ∷ ts) (suc i) t at e n = past_among k ts i t at e n
-
--- it is the wanted one
-pub among_here : (k : ℕ) (ts : List Token) (i : ℕ) (t : Token) → slice_get ts i ≡ Some t → is_among (placed_of t).lexeme ≡ true → nat_eq k 1 ≡ true
-    → from_among k (map placed_of (drop i ts)) ≡ Some (map placed_of (drop i ts))
-among_here k [] i t at e n = absurd cc
-among_here k (u ∷ ts) 0 t at e n =
-    ap (λ (b : Bool). if b then (if nat_eq k 1 then Some (map placed_of (u ∷ ts)) else from_among (k - 1) (map placed_of ts)) else from_among k (map placed_of ts))
-    (ap (λ (v : Token). is_among (placed_of v).lexeme) (some_same u t at) ∙ e)
-    ∙ ap (λ (b : Bool). if b then Some (map placed_of (u ∷ ts)) else from_among (k - 1) (map placed_of ts)) n
-among_here k (u ∷ ts) (suc i) t at e n = among_here k ts i t at e n
+-- the head does not begin at this token
+pub past_other : (r : Bool) (name : List ℕ) (ts : List Token) (i : ℕ) → i < length ts → after_head r name (map placed_of (drop i ts)) ≡ None
+    → after_first_head r name (map placed_of (drop (i + 1) ts)) ≡ after_first_head r name (map placed_of (drop i ts))
+past_other r name ts i lt e =
+    let next : i + 1 ≡ suc i = omega arith in
+    ap (λ (n : ℕ). after_first_head r name (map placed_of (drop n ts))) next ∙ head_after r name ts i lt e

@@ -1,6 +1,6 @@
 -- The tokens of a part of a script, and the text cut before the first of them and after the last. A text has parts if it has
 -- tokens, whether or not they form a tree.
-use Rattle.std.specs.Prelude.{◌≡◌, ◌⊎◌, ℕ, ◌+◌, ◌-◌, Bool, true, false, ◌&&◌, if◌then◌else◌, nat_eq, nat_le, List, [], ◌∷◌, ◌++◌, length, Option, Some, None, option_and_then}
+use Rattle.std.specs.Prelude.{◌≡◌, ◌⊎◌, ℕ, ◌+◌, ◌-◌, Bool, true, false, not, ◌&&◌, if◌then◌else◌, nat_eq, nat_le, List, [], ◌∷◌, ◌++◌, length, Option, Some, None, option_and_then}
 use Rattle.std.specs.Option.{option_map, option_or}
 use Rattle.std.specs.Str.{bytes_eq, chars}
 use Rattle.sbl_token.specs.declared.words.Word.TheVariants as words
@@ -43,7 +43,7 @@ until_end depth (t ∷ ts) = if nat_eq depth 0 && ends_item t.lexeme then [] els
 -- What follows `define NAME as`, if a routine is wanted; otherwise what follows `define NAME`, if that is no `as`.
 abbrev pub after_head : Bool → List ℕ → List PlacedToken → Option (List PlacedToken)
 after_head true name (d ∷ n ∷ a ∷ ts) = if is_define d.lexeme && (bytes_eq n.text name && is_as a.lexeme) then Some ts else None
-after_head false name (d ∷ n ∷ t ∷ ts) = if is_define d.lexeme && (bytes_eq n.text name && (if is_as t.lexeme then false else true)) then Some (t ∷ ts) else None
+after_head false name (d ∷ n ∷ t ∷ ts) = if is_define d.lexeme && (bytes_eq n.text name && not (is_as t.lexeme)) then Some (t ∷ ts) else None
 after_head is_routine name _ = None
 
 -- the same at the first place at which the tokens go on so
