@@ -1,5 +1,5 @@
 -- The tokens of a part are tokens of the text, one after another, and their range is in the text.
-use Rattle.std.proofs.Common.{◌≡◌, ◌∙◌, ◌++◌, ◌≤◌, ◌<◌, ◌+◌, ◌-◌, ℕ, suc, Bool, true, false, ◌&&◌, List, [], ◌∷◌, Option, Some, None, length, drop, map, refl, sym, ap, subst, inl, arith}
+use Rattle.std.proofs.Common.{◌≡◌, ◌∙◌, ◌≤◌, ◌<◌, ◌+◌, ◌-◌, ℕ, suc, Bool, true, false, ◌&&◌, List, [], ◌∷◌, Option, Some, None, length, drop, map, refl, sym, ap, subst, inl, arith}
 use Rattle.std.specs.Prelude.{not, zero, if◌then◌else◌, nat_eq, nat_le, take, slice_get, option_and_then, IfSome}
 use Rattle.std.proofs.lemmas.List.{length-map, take-map}
 use Rattle.std.specs.Option.{option_map, option_or}
