@@ -8,3 +8,4 @@ pub mod NoPlaces
 pub mod FaultKinds
 pub mod InBlocks
 pub mod HeadFacts
+pub mod PartFacts

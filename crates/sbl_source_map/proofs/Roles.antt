@@ -1,5 +1,5 @@
 -- The tokens that the checks look at, by their roles.
-use Rattle.std.proofs.Common.{◌≡◌, Bool, true, false, List, [], ◌∷◌, Option, Some, None, refl}
+use Rattle.std.proofs.Common.{◌≡◌, Bool, true, false, List, ◌∷◌, Option, Some, None, refl}
 use Rattle.sbl_token.specs.Lexemes.{Lexeme, word, sign}
 use Rattle.sbl_token.specs.Lexemes as lexemes
 use Rattle.sbl_token.specs.declared.words.Word.TheVariants as w

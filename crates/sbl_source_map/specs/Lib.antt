@@ -5,6 +5,7 @@ pub mod BlockPlaces
 pub mod Positions
 pub mod ItemWords
 pub mod Parts
+pub mod PartTokens
 pub mod Definitions
 pub mod Heads
 -- what the functions inside the crate promise each other; no public contract depends on these

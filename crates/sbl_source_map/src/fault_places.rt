@@ -44,7 +44,10 @@ fn text_of(bytes: &[u8]) -> Option<&str>
 }
 
 /// Returns the tokens of a text, or `None` if it has none. Returns `AllocError` if an allocation fails.
-fn tokens_of<'a>(alloc: Global, text: &'a str) -> Result<Option<Vec<Token<'a>>>, AllocError>
+pub(crate) fn tokens_of<'a>(
+    alloc: Global,
+    text: &'a str,
+) -> Result<Option<Vec<Token<'a>>>, AllocError>
     ensures { IfOk result (λ o. MatchOption o ((ts : List PlacedToken) → ArePlaced (chars text.now) ts → ⊥) (λ ts. ArePlaced (chars text.now) (map placed_of ts.items))) }
 {
     first_fault_is_one();

@@ -19,7 +19,7 @@ pub struct Brackets {
 }
 
 /// Returns whether the token is the word `among`.
-fn is_among(token: &Token<'_>) -> bool
+pub(crate) fn is_among(token: &Token<'_>) -> bool
     ensures { result ≡ spec.is_among (lexeme_of token.now) }
 {
     match token.kind {

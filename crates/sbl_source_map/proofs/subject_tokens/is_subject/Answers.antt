@@ -1,4 +1,4 @@
-use Rattle.std.proofs.Common.{◌≡◌, ap, is_some, sym, ◌∙◌}
+use Rattle.std.proofs.Common.{ap, is_some, sym, ◌∙◌}
 use Rattle.sbl_token.specs.declared.token.Kind.{Kind}
 use Rattle.sbl_token.specs.Lexemes.{lexeme_by}
 use Rattle.sbl_source_map.specs.SubjectTokens.{subject_in}
