@@ -41,7 +41,7 @@ loop-rows-preserved g c =
     let s = source_of c.args.script.now in
     let line = line_of c.next_line.new.self in
     let writes : WritesLine s line (held c.loop-rows.writer) (held c.filter_line.new.writer) (Ok tt) =
-    subst (λ (x : List ℕ). WritesLine s x (held c.loop-rows.writer) (held c.filter_line.new.writer) (Ok tt)) c.line-in-loop-rows.ensures (c.in_ok-filter_line.ensures.writes s so.made) in
+    subst (λ (x : List ℕ). WritesLine s x (held c.loop-rows.writer) (held c.filter_line.new.writer) (Ok tt)) c.line.ensures (c.in_ok-filter_line.ensures.writes s so.made) in
     record {
       made = so.made;
       between = c.in_ok-filter_line.ensures.between;
@@ -68,7 +68,7 @@ returns-in_err-filter_line-clause-filters g c = λ _.
     let line = line_of c.next_line.new.self in
     let f = c.in_err-filter_line.field-0.0 in
     let writes : WritesLine s line (held c.loop-rows.writer) (held c.filter_line.new.writer) (Err f) =
-    subst (λ (x : List ℕ). WritesLine s x (held c.loop-rows.writer) (held c.filter_line.new.writer) (Err f)) c.line-in-loop-rows.ensures (c.in_err-filter_line.ensures.writes s so.made) in
+    subst (λ (x : List ℕ). WritesLine s x (held c.loop-rows.writer) (held c.filter_line.new.writer) (Err f)) c.line.ensures (c.in_err-filter_line.ensures.writes s so.made) in
     let p = err_from_is_err_and c.from_residual-in_err-filter_line.result c.from_residual-in_err-filter_line.ensures.1 in
     rw (p.1, p.2) (to_end-fault so.rows.1 (input_of left c.next_line.new.self) (held c.filter_line.new.writer) line f c.loop-rows.line so.rows.2
     (c.in_ok-next_line.ensures.fits c.if-branch.true, c.in_ok-next_line.ensures.more c.if-branch.true) writes)
