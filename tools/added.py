@@ -57,10 +57,20 @@ class Added:
         if answer is None or answer is False:
             return None, "" if answer is False else None
         if answer != ["ok"]:
-            return False, "%s cannot be written: %s. Nothing was added to it." % (named(path), why_unwritten(path))
+            return False, self.why_not_appended(path, answer)
         self.kept.update(words)
         self.made.add(os.path.realpath(path))
         return True, "%s of %s." % ("1 word is now at the end" if len(words) == 1 else "%d words are now at the end" % len(words), named(path))
+
+    def why_not_appended(self, path, answer):
+        """Returns the sentence on a reply to `append` that is not `ok`."""
+        if answer == ["no 49 OutOfMemory"]:
+            return "There was no memory for this. Nothing was added to %s." % named(path)
+        if not self.lacking(path):
+            return "%s has the words now, but its folder could not be flushed to the disk." % named(path)
+        if answer != ["no 57 NoFile"]:
+            return "%s could not be read again with its words. Nothing was added to it." % named(path)
+        return "%s cannot be written: %s. Nothing was added to it." % (named(path), why_unwritten(path))
 
     def lacking(self, path):
         """Returns the added words that a file lacks."""
@@ -110,4 +120,4 @@ def why_unwritten(path):
         return os.strerror(errno.ENOENT)
     if not os.access(path if os.path.exists(path) else folder, os.W_OK):
         return os.strerror(errno.EACCES)
-    return "perhaps the disk is full"
+    return "perhaps the disk is full, or it was changed just then"

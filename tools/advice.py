@@ -154,6 +154,8 @@ class Advice:
         folder = os.path.dirname(path) or "."
         if os.path.realpath(path) == os.path.realpath(self.desk.script) and not os.path.lexists(path):
             return "%s is not there any more, and was not written: save to another file." % named(path)
+        if os.path.isfile(path + ".old-1") and os.path.getmtime(path + ".old-1") > self.desk.begun:
+            return "%s may have a part of the new text: its old text is in %s." % (named(path), named(path + ".old-1"))
         if os.path.isfile(path) and os.access(path, os.W_OK) and read(path) == self.desk.child.text():
             return "%s has the script now, but its folder could not be flushed to the disk. Save to it again." % named(path)
         if self.desk.files.is_script(path) and os.access(path, os.W_OK) and self.desk.files.seen != read(path):

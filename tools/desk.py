@@ -14,6 +14,7 @@ import os
 import re
 import signal
 import sys
+import time
 
 from added import Added
 from advice import Advice, correct_in
@@ -58,6 +59,7 @@ LOST = {
 class Desk:
     def __init__(self, program, script, words, options):
         self.program, self.script, self.words, self.options = program, script, words, options
+        self.begun = time.time()
         # The warnings that were given; the status at the end if it is not the program's.
         self.warned, self.status = [], None
         # What the program said last, before it ended.
