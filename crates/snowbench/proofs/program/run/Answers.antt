@@ -30,6 +30,6 @@ returns-in-Err-clause-runs g c =
     inl (
       refl,
       Appends-nil (g.W.Sink.held c.args.writer.now),
-      writes_line g.E.Sink.held g.E.Sink.tally c.args.errors.now c.write_all.new.errors c.as_bytes.result.now (fault_line (codes "49 OutOfMemory")) c.write_all.result
+      writes_line g.E.Sink.held g.E.Sink.tally c.args.errors.now c.write_all.new.writer c.as_bytes.result.now (fault_line (codes "49 OutOfMemory")) c.write_all.result
           (search rules) c.write_all.ensures.all c.write_all.ensures.prefix c.write_all.ensures.why,
     )
