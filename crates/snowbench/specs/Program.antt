@@ -74,6 +74,7 @@ pub record RunsLines {R W E : Type 0} (left : R → Option (List ℕ)) (reads : 
   pub answer : Result ℕ LoadFault
   pub made : AreLinesOf left reads reader lines
   pub in_time : KeepsTime reads lines last
+  pub bound : reads_bound reads last ≡ reads_bound reads lines
   pub answers : IsAnswer verb external (left reader) (input_of left last) (held writer) (held new_writer) answer
   pub reasons : IfErr answer (λ f. HasReasons reads writes lines last writer new_writer f)
   pub reported : IsReported said says errors new_errors status answer

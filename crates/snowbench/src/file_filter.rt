@@ -46,6 +46,7 @@ pub fn run_filter<R: Source + Drop, W: Sink, E: Sink>(
         × IfErr filtered (λ fault. HasReasons R.tally W.tally lines.old lines.new writer.old writer.new fault)
         × IsReported E.held E.tally errors.old errors.new result.status (as_count filtered) }
     ensures status { result.status ≤ 1 }
+    ensures bound { reads_bound R.tally lines.new ≡ reads_bound R.tally lines.old }
     ensures reads_in_time { KeepsTime R.tally lines.old lines.new }
     ensures writes_in_time { WritesInTime W.tally writer.old writer.new }
     ensures errors_in_time { WritesInTime E.tally errors.old errors.new }
@@ -70,6 +71,7 @@ fn filter_input<R: Source + Drop, W: Sink>(
 ) -> Result<(), FilterFault>
     ensures filtered { fault_of lines.old ≡ None → IsWholeFilter (input_of R.left lines.old) (input_of R.left lines.new) external.now (W.held writer.old) (W.held writer.new) (faults_of result) (line_in result) }
     ensures why { fault_of lines.old ≡ None → IfErr result (λ e. HasReasons R.tally W.tally lines.old lines.new writer.old writer.new e.fault) }
+    ensures bound { reads_bound R.tally lines.new ≡ reads_bound R.tally lines.old }
     ensures reads_in_time { KeepsTime R.tally lines.old lines.new }
     ensures writes_in_time { WritesInTime W.tally writer.old writer.new }
 {

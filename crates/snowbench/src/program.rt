@@ -82,6 +82,7 @@ pub fn run_with<R: Source + Drop, W: Sink, E: Sink>(
         × IfErr answer (λ fault. HasReasons R.tally W.tally lines.old lines.new writer.old writer.new fault)
         × IsReported E.held E.tally errors.old errors.new result answer }
     ensures status { result ≤ 1 }
+    ensures bound { reads_bound R.tally lines.new ≡ reads_bound R.tally lines.old }
     ensures reads_in_time { KeepsTime R.tally lines.old lines.new }
     ensures writes_in_time { WritesInTime W.tally writer.old writer.new }
     ensures errors_in_time { WritesInTime E.tally errors.old errors.new }
@@ -125,6 +126,7 @@ fn answer<R: Source + Drop, W: Sink>(
 ) -> Result<u64, LoadFault>
     ensures answers { fault_of lines.old ≡ None → IsAnswer wanted.now.verb (string_bytes wanted.now.external) (input_of R.left lines.old) (input_of R.left lines.new) (W.held writer.old) (W.held writer.new) result }
     ensures answering { Answering R.tally W.tally lines.old lines.new writer.old writer.new result }
+    ensures bound { reads_bound R.tally lines.new ≡ reads_bound R.tally lines.old }
 {
     let external = wanted.external.as_str();
     match wanted.verb {
@@ -155,6 +157,7 @@ fn session<R: Source + Drop, W: Sink>(
 ) -> Result<(), LoadFault>
     ensures session { fault_of lines.old ≡ None → IsWholeSession (input_of R.left lines.old) (input_of R.left lines.new) external.now (W.held writer.old) (W.held writer.new) result }
     ensures answering { Answering R.tally W.tally lines.old lines.new writer.old writer.new result }
+    ensures bound { reads_bound R.tally lines.new ≡ reads_bound R.tally lines.old }
 {
     let mut bench = load_with_keys(lines, keys, external)?;
     let served = serve(&mut bench, lines, writer);
@@ -172,6 +175,7 @@ fn stem<R: Source + Drop, W: Sink>(
 ) -> Result<(), LoadFault>
     ensures stemmed { fault_of lines.old ≡ None → IsStemmed (input_of R.left lines.old) (input_of R.left lines.new) external.now (W.held writer.old) (W.held writer.new) result }
     ensures answering { Answering R.tally W.tally lines.old lines.new writer.old writer.new result }
+    ensures bound { reads_bound R.tally lines.new ≡ reads_bound R.tally lines.old }
 {
     let text = load_rows(lines, keys, external)?;
     write_all(writer, &text)?;
@@ -187,6 +191,7 @@ fn check_input<R: Source + Drop, W: Sink>(
 ) -> Result<u64, LoadFault>
     ensures checked { fault_of lines.old ≡ None → IsWholeCheck (input_of R.left lines.old) (input_of R.left lines.new) external.now (W.held writer.old) (W.held writer.new) result }
     ensures answering { Answering R.tally W.tally lines.old lines.new writer.old writer.new result }
+    ensures bound { reads_bound R.tally lines.new ≡ reads_bound R.tally lines.old }
 {
     let text = read_script(lines)?;
     let script = Script::parse(lines.alloc(), &text, external)?;
@@ -204,6 +209,7 @@ fn check_lists<R: Source + Drop, W: Sink>(
 ) -> Result<u64, ServeFault>
     ensures checked { fault_of lines.old ≡ None → ChecksLists (source_of script.now) (input_of R.left lines.old) (input_of R.left lines.new) (W.held writer.old) (W.held writer.new) result }
     ensures why { fault_of lines.old ≡ None → IfErr result (λ fault. HasReasons R.tally W.tally lines.old lines.new writer.old writer.new (LoadFault.Input fault)) }
+    ensures bound { reads_bound R.tally lines.new ≡ reads_bound R.tally lines.old }
     ensures reads_in_time { KeepsTime R.tally lines.old lines.new }
     ensures writes_in_time { WritesInTime W.tally writer.old writer.new }
 {
@@ -236,6 +242,7 @@ fn read_word_block<R: Source + Drop>(lines: &mut Lines<R>) -> Result<Vec<u8>, Se
 fn read_expected<R: Source + Drop>(lines: &mut Lines<R>) -> Result<Vec<u8>, ServeFault>
     ensures reads { fault_of lines.old ≡ None → ReadsExpected (input_of R.left lines.old) (input_of R.left lines.new) result }
     ensures why { IfErr result (λ fault. HasReason R.tally lines.old lines.new fault) }
+    ensures bound { reads_bound R.tally lines.new ≡ reads_bound R.tally lines.old }
     ensures in_time { KeepsTime R.tally lines.old lines.new }
 {
     let mut stems = Vec::new(lines.alloc());

@@ -20,6 +20,7 @@ returns-in-Ok-clause-runs g c =
       answer = runs.0;
       made = record { input = made.input; fault = made.fault; counts = made.tally; bound = made.bound; in_time = made.in_time };
       in_time = c.run_with.ensures.reads_in_time;
+      bound = c.run_with.ensures.bound;
       answers = answers;
       reasons = runs.2;
       reported = runs.3;
