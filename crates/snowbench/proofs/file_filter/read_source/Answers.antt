@@ -1,4 +1,3 @@
-use Rattle.std.proofs.Common.{rules, Err}
 use Rattle.std.proofs.lemmas.Result.{err_from_is_err_and}
 use Rattle.sbl_io.specs.HeldInput.{input_of}
 use Rattle.sbl_input.proofs.LoadFacts.{script_parsed, script_refused}

@@ -1,4 +1,4 @@
-use Rattle.std.proofs.Common.{rules, Err}
+use Rattle.std.proofs.Common.{rules}
 use Rattle.snowbench.proofs.AnswerFacts.{reported_fault}
 use Rattle.snowbench.proofs.program.push_fault.Goals as goal
 

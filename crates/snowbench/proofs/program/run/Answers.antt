@@ -1,4 +1,4 @@
-use Rattle.std.proofs.Common.{inl, inr, ◌≡◌, refl, rules, subst, ℕ, List, Option, codes}
+use Rattle.std.proofs.Common.{inl, inr, refl, rules, subst, ℕ, List, Option, codes}
 use Rattle.std.proofs.KnownBytes.{Appends-nil}
 use Rattle.std.specs.Prelude.{string_bytes}
 use Rattle.sbl_io.specs.HeldInput.{input_of}
