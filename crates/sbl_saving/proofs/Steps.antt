@@ -5,15 +5,15 @@ use Rattle.std.specs.Prelude.{is_err}
 use Rattle.sbl_saving.specs.Folders.{Folder, after_failed, after_flush, after_flush_of_names, after_no_remove, after_rename, with_bytes, with_draft, with_part, with_text, with_unsettled_text, without_draft}
 use Rattle.sbl_saving.specs.Replacing.{FailsAt, HasPart}
 use Rattle.sbl_saving.specs.declared.folder.Failed.{Failed}
-use Rattle.sbl_saving.specs.declared.folder.Step.{Step}
-use Rattle.sbl_saving.specs.declared.folder.Step.TheVariants as step
+use Rattle.sbl_saving.specs.declared.folder.SaveStep.{SaveStep}
+use Rattle.sbl_saving.specs.declared.folder.SaveStep.TheVariants as step
 
 -- a step failed, and the target is as before
-abbrev Stops : Step → Folder → Folder → Type 0
+abbrev Stops : SaveStep → Folder → Folder → Type 0
 Stops s f g = (g.target ≡ f.target) × (g.now ≡ f.now) × (g.ever ≡ f.ever) × (g.failed ≡ Some s)
 
 -- a step failed, and then the new file is removed, or it is not
-fails_remove : (s : Step) (h : Folder → Folder) → ((f : Folder) → Stops s f (h f)) → (r : Result (Unit {0}) Failed) (o m n : Option Folder)
+fails_remove : (s : SaveStep) (h : Folder → Folder) → ((f : Folder) → Stops s f (h f)) → (r : Result (Unit {0}) Failed) (o m n : Option Folder)
     → m ≡ option_map h o → OnOk r (n ≡ option_map without_draft m) → OnErr r (n ≡ option_map after_no_remove m) → FailsAt s o n
 fails_remove s h stops (Ok u) (Some f) m n is done failed =
     subst (FailsAt s (Some f)) (sym (done ∙ ap (option_map without_draft) is)) ((stops f).0, (stops f).1, (stops f).2, (stops f).3, inl refl)
@@ -28,7 +28,7 @@ both h k (Some f) m n p q = q ∙ ap (option_map k) p
 both h k None m n p q = q ∙ ap (option_map k) p
 
 -- a part of the text is written
-part_remove : (s : Step) (r : Result (Unit {0}) Failed) (o a b n : Option Folder) → a ≡ option_map with_draft o → HasPart s a b
+part_remove : (s : SaveStep) (r : Result (Unit {0}) Failed) (o a b n : Option Folder) → a ≡ option_map with_draft o → HasPart s a b
     → OnOk r (n ≡ option_map without_draft b) → OnErr r (n ≡ option_map after_no_remove b) → FailsAt s o n
 part_remove s r o a b n made part done failed =
     fails_remove s (λ f. after_failed s (with_part part.0 (with_draft f))) (λ f. (refl, refl, refl, refl)) r o b n
@@ -49,22 +49,22 @@ keeps_text text r o a b c n made filled failed_name done failed =
     (both with_draft (λ f. after_flush (with_bytes text f)) o a b made filled) failed_name) done failed
 
 -- all steps up to the name
-named : (text : List ℕ) (o a b c : Option Folder) → a ≡ option_map with_draft o → b ≡ option_map (λ f. after_flush (with_bytes text f)) a → c ≡ option_map after_rename b
+up_to_name : (text : List ℕ) (o a b c : Option Folder) → a ≡ option_map with_draft o → b ≡ option_map (λ f. after_flush (with_bytes text f)) a → c ≡ option_map after_rename b
     → c ≡ option_map (λ f. after_rename (after_flush (with_bytes text (with_draft f)))) o
-named text o a b c p q r =
+up_to_name text o a b c p q r =
     both (λ f. after_flush (with_bytes text (with_draft f))) after_rename o b c (both with_draft (λ f. after_flush (with_bytes text f)) o a b p q) r
 
 -- all steps but the last one
 pub steps_to_name : (text : List ℕ) (o a b c n : Option Folder) → a ≡ option_map with_draft o → b ≡ option_map (λ f. after_flush (with_bytes text f)) a → c ≡ option_map after_rename b
     → n ≡ option_map (after_failed step.FlushNames) c → n ≡ option_map (with_unsettled_text text) o
 steps_to_name text o a b c n p q r last =
-    both (λ f. after_rename (after_flush (with_bytes text (with_draft f)))) (after_failed step.FlushNames) o c n (named text o a b c p q r) last
+    both (λ f. after_rename (after_flush (with_bytes text (with_draft f)))) (after_failed step.FlushNames) o c n (up_to_name text o a b c p q r) last
 
 -- all steps
 pub steps_to_end : (text : List ℕ) (o a b c n : Option Folder) → a ≡ option_map with_draft o → b ≡ option_map (λ f. after_flush (with_bytes text f)) a → c ≡ option_map after_rename b
     → n ≡ option_map after_flush_of_names c → n ≡ option_map (with_text text) o
 steps_to_end text o a b c n p q r last =
-    both (λ f. after_rename (after_flush (with_bytes text (with_draft f)))) after_flush_of_names o c n (named text o a b c p q r) last
+    both (λ f. after_rename (after_flush (with_bytes text (with_draft f)))) after_flush_of_names o c n (up_to_name text o a b c p q r) last
 
 -- ---- results
 

@@ -1,8 +1,8 @@
 -- A file that is to be replaced, and a new file beside it in the same folder.
 use Rattle.std.specs.Prelude.{ℕ, Bool, true, false, List, [], ◌∷◌, ◌++◌, if◌then◌else◌, Option, Some, None}
 use Rattle.std.specs.Option.{option_map}
-use Rattle.sbl_saving.specs.declared.folder.Step.{Step}
-use Rattle.sbl_saving.specs.declared.folder.Step.TheVariants as step
+use Rattle.sbl_saving.specs.declared.folder.SaveStep.{SaveStep}
+use Rattle.sbl_saving.specs.declared.folder.SaveStep.TheVariants as step
 
 -- What may be found at a name: exactly these bytes, or no file; or anything, since bytes were not flushed to the disk.
 pub data Found : Type 0 where
@@ -19,7 +19,7 @@ pub record Folder : Type 0 where
   pub is_flushed : Bool
   pub now : List Found
   pub ever : List Found
-  pub failed : Option Step
+  pub failed : Option SaveStep
   pub is_left : Bool
 
 -- ---- steps
@@ -33,12 +33,12 @@ abbrev pub after_no_draft : Folder → Folder
 after_no_draft f = record f { failed = Some step.Create; is_left = false }
 
 -- of the steps that failed
-abbrev pub first : Option Step → Step → Step
+abbrev pub first : Option SaveStep → SaveStep → SaveStep
 first (Some s) t = s
 first None t = t
 
 -- a step fails after the new file was made
-abbrev pub after_failed : Step → Folder → Folder
+abbrev pub after_failed : SaveStep → Folder → Folder
 after_failed s f = record f { failed = Some (first f.failed s) }
 
 -- the new file could not be removed

@@ -5,7 +5,7 @@ ghost use Rattle.sbl_saving.specs.Folders as spec;
 ghost use Rattle.sbl_saving.specs.Folders.{after_failed, after_flush, after_flush_of_names, after_no_draft, after_no_remove, after_rename};
 ghost use Rattle.sbl_saving.specs.Folders.{with_bytes, with_draft, without_draft};
 ghost use Rattle.sbl_saving.specs.Replacing.{HasPart};
-ghost use Rattle.sbl_saving.specs.declared.folder.Step.TheVariants as step;
+ghost use Rattle.sbl_saving.specs.declared.folder.SaveStep.TheVariants as step;
 
 /// A step was not done.
 #[derive(Clone, Copy, Debug, PartialEq, Eq)]
@@ -13,7 +13,7 @@ pub struct Failed;
 
 /// A step before the new file is in the place of the target for good.
 #[derive(Clone, Copy, Debug, PartialEq, Eq)]
-pub enum Step {
+pub enum SaveStep {
     /// The new file is made.
     Create,
     /// Bytes are put into it.

@@ -3,7 +3,7 @@ ghost use Rattle.std.specs.Prelude.{◌≡◌, [], ◌∷◌, Err, IfOk, None, O
 ghost use Rattle.sbl_saving.specs.Folders.{Exactly, after_failed, after_no_draft, after_no_remove, found_of};
 ghost use Rattle.sbl_saving.specs.Memory.{view_file, view_find, view_memory};
 
-use crate::folder::{Failed, Folder, Step};
+use crate::folder::{Failed, Folder, SaveStep};
 use std::alloc::{AllocError, Global};
 
 /// What may be found at the target after a stop.
@@ -30,7 +30,7 @@ pub struct MemoryFolder {
     /// What might have been found there until now.
     pub finds_ever: Vec<Find>,
     /// The step that failed first, since the new file was last to be made.
-    pub failed: Option<Step>,
+    pub failed: Option<SaveStep>,
     /// Whether the new file could not be removed, since then.
     pub is_left: bool,
     fails_at: u32,
@@ -91,7 +91,7 @@ impl MemoryFolder {
     }
 
     /// Keeps that a step failed.
-    fn fail(&mut self, step: Step) -> Failed
+    fn fail(&mut self, step: SaveStep) -> Failed
         ensures { view_memory self.new ≡ after_failed step (view_memory self.old) }
     {
         if self.failed.is_none() {
@@ -118,7 +118,7 @@ impl Folder for MemoryFolder {
     fn create(&mut self) -> Result<(), Failed> {
         self.is_left = false;
         if self.is_failing() {
-            self.failed = Some(Step::Create);
+            self.failed = Some(SaveStep::Create);
             return Err(Failed);
         }
         self.failed = None;
@@ -131,21 +131,21 @@ impl Folder for MemoryFolder {
         let is_failing = self.is_failing();
         self.is_flushed = false;
         let Some(draft) = &mut self.draft else {
-            return Err(self.fail(Step::Write));
+            return Err(self.fail(SaveStep::Write));
         };
         if is_failing {
             let _ = draft.extend_from_slice(&bytes[..bytes.len() / 2]);
-            return Err(self.fail(Step::Write));
+            return Err(self.fail(SaveStep::Write));
         }
         match draft.extend_from_slice(bytes) {
             Ok(()) => Ok(()),
-            Err(_) => Err(self.fail(Step::Write)),
+            Err(_) => Err(self.fail(SaveStep::Write)),
         }
     }
 
     fn flush(&mut self) -> Result<(), Failed> {
         if self.is_failing() {
-            return Err(self.fail(Step::Flush));
+            return Err(self.fail(SaveStep::Flush));
         }
         self.is_flushed = true;
         Ok(())
@@ -153,16 +153,16 @@ impl Folder for MemoryFolder {
 
     fn rename(&mut self) -> Result<(), Failed> {
         if self.is_failing() {
-            return Err(self.fail(Step::Rename));
+            return Err(self.fail(SaveStep::Rename));
         }
         let Ok(now) = self.outcome() else {
-            return Err(self.fail(Step::Rename));
+            return Err(self.fail(SaveStep::Rename));
         };
         let Ok(ever) = self.outcome() else {
-            return Err(self.fail(Step::Rename));
+            return Err(self.fail(SaveStep::Rename));
         };
         if self.finds_now.reserve(1).is_err() || self.finds_ever.push(ever).is_err() {
-            return Err(self.fail(Step::Rename));
+            return Err(self.fail(SaveStep::Rename));
         }
         let _ = self.finds_now.push(now);
         self.target = self.draft.take();
@@ -171,13 +171,13 @@ impl Folder for MemoryFolder {
 
     fn flush_names(&mut self) -> Result<(), Failed> {
         if self.is_failing() {
-            return Err(self.fail(Step::FlushNames));
+            return Err(self.fail(SaveStep::FlushNames));
         }
         let Ok(target) = copy_of(self.alloc, &self.target) else {
-            return Err(self.fail(Step::FlushNames));
+            return Err(self.fail(SaveStep::FlushNames));
         };
         let Ok(now) = only(self.alloc, Find::Exactly(target)) else {
-            return Err(self.fail(Step::FlushNames));
+            return Err(self.fail(SaveStep::FlushNames));
         };
         self.finds_now = now;
         Ok(())

@@ -3,7 +3,7 @@ ghost use Rattle.std.specs.Prelude.{◌≡◌, ◌⊎◌, OnErr, OnOk};
 ghost use Rattle.std.specs.Option.{option_map};
 ghost use Rattle.sbl_saving.specs.Folders.{after_flush, with_bytes};
 ghost use Rattle.sbl_saving.specs.Replacing.{HasPart, IsReplaced};
-ghost use Rattle.sbl_saving.specs.declared.folder.Step.TheVariants as step;
+ghost use Rattle.sbl_saving.specs.declared.folder.SaveStep.TheVariants as step;
 
 use crate::folder::{Failed, Folder};
 

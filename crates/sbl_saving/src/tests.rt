@@ -7,7 +7,7 @@ const OLD: &[u8] = b"old";
 const NEW: &[u8] = b"the new text";
 
 /// Returns a text as it may be found.
-fn found(alloc: Global, text: &[u8]) -> Result<Find, AllocError> {
+fn find_of(alloc: Global, text: &[u8]) -> Result<Find, AllocError> {
     Ok(Find::Exactly(Some(text.to_vec(alloc)?)))
 }
 
@@ -18,11 +18,11 @@ fn each_step_fails_in_turn(rt: HostRuntime) -> Result<(), Fail> {
         let mut folder = MemoryFolder::new(alloc, Some(OLD.to_vec(alloc)?), fails_at)?;
         let result = replace_file(&mut folder, NEW);
         let (expected, failed) = match fails_at {
-            0 => (Err(ReplaceFault::NotMade), Some(Step::Create)),
-            1 => (Err(ReplaceFault::NotWritten), Some(Step::Write)),
-            2 => (Err(ReplaceFault::NotWritten), Some(Step::Flush)),
-            3 => (Err(ReplaceFault::NotNamed), Some(Step::Rename)),
-            4 => (Err(ReplaceFault::NotSettled), Some(Step::FlushNames)),
+            0 => (Err(ReplaceFault::NotMade), Some(SaveStep::Create)),
+            1 => (Err(ReplaceFault::NotWritten), Some(SaveStep::Write)),
+            2 => (Err(ReplaceFault::NotWritten), Some(SaveStep::Flush)),
+            3 => (Err(ReplaceFault::NotNamed), Some(SaveStep::Rename)),
+            4 => (Err(ReplaceFault::NotSettled), Some(SaveStep::FlushNames)),
             _ => (Ok(()), None),
         };
         assert_eq!(rt; result, expected);
@@ -30,7 +30,7 @@ fn each_step_fails_in_turn(rt: HostRuntime) -> Result<(), Fail> {
         assert!(rt; folder.draft.is_none());
         let text = if fails_at < 4 { OLD } else { NEW };
         assert!(rt; folder.target == Some(text.to_vec(alloc)?));
-        let either = [found(alloc, OLD)?, found(alloc, NEW)?];
+        let either = [find_of(alloc, OLD)?, find_of(alloc, NEW)?];
         let both = either.as_slice();
         let (now, ever) = match fails_at {
             0..=3 => (&both[..1], &both[..1]),
@@ -50,7 +50,7 @@ fn bytes_that_are_not_flushed_may_be_anything(rt: HostRuntime) -> Result<(), Fai
     assert_eq!(rt; folder.create(), Ok(()));
     assert_eq!(rt; folder.write(NEW), Ok(()));
     assert_eq!(rt; folder.rename(), Ok(()));
-    let either = [found(alloc, OLD)?, Find::Anything];
+    let either = [find_of(alloc, OLD)?, Find::Anything];
     assert_eq!(rt; folder.finds_now.as_slice(), either.as_slice());
     assert_eq!(rt; folder.finds_ever.as_slice(), either.as_slice());
     Ok(())
