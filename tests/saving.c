@@ -1,7 +1,8 @@
 /* Gives a program that is started with it (LD_PRELOAD) a disk that stops. The calls that change files are counted: a file that is opened
    to be written, a write to a file, a flush, a new name, a cut, a removal, new permissions, and closing a file. Of these, each that is set:
    KILL: before the call of this number the program is killed; FAIL: that call fails with the error ERROR; SLOW: each write to a file takes so many
-   milliseconds; NO_NEW: no new file can be made; FULL: each write to a file fails, after it has taken a part. */
+   milliseconds; NO_NEW: no new file can be made; FULL: each write to a file fails, after it has taken a part; NAMES: the first so many flushes
+   of a folder fail; NO_RENAME: no file gets a new name. */
 #define _GNU_SOURCE
 #include <errno.h>
 #include <fcntl.h>
@@ -87,13 +88,27 @@ ssize_t write(int file, const void *bytes, size_t count) {
 
 ssize_t __write(int file, const void *bytes, size_t count) { return write(file, bytes, count); }
 
-int fsync(int file) { return step() ? -1 : (int)syscall(SYS_fsync, file); }
+int fsync(int file) {
+  static long folders = 0;
+  struct stat state;
+  if (fstat(file, &state) == 0 && S_ISDIR(state.st_mode) && folders++ < number("NAMES")) {
+    errno = EIO;
+    return -1;
+  }
+  return step() ? -1 : (int)syscall(SYS_fsync, file);
+}
 
 int fchmod(int file, mode_t mode) { return step() ? -1 : (int)syscall(SYS_fchmod, file, mode); }
 
 int ftruncate(int file, off_t size) { return step() ? -1 : (int)syscall(SYS_ftruncate, file, size); }
 
-int rename(const char *from, const char *to) { return step() ? -1 : (int)syscall(SYS_rename, from, to); }
+int rename(const char *from, const char *to) {
+  if (getenv("NO_RENAME")) {
+    errno = EBUSY;
+    return -1;
+  }
+  return step() ? -1 : (int)syscall(SYS_rename, from, to);
+}
 
 int unlink(const char *path) { return step() ? -1 : (int)syscall(SYS_unlink, path); }
 

@@ -11,7 +11,7 @@ mod save;
 mod save_fault;
 mod system;
 
-pub use folder::{Failed, Folder};
+pub use folder::{Failed, Folder, SaveStep};
 pub use former::Former;
 pub use memory::{Find, MemoryFolder};
 pub use read::{ReadFault, is_same_file, read_file};

@@ -1,9 +1,9 @@
 //! A folder in memory, for tests: one of its steps fails. It knows what it has, so its contracts say it.
 ghost use Rattle.std.specs.Prelude.{◌≡◌, [], ◌∷◌, Err, IfOk, None, OnErr, OnOk, Some, false};
-ghost use Rattle.sbl_saving.specs.Folders.{Exactly, found_of};
+ghost use Rattle.sbl_saving.specs.Folders.{Exactly, after_failed, after_no_draft, after_no_remove, found_of};
 ghost use Rattle.sbl_saving.specs.Memory.{view_file, view_find, view_memory};
 
-use crate::folder::{Failed, Folder};
+use crate::folder::{Failed, Folder, SaveStep};
 use std::alloc::{AllocError, Global};
 
 /// What may be found at the target after a stop.
@@ -29,6 +29,10 @@ pub struct MemoryFolder {
     pub finds_now: Vec<Find>,
     /// What might have been found there until now.
     pub finds_ever: Vec<Find>,
+    /// The step that failed first, since the new file was last to be made.
+    pub failed: Option<SaveStep>,
+    /// Whether the new file could not be removed, since then.
+    pub is_left: bool,
     fails_at: u32,
     steps: u32,
 }
@@ -59,7 +63,7 @@ impl MemoryFolder {
         target: Option<Vec<u8>>,
         fails_at: u32,
     ) -> Result<MemoryFolder, AllocError>
-        ensures { IfOk result (λ m. view_memory m ≡ record { target = view_file target; draft = None; is_flushed = false; now = Exactly (view_file target) ∷ []; ever = Exactly (view_file target) ∷ [] }) }
+        ensures { IfOk result (λ m. view_memory m ≡ record { target = view_file target; draft = None; is_flushed = false; now = Exactly (view_file target) ∷ []; ever = Exactly (view_file target) ∷ []; failed = None; is_left = false }) }
     {
         let now = only(alloc, Find::Exactly(copy_of(alloc, &target)?))?;
         let ever = only(alloc, Find::Exactly(copy_of(alloc, &target)?))?;
@@ -70,18 +74,30 @@ impl MemoryFolder {
             is_flushed: false,
             finds_now: now,
             finds_ever: ever,
+            failed: None,
+            is_left: false,
             fails_at,
             steps: 0,
         })
     }
 
-    /// Counts a step. Fails if it is the one that is to fail.
-    fn step(&mut self) -> Result<(), Failed>
+    /// Counts a step. Returns whether it is the one that is to fail.
+    fn is_failing(&mut self) -> bool
         ensures { view_memory self.new ≡ view_memory self.old }
     {
         let is_failing = self.steps == self.fails_at;
         self.steps = self.steps.saturating_add(1);
-        if is_failing { Err(Failed) } else { Ok(()) }
+        is_failing
+    }
+
+    /// Keeps that a step failed.
+    fn fail(&mut self, step: SaveStep) -> Failed
+        ensures { view_memory self.new ≡ after_failed step (view_memory self.old) }
+    {
+        if self.failed.is_none() {
+            self.failed = Some(step);
+        }
+        Failed
     }
 
     /// Returns what may be found at the name of the new file.
@@ -100,44 +116,53 @@ impl Folder for MemoryFolder {
     ghost view = { λ m. Some (view_memory m) };
 
     fn create(&mut self) -> Result<(), Failed> {
-        self.step()?;
+        self.is_left = false;
+        if self.is_failing() {
+            self.failed = Some(SaveStep::Create);
+            return Err(Failed);
+        }
+        self.failed = None;
         self.draft = Some(Vec::new(self.alloc));
         self.is_flushed = false;
         Ok(())
     }
 
     fn write(&mut self, bytes: &[u8]) -> Result<(), Failed> {
-        let stop = self.step();
+        let is_failing = self.is_failing();
         self.is_flushed = false;
         let Some(draft) = &mut self.draft else {
-            return Err(Failed);
+            return Err(self.fail(SaveStep::Write));
         };
-        if stop.is_err() {
+        if is_failing {
             let _ = draft.extend_from_slice(&bytes[..bytes.len() / 2]);
-            return Err(Failed);
+            return Err(self.fail(SaveStep::Write));
         }
         match draft.extend_from_slice(bytes) {
             Ok(()) => Ok(()),
-            Err(_) => Err(Failed),
+            Err(_) => Err(self.fail(SaveStep::Write)),
         }
     }
 
     fn flush(&mut self) -> Result<(), Failed> {
-        self.step()?;
+        if self.is_failing() {
+            return Err(self.fail(SaveStep::Flush));
+        }
         self.is_flushed = true;
         Ok(())
     }
 
     fn rename(&mut self) -> Result<(), Failed> {
-        self.step()?;
+        if self.is_failing() {
+            return Err(self.fail(SaveStep::Rename));
+        }
         let Ok(now) = self.outcome() else {
-            return Err(Failed);
+            return Err(self.fail(SaveStep::Rename));
         };
         let Ok(ever) = self.outcome() else {
-            return Err(Failed);
+            return Err(self.fail(SaveStep::Rename));
         };
         if self.finds_now.reserve(1).is_err() || self.finds_ever.push(ever).is_err() {
-            return Err(Failed);
+            return Err(self.fail(SaveStep::Rename));
         }
         let _ = self.finds_now.push(now);
         self.target = self.draft.take();
@@ -145,19 +170,24 @@ impl Folder for MemoryFolder {
     }
 
     fn flush_names(&mut self) -> Result<(), Failed> {
-        self.step()?;
+        if self.is_failing() {
+            return Err(self.fail(SaveStep::FlushNames));
+        }
         let Ok(target) = copy_of(self.alloc, &self.target) else {
-            return Err(Failed);
+            return Err(self.fail(SaveStep::FlushNames));
         };
         let Ok(now) = only(self.alloc, Find::Exactly(target)) else {
-            return Err(Failed);
+            return Err(self.fail(SaveStep::FlushNames));
         };
         self.finds_now = now;
         Ok(())
     }
 
     fn remove(&mut self) -> Result<(), Failed> {
-        self.step()?;
+        if self.is_failing() {
+            self.is_left = true;
+            return Err(Failed);
+        }
         self.draft = None;
         Ok(())
     }

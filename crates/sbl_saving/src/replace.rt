@@ -1,8 +1,9 @@
 //! A file gets a new text: all of it, or it keeps the old one.
-ghost use Rattle.std.specs.Prelude.{◌≡◌, List, Option, OnErr, OnOk, ℕ};
+ghost use Rattle.std.specs.Prelude.{◌≡◌, ◌⊎◌, OnErr, OnOk};
 ghost use Rattle.std.specs.Option.{option_map};
-ghost use Rattle.sbl_saving.specs.Folders.{after_flush, with_bytes, with_part};
-ghost use Rattle.sbl_saving.specs.Replacing.{IsReplaced};
+ghost use Rattle.sbl_saving.specs.Folders.{after_flush, with_bytes};
+ghost use Rattle.sbl_saving.specs.Replacing.{HasPart, IsReplaced};
+ghost use Rattle.sbl_saving.specs.declared.folder.SaveStep.TheVariants as step;
 
 use crate::folder::{Failed, Folder};
 
@@ -22,7 +23,7 @@ pub enum ReplaceFault {
 /// Writes the text into the new file, and flushes it.
 fn fill<D: Folder>(folder: &mut D, text: &[u8]) -> Result<(), Failed>
     ensures filled { OnOk result (D.view folder.new ≡ option_map (λ f. after_flush (with_bytes text.now f)) (D.view folder.old)) }
-    ensures part { OnErr result ((part : Option (List ℕ)) × (D.view folder.new ≡ option_map (with_part part) (D.view folder.old))) }
+    ensures part { OnErr result (HasPart step.Write (D.view folder.old) (D.view folder.new) ⊎ HasPart step.Flush (D.view folder.old) (D.view folder.new)) }
 {
     folder.write(text)?;
     folder.flush()

@@ -127,11 +127,12 @@ impl<'a, F: Files + AllocGlobal> SystemFolder<'a, F> {
         self.refusal
     }
 
-    /// Makes a file beside the target under a name that no file has.
+    /// Makes a file beside the target under a name that no file has. Only its owner may read a copy of the old text, and a file that
+    /// is to get the permissions of another one.
     fn open_new(&mut self) -> io::Result<F::File> {
         let mut options = OpenOptions::new();
         options.write(true).create_new(true);
-        if self.like.is_some() {
+        if self.like.is_some() || matches!(self.role, Role::Old) {
             options.mode(0o600);
         }
         for number in 1..MOST_NAMES {
@@ -193,7 +194,7 @@ impl<F: Files + AllocGlobal> Folder for SystemFolder<'_, F> {
             return Err(Failed);
         };
         if self.make_alike(&file).is_err() {
-            let _ = self.remove();
+            let _ = fs::remove_file(self.files, self.path.as_str());
             return Err(Failed);
         }
         self.file = Some(file);
@@ -228,6 +229,10 @@ impl<F: Files + AllocGlobal> Folder for SystemFolder<'_, F> {
     }
 
     fn remove(&mut self) -> Result<(), Failed> {
+        if self.file.is_none() {
+            // The file of that name is not ours.
+            return Err(Failed);
+        }
         step(fs::remove_file(self.files, self.path.as_str()))
     }
 }

@@ -9,4 +9,4 @@ returns-clause-filled g c =
 pub returns-clause-part : goal.returns-clause-part
 returns-clause-part g c =
     fill_err c.flush.result c.args.text.now (g.D.Folder.view c.args.folder.now) (g.D.Folder.view c.write.new.self) (g.D.Folder.view c.flush.new.self)
-    c.in_ok-write.ensures.written c.flush.ensures.kept
+    c.in_ok-write.ensures.written c.flush.ensures.not_flushed
