@@ -111,12 +111,20 @@ fn with_ends_of(alloc: Global, old: &[u8], text: Vec<u8>) -> Result<Vec<u8>, All
     Ok(ended)
 }
 
+/// Returns whether a path names the file of words.
+fn is_words<F: Files>(files: &F, paths: &Paths, path: &str) -> bool {
+    match &paths.words {
+        Some(words) => is_same_file(files, path, words.as_str()),
+        None => false,
+    }
+}
+
 /// Writes the text of the script in force to a file. The file of the script, by whatever name, is written only if it still has the
 /// bytes that were read from it last, `seen`.
 ///
 /// # Errors
 ///
-/// Returns the faults of `save_file`.
+/// Returns the faults of `save_file`, and `NotWritten` also for the file of words.
 pub(crate) fn save<F: Files + AllocGlobal>(
     files: &F,
     paths: &Paths,
@@ -124,6 +132,9 @@ pub(crate) fn save<F: Files + AllocGlobal>(
     path: &str,
     text: Vec<u8>,
 ) -> Result<(), SaveFault> {
+    if is_words(files, paths, path) {
+        return Err(SaveFault::NotWritten);
+    }
     if !is_same_file(files, path, paths.script.as_str()) {
         return save_file(files, path, &text, Former::Any);
     }
@@ -140,10 +151,8 @@ fn may_append<F: Files>(files: &F, paths: &Paths, added: &Added, path: &str) -> 
     if is_same_file(files, path, paths.script.as_str()) {
         return false;
     }
-    if let Some(words) = &paths.words {
-        if is_same_file(files, path, words.as_str()) {
-            return true;
-        }
+    if is_words(files, paths, path) {
+        return true;
     }
     for made in added.files() {
         if is_same_file(files, path, made.as_str()) {
@@ -201,11 +210,12 @@ pub(crate) fn append<F: Files + AllocGlobal>(
     bench: &Bench,
     path: &str,
 ) -> Result<Vec<u8>, SaveFault> {
-    let words = added.words(files.alloc(), bench)?;
     let path = match &paths.words {
         Some(words) if path.is_empty() => words.as_str(),
+        None if path.is_empty() => return Err(SaveFault::NotWritten),
         _ => path,
     };
+    let words = added.words(files.alloc(), bench)?;
     if is_free(files, path) {
         let made = added.name_to_make(files.alloc(), path)?;
         let appended = append_to(files, &words, path, &[], Former::Missing);
