@@ -29,19 +29,20 @@ pub comment_none : (line : List ℕ) → length line ≡ 0 → is_comment line �
 comment_none [] none = refl
 comment_none (b ∷ line) none = absurd (omega (arith, none))
 
-pub is_nothing : (file : Option (List ℕ)) (line : List ℕ) → is_comment line ≡ true → Nothing ≡ utf8_command file line
+pub is_nothing : (file : Option (List ℕ)) (line : List ℕ) → is_comment line ≡ true → Nothing ≡ alone_command file line
+unfolding alone_command
 is_nothing file line comment = rw comment refl
 
-pub is_echo : (file : Option (List ℕ)) (line : List ℕ) → is_comment line ≡ false → bytes_eq (command_word line) (codes "echo") ≡ true → Echo (argument line) ≡ utf8_command file line
-is_echo file line other echo = rw (other, echo) refl
+pub is_echo : (file : Option (List ℕ)) (line : List ℕ) → bytes_eq (command_word line) (codes "echo") ≡ true → Echo (argument line) ≡ utf8_command file line
+is_echo file line echo = rw echo refl
 
-pub is_other : (file : Option (List ℕ)) (line : List ℕ) → is_comment line ≡ false → bytes_eq (command_word line) (codes "echo") ≡ false → text_command file line ≡ utf8_command file line
-is_other file line other silent = rw (other, silent) refl
+pub is_other : (file : Option (List ℕ)) (line : List ℕ) → bytes_eq (command_word line) (codes "echo") ≡ false → text_command file line ≡ utf8_command file line
+is_other file line silent = rw silent refl
 
-pub is_text : (file : Option (List ℕ)) (line : List ℕ) → is_utf8 line ≡ true → utf8_command file line ≡ alone_command file line
+pub is_text : (file : Option (List ℕ)) (line : List ℕ) → is_comment line ≡ false → is_utf8 line ≡ true → utf8_command file line ≡ alone_command file line
 unfolding alone_command
-is_text file line utf8 = rw utf8 refl
+is_text file line other utf8 = rw (other, utf8) refl
 
-pub is_no_text : (file : Option (List ℕ)) (line : List ℕ) → is_utf8 line ≡ false → Session (line_command line) ≡ alone_command file line
+pub is_no_text : (file : Option (List ℕ)) (line : List ℕ) → is_comment line ≡ false → is_utf8 line ≡ false → Session (line_command line) ≡ alone_command file line
 unfolding alone_command
-is_no_text file line bytes = rw bytes refl
+is_no_text file line other bytes = rw (other, bytes) refl

@@ -97,18 +97,20 @@ abbrev pub is_comment : List ℕ → Bool
 is_comment [] = false
 is_comment (b ∷ line) = b == 35
 
--- The command of a line that is UTF-8: a comment, a text to be echoed, or one of the others.
+-- The command of a line that is UTF-8 and no comment: a text to be echoed, or one of the others.
 abbrev pub utf8_command : Option (List ℕ) → List ℕ → WorkCommand
 utf8_command file line =
-    if is_comment line then Nothing
-    else (if bytes_eq (command_word line) (codes "echo") then Echo (argument line)
-    else text_command file line)
+    if bytes_eq (command_word line) (codes "echo") then Echo (argument line)
+    else text_command file line
 
 -- The command of a line without a block. The file has these bytes: the script's for `reload`, the one that the line names for
 -- `families`; for `save` any if it was written, and for `append` the lines that were put at its end; none if it could not be read or
--- written. A line that is not UTF-8 is a command of a session, where it is bad.
+-- written. A line that is not UTF-8 and no comment is a command of a session, where it is bad.
 unfoldable pub alone_command : Option (List ℕ) → List ℕ → WorkCommand
-alone_command file line = if is_utf8 line then utf8_command file line else Session (session.line_command line)
+alone_command file line =
+    if is_comment line then Nothing
+    else (if is_utf8 line then utf8_command file line
+    else Session (session.line_command line))
 
 -- ---- a line and its block
 

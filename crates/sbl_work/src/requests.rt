@@ -118,19 +118,19 @@ fn is_comment(line: &[u8]) -> bool
 pub(crate) fn request_of(line: &[u8]) -> Request<'_>
     ensures { (file : Option (List ℕ)) → view_request file line.now result ≡ spec.alone_command file line.now }
 {
+    if is_comment(line) {
+        return Request::Comment;
+    }
     match str::from_utf8(line) {
         Ok(text) => line_request(text),
         Err(_) => Request::Session,
     }
 }
 
-/// Returns what a line that is UTF-8 asks for.
+/// Returns what a line that is UTF-8 and no comment asks for.
 fn line_request(line: &str) -> Request<'_>
     ensures { (file : Option (List ℕ)) → view_request file line.now result ≡ spec.utf8_command file line.now }
 {
-    if is_comment(line.as_bytes()) {
-        return Request::Comment;
-    }
     let (word, argument) = split(line.as_bytes());
     if word == b"echo".as_slice() {
         return Request::Echo(argument);

@@ -110,7 +110,9 @@ fn print_fault(
     match run_fault_text(rt.alloc(), wanted, names, input, ended) {
         Ok(Some(text)) => print_line(rt, Ok(text), status_of(wanted, ended)),
         Ok(None) => status_of(wanted, ended),
-        Err(_) => fail_memory(rt),
+        Err(_) if ended.said.is_empty() => fail_memory(rt),
+        // The line of the fault is printed, and there is no memory to say more.
+        Err(_) => FAILED,
     }
 }
 
