@@ -197,12 +197,12 @@ fn whole_text(alloc: Global) -> Result<Vec<u8>, AllocError> {
 }
 
 /// Returns what the bench shows after all commands whose reply was begun, if the writer took this many bytes and fails at the next.
-fn shown_after_bytes(bytes: usize) -> &'static str {
+fn shown_after_bytes(bytes: usize) -> &'static [u8] {
     let mut begin: usize = 0;
-    let mut shown = "";
+    let mut shown = "".as_bytes();
     for (_, reply, after) in COMMANDS {
         if begin <= bytes {
-            shown = after;
+            shown = after.as_bytes();
         }
         begin = begin.saturating_add(reply.len());
     }
@@ -237,25 +237,20 @@ fn a_bench_holds_each_edit_whose_reply_was_begun(rt: HostRuntime) -> Result<(), 
         };
         let mut text = Vec::from_slice(alloc, &whole[..bytes])?;
         text.extend_from_slice(b"!71 Write")?;
-        leaves(
-            &rt,
-            alloc,
-            session,
-            &text,
-            shown_after_bytes(bytes).as_bytes(),
-        )?;
+        leaves(&rt, alloc, session, &text, shown_after_bytes(bytes))?;
     }
     Ok(())
 }
 
 /// Returns what is written if the reader fails after this many bytes, and what the bench shows then: nothing if there is none.
-fn left_by_reader(alloc: Global, bytes: usize) -> Result<(Vec<u8>, &'static str), AllocError> {
+fn left_by_reader(alloc: Global, bytes: usize) -> Result<(Vec<u8>, &'static [u8]), AllocError> {
     let count = whole_commands(bytes);
     let mut text = Vec::new(alloc);
-    let mut shown = if bytes < BEGIN.len() { "" } else { "0\n" };
+    let begun = if bytes < BEGIN.len() { "" } else { "0\n" };
+    let mut shown = begun.as_bytes();
     for (_, reply, after) in COMMANDS.iter().take(count) {
         text.extend_from_slice(reply.as_bytes())?;
-        shown = after;
+        shown = after.as_bytes();
     }
     text.extend_from_slice(b"!70 Read")?;
     Ok((text, shown))
@@ -274,7 +269,7 @@ fn a_bench_holds_each_edit_that_was_read_whole(rt: HostRuntime) -> Result<(), Fa
             asked: b"stems\nruns\n",
         };
         let (text, shown) = left_by_reader(alloc, bytes)?;
-        leaves(&rt, alloc, session, &text, shown.as_bytes())?;
+        leaves(&rt, alloc, session, &text, shown)?;
     }
     Ok(())
 }
