@@ -44,6 +44,11 @@ impl<D> Slow<D> {
     {
         Slow { inner }
     }
+
+    /// Returns the sink inside.
+    pub(crate) fn into_inner(self) -> D {
+        self.inner
+    }
 }
 
 impl<D: Sink> Sink for Slow<D> {

@@ -48,10 +48,10 @@ fn session_text(alloc: Global, input: &[u8]) -> Result<Vec<u8>, Fail> {
 
 /// The same, by devices that take one byte at a time, and by so many reads.
 fn slow_text(alloc: Global, input: &[u8], most: u64) -> Result<Vec<u8>, Fail> {
-    let mut text = Vec::new(alloc);
     let mut lines = Lines::with_reads(alloc, Single::new(Device::new(input)), most)?;
-    let ending = serve_lines(&mut lines, &mut Slow::new(Device::new(&mut text)));
-    with_ending(alloc, text, ending)
+    let mut writer = Slow::new(Device::new(Vec::new(alloc)));
+    let ending = serve_lines(&mut lines, &mut writer);
+    with_ending(alloc, writer.into_inner().into_inner(), ending)
 }
 
 /// Commands of a session, and what it writes, with its fault at the end if there is one.
