@@ -3,7 +3,7 @@
 ghost use Rattle.std.specs.Prelude.{◌≡◌, ℕ, false, List, []};
 ghost use Rattle.sbl_compiler.specs.{Ahead.routines_in, Laws.names_in, Laws.routine_at, NumberedAmongs.found_after, NumberedItems.numbered_items, NumberedItems.routines_after, NumberedNames.Names, NumberedNames.number_of};
 ghost use Rattle.sbl_semantics.specs.Items.{body_named, char_class_of, classes_after};
-ghost use Rattle.sbl_char_class.specs.Terms.{class_at};
+ghost use Rattle.sbl_program.specs.Terms.{class_at};
 ghost use Rattle.sbl_ast.specs.{Order.ItemInMode, Order.in_order, Tree.Item};
 
 use sbl_compiler::laws::{classes_are_their_terms, own_is_made, routine_is_its_own};

@@ -2,7 +2,7 @@
 -- promise each other.
 use Rattle.std.specs.Prelude.{ℕ, suc, Bool, true, false, List, [], ◌∷◌, Option, Some, None, slice_get, slice_set, slice_index_or}
 use Rattle.std.specs.Option.{option_map_or}
-use Rattle.sbl_char_class.specs.Terms.{class_at}
+use Rattle.sbl_program.specs.Terms.{class_at}
 use Rattle.sbl_program.specs.AmongStrings.{Listing}
 use Rattle.sbl_program.specs.ProgramOf.{view_action, view_number}
 use Rattle.sbl_program.specs.Actions.{acts, test_grouping}

@@ -7,7 +7,7 @@ use Rattle.sbl_compiler.specs.NumberedItems.{numbered_items, plan_in, plan_with}
 use Rattle.sbl_compiler.specs.NumberedNames.{Names, names_after, no_names, number_of}
 use Rattle.sbl_compiler.specs.NumberedClasses.{numbered_classes}
 use Rattle.sbl_program.specs.Program as programs
-use Rattle.sbl_char_class.specs.Terms.{class_at}
+use Rattle.sbl_program.specs.Terms.{class_at}
 use Rattle.sbl_compiler.specs.Laws.{RoutineIsItsOwn, ClassesAreTheirTerms, names_in}
 use Rattle.sbl_compiler.proofs.OwnMade.{own_is_made}
 use Rattle.sbl_compiler.proofs.SoundItems.{placed_by, groupings_are, routines_are, classes_are, as_made, body_at}

@@ -12,7 +12,7 @@ use Rattle.sbl_semantics.specs.Items.{is_member, place_of, names_by, known_in, G
 use Rattle.sbl_compiler.specs.NumberedNames.{Names, naming, names_after, number_from, number_of, is_one_of}
 use Rattle.sbl_compiler.specs.NumberedClasses.{numbered_classes, term_class, with_class, with_terms}
 use Rattle.sbl_program.specs.Program as programs
-use Rattle.sbl_char_class.specs.Terms.{class_after, class_at, no_character}
+use Rattle.sbl_program.specs.Terms.{class_after, class_at, no_character}
 use Rattle.sbl_ast.specs.declared.mode.Mode.{Mode}
 
 -- ---- names

@@ -6,7 +6,7 @@ use Rattle.sbl_compiler.specs.NumberedItems.{numbered_items, routines_after}
 use Rattle.sbl_compiler.specs.NumberedAmongs.{found_after}
 use Rattle.sbl_compiler.specs.NumberedNames.{Names, names_after, no_names, number_of}
 use Rattle.sbl_program.specs.Program.{Routine}
-use Rattle.sbl_char_class.specs.Terms.{class_at}
+use Rattle.sbl_program.specs.Terms.{class_at}
 use Rattle.sbl_ast.specs.Order.{ItemInMode, in_order}
 use Rattle.sbl_ast.specs.Tree.{Item}
 

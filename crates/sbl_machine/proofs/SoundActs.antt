@@ -33,7 +33,7 @@ use Rattle.sbl_compiler.specs.NumberedNames.{Names, is_one_of, number_of}
 use Rattle.sbl_compiler.specs.NumberedNumbers.{expression, text}
 use Rattle.sbl_semantics.specs.Numbers.{Value, continue_with, integer_at, with_value}
 use Rattle.sbl_program.specs.Program as programs
-use Rattle.sbl_char_class.specs.Terms.{class_at}
+use Rattle.sbl_program.specs.Terms.{class_at}
 use Rattle.sbl_semantics.specs.Regions.{Among, among_at, number_after, number_after_rows, number_after_others, number_after_starter, first, first_rows, first_others, mode_under, waits, waits_others}
 use Rattle.sbl_program.specs.Run as run
 use Rattle.sbl_semantics.specs.Control as control

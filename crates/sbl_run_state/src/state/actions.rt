@@ -1,7 +1,7 @@
 //! Commands that contain no command.
 
 ghost use Rattle.std.specs.Prelude.{◌≡◌, ◌<◌, map, IfOk};
-ghost use Rattle.sbl_char_class.specs.CharacterClasses.{members};
+ghost use Rattle.sbl_program.specs.CharacterClasses.{members};
 ghost use Rattle.sbl_program.specs.Actions.{acts};
 ghost use Rattle.sbl_semantics.specs.Numbers.{continue_with, natural};
 ghost use Rattle.sbl_program.specs.Arithmetic.{value};
@@ -13,8 +13,7 @@ use crate::halt::Halt;
 use crate::state::State;
 use crate::state::numbers::natural;
 use sbl_ast::Mode;
-use sbl_char_class::CharacterClass;
-use sbl_program::{Action, Arithmetic};
+use sbl_program::{Action, Arithmetic, CharacterClass};
 
 impl State {
     /// Does a command without a command inside, after its step is paid, and returns its signal. `groupings` has the

@@ -2,8 +2,8 @@
 
 ghost use Rattle.std.specs.Prelude.{◌≡◌, ℕ, List, [], ◌∷◌, false, ◌≤◌, ◌<◌, length, map, nat_eq, IfOk, IsTrue, slice_get};
 ghost use Rattle.std.specs.List.{starts_with};
-ghost use Rattle.sbl_char_class.specs.CharacterClasses.{members};
-ghost use Rattle.sbl_char_class.specs.Terms.{class_at};
+ghost use Rattle.sbl_program.specs.CharacterClasses.{members};
+ghost use Rattle.sbl_program.specs.Terms.{class_at};
 ghost use Rattle.sbl_semantics.specs.Fitting.{read_as};
 ghost use Rattle.sbl_semantics.specs.State.{Signals, ahead, room, move_cursor};
 ghost use Rattle.sbl_program.specs.ProgramOf.{view_text};
@@ -13,8 +13,7 @@ ghost use Rattle.sbl_semantics.specs.Moves.{match, next_is, one_of, next, hop, a
 use crate::state::State;
 use crate::state::variables::{boolean_of, set_boolean, set_integer};
 use sbl_ast::Mode;
-use sbl_char_class::{CharacterClass, is_in_class};
-use sbl_program::StringTerm;
+use sbl_program::{CharacterClass, StringTerm, is_in_class};
 use std::alloc::AllocError;
 
 impl State {
