@@ -16,8 +16,7 @@ use Rattle.sbl_ast.specs.Order.{ItemInMode, in_mode, in_order}
 use Rattle.sbl_ast.specs.declared.mode.Mode.TheVariants.{Backward}
 use Rattle.sbl_ast.specs.declared.tree.DeclarationKind.{DeclarationKind}
 use Rattle.sbl_ast.specs.declared.tree.DeclarationKind.TheVariants as kinds
-use Rattle.sbl_script.specs.declared.edits.DefinitionKind.TheVariants as defined
-use Rattle.sbl_script.specs.Edits.{ScriptEdit, body, among, terms, changes, defines, plains_with, items_with}
+use Rattle.sbl_script.specs.Edits.{ScriptEdit, body, among, terms, changes, is_routine_named, is_grouping_named, plains_with, items_with}
 use Rattle.sbl_script.specs.Homes.{Home, first_in, first_passing, home_in, home_of_among, home_of_body, home_of_held, home_of_terms, plain_if, IsSubstitutedAt}
 use Rattle.sbl_script.proofs.Agreement.{edited_in}
 use Rattle.sbl_script.proofs.Found.{grouping_found, routine_found, some_plain}
@@ -119,32 +118,32 @@ script_agree picked s t p new old same at items external =
     (λ i. record { items = is i; external = sym external i })
 
 -- a home that there is, by what is found in the script
-body_agree : (s t : Source) (n text : List ℕ) (b : RowView) (h : Home) → first_passing (defines defined.Routine n) s.items ≡ Some (routine n b.0 b.1) → home_of_body s.items n ≡ h → IsSubstitutedAt s h text true t
+body_agree : (s t : Source) (n text : List ℕ) (b : RowView) (h : Home) → first_passing (is_routine_named n) s.items ≡ Some (routine n b.0 b.1) → home_of_body s.items n ≡ h → IsSubstitutedAt s h text true t
     → AgreeOutside (same_item (Routine n)) s t
 body_agree s t n text b h at is =
     subst (λ h. IsSubstitutedAt s h text true t → AgreeOutside (same_item (Routine n)) s t) is
     (λ (z : IsSubstitutedAt s (home_of_body s.items n) text true t).
-    script_agree (same_item (Routine n)) s t (defines defined.Routine n) (routine n z.tree.0 z.tree.1) (routine n b.0 b.1) (whole_same n b z.tree) at z.items_are z.external_is)
+    script_agree (same_item (Routine n)) s t (is_routine_named n) (routine n z.tree.0 z.tree.1) (routine n b.0 b.1) (whole_same n b z.tree) at z.items_are z.external_is)
 
-among_agree : (s t : Source) (n : List ℕ) (k : ℕ) (text : List ℕ) (b : RowView) (g : AmongContents) (h : Home) → first_passing (defines defined.Routine n) s.items ≡ Some (routine n b.0 b.1) → nth_held k (amongs_of_body b) ≡ Some g
+among_agree : (s t : Source) (n : List ℕ) (k : ℕ) (text : List ℕ) (b : RowView) (g : AmongContents) (h : Home) → first_passing (is_routine_named n) s.items ≡ Some (routine n b.0 b.1) → nth_held k (amongs_of_body b) ≡ Some g
     → home_of_among s.items n b k g ≡ h → IsSubstitutedAt s h text true t → AgreeOutside (same_item (Among n k)) s t
 among_agree s t n k text b g h at there is =
     subst (λ h. IsSubstitutedAt s h text true t → AgreeOutside (same_item (Among n k)) s t) is
     (λ (z : IsSubstitutedAt s (home_of_among s.items n b k g) text true t).
-    script_agree (same_item (Among n k)) s t (defines defined.Routine n) (routine n (put_in_body b k z.tree).0 (put_in_body b k z.tree).1) (routine n b.0 b.1)
+    script_agree (same_item (Among n k)) s t (is_routine_named n) (routine n (put_in_body b k z.tree).0 (put_in_body b k z.tree).1) (routine n b.0 b.1)
     (among_same n k b z.tree g there (eqb-true _ _ z.counted)) at z.items_are z.external_is)
 
-among_by : (s t : Source) (n : List ℕ) (k : ℕ) (text : List ℕ) (b : RowView) (h : Home) → first_passing (defines defined.Routine n) s.items ≡ Some (routine n b.0 b.1) → (o : Option AmongContents) → nth_held k (amongs_of_body b) ≡ o
+among_by : (s t : Source) (n : List ℕ) (k : ℕ) (text : List ℕ) (b : RowView) (h : Home) → first_passing (is_routine_named n) s.items ≡ Some (routine n b.0 b.1) → (o : Option AmongContents) → nth_held k (amongs_of_body b) ≡ o
     → home_of_held s.items n b k o ≡ Ok h → IsSubstitutedAt s h text true t → AgreeOutside (same_item (Among n k)) s t
 among_by s t n k text b h at None there is = let never : home_of_held s.items n b k None ≡ Ok h = is in absurd cc
 among_by s t n k text b h at (Some g) there is = let same : home_of_among s.items n b k g ≡ h = cc in among_agree s t n k text b g h at there same
 
-terms_agree : (s t : Source) (n text : List ℕ) (a : Argument) (xs : List Term) (h : Home) → first_passing (defines defined.Grouping n) s.items ≡ Some (grouping n a xs) → home_of_terms s.items n ≡ h → IsSubstitutedAt s h text true t
+terms_agree : (s t : Source) (n text : List ℕ) (a : Argument) (xs : List Term) (h : Home) → first_passing (is_grouping_named n) s.items ≡ Some (grouping n a xs) → home_of_terms s.items n ≡ h → IsSubstitutedAt s h text true t
     → AgreeOutside (is_affected_by s (Grouping n)) s t
 terms_agree s t n text a xs h at is =
     subst (λ h. IsSubstitutedAt s h text true t → AgreeOutside (is_affected_by s (Grouping n)) s t) is
     (λ (z : IsSubstitutedAt s (home_of_terms s.items n) text true t).
-    script_agree (is_affected_by s (Grouping n)) s t (defines defined.Grouping n) (grouping n z.tree.0 z.tree.1) (grouping n a xs) (terms_same s n z.tree.0 a z.tree.1 xs) at z.items_are z.external_is)
+    script_agree (is_affected_by s (Grouping n)) s t (is_grouping_named n) (grouping n z.tree.0 z.tree.1) (grouping n a xs) (terms_same s n z.tree.0 a z.tree.1 xs) at z.items_are z.external_is)
 
 -- ---- what is found is in the script
 
@@ -180,7 +179,7 @@ later_name n m rest h = by (bytes_eq m n)
     by true = refl
     by false = h
 
-routine_own : (n : List ℕ) (x : Plain) → defines defined.Routine n x ≡ true → (rest : List (List ℕ)) → is_member (names_by kinds.Routines x ++ rest) n ≡ true
+routine_own : (n : List ℕ) (x : Plain) → is_routine_named n x ≡ true → (rest : List (List ℕ)) → is_member (names_by kinds.Routines x ++ rest) n ≡ true
 routine_own n (routine m c os) e rest = first_name n m rest e
 routine_own n (declaration k ns) e rest = absurd (true≢false (sym e))
 routine_own n (escapes a b) e rest = absurd (true≢false (sym e))
@@ -194,7 +193,7 @@ routine_more n (escapes a b) rest h = h
 routine_more n (macro m b q) rest h = h
 routine_more n (grouping m a ts) rest h = h
 
-grouping_own : (n : List ℕ) (x : Plain) → defines defined.Grouping n x ≡ true → (rest : List (List ℕ)) → is_member (names_by kinds.Groupings x ++ rest) n ≡ true
+grouping_own : (n : List ℕ) (x : Plain) → is_grouping_named n x ≡ true → (rest : List (List ℕ)) → is_member (names_by kinds.Groupings x ++ rest) n ≡ true
 grouping_own n (grouping m a ts) e rest = first_name n m rest e
 grouping_own n (declaration k ns) e rest = absurd (true≢false (sym e))
 grouping_own n (escapes a b) e rest = absurd (true≢false (sym e))
@@ -208,11 +207,11 @@ grouping_more n (escapes a b) rest h = h
 grouping_more n (macro m b q) rest h = h
 grouping_more n (routine m c os) rest h = h
 
-routine_known : (n : List ℕ) (is : List Item) (x : Plain) → first_passing (defines defined.Routine n) is ≡ Some x → is_member (known_in (in_order is) kinds.Routines) n ≡ true
-routine_known n is x at = items_known n kinds.Routines (defines defined.Routine n) (routine_own n) (routine_more n) is x at
+routine_known : (n : List ℕ) (is : List Item) (x : Plain) → first_passing (is_routine_named n) is ≡ Some x → is_member (known_in (in_order is) kinds.Routines) n ≡ true
+routine_known n is x at = items_known n kinds.Routines (is_routine_named n) (routine_own n) (routine_more n) is x at
 
-grouping_known : (n : List ℕ) (is : List Item) (x : Plain) → first_passing (defines defined.Grouping n) is ≡ Some x → is_member (known_in (in_order is) kinds.Groupings) n ≡ true
-grouping_known n is x at = items_known n kinds.Groupings (defines defined.Grouping n) (grouping_own n) (grouping_more n) is x at
+grouping_known : (n : List ℕ) (is : List Item) (x : Plain) → first_passing (is_grouping_named n) is ≡ Some x → is_member (known_in (in_order is) kinds.Groupings) n ≡ true
+grouping_known n is x at = items_known n kinds.Groupings (is_grouping_named n) (grouping_own n) (grouping_more n) is x at
 
 -- ---- an edit, by what is found in the script
 
