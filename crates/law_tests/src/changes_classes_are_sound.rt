@@ -6,7 +6,7 @@ ghost use Rattle.std.specs.List.Sorted.{IsStrictlySortedBy};
 ghost use Rattle.std.specs.Ordering.{nat_cmp};
 ghost use Rattle.std.specs.Cmp.Lexicographic.{slice_cmp};
 ghost use Rattle.std.specs.Str.{bytes_eq};
-ghost use Rattle.sbl_rows.specs.StemClasses.{Pair, classes_of};
+ghost use Rattle.sbl_rows.specs.Classes.{Pair, classes_of};
 
 use sbl_rows::laws::classes_of_pairs_are_sound;
 

@@ -2,9 +2,9 @@
 
 ghost use Rattle.std.specs.Prelude.{◌≡◌, ℕ, List, ◌++◌, length, min};
 ghost use Rattle.std.specs.List.Sorted.{IsPermutation};
-ghost use Rattle.sbl_rows.specs.StemClasses.{Class};
+ghost use Rattle.sbl_rows.specs.Classes.{Class};
 ghost use Rattle.sbl_rows.specs.Largest.{largest_of};
-ghost use Rattle.sbl_rows.specs.WordRows.{Row};
+ghost use Rattle.sbl_rows.specs.Rows.{Row};
 ghost use Rattle.sbl_rows.specs.Stats.{word_classes};
 ghost use Rattle.sbl_rows.specs.LargestAreSound.{AreRanked};
 

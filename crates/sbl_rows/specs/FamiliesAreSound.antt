@@ -1,9 +1,11 @@
 -- Laws of families: when no row is told, how many pairs there are, and which words count.
 use Rattle.std.specs.Prelude.{◌≡◌, ◌↔◌, ℕ, ◌+◌, ◌*◌, List, [], length, Some, All}
 use Rattle.std.specs.List.{filter_map}
-use Rattle.sbl_rows.specs.StemClasses.{Pair}
+use Rattle.sbl_rows.specs.Classes.{Pair}
 use Rattle.sbl_rows.specs.Families.{all_of, any_two, families_of, other_stem, over_rows, pairs_across, pairs_within, same_stem, under}
-use Rattle.sbl_rows.specs.WordRows.{Row, Stem, outcome_in}
+use Rattle.sbl_rows.specs.Rows.{Row}
+use Rattle.sbl_semantics.specs.Outcome.{Stem}
+use Rattle.sbl_rows.specs.ChangedRows.{outcome_in}
 
 -- No two words of one family have different stems exactly if no family is told to have several stems.
 abbrev pub NoneApartIfNoUnder : Type 0
