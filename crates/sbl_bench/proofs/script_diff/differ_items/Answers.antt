@@ -4,7 +4,7 @@ use Rattle.sbl_parser.proofs.OneTree.{trees_are_one}
 use Rattle.sbl_semantics.specs.TouchedItems.{Item'}
 use Rattle.sbl_semantics.proofs.ByParts.{items_by_parts}
 use Rattle.sbl_tree_diff.specs.ItemsIn.{items_in}
-use Rattle.sbl_diff.proofs.items.differ_items.Goals as goal
+use Rattle.sbl_bench.proofs.script_diff.differ_items.Goals as goal
 
 pub returns : goal.returns
 returns c =
