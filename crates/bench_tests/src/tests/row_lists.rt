@@ -2,7 +2,7 @@
 
 use sbl_rows::{ChangeRow, FamilyRow, PairCounts, StemClass, WordOutcome, WordRow};
 use std::alloc::{AllocError, Global};
-use test_scripts::letters;
+use test_support::letters;
 
 /// A row with its own characters.
 #[derive(Drop)]
