@@ -9,18 +9,17 @@ use Rattle.sbl_ast.specs.Texts as texts
 use Rattle.sbl_ast.specs.Tree.{Plain, grouping}
 use Rattle.sbl_ast.specs.View.{view_argument, view_items, view_term}
 use Rattle.sbl_resolver.specs.Checks.{fault_of}
-use Rattle.sbl_script.specs.declared.edits.DefinitionKind.TheVariants as kinds
 use Rattle.sbl_script.specs.ParsedScript.{source_of}
 use Rattle.sbl_script.specs.Reading.{IsUnread, first_left_out, lexemes}
 use Rattle.sbl_script.specs.SpelledScript.{AreSpelled, IsSpelled}
-use Rattle.sbl_script.specs.Edits.{terms, defines, items_with, first_of}
+use Rattle.sbl_script.specs.Edits.{terms, is_grouping_named, items_with, first_of}
 use Rattle.sbl_script.specs.Homes.{home_of_terms}
 use Rattle.sbl_script.proofs.Agreement.{edited_out, first_same}
 use Rattle.sbl_script.proofs.Editing as editing
 use Rattle.sbl_script.proofs.Found.{same_name}
 use Rattle.sbl_script.proofs.Shallow.{grouping_shallow}
 use Rattle.sbl_script.proofs.Spelled.{terms_said, read_said}
-use Rattle.sbl_script.proofs.script.Script.with_grouping.Goals as goal
+use Rattle.sbl_script.proofs.script.Script.with_terms.Goals as goal
 
 pub returns-in_err-found-clause-fault : goal.returns-in_err-found-clause-fault
 returns-in_err-found-clause-fault c =
@@ -31,8 +30,8 @@ returns-in_err-found-clause-fault c =
     let h = home_of_terms s.items n in
     let a = view_argument c.in-Some._replaced.now.first in
     let os = map view_term c.in-Some._replaced.now.others.items in
-    let seen : first_of (defines kinds.Grouping n) s.items ≡ Some (grouping n a os) = search rules in
-    let found = sym (first_same (defines kinds.Grouping n) s.items) ∙ seen in
+    let seen : first_of (is_grouping_named n) s.items ≡ Some (grouping n a os) = search rules in
+    let found = sym (first_same (is_grouping_named n) s.items) ∙ seen in
     let there = editing.terms_home s.items n a os found in
     rw p.1 (editing.told_as s (terms n) h text _ p.0 there p.2 (editing.text_told s h text _ c.in_err-found.ensures.fault))
 
@@ -45,8 +44,8 @@ returns-in_err-terms-clause-fault c =
     let h = home_of_terms s.items n in
     let a = view_argument c.in-Some._replaced.now.first in
     let os = map view_term c.in-Some._replaced.now.others.items in
-    let seen : first_of (defines kinds.Grouping n) s.items ≡ Some (grouping n a os) = search rules in
-    let found = sym (first_same (defines kinds.Grouping n) s.items) ∙ seen in
+    let seen : first_of (is_grouping_named n) s.items ≡ Some (grouping n a os) = search rules in
+    let found = sym (first_same (is_grouping_named n) s.items) ∙ seen in
     let there = editing.terms_home s.items n a os found in
     let f = c.in_err-terms.field-0.0 in
     let ts = map placed_of c.in_ok-found.found.items in
@@ -55,7 +54,7 @@ returns-in_err-terms-clause-fault c =
 
 pub with_definition-requires-clause-same : goal.with_definition-requires-clause-same
 with_definition-requires-clause-same c =
-    subst (λ (y : Plain). defines kinds.Grouping c.args.name.now y ≡ true) (sym c.in_ok-new.ensures) (same_name c.args.name.now)
+    subst (λ (y : Plain). is_grouping_named c.args.name.now y ≡ true) (sym c.in_ok-new.ensures) (same_name c.args.name.now)
 
 pub with_definition-requires-clause-shallow : goal.with_definition-requires-clause-shallow
 with_definition-requires-clause-shallow c =
@@ -71,8 +70,8 @@ with_definition-requires-clause-spelled c =
     let h = home_of_terms s.items n in
     let a = view_argument c.in-Some._replaced.now.first in
     let os = map view_term c.in-Some._replaced.now.others.items in
-    let seen : first_of (defines kinds.Grouping n) s.items ≡ Some (grouping n a os) = search rules in
-    let found = sym (first_same (defines kinds.Grouping n) s.items) ∙ seen in
+    let seen : first_of (is_grouping_named n) s.items ≡ Some (grouping n a os) = search rules in
+    let found = sym (first_same (is_grouping_named n) s.items) ∙ seen in
     let there = editing.terms_home s.items n a os found in
     let own : view_items c.self.inside.items.items ≡ s.items = search rules in
     let x : texts.TreeOf texts.terms = (view_argument c.in_ok-terms.terms.0, map view_term c.in_ok-terms.terms.1.items) in
@@ -89,15 +88,15 @@ returns-in_err-script-clause-fault c =
     let h = home_of_terms s.items n in
     let a = view_argument c.in-Some._replaced.now.first in
     let os = map view_term c.in-Some._replaced.now.others.items in
-    let seen : first_of (defines kinds.Grouping n) s.items ≡ Some (grouping n a os) = search rules in
-    let found = sym (first_same (defines kinds.Grouping n) s.items) ∙ seen in
+    let seen : first_of (is_grouping_named n) s.items ≡ Some (grouping n a os) = search rules in
+    let found = sym (first_same (is_grouping_named n) s.items) ∙ seen in
     let there = editing.terms_home s.items n a os found in
     let ts = map placed_of c.in_ok-found.found.items in
     let x : texts.TreeOf texts.terms = (view_argument c.in_ok-terms.terms.0, map view_term c.in_ok-terms.terms.1.items) in
     let offered = subst (λ (xs : List Token). first_left_out (map placed_of xs) ≡ None) c.deref-2.ensures.value c.in_ok-terms.ensures.offered in
     let read = subst (λ (xs : List Token). IsReadAs texts.terms (lexemes (map placed_of xs)) x) c.deref-2.ensures.value c.in_ok-terms.ensures.tree in
     let f = c.in_err-script.field-0.0 in
-    let failed = subst (λ (y : Plain). (f ≡ fault.OutOfMemory) ⊎ (fault_of (items_with (defines kinds.Grouping n) y s.items) s.external ≡ Some f)) c.in_ok-new.ensures c.in_err-script.ensures.fault in
+    let failed = subst (λ (y : Plain). (f ≡ fault.OutOfMemory) ⊎ (fault_of (items_with (is_grouping_named n) y s.items) s.external ≡ Some f)) c.in_ok-new.ensures c.in_err-script.ensures.fault in
     rw p.1 (editing.told_as s (terms n) h text f p.0 there p.2 (editing.check_told s h text ts x f c.in_ok-found.ensures.tokens offered read failed))
 
 pub returns-clause-script : goal.returns-clause-script
@@ -108,13 +107,13 @@ returns-clause-script c =
     let h = home_of_terms s.items n in
     let a = view_argument c.in-Some._replaced.now.first in
     let os = map view_term c.in-Some._replaced.now.others.items in
-    let seen : first_of (defines kinds.Grouping n) s.items ≡ Some (grouping n a os) = search rules in
-    let found = sym (first_same (defines kinds.Grouping n) s.items) ∙ seen in
+    let seen : first_of (is_grouping_named n) s.items ≡ Some (grouping n a os) = search rules in
+    let found = sym (first_same (is_grouping_named n) s.items) ∙ seen in
     let there = editing.terms_home s.items n a os found in
     let ts = map placed_of c.in_ok-found.found.items in
     let x : texts.TreeOf texts.terms = (view_argument c.in_ok-terms.terms.0, map view_term c.in_ok-terms.terms.1.items) in
     let offered = subst (λ (xs : List Token). first_left_out (map placed_of xs) ≡ None) c.deref-2.ensures.value c.in_ok-terms.ensures.offered in
     let read = subst (λ (xs : List Token). IsReadAs texts.terms (lexemes (map placed_of xs)) x) c.deref-2.ensures.value c.in_ok-terms.ensures.tree in
     let u = source_of c.in_ok-script.script in
-    let items = c.in_ok-script.ensures.items ∙ ap (λ (y : Plain). items_with (defines kinds.Grouping n) y s.items) c.in_ok-new.ensures in
+    let items = c.in_ok-script.ensures.items ∙ ap (λ (y : Plain). items_with (is_grouping_named n) y s.items) c.in_ok-new.ensures in
     edited_out s (terms n) text u (h, there, editing.substitution_of s u h text ts x true c.in_ok-found.ensures.tokens offered read items c.in_ok-script.ensures.external c.in_ok-script.ensures.well_declared refl)

@@ -12,9 +12,8 @@ use Rattle.sbl_ast.specs.View.{RowView, view_among, view_items, view_row}
 use Rattle.sbl_resolver.specs.Checks.{fault_of}
 use Rattle.sbl_script.specs.ParsedScript.{source_of}
 use Rattle.sbl_script.specs.Reading.{IsUnread, first_left_out, lexemes}
-use Rattle.sbl_script.specs.declared.edits.DefinitionKind.TheVariants as kinds
 use Rattle.sbl_script.specs.declared.edit_fault.EditFault.TheVariants as edits
-use Rattle.sbl_script.specs.Edits.{among, defines, items_with, first_of}
+use Rattle.sbl_script.specs.Edits.{among, is_routine_named, items_with, first_of}
 use Rattle.sbl_script.specs.Homes.{home_of_among, state_reached}
 use Rattle.sbl_script.proofs.Agreement.{edited_out, fault_out, first_same, missing_out}
 use Rattle.sbl_script.proofs.Editing as editing
@@ -22,15 +21,15 @@ use Rattle.sbl_script.specs.SpelledScript.{AreSpelled, IsSpelled}
 use Rattle.sbl_script.proofs.Found.{same_name}
 use Rattle.sbl_script.proofs.Shallow.{body_shallow, fits, routine_shallow}
 use Rattle.sbl_script.proofs.Spelled.{among_said, read_said}
-use Rattle.sbl_script.proofs.script.Script.with_among.Goals as goal
+use Rattle.sbl_script.proofs.script.Script.with_nth_among.Goals as goal
 
 pub nth_among-requires : goal.nth_among-requires
 nth_among-requires c =
     let items = (source_of c.args.self.now).items in
     let n = c.args.routine.now in
     let b = view_row c.in-Some.body.now in
-    let seen : first_of (defines kinds.Routine n) items ≡ Some (routine n b.0 b.1) = search rules in
-    let found = sym (first_same (defines kinds.Routine n) items) ∙ seen in
+    let seen : first_of (is_routine_named n) items ≡ Some (routine n b.0 b.1) = search rules in
+    let found = sym (first_same (is_routine_named n) items) ∙ seen in
     let own : view_items c.self.inside.items.items ≡ items = search rules in
     body_shallow n items b (subst (λ (is : List Item). AreShallow (places is)) own c.self.invariant.1) found
 
@@ -45,8 +44,8 @@ returns-in_err-found-clause-fault c =
     let old = view_among c.in-Some-nth_among.replaced.now in
     let d : AmongContents = (c.in-Some-nth_among.depth, old.0, old.1) in
     let h = home_of_among s.items n b k d in
-    let seen : first_of (defines kinds.Routine n) s.items ≡ Some (routine n b.0 b.1) = search rules in
-    let found = sym (first_same (defines kinds.Routine n) s.items) ∙ seen in
+    let seen : first_of (is_routine_named n) s.items ≡ Some (routine n b.0 b.1) = search rules in
+    let found = sym (first_same (is_routine_named n) s.items) ∙ seen in
     let there = editing.among_home s.items n k b d found c.in-Some-nth_among.ensures.held in
     rw p.1 (editing.told_as s (among n k) h text _ p.0 there p.2 (editing.text_told s h text _ c.in_err-found.ensures.fault))
 
@@ -61,8 +60,8 @@ returns-in_err-among-clause-fault c =
     let old = view_among c.in-Some-nth_among.replaced.now in
     let d : AmongContents = (c.in-Some-nth_among.depth, old.0, old.1) in
     let h = home_of_among s.items n b k d in
-    let seen : first_of (defines kinds.Routine n) s.items ≡ Some (routine n b.0 b.1) = search rules in
-    let found = sym (first_same (defines kinds.Routine n) s.items) ∙ seen in
+    let seen : first_of (is_routine_named n) s.items ≡ Some (routine n b.0 b.1) = search rules in
+    let found = sym (first_same (is_routine_named n) s.items) ∙ seen in
     let there = editing.among_home s.items n k b d found c.in-Some-nth_among.ensures.held in
     let f = c.in_err-among.field-0.0 in
     let ts = map placed_of c.in_ok-found.found.items in
@@ -71,7 +70,7 @@ returns-in_err-among-clause-fault c =
 
 pub with_definition-requires-clause-same : goal.with_definition-requires-clause-same
 with_definition-requires-clause-same c =
-    subst (λ (y : Plain). defines kinds.Routine c.args.routine.now y ≡ true) (sym c.in_ok-new.ensures) (same_name c.args.routine.now)
+    subst (λ (y : Plain). is_routine_named c.args.routine.now y ≡ true) (sym c.in_ok-new.ensures) (same_name c.args.routine.now)
 
 pub with_definition-requires-clause-shallow : goal.with_definition-requires-clause-shallow
 with_definition-requires-clause-shallow c =
@@ -80,8 +79,8 @@ with_definition-requires-clause-shallow c =
     let b = view_row c.in-Some.body.now in
     let old = view_among c.in-Some-nth_among.replaced.now in
     let d : AmongContents = (c.in-Some-nth_among.depth, old.0, old.1) in
-    let seen : first_of (defines kinds.Routine n) items ≡ Some (routine n b.0 b.1) = search rules in
-    let found = sym (first_same (defines kinds.Routine n) items) ∙ seen in
+    let seen : first_of (is_routine_named n) items ≡ Some (routine n b.0 b.1) = search rules in
+    let found = sym (first_same (is_routine_named n) items) ∙ seen in
     let own : view_items c.self.inside.items.items ≡ items = search rules in
     let shallow = body_shallow n items b (subst (λ (is : List Item). AreShallow (places is)) own c.self.invariant.1) found in
     let put = c.in_ok-body.ensures.shallow shallow (fits c.args.k (amongs_of_body b) d (view_among c.in_ok-among.among) c.in-Some-nth_among.ensures.held c.in_ok-among.ensures.tree.1) in
@@ -94,9 +93,9 @@ with_definition-requires-clause-spelled c =
     let b = view_row c.in-Some.body.now in
     let x = view_among c.in_ok-among.among in
     let d = c.in-Some-nth_among.depth in
-    let there = state_reached (defines kinds.Routine n) s.items in
-    let seen : first_of (defines kinds.Routine n) s.items ≡ Some (routine n b.0 b.1) = search rules in
-    let found = sym (first_same (defines kinds.Routine n) s.items) ∙ seen in
+    let there = state_reached (is_routine_named n) s.items in
+    let seen : first_of (is_routine_named n) s.items ≡ Some (routine n b.0 b.1) = search rules in
+    let found = sym (first_same (is_routine_named n) s.items) ∙ seen in
     let own : view_items c.self.inside.items.items ≡ s.items = search rules in
     let read = subst (λ (xs : List Token). IsReadAs (texts.among d) (lexemes (map placed_of xs)) x) c.deref-2.ensures.value c.in_ok-among.ensures.tree in
     let said = read_said there c.args.text.now (map placed_of c.in_ok-found.found.items) (texts.among d) x c.in_ok-found.ensures.tokens read in
@@ -114,8 +113,8 @@ returns-in_err-script-clause-fault c =
     let old = view_among c.in-Some-nth_among.replaced.now in
     let d : AmongContents = (c.in-Some-nth_among.depth, old.0, old.1) in
     let h = home_of_among s.items n b k d in
-    let seen : first_of (defines kinds.Routine n) s.items ≡ Some (routine n b.0 b.1) = search rules in
-    let found = sym (first_same (defines kinds.Routine n) s.items) ∙ seen in
+    let seen : first_of (is_routine_named n) s.items ≡ Some (routine n b.0 b.1) = search rules in
+    let found = sym (first_same (is_routine_named n) s.items) ∙ seen in
     let there = editing.among_home s.items n k b d found c.in-Some-nth_among.ensures.held in
     let ts = map placed_of c.in_ok-found.found.items in
     let x = view_among c.in_ok-among.among in
@@ -123,7 +122,7 @@ returns-in_err-script-clause-fault c =
     let read = subst (λ (xs : List Token). IsReadAs (texts.among c.in-Some-nth_among.depth) (lexemes (map placed_of xs)) x) c.deref-2.ensures.value c.in_ok-among.ensures.tree in
     let f = c.in_err-script.field-0.0 in
     let new = c.in_ok-new.ensures ∙ ap (λ (r : RowView). routine n r.0 r.1) c.in_ok-body.ensures.put in
-    let failed = subst (λ (y : Plain). (f ≡ fault.OutOfMemory) ⊎ (fault_of (items_with (defines kinds.Routine n) y s.items) s.external ≡ Some f)) new c.in_err-script.ensures.fault in
+    let failed = subst (λ (y : Plain). (f ≡ fault.OutOfMemory) ⊎ (fault_of (items_with (is_routine_named n) y s.items) s.external ≡ Some f)) new c.in_err-script.ensures.fault in
     rw p.1 (editing.told_as s (among n k) h text f p.0 there p.2 (editing.check_told s h text ts x f c.in_ok-found.ensures.tokens offered read failed))
 
 pub returns-then-has_as_many_amongs-clause-script : goal.returns-then-has_as_many_amongs-clause-script
@@ -136,8 +135,8 @@ returns-then-has_as_many_amongs-clause-script c =
     let old = view_among c.in-Some-nth_among.replaced.now in
     let d : AmongContents = (c.in-Some-nth_among.depth, old.0, old.1) in
     let h = home_of_among s.items n b k d in
-    let seen : first_of (defines kinds.Routine n) s.items ≡ Some (routine n b.0 b.1) = search rules in
-    let found = sym (first_same (defines kinds.Routine n) s.items) ∙ seen in
+    let seen : first_of (is_routine_named n) s.items ≡ Some (routine n b.0 b.1) = search rules in
+    let found = sym (first_same (is_routine_named n) s.items) ∙ seen in
     let there = editing.among_home s.items n k b d found c.in-Some-nth_among.ensures.held in
     let ts = map placed_of c.in_ok-found.found.items in
     let x = view_among c.in_ok-among.among in
@@ -145,7 +144,7 @@ returns-then-has_as_many_amongs-clause-script c =
     let read = subst (λ (xs : List Token). IsReadAs (texts.among c.in-Some-nth_among.depth) (lexemes (map placed_of xs)) x) c.deref-2.ensures.value c.in_ok-among.ensures.tree in
     let u = source_of c.in_ok-script.script in
     let new = c.in_ok-new.ensures ∙ ap (λ (r : RowView). routine n r.0 r.1) c.in_ok-body.ensures.put in
-    let items = c.in_ok-script.ensures.items ∙ ap (λ (y : Plain). items_with (defines kinds.Routine n) y s.items) new in
+    let items = c.in_ok-script.ensures.items ∙ ap (λ (y : Plain). items_with (is_routine_named n) y s.items) new in
     let counted : h.keeps_count x ≡ true = search rules in
     edited_out s (among n k) text u (h, there, editing.substitution_of s u h text ts x true c.in_ok-found.ensures.tokens offered read items c.in_ok-script.ensures.external c.in_ok-script.ensures.well_declared counted)
 
@@ -159,8 +158,8 @@ returns-clause-fault c =
     let old = view_among c.in-Some-nth_among.replaced.now in
     let d : AmongContents = (c.in-Some-nth_among.depth, old.0, old.1) in
     let h = home_of_among s.items n b k d in
-    let seen : first_of (defines kinds.Routine n) s.items ≡ Some (routine n b.0 b.1) = search rules in
-    let found = sym (first_same (defines kinds.Routine n) s.items) ∙ seen in
+    let seen : first_of (is_routine_named n) s.items ≡ Some (routine n b.0 b.1) = search rules in
+    let found = sym (first_same (is_routine_named n) s.items) ∙ seen in
     let there = editing.among_home s.items n k b d found c.in-Some-nth_among.ensures.held in
     let ts = map placed_of c.in_ok-found.found.items in
     let x = view_among c.in_ok-among.among in
@@ -168,7 +167,7 @@ returns-clause-fault c =
     let read = subst (λ (xs : List Token). IsReadAs (texts.among c.in-Some-nth_among.depth) (lexemes (map placed_of xs)) x) c.deref-2.ensures.value c.in_ok-among.ensures.tree in
     let u = source_of c.in_ok-script.script in
     let new = c.in_ok-new.ensures ∙ ap (λ (r : RowView). routine n r.0 r.1) c.in_ok-body.ensures.put in
-    let items = c.in_ok-script.ensures.items ∙ ap (λ (y : Plain). items_with (defines kinds.Routine n) y s.items) new in
+    let items = c.in_ok-script.ensures.items ∙ ap (λ (y : Plain). items_with (is_routine_named n) y s.items) new in
     let counted : h.keeps_count x ≡ false = search rules in
     inr (fault_out s (among n k) text edits.AmongCount (h, there, u, editing.substitution_of s u h text ts x false c.in_ok-found.ensures.tokens offered read items c.in_ok-script.ensures.external c.in_ok-script.ensures.well_declared counted))
 
@@ -181,8 +180,8 @@ returns-in_err-found-clause-missing c =
     let old = view_among c.in-Some-nth_among.replaced.now in
     let d : AmongContents = (c.in-Some-nth_among.depth, old.0, old.1) in
     let h = home_of_among s.items n b k d in
-    let seen : first_of (defines kinds.Routine n) s.items ≡ Some (routine n b.0 b.1) = search rules in
-    let found = sym (first_same (defines kinds.Routine n) s.items) ∙ seen in
+    let seen : first_of (is_routine_named n) s.items ≡ Some (routine n b.0 b.1) = search rules in
+    let found = sym (first_same (is_routine_named n) s.items) ∙ seen in
     let there = editing.among_home s.items n k b d found c.in-Some-nth_among.ensures.held in
     λ f missing. editing.not_missing s.items (among n k) h _ there f missing
 
@@ -195,8 +194,8 @@ returns-in_err-among-clause-missing c =
     let old = view_among c.in-Some-nth_among.replaced.now in
     let d : AmongContents = (c.in-Some-nth_among.depth, old.0, old.1) in
     let h = home_of_among s.items n b k d in
-    let seen : first_of (defines kinds.Routine n) s.items ≡ Some (routine n b.0 b.1) = search rules in
-    let found = sym (first_same (defines kinds.Routine n) s.items) ∙ seen in
+    let seen : first_of (is_routine_named n) s.items ≡ Some (routine n b.0 b.1) = search rules in
+    let found = sym (first_same (is_routine_named n) s.items) ∙ seen in
     let there = editing.among_home s.items n k b d found c.in-Some-nth_among.ensures.held in
     λ f missing. editing.not_missing s.items (among n k) h _ there f missing
 
@@ -209,8 +208,8 @@ returns-in_err-body-clause-missing c =
     let old = view_among c.in-Some-nth_among.replaced.now in
     let d : AmongContents = (c.in-Some-nth_among.depth, old.0, old.1) in
     let h = home_of_among s.items n b k d in
-    let seen : first_of (defines kinds.Routine n) s.items ≡ Some (routine n b.0 b.1) = search rules in
-    let found = sym (first_same (defines kinds.Routine n) s.items) ∙ seen in
+    let seen : first_of (is_routine_named n) s.items ≡ Some (routine n b.0 b.1) = search rules in
+    let found = sym (first_same (is_routine_named n) s.items) ∙ seen in
     let there = editing.among_home s.items n k b d found c.in-Some-nth_among.ensures.held in
     λ f missing. editing.not_missing s.items (among n k) h _ there f missing
 
@@ -223,8 +222,8 @@ returns-in_err-new-clause-missing c =
     let old = view_among c.in-Some-nth_among.replaced.now in
     let d : AmongContents = (c.in-Some-nth_among.depth, old.0, old.1) in
     let h = home_of_among s.items n b k d in
-    let seen : first_of (defines kinds.Routine n) s.items ≡ Some (routine n b.0 b.1) = search rules in
-    let found = sym (first_same (defines kinds.Routine n) s.items) ∙ seen in
+    let seen : first_of (is_routine_named n) s.items ≡ Some (routine n b.0 b.1) = search rules in
+    let found = sym (first_same (is_routine_named n) s.items) ∙ seen in
     let there = editing.among_home s.items n k b d found c.in-Some-nth_among.ensures.held in
     λ f missing. editing.not_missing s.items (among n k) h _ there f missing
 
@@ -237,8 +236,8 @@ returns-in_err-script-clause-missing c =
     let old = view_among c.in-Some-nth_among.replaced.now in
     let d : AmongContents = (c.in-Some-nth_among.depth, old.0, old.1) in
     let h = home_of_among s.items n b k d in
-    let seen : first_of (defines kinds.Routine n) s.items ≡ Some (routine n b.0 b.1) = search rules in
-    let found = sym (first_same (defines kinds.Routine n) s.items) ∙ seen in
+    let seen : first_of (is_routine_named n) s.items ≡ Some (routine n b.0 b.1) = search rules in
+    let found = sym (first_same (is_routine_named n) s.items) ∙ seen in
     let there = editing.among_home s.items n k b d found c.in-Some-nth_among.ensures.held in
     λ f missing. editing.not_missing s.items (among n k) h _ there f missing
 
@@ -251,8 +250,8 @@ returns-then-has_as_many_amongs-clause-missing c =
     let old = view_among c.in-Some-nth_among.replaced.now in
     let d : AmongContents = (c.in-Some-nth_among.depth, old.0, old.1) in
     let h = home_of_among s.items n b k d in
-    let seen : first_of (defines kinds.Routine n) s.items ≡ Some (routine n b.0 b.1) = search rules in
-    let found = sym (first_same (defines kinds.Routine n) s.items) ∙ seen in
+    let seen : first_of (is_routine_named n) s.items ≡ Some (routine n b.0 b.1) = search rules in
+    let found = sym (first_same (is_routine_named n) s.items) ∙ seen in
     let there = editing.among_home s.items n k b d found c.in-Some-nth_among.ensures.held in
     λ f missing. editing.not_missing s.items (among n k) h _ there f missing
 
@@ -265,8 +264,8 @@ returns-clause-missing c =
     let old = view_among c.in-Some-nth_among.replaced.now in
     let d : AmongContents = (c.in-Some-nth_among.depth, old.0, old.1) in
     let h = home_of_among s.items n b k d in
-    let seen : first_of (defines kinds.Routine n) s.items ≡ Some (routine n b.0 b.1) = search rules in
-    let found = sym (first_same (defines kinds.Routine n) s.items) ∙ seen in
+    let seen : first_of (is_routine_named n) s.items ≡ Some (routine n b.0 b.1) = search rules in
+    let found = sym (first_same (is_routine_named n) s.items) ∙ seen in
     let there = editing.among_home s.items n k b d found c.in-Some-nth_among.ensures.held in
     λ f missing. editing.not_missing s.items (among n k) h _ there f missing
 
@@ -275,8 +274,8 @@ returns-in_default-nth_among-clause-fault c =
     let s = source_of c.args.self.now in
     let n = c.args.routine.now in
     let b = view_row c.in-Some.body.now in
-    let seen : first_of (defines kinds.Routine n) s.items ≡ Some (routine n b.0 b.1) = search rules in
-    let found = sym (first_same (defines kinds.Routine n) s.items) ∙ seen in
+    let seen : first_of (is_routine_named n) s.items ≡ Some (routine n b.0 b.1) = search rules in
+    let found = sym (first_same (is_routine_named n) s.items) ∙ seen in
     inr (missing_out s.items (among n c.args.k) edits.NoAmong (editing.no_among s.items n c.args.k b found (rw c.in_default-nth_among.is at c.nth_among.ensures.held)))
 
 pub returns-in_default-nth_among-clause-missing : goal.returns-in_default-nth_among-clause-missing
@@ -284,6 +283,6 @@ returns-in_default-nth_among-clause-missing c =
     let s = source_of c.args.self.now in
     let n = c.args.routine.now in
     let b = view_row c.in-Some.body.now in
-    let seen : first_of (defines kinds.Routine n) s.items ≡ Some (routine n b.0 b.1) = search rules in
-    let found = sym (first_same (defines kinds.Routine n) s.items) ∙ seen in
+    let seen : first_of (is_routine_named n) s.items ≡ Some (routine n b.0 b.1) = search rules in
+    let found = sym (first_same (is_routine_named n) s.items) ∙ seen in
     λ f missing. editing.missing_told s.items (among n c.args.k) edits.NoAmong _ (editing.no_among s.items n c.args.k b found (rw c.in_default-nth_among.is at c.nth_among.ensures.held)) refl f missing
