@@ -1,14 +1,14 @@
-//! Laws of sbl_changes (specs/LargestAreSound.antt), written out.
+//! Laws of sbl_rows (specs/LargestAreSound.antt), written out.
 
 ghost use Rattle.std.specs.Prelude.{◌≡◌, ℕ, List, ◌++◌, length, min};
 ghost use Rattle.std.specs.List.Sorted.{IsPermutation};
-ghost use Rattle.sbl_changes.specs.Classes.{Class};
-ghost use Rattle.sbl_changes.specs.Largest.{largest_of};
-ghost use Rattle.sbl_changes.specs.Rows.{Row};
-ghost use Rattle.sbl_changes.specs.Stats.{word_classes};
-ghost use Rattle.sbl_changes.specs.LargestAreSound.{AreRanked};
+ghost use Rattle.sbl_rows.specs.Classes.{Class};
+ghost use Rattle.sbl_rows.specs.Largest.{largest_of};
+ghost use Rattle.sbl_rows.specs.Rows.{Row};
+ghost use Rattle.sbl_rows.specs.Stats.{word_classes};
+ghost use Rattle.sbl_rows.specs.LargestAreSound.{AreRanked};
 
-use sbl_changes::laws::largest_are_sound;
+use sbl_rows::laws::largest_are_sound;
 
 /// Needs the whole of the law `largest_are_sound`.
 pub fn needs_largest_are_sound()

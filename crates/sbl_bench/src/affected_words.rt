@@ -6,7 +6,7 @@ ghost use Rattle.sbl_bench.specs.AffectedWords.{AreMet, IsLinkedMachineOf, diffe
 ghost use Rattle.sbl_bench.specs.Changes.{affected_of};
 
 use crate::last_run::LastRun;
-use sbl_diff::differences;
+use crate::script_diff::differences;
 use sbl_machine::laws::differing_agree;
 use sbl_machine::{Item, Machine, Table, Touch, TouchLog};
 use sbl_script::Script;

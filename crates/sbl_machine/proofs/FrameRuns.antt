@@ -5,7 +5,7 @@ use Rattle.sbl_ast.specs.declared.tree.DeclarationKind.TheVariants as kinds
 use Rattle.sbl_ast.specs.Tree as trees
 use Rattle.sbl_ast.specs.Tree.{bracket, simple_, literal_, name_, non_, prefixed, counted, move_, named, splice_, setlimit_, assign_, compare_, compare_values_, among_, no_rows, row, no_others, joined, no_starter, starter, bare, group, entry}
 use Rattle.sbl_ast.specs.declared.mode.Mode.{Mode}
-use Rattle.sbl_semantics.specs.Items.{DeclaredNames, place_of, is_among}
+use Rattle.sbl_semantics.specs.Items.{DeclaredNames, place_of, is_member}
 use Rattle.sbl_semantics.specs.Regions.{Among, among_at, number_after, number_after_rows, number_after_others, number_after_starter, first, first_rows, first_others, mode_under, waits, waits_others}
 use Rattle.sbl_semantics.specs.declared.touch.Touch.{Touch}
 use Rattle.sbl_semantics.specs.declared.touch.Touch.TheVariants.{Searched, Tested}
@@ -165,9 +165,9 @@ module _ (picked : Touch → Bool) (ns : DeclaredNames) (class class' : List ℕ
   -- a name alone
   name_pair : (x : List ℕ) (m : Mode) → Pair picked i (meaning.name_does ns class call x m) (meaning.name_does ns class' call' x m)
   name_pair x m =
-      if_pair picked i (is_among (ns kinds.Strings) x) _ _ _ _ (same_pair picked i (λ s. match (slice_index_or s.strings (place_of (ns kinds.Strings) x) []) m s) (λ s. match_same (slice_index_or s.strings (place_of (ns kinds.Strings) x) []) m s))
-      (if_pair picked i (is_among (ns kinds.Booleans) x) _ _ _ _ (same_pair picked i _ (λ s. refl))
-      (if_pair picked i (is_among (ns kinds.Groupings) x) _ _ _ _ (tests_pair true x m) ((calls_alike x).in_mode m)))
+      if_pair picked i (is_member (ns kinds.Strings) x) _ _ _ _ (same_pair picked i (λ s. match (slice_index_or s.strings (place_of (ns kinds.Strings) x) []) m s) (λ s. match_same (slice_index_or s.strings (place_of (ns kinds.Strings) x) []) m s))
+      (if_pair picked i (is_member (ns kinds.Booleans) x) _ _ _ _ (same_pair picked i _ (λ s. refl))
+      (if_pair picked i (is_member (ns kinds.Groupings) x) _ _ _ _ (tests_pair true x m) ((calls_alike x).in_mode m)))
 
   abbrev does : Mode → ℕ → Bool → Option Among → trees.Command → Doing
   does = meaning.act ns class call

@@ -21,14 +21,14 @@ use Rattle.sbl_ast.specs.declared.tree.Prefix.TheVariants as prefixes
 use Rattle.sbl_ast.specs.declared.tree.Simple.{Simple}
 use Rattle.sbl_ast.specs.declared.tree.Simple.TheVariants as simples
 use Rattle.sbl_ast.specs.declared.tree.Splice.{Splice}
-use Rattle.sbl_ast.specs.declared.tree.Splice.TheVariants as edits
+use Rattle.sbl_ast.specs.declared.tree.Splice.TheVariants as splices
 use Rattle.sbl_ast.specs.Order.{in_order}
 use Rattle.sbl_ast.specs.Tree as trees
 use Rattle.sbl_ast.specs.Tree.{bracket, simple_, literal_, name_, non_, prefixed, counted, move_, named, splice_, setlimit_, assign_, compare_, compare_values_, among_, no_rows, row, no_others, joined, no_starter, starter, bare, group}
 use Rattle.sbl_ast.specs.declared.mode.Mode.{Mode}
 use Rattle.sbl_ast.specs.declared.mode.Mode.TheVariants.{Forward, Backward}
 use Rattle.sbl_semantics.specs.Fitting.{read_as, ahead_at}
-use Rattle.sbl_semantics.specs.Items.{DeclaredNames, Body, place_of, is_among, known_in, class_of, classes_after, body_named}
+use Rattle.sbl_semantics.specs.Items.{DeclaredNames, Body, place_of, is_member, known_in, char_class_of, classes_after, body_named}
 use Rattle.sbl_semantics.specs.Regions.{Among, among_at, number_after, number_after_rows, number_after_others, number_after_starter, first, first_rows, first_others, mode_under, waits, waits_others}
 use Rattle.sbl_semantics.specs.declared.cursor.SavedCursor.{SavedCursor}
 use Rattle.sbl_semantics.specs.declared.limits.Limits.{Limits}
@@ -179,13 +179,13 @@ module _ (word : List ℕ) where
   put_in_keeps right cs s h = if_keeps (nat_le (s.cursor + s.beyond) (length s.text)) _ _ (if_keeps (nat_le (length s.text + length cs) 1024) _ _ (put_keeps s.cursor s.cursor cs s h) h) h
 
   edited_keeps : (x : Splice) (cs : List ℕ) (m : Mode) → Keeps (edited_does x cs m)
-  edited_keeps edits.Replace cs m s h = replace_keeps cs s h
-  edited_keeps edits.InsertSign cs Forward s h = put_in_keeps true cs s h
-  edited_keeps edits.InsertSign cs Backward s h = put_in_keeps false cs s h
-  edited_keeps edits.Insert cs Forward s h = put_in_keeps true cs s h
-  edited_keeps edits.Insert cs Backward s h = put_in_keeps false cs s h
-  edited_keeps edits.Attach cs Forward s h = put_in_keeps false cs s h
-  edited_keeps edits.Attach cs Backward s h = put_in_keeps true cs s h
+  edited_keeps splices.Replace cs m s h = replace_keeps cs s h
+  edited_keeps splices.InsertSign cs Forward s h = put_in_keeps true cs s h
+  edited_keeps splices.InsertSign cs Backward s h = put_in_keeps false cs s h
+  edited_keeps splices.Insert cs Forward s h = put_in_keeps true cs s h
+  edited_keeps splices.Insert cs Backward s h = put_in_keeps false cs s h
+  edited_keeps splices.Attach cs Forward s h = put_in_keeps false cs s h
+  edited_keeps splices.Attach cs Backward s h = put_in_keeps true cs s h
 
   named_keeps : (ns : DeclaredNames) (x : Naming) (y : List ℕ) (m : Mode) → Keeps (named_does ns x y m)
   named_keeps ns namings.SetMark y m s h = h
@@ -349,9 +349,9 @@ module _ (word : List ℕ) where
 
     name_keeps : (x : List ℕ) → KeepsIn (meaning.name_does ns class call x)
     name_keeps x m s h =
-        if_keeps (is_among (ns kinds.Strings) x) _ _ (match_keeps (slice_index_or s.strings (place_of (ns kinds.Strings) x) []) m s h)
-        (if_keeps (is_among (ns kinds.Booleans) x) _ _ h
-        (if_keeps (is_among (ns kinds.Groupings) x) _ _ (class_keeps true (class x) m (touch_grouping (place_of (ns kinds.Groupings) x) s) (test_keeps (place_of (ns kinds.Groupings) x) s h)) (go x m s h)))
+        if_keeps (is_member (ns kinds.Strings) x) _ _ (match_keeps (slice_index_or s.strings (place_of (ns kinds.Strings) x) []) m s h)
+        (if_keeps (is_member (ns kinds.Booleans) x) _ _ h
+        (if_keeps (is_member (ns kinds.Groupings) x) _ _ (class_keeps true (class x) m (touch_grouping (place_of (ns kinds.Groupings) x) s) (test_keeps (place_of (ns kinds.Groupings) x) s h)) (go x m s h)))
 
     abbrev does : Mode → ℕ → Bool → Option Among → trees.Command → Doing
     does = meaning.act ns class call
@@ -437,7 +437,7 @@ puts_give_the_stem script word limit stem p =
     let items = in_order script.items in
     let known = known_in items in
     stem_of word (meaning.ending_with_events script word limit) stem
-    (calls_keep word known (class_of (classes_after items [])) (body_named items) 32 script.external Forward (record (meaning.start known word limit) { events = Some [] }) ([], refl, refl, refl))
+    (calls_keep word known (char_class_of (classes_after items [])) (body_named items) 32 script.external Forward (record (meaning.start known word limit) { events = Some [] }) ([], refl, refl, refl))
     ((events_change_nothing script word limit).outcome ∙ p)
 
 pub events_touch : EventsTouch
@@ -446,5 +446,5 @@ events_touch script word limit =
     let items = in_order script.items in
     let known = known_in items in
     touches_at word (meaning.ending_with_events script word limit)
-    (calls_keep word known (class_of (classes_after items [])) (body_named items) 32 script.external Forward (record (meaning.start known word limit) { events = Some [] }) ([], refl, refl, refl))
+    (calls_keep word known (char_class_of (classes_after items [])) (body_named items) 32 script.external Forward (record (meaning.start known word limit) { events = Some [] }) ([], refl, refl, refl))
     ∙ ap (filter is_no_test) (events_change_nothing script word limit).touches

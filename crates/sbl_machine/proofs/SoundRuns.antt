@@ -3,7 +3,7 @@ use Rattle.std.proofs.Common.{◌≡◌, ℕ, zero, suc, Bool, List, [], Option,
 use Rattle.std.proofs.Math.Path.{fun_ext}
 use Rattle.sbl_ast.specs.Order.{ItemInMode, in_order}
 use Rattle.sbl_ast.specs.declared.tree.DeclarationKind.TheVariants as kinds
-use Rattle.sbl_semantics.specs.Items.{DeclaredNames, Body, known_in, class_of, classes_after, body_named}
+use Rattle.sbl_semantics.specs.Items.{DeclaredNames, Body, known_in, char_class_of, classes_after, body_named}
 use Rattle.sbl_semantics.specs.Meaning as meaning
 use Rattle.sbl_machine.specs.NumberedScript.{numbered_script}
 use Rattle.sbl_compiler.specs.NumberedItems.{numbered_items, plan_with}
@@ -35,7 +35,7 @@ module _ (items : List ItemInMode) (external : List ℕ) where
   names_known = known_in items
 
   abbrev class : List ℕ → ℕ → Bool
-  class = class_of (classes_after items [])
+  class = char_class_of (classes_after items [])
 
   abbrev program : programs.Program
   program = plan_with ns items external

@@ -19,7 +19,7 @@ use Rattle.sbl_ast.specs.declared.tree.Prefix.TheVariants as prefixes
 use Rattle.sbl_ast.specs.declared.tree.Simple.{Simple}
 use Rattle.sbl_ast.specs.declared.tree.Simple.TheVariants as simples
 use Rattle.sbl_ast.specs.declared.tree.Splice.{Splice}
-use Rattle.sbl_ast.specs.declared.tree.Splice.TheVariants as edits
+use Rattle.sbl_ast.specs.declared.tree.Splice.TheVariants as splices
 use Rattle.sbl_ast.specs.Tree as trees
 use Rattle.sbl_semantics.specs.Fitting.{read_as, ahead_at}
 use Rattle.sbl_semantics.specs.Items.{DeclaredNames, place_of}
@@ -52,13 +52,13 @@ put_in_go : (right : Bool) (cs : List ℕ) → Steady (put_in right cs)
 put_in_go right cs k n s l = if_goes k n (nat_le (s.cursor + s.beyond) (length s.text)) _ _ _ _ (if_goes k n (nat_le (length s.text + length cs) 1024) (Signals true (insert_string right cs s)) (Stops faults.TooLong s) (Signals true (insert_string right cs (more k s))) (Stops faults.TooLong (more k s)) (l, refl) (l, refl)) (l, refl)
 
 pub edited_go : (x : Splice) (cs : List ℕ) (m : Mode) → Steady (edited_does x cs m)
-edited_go edits.Replace cs m k n s l = replace_go cs k n s l
-edited_go edits.InsertSign cs Forward k n s l = put_in_go true cs k n s l
-edited_go edits.InsertSign cs Backward k n s l = put_in_go false cs k n s l
-edited_go edits.Insert cs Forward k n s l = put_in_go true cs k n s l
-edited_go edits.Insert cs Backward k n s l = put_in_go false cs k n s l
-edited_go edits.Attach cs Forward k n s l = put_in_go false cs k n s l
-edited_go edits.Attach cs Backward k n s l = put_in_go true cs k n s l
+edited_go splices.Replace cs m k n s l = replace_go cs k n s l
+edited_go splices.InsertSign cs Forward k n s l = put_in_go true cs k n s l
+edited_go splices.InsertSign cs Backward k n s l = put_in_go false cs k n s l
+edited_go splices.Insert cs Forward k n s l = put_in_go true cs k n s l
+edited_go splices.Insert cs Backward k n s l = put_in_go false cs k n s l
+edited_go splices.Attach cs Forward k n s l = put_in_go false cs k n s l
+edited_go splices.Attach cs Backward k n s l = put_in_go true cs k n s l
 
 pub named_go : (ns : DeclaredNames) (x : Naming) (y : List ℕ) (m : Mode) → Steady (named_does ns x y m)
 named_go ns namings.SetMark y m k n s l = (l, refl)

@@ -4,7 +4,7 @@ use Rattle.std.specs.Prelude.{slice_index_or}
 use Rattle.sbl_ast.specs.declared.tree.DeclarationKind.TheVariants as kinds
 use Rattle.sbl_ast.specs.Tree as trees
 use Rattle.sbl_ast.specs.Tree.{bracket, simple_, literal_, name_, non_, prefixed, counted, move_, named, splice_, setlimit_, assign_, compare_, compare_values_, among_, no_rows, row, no_others, joined, no_starter, starter, bare, group}
-use Rattle.sbl_semantics.specs.Items.{DeclaredNames, Body, place_of, is_among}
+use Rattle.sbl_semantics.specs.Items.{DeclaredNames, Body, place_of, is_member}
 use Rattle.sbl_semantics.specs.Regions.{Among, among_at, number_after, number_after_rows, number_after_others, number_after_starter, first, first_rows, first_others, mode_under, waits, waits_others}
 use Rattle.sbl_semantics.specs.Meaning as meaning
 use Rattle.sbl_semantics.specs.Meaning.{begins, joined_does, search}
@@ -27,9 +27,9 @@ module _ (ns : DeclaredNames) (class : List ℕ → ℕ → Bool) (call : List �
 
   name_go : (x : List ℕ) (m : Mode) → Steady (meaning.name_does ns class call x m)
   name_go x m k n s l =
-      if_goes k n (is_among (ns kinds.Strings) x) _ _ _ _ (match_go (slice_index_or s.strings (place_of (ns kinds.Strings) x) []) m k n s l)
-      (if_goes k n (is_among (ns kinds.Booleans) x) _ _ _ _ (l, refl)
-      (if_goes k n (is_among (ns kinds.Groupings) x) _ _ _ _ (tests_go true x m k n s l) (go x m k n s l)))
+      if_goes k n (is_member (ns kinds.Strings) x) _ _ _ _ (match_go (slice_index_or s.strings (place_of (ns kinds.Strings) x) []) m k n s l)
+      (if_goes k n (is_member (ns kinds.Booleans) x) _ _ _ _ (l, refl)
+      (if_goes k n (is_member (ns kinds.Groupings) x) _ _ _ _ (tests_go true x m k n s l) (go x m k n s l)))
 
   abbrev does : Mode → ℕ → Bool → Option Among → trees.Command → Doing
   does = meaning.act ns class call

@@ -19,7 +19,7 @@ pub use machine::Machine;
 pub use meter::Meter;
 pub use outcome::{Ran, RunTrace, Why};
 pub use run_stop::RunStop;
-pub use sbl_among_search::{AmongSearch, LinkedTable, PlainTable};
+pub use sbl_program::{AmongSearch, LinkedTable, PlainTable};
 pub use sbl_run_state::TouchLog;
 pub use sbl_script::ScriptFault;
 pub use sbl_semantics::{Event, Item, Outcome, RunFault, Touch};

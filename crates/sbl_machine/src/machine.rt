@@ -25,7 +25,7 @@ use crate::meter::Meter;
 use crate::naming::{Names, is_touched, item_refs, items_touched, routine_at};
 use crate::outcome::{Ran, RunTrace, Why};
 use crate::run_stop::RunStop;
-use sbl_among_search::AmongSearch;
+use sbl_program::AmongSearch;
 use sbl_ast::Mode;
 use sbl_code::Code;
 use sbl_compiler::{Compilation, compile_items};

@@ -2,7 +2,7 @@
 use Rattle.std.specs.Prelude.{ℕ, Bool, true, false, ◌==◌, ◌||◌, List, [], ◌∷◌, codes, decimal, map}
 use Rattle.std.specs.List.{filter, slice_split}
 use Rattle.sbl_bench.specs.Contents.{Contents, rows_now}
-use Rattle.sbl_changes.specs.Families.{FamilyResult, Under, Over, Pairs, family_results}
+use Rattle.sbl_rows.specs.Families.{FamilyResult, Under, Over, Pairs, family_results}
 use Rattle.sbl_io.specs.Records.{records_text}
 use Rattle.sbl_reports.specs.Reports.{named_rows, stem_fields}
 

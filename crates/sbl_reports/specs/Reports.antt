@@ -3,11 +3,11 @@ use Rattle.std.specs.Prelude.{ℕ, List, [], ◌∷◌, ◌++◌, codes, decimal
 use Rattle.std.specs.Str.{encode_utf8_all}
 use Rattle.sbl_bench.specs.Contents.{Contents, rows_now}
 use Rattle.sbl_rows.specs.Rows as bench
-use Rattle.sbl_changes.specs.Changes.{Added, Change, Changed, Merged, Removed, Renamed, Split, changes_of}
-use Rattle.sbl_changes.specs.Classes.{Class}
-use Rattle.sbl_changes.specs.Largest.{largest_of}
-use Rattle.sbl_changes.specs.Rows.{Outcome, Row, Stem, Refused}
-use Rattle.sbl_changes.specs.Stats.{Stats, stats_of}
+use Rattle.sbl_rows.specs.Changes.{Added, Change, Changed, Merged, Removed, Renamed, Split, changes_of}
+use Rattle.sbl_rows.specs.StemClasses.{Class}
+use Rattle.sbl_rows.specs.Largest.{largest_of}
+use Rattle.sbl_rows.specs.WordRows.{Outcome, Row, Stem, Refused}
+use Rattle.sbl_rows.specs.Stats.{Stats, stats_of}
 use Rattle.sbl_semantics.specs.Outcome as machine
 use Rattle.sbl_io.specs.Records.{records_text}
 use Rattle.sbl_semantics.specs.Names.{name_of}

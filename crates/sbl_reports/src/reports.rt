@@ -3,9 +3,9 @@ ghost use Rattle.std.specs.Prelude.{◌≡◌, ◌++◌, ◌∷◌, [], IfOk, On
 ghost use Rattle.csv.specs.Records.{fields_of, partial_of};
 ghost use Rattle.sbl_bench.specs.KeptRuns.{contents_of};
 ghost use Rattle.sbl_rows.specs.Rows.{view_row};
-ghost use Rattle.sbl_changes.specs.Changes.{view_change};
-ghost use Rattle.sbl_changes.specs.Classes.{view_class as view_stem_class};
-ghost use Rattle.sbl_changes.specs.Rows.{view_outcome, view_rows};
+ghost use Rattle.sbl_rows.specs.Changes.{view_change};
+ghost use Rattle.sbl_rows.specs.StemClasses.{view_class as view_stem_class};
+ghost use Rattle.sbl_rows.specs.WordRows.{view_outcome, view_rows};
 ghost use Rattle.sbl_semantics.specs.Outcome.{outcome_of};
 ghost use Rattle.sbl_io.specs.Records.{record_line, records_text};
 ghost use Rattle.sbl_reports.specs.Reports as spec;
@@ -13,7 +13,7 @@ ghost use Rattle.sbl_reports.specs.Reports as spec;
 use crate::records::{Record, lines_of, push_named, push_stem};
 use csv::ByteRecord;
 use sbl_bench::{Bench, Row};
-use sbl_changes::{
+use sbl_rows::{
     ChangeRow, RowStats, StemClass, WordOutcome, WordRow, changes, largest_classes, stats,
 };
 use sbl_io::{push_line, push_text};

@@ -9,7 +9,7 @@ use Rattle.sbl_ast.specs.Tree as trees
 use Rattle.sbl_ast.specs.Tree.{bracket, simple_, literal_, name_, non_, prefixed, counted, move_, named, splice_, setlimit_, assign_, compare_, compare_values_, among_, no_rows, row, no_others, joined, no_starter, starter, bare, group}
 use Rattle.sbl_ast.specs.declared.mode.Mode.{Mode}
 use Rattle.sbl_ast.specs.declared.mode.Mode.TheVariants.{Forward, Backward}
-use Rattle.sbl_semantics.specs.Items.{DeclaredNames, Body, place_of, is_among}
+use Rattle.sbl_semantics.specs.Items.{DeclaredNames, Body, place_of, is_member}
 use Rattle.sbl_semantics.specs.Regions.{Among, among_at, number_after, number_after_rows, number_after_others, number_after_starter, first, first_rows, first_others, mode_under, waits, waits_others}
 use Rattle.sbl_semantics.specs.Moves.{touch_grouping}
 use Rattle.sbl_semantics.specs.Numbers.{Value, with_value, integer_at, value_in_range}
@@ -105,9 +105,9 @@ module _ (ns : DeclaredNames) (class : List ℕ → ℕ → Bool) (bodies : List
     name_good : (x : List ℕ) → GoodDoing (meaning.name_does ns class call x)
     name_good x m s =
         let g = touch_grouping (place_of (ns kinds.Groupings) x) s in
-        either s (is_among (ns kinds.Strings) x) _ _ (match_good ns bodies r (slice_index_or s.strings (place_of (ns kinds.Strings) x) []) m s)
-        (either s (is_among (ns kinds.Booleans) x) _ _ (still ns bodies r s s (slice_index_or s.booleans (place_of (ns kinds.Booleans) x) false) refl refl refl)
-        (either s (is_among (ns kinds.Groupings) x) _ _ (class_good ns bodies r true (class x) m g) (call_good x m s)))
+        either s (is_member (ns kinds.Strings) x) _ _ (match_good ns bodies r (slice_index_or s.strings (place_of (ns kinds.Strings) x) []) m s)
+        (either s (is_member (ns kinds.Booleans) x) _ _ (still ns bodies r s s (slice_index_or s.booleans (place_of (ns kinds.Booleans) x) false) refl refl refl)
+        (either s (is_member (ns kinds.Groupings) x) _ _ (class_good ns bodies r true (class x) m g) (call_good x m s)))
 
     -- the same with a value that is worked out at the beginning
     by_value : (s : State) (f : Value → State → Ending) (v : Value) (w : ℕ → Value) → ((n : ℕ) → w n ≡ v) → Part ns bodies r s (λ n. f v (at n s)) s.steps → Part ns bodies r s (λ n. f (w n) (at n s)) s.steps

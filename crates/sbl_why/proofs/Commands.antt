@@ -13,7 +13,7 @@ use Rattle.sbl_ast.specs.declared.tree.Naming.TheVariants as namings
 use Rattle.sbl_ast.specs.declared.tree.Simple.{Simple}
 use Rattle.sbl_ast.specs.declared.tree.Simple.TheVariants as simples
 use Rattle.sbl_ast.specs.declared.tree.Splice.{Splice}
-use Rattle.sbl_ast.specs.declared.tree.Splice.TheVariants as edits
+use Rattle.sbl_ast.specs.declared.tree.Splice.TheVariants as splices
 use Rattle.sbl_ast.specs.declared.mode.Mode.{Mode}
 use Rattle.sbl_ast.specs.declared.mode.Mode.TheVariants.{Forward, Backward}
 use Rattle.sbl_semantics.specs.Fitting.{read_as}
@@ -120,13 +120,13 @@ module _ (ns : DeclaredNames) (bodies : List ℕ → Option Body) (r : ℕ) wher
       (or_stops s (nat_le (length s.text + length cs) 1024) faults.TooLong (λ n. Signals true (at n (insert_string right cs s))) (puts s (insert_string right cs s) s.cursor s.cursor cs refl refl refl))
 
   pub edited_good : (x : Splice) (cs : List ℕ) (m : Mode) → Good ns bodies r (edited_does x cs m)
-  edited_good edits.Replace cs m s = replace_good cs s
-  edited_good edits.InsertSign cs Forward s = put_in_good true cs s
-  edited_good edits.InsertSign cs Backward s = put_in_good false cs s
-  edited_good edits.Insert cs Forward s = put_in_good true cs s
-  edited_good edits.Insert cs Backward s = put_in_good false cs s
-  edited_good edits.Attach cs Forward s = put_in_good false cs s
-  edited_good edits.Attach cs Backward s = put_in_good true cs s
+  edited_good splices.Replace cs m s = replace_good cs s
+  edited_good splices.InsertSign cs Forward s = put_in_good true cs s
+  edited_good splices.InsertSign cs Backward s = put_in_good false cs s
+  edited_good splices.Insert cs Forward s = put_in_good true cs s
+  edited_good splices.Insert cs Backward s = put_in_good false cs s
+  edited_good splices.Attach cs Forward s = put_in_good false cs s
+  edited_good splices.Attach cs Backward s = put_in_good true cs s
 
   pub still : (s u : State) (b : Bool) → u.events ≡ s.events → u.text ≡ s.text → u.routine ≡ s.routine → Part ns bodies r s (λ n. Signals b (at n u)) s.steps
   still s u b e x y = here ns bodies r s u b s.steps e x y

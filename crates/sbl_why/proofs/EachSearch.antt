@@ -7,7 +7,7 @@ use Rattle.sbl_ast.specs.Order.{in_order}
 use Rattle.sbl_ast.specs.declared.mode.Mode.{Mode}
 use Rattle.sbl_ast.specs.declared.mode.Mode.TheVariants.{Forward}
 use Rattle.sbl_semantics.specs.Fitting.{ahead_at}
-use Rattle.sbl_semantics.specs.Items.{DeclaredNames, Body, place_of, known_in, class_of, classes_after, body_named}
+use Rattle.sbl_semantics.specs.Items.{DeclaredNames, Body, place_of, known_in, char_class_of, classes_after, body_named}
 use Rattle.sbl_semantics.specs.Regions.{Among, number_after, number_after_others, first_others, waits}
 use Rattle.sbl_semantics.specs.Events.{Event', Enters, Leaves, Searches, Finds, Puts, with_event}
 use Rattle.sbl_semantics.specs.Control.{end_search, back_in, enter, leave, pay_first}
@@ -145,8 +145,8 @@ searches_take_first script levels a m s before e =
     let items = in_order script.items in
     let known = known_in items in
     let bodies = body_named items in
-    let call = meaning.calls known (class_of (classes_after items [])) bodies levels in
-    let calls = calls_are known (class_of (classes_after items [])) bodies levels 0 in
+    let call = meaning.calls known (char_class_of (classes_after items [])) bodies levels in
+    let calls = calls_are known (char_class_of (classes_after items [])) bodies levels 0 in
     let end_search = search_found known bodies 0 call calls a m s s.steps in
     let h = first_in known bodies 0 call calls a m s end_search.0 (λ n. search call a m (at n s)) s.steps end_search.2 in (
       h.0,
@@ -172,7 +172,7 @@ each_search_takes_first script word limit before rest i k m c e =
     let items = in_order script.items in
     let known = known_in items in
     let bodies = body_named items in
-    let class = class_of (classes_after items []) in
+    let class = char_class_of (classes_after items []) in
     let start : State = record (meaning.start known word limit) { events = Some [] } in
     let run : Family = meaning.ending_with_events script word in
     let all : Each known bodies 0 (IsWhole (run limit)) (Some []) word 0 run limit [] (events_of script word limit) [] =

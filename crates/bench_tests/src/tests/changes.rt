@@ -2,7 +2,7 @@
 
 use crate::tests::families::families_of;
 use crate::tests::row_lists::{changes_text, rows_in, view};
-use sbl_changes::changes;
+use sbl_rows::changes;
 use std::alloc::{AllocError, Global};
 use std::process::Abort;
 use std::test::Fail;

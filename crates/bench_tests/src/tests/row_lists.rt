@@ -1,6 +1,6 @@
 //! Rows, and changes as text.
 
-use sbl_changes::{ChangeRow, FamilyRow, PairCounts, StemClass, WordOutcome, WordRow};
+use sbl_rows::{ChangeRow, FamilyRow, PairCounts, StemClass, WordOutcome, WordRow};
 use std::alloc::{AllocError, Global};
 use test_scripts::letters;
 

@@ -1,6 +1,6 @@
 use Rattle.std.proofs.Common.{◌≡◌, IfOk, map, rules}
 use Rattle.std.proofs.lemmas.Result.{IfOk-weaker}
-use Rattle.sbl_changes.specs.Changes.{view_change, view_changes}
+use Rattle.sbl_rows.specs.Changes.{view_change, view_changes}
 use Rattle.sbl_io.specs.Records.{records_text}
 use Rattle.sbl_reports.specs.Reports.{change_fields}
 use Rattle.sbl_reports.proofs.RecordFacts.{seen_lines}

@@ -1,6 +1,6 @@
 use Rattle.std.proofs.Common.{◌≡◌, IfOk, map, rules}
 use Rattle.std.proofs.lemmas.Result.{IfOk-weaker}
-use Rattle.sbl_changes.specs.Classes.{view_class, view_classes}
+use Rattle.sbl_rows.specs.StemClasses.{view_class, view_classes}
 use Rattle.sbl_io.specs.Records.{records_text}
 use Rattle.sbl_reports.specs.Reports.{class_fields}
 use Rattle.sbl_reports.proofs.RecordFacts.{seen_lines}

@@ -1,6 +1,6 @@
 use Rattle.std.proofs.Common.{◌≡◌, map, take}
 use Rattle.sbl_rows.specs.Rows.{view_row}
-use Rattle.sbl_changes.specs.Rows.{view_rows}
+use Rattle.sbl_rows.specs.WordRows.{view_rows}
 use Rattle.sbl_reports.specs.Reports as spec
 use Rattle.sbl_reports.proofs.reports.named_rows.Given as goal
 
