@@ -3,7 +3,7 @@
 use sbl_machine::{Outcome, RunFault};
 use sbl_rows::{ChangeRow, FamilyRow, PairCounts, Row, StemClass};
 use std::alloc::{AllocError, Global};
-use test_scripts::letters;
+use test_support::letters;
 
 /// A row with its own characters.
 #[derive(Drop)]
