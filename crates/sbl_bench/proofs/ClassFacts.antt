@@ -22,7 +22,7 @@ use Rattle.sbl_semantics.specs.declared.outcome.Outcome.TheVariants as code
 use Rattle.sbl_rows.specs.Classes.{class_of, class_with, in_order, is_stem, stem_of, words_with}
 use Rattle.sbl_rows.specs.Grouping.{Pair, pair_cmp, pairs_in_order, stem_pairs, with_pair, words_paired}
 use Rattle.sbl_bench.specs.KeptRuns.{KeptWord, AreFresh, words_in}
-use Rattle.sbl_bench.specs.Pairs.{ArePaired, Key, Text, find, has, has_stem, key_cmp, plain}
+use Rattle.sbl_bench.specs.inside.Pairs.{ArePaired, Key, Text, find, has, has_stem, key_cmp, plain}
 use Rattle.sbl_rows.specs.Rows.{Row, rows_of}
 use Rattle.sbl_rows.proofs.PairFacts.{then_eq}
 use Rattle.sbl_rows.proofs.OrderFacts.{exact, sorted-sorted, total, words-rows}
