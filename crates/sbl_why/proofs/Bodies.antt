@@ -17,7 +17,9 @@ use Rattle.sbl_semantics.specs.Control.{with_group, pay_first}
 use Rattle.sbl_semantics.specs.Choices.{choice}
 use Rattle.sbl_semantics.specs.State.{State, Ending, Signals, Doing}
 use Rattle.sbl_semantics.specs.Meaning as meaning
-use Rattle.sbl_semantics.specs.Meaning.{Offer, prefixed_does, counted_does, joined_does, limited_does, simple_does, moved_does, assigned_does, compared_does, named_does, edited_does, begins, takes, try_each, search}
+use Rattle.sbl_semantics.specs.inside.MeaningParts as parts
+use Rattle.sbl_semantics.specs.Meaning.{Offer, prefixed_does, counted_does, joined_does, limited_does, simple_does, moved_does, assigned_does, compared_does, named_does, edited_does, takes, try_each, search}
+use Rattle.sbl_semantics.specs.inside.MeaningParts.{begins}
 use Rattle.sbl_ast.specs.declared.tree.Constant.{Constant}
 use Rattle.sbl_ast.specs.declared.tree.Constant.TheVariants as constants
 use Rattle.sbl_why.specs.RoutineAmongs.{HasAmong, IsIn, IsInGroups, IsInOthers, IsInRows, IsInStarter}
@@ -84,20 +86,20 @@ module _ (ns : DeclaredNames) (class : List ℕ → ℕ → Bool) (bodies : List
     pays : (d : Doing) → GoodDoing d → GoodDoing (pay_first d)
     pays d i = paid_good ns bodies r d i
 
-    ahead_good : (n : Option Among) → ((a : Among) → n ≡ Some a → Has a) → GoodDoing (pay_first (meaning.search_ahead ns class call n))
-    ahead_good None q = pays (meaning.search_ahead ns class call None) (λ m s. still ns bodies r s s false refl refl refl)
+    ahead_good : (n : Option Among) → ((a : Among) → n ≡ Some a → Has a) → GoodDoing (pay_first (parts.search_ahead ns class call n))
+    ahead_good None q = pays (parts.search_ahead ns class call None) (λ m s. still ns bodies r s s false refl refl refl)
     ahead_good (Some a) q = search_good a (q a refl)
 
-    simple_paid : (n : Option Among) → ((a : Among) → n ≡ Some a → Has a) → (y : Simple) → GoodDoing (pay_first (simple_does (meaning.search_ahead ns class call n) y))
+    simple_paid : (n : Option Among) → ((a : Among) → n ≡ Some a → Has a) → (y : Simple) → GoodDoing (pay_first (simple_does (parts.search_ahead ns class call n) y))
     simple_paid n q simples.Substring = ahead_good n q
-    simple_paid n q simples.LeftBracket = pays _ (simple_good ns bodies r (meaning.search_ahead ns class call n) simples.LeftBracket tt)
-    simple_paid n q simples.RightBracket = pays _ (simple_good ns bodies r (meaning.search_ahead ns class call n) simples.RightBracket tt)
-    simple_paid n q simples.Next = pays _ (simple_good ns bodies r (meaning.search_ahead ns class call n) simples.Next tt)
-    simple_paid n q simples.ToLimit = pays _ (simple_good ns bodies r (meaning.search_ahead ns class call n) simples.ToLimit tt)
-    simple_paid n q simples.AtLimit = pays _ (simple_good ns bodies r (meaning.search_ahead ns class call n) simples.AtLimit tt)
-    simple_paid n q simples.Delete = pays _ (simple_good ns bodies r (meaning.search_ahead ns class call n) simples.Delete tt)
-    simple_paid n q simples.True = pays _ (simple_good ns bodies r (meaning.search_ahead ns class call n) simples.True tt)
-    simple_paid n q simples.False = pays _ (simple_good ns bodies r (meaning.search_ahead ns class call n) simples.False tt)
+    simple_paid n q simples.LeftBracket = pays _ (simple_good ns bodies r (parts.search_ahead ns class call n) simples.LeftBracket tt)
+    simple_paid n q simples.RightBracket = pays _ (simple_good ns bodies r (parts.search_ahead ns class call n) simples.RightBracket tt)
+    simple_paid n q simples.Next = pays _ (simple_good ns bodies r (parts.search_ahead ns class call n) simples.Next tt)
+    simple_paid n q simples.ToLimit = pays _ (simple_good ns bodies r (parts.search_ahead ns class call n) simples.ToLimit tt)
+    simple_paid n q simples.AtLimit = pays _ (simple_good ns bodies r (parts.search_ahead ns class call n) simples.AtLimit tt)
+    simple_paid n q simples.Delete = pays _ (simple_good ns bodies r (parts.search_ahead ns class call n) simples.Delete tt)
+    simple_paid n q simples.True = pays _ (simple_good ns bodies r (parts.search_ahead ns class call n) simples.True tt)
+    simple_paid n q simples.False = pays _ (simple_good ns bodies r (parts.search_ahead ns class call n) simples.False tt)
 
     either : (s : State) (b : Bool) (x y : Family) → Part ns bodies r s x s.steps → Part ns bodies r s y s.steps → Part ns bodies r s (λ n. if b then x n else y n) s.steps
     either s b x y h i = if_part ns bodies r (Some_end ns bodies r) (Any_refusal ns bodies r) s s.steps b x y h i

@@ -13,7 +13,9 @@ use Rattle.sbl_semantics.specs.Events.{Event', Enters, Leaves, Searches, Finds, 
 use Rattle.sbl_semantics.specs.Control.{end_search, back_in, enter, leave, pay_first}
 use Rattle.sbl_semantics.specs.State.{State, Ending, Signals, Stops, Doing, bound_of}
 use Rattle.sbl_semantics.specs.Meaning as meaning
-use Rattle.sbl_semantics.specs.Meaning.{Offer, prefixed_does, counted_does, joined_does, limited_does, simple_does, moved_does, assigned_does, compared_does, named_does, edited_does, begins, takes, try_each, search}
+use Rattle.sbl_semantics.specs.inside.MeaningParts as parts
+use Rattle.sbl_semantics.specs.Meaning.{Offer, prefixed_does, counted_does, joined_does, limited_does, simple_does, moved_does, assigned_does, compared_does, named_does, edited_does, takes, try_each, search}
+use Rattle.sbl_semantics.specs.inside.MeaningParts.{begins}
 use Rattle.sbl_semantics.specs.declared.fault.RunFault.TheVariants as faults
 use Rattle.sbl_semantics.specs.Outcome.{events_at, events_in, events_of}
 use Rattle.sbl_machine.specs.Why.{text_after}
@@ -35,7 +37,7 @@ module _ (ns : DeclaredNames) (class : List ℕ → ℕ → Bool) (bodies : List
       start_state = enter p (number_after_others b.others (number_after b.first 0)) s
 
       abbrev row_run : Doing
-      row_run = meaning.row_does ns class call b.mode b.first b.others
+      row_run = parts.row_does ns class call b.mode b.first b.others
 
       abbrev HasHere : Among → Type 0
       HasHere a = HasAmong ns bodies p a

@@ -1,6 +1,6 @@
 use denote.Text.{Utf8}
 use denote.Shadow.{shadow}
-use Rattle.test_scripts.proofs.with_scripts.Given as goal
+use Rattle.test_support.proofs.tables.with_scripts.Given as goal
 
 -- the script is text
 abbrev pub invariant-loop-line : goal.invariant-loop-line

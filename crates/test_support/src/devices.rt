@@ -1,5 +1,4 @@
 //! Readers and writers that handle a few bytes at a time, and that are interrupted and fail as a test requires. What was written to them.
-#![tactic(auto)]
 
 ghost use Rattle.std.specs.Prelude.{◌≡◌, ◌<◌};
 
