@@ -4,7 +4,7 @@ use Rattle.sbl_rows.specs.Setting.{under}
 use Rattle.sbl_rows.specs.Classes.{classes_of, stem_pairs}
 use Rattle.sbl_rows.specs.Grouping.{put_pairs}
 use Rattle.sbl_bench.specs.KeptRuns.{setting_of, KeptRuns, words_in}
-use Rattle.sbl_bench.specs.Pairs.{IsIndexed}
+use Rattle.sbl_bench.specs.inside.Pairs.{IsIndexed}
 use Rattle.sbl_rows.specs.Rows.{rows_of}
 use Rattle.sbl_bench.proofs.ClassFacts.{kept_sorted}
 use Rattle.sbl_rows.proofs.GroupFacts.{grouped_all}

@@ -21,7 +21,8 @@ IsStop most f count new_count = ⊥
 
 -- too few counts are left for this many runs; or an allocation failed, before any run or, with enough counts, after some
 abbrev pub IsStopOf : ℕ → EditFault → ℕ → ℕ → Type 0
-IsStopOf needed fault.OutOfMemory count new_count = (new_count ≡ count) ⊎ ((n : ℕ) × (n ≤ needed) × (needed ≤ max_runs - count) × (new_count ≡ count + n))
+IsStopOf needed fault.OutOfMemory count new_count =
+    (new_count ≡ count) ⊎ ((n : ℕ) × (n ≤ needed) × (needed ≤ max_runs - count) × (new_count ≡ count + n))
 IsStopOf needed fault.MeterFull count new_count = (max_runs - count < needed) × (new_count ≡ count)
 IsStopOf needed f count new_count = ⊥
 

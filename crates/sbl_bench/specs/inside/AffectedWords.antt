@@ -11,7 +11,7 @@ pub use Rattle.sbl_semantics.specs.Differs.{differs}
 pub use Rattle.sbl_machine.specs.MachineOf.{IsLinkedMachineOf}
 pub use Rattle.sbl_script.specs.ParsedScript.{source_of}
 use Rattle.sbl_ast.specs.Source.{Source}
-use Rattle.sbl_bench.specs.Edits.{meets_listed}
+use Rattle.sbl_bench.specs.inside.ProofNames.{meets_listed}
 use Rattle.sbl_rows.specs.Setting.{Setting, under}
 
 abbrev pub smaller : ℕ → ℕ → ℕ

@@ -11,11 +11,12 @@ use Rattle.sbl_machine.specs.declared.outcome.RunTrace.{RunTrace}
 use Rattle.sbl_semantics.specs.declared.touch.Touch.{Touch}
 use Rattle.sbl_semantics.specs.Outcome.{Outcome', outcome_of, run_of, touches_of, used_of}
 use Rattle.sbl_bench.specs.KeptRuns.{KeptWord, IsFresh, words_in}
-use Rattle.sbl_bench.specs.Pairs.{Text, find}
+use Rattle.sbl_bench.specs.inside.Pairs.{Text, find}
 use Rattle.sbl_rows.specs.Setting.{Setting, RunsSame, under}
-use Rattle.sbl_bench.specs.AffectedWords.{AffectedWords, Touching, Above, Every, is_affected, is_affected_run}
+use Rattle.sbl_bench.specs.inside.AffectedWords.{AffectedWords, Touching, Above, Every, is_affected, is_affected_run}
 use Rattle.sbl_bench.specs.Contents.{Contents}
-use Rattle.sbl_bench.specs.Edits.{Edit, Remove, Replace, IsSettingAfter, PassesTests, meets_listed, needs_run, words_after}
+use Rattle.sbl_bench.specs.Edits.{Edit, Remove, Replace, IsSettingAfter, PassesTests, needs_run, words_after}
+use Rattle.sbl_bench.specs.inside.ProofNames.{meets_listed}
 use Rattle.sbl_bench.specs.declared.affected_words.AffectedWords as declared
 use Rattle.sbl_bench.specs.declared.affected_words.AffectedWords.TheVariants as code
 use Rattle.sbl_bench.specs.declared.change.Change.{Change}
@@ -42,7 +43,7 @@ pub record Rerun : Type 0 where
   pub used : ℕ
 
 abbrev pub rerun_of : Setting → List ℕ → Rerun
-rerun_of s word = record { word = word; outcome = run_of s.script word s.limit; touches = touches_of s.script word s.limit; used = used_of s.script word s.limit }
+rerun_of s w = record { word = w; outcome = run_of s.script w s.limit; touches = touches_of s.script w s.limit; used = used_of s.script w s.limit }
 
 abbrev pub view_run : List ℕ → RunTrace → Rerun
 view_run word t = record { word = word; outcome = outcome_of t.outcome; touches = t.touches.items; used = t.used }
@@ -100,4 +101,5 @@ pub record IsExchange (s : Contents) (e : Edit) (t : Source) : Type 0 where
   pub passes : PassesTests s e
   pub wants : (word : List ℕ) → e ≢ Remove word
   pub words : words_after s e ≡ s.words
-  pub met_is : (w : List ℕ) → needs_run s e (under t s.setting.limit) w ≡ meets_listed (differs s.setting.script t) s.setting.script w s.setting.limit
+  pub met_is : (w : List ℕ)
+    → needs_run s e (under t s.setting.limit) w ≡ meets_listed (differs s.setting.script t) s.setting.script w s.setting.limit
