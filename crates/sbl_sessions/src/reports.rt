@@ -7,7 +7,8 @@ ghost use Rattle.sbl_bench.specs.{Contents.rows_now, KeptRuns.contents_of};
 ghost use Rattle.sbl_rows.specs.Rows.{view_row};
 ghost use Rattle.sbl_machine.specs.ItemRefs.{items_of_refs};
 ghost use Rattle.sbl_print.specs.Canonical.{canonical};
-ghost use Rattle.sbl_sessions.specs.{Answers.with_line_feed, CommandViews.IsAnswer, Commands.Class, Commands.Trace};
+ghost use Rattle.sbl_sessions.specs.{Answers.with_line_feed, CommandViews.IsAnswer};
+ghost use Rattle.sbl_sessions.specs.inside.Names.{Class, Trace};
 ghost use Rattle.sbl_formats.specs.ItemRecords.{items_text};
 ghost use Rattle.sbl_listings.specs.Listings as spec;
 
