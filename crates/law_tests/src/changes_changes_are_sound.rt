@@ -3,8 +3,8 @@
 ghost use Rattle.std.specs.Prelude.{◌≡◌, ◌⊎◌, ℕ, Bool, List, [], None};
 ghost use Rattle.std.specs.List.{list_any};
 ghost use Rattle.sbl_rows.specs.Changes.{Change, changes_of, class_renaming, class_split};
-ghost use Rattle.sbl_rows.specs.StemClasses.{Class};
-ghost use Rattle.sbl_rows.specs.WordRows.{Row};
+ghost use Rattle.sbl_rows.specs.Classes.{Class};
+ghost use Rattle.sbl_rows.specs.Rows.{Row};
 ghost use Rattle.sbl_rows.specs.ChangesAreSound.{HasOneRowEach, other_way};
 
 use sbl_rows::laws::changes_are_sound;

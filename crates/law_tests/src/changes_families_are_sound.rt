@@ -2,9 +2,11 @@
 
 ghost use Rattle.std.specs.Prelude.{◌*◌, ◌≡◌, ◌↔◌, ℕ, ◌+◌, List, [], length, Some, All};
 ghost use Rattle.std.specs.List.{filter_map};
-ghost use Rattle.sbl_rows.specs.StemClasses.{Pair};
+ghost use Rattle.sbl_rows.specs.Classes.{Pair};
 ghost use Rattle.sbl_rows.specs.Families.{all_of, any_two, families_of, other_stem, over_rows, pairs_across, pairs_within, same_stem, under};
-ghost use Rattle.sbl_rows.specs.WordRows.{Row, Stem, outcome_in};
+ghost use Rattle.sbl_rows.specs.Rows.{Row};
+ghost use Rattle.sbl_semantics.specs.Outcome.{Stem};
+ghost use Rattle.sbl_rows.specs.ChangedRows.{outcome_in};
 
 use sbl_rows::laws::families_are_sound;
 

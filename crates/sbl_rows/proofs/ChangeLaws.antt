@@ -8,12 +8,16 @@ use Rattle.std.specs.BTreeSet.{insert_key}
 use Rattle.std.proofs.lemmas.Cmp.{nat_list_cmp_total}
 use Rattle.std.proofs.lemmas.Map.Lookups.{exact_bytes}
 use Rattle.std.proofs.lemmas.Slice.Eq.{bytes_eq-Decides}
+use denote.Enum.Bare.{true_same}
+use Rattle.sbl_semantics.specs.contracts.fault.RunFault as fault
 use Rattle.sbl_rows.specs.Changes.{Change, Changed, word_addition, outcome_change, class_merger, word_removal, class_renaming, class_split}
-use Rattle.sbl_rows.specs.StemClasses.{Class, Pair, class_with, classes_of, in_order, members_of}
+use Rattle.sbl_rows.specs.Classes.{Class, Pair, pair_class, pair_classes, in_order, members_of}
 use Rattle.sbl_rows.specs.ChangesAreSound.{EqualListsHaveNoChanges, HasOneRowEach, NoClassIsSplitAndRenamed}
 use Rattle.sbl_rows.specs.Moves.{move_of, moves_of, moves_back}
-use Rattle.sbl_rows.specs.WordRows.{Outcome, Stem, Refused, Row, outcome_in, same_outcome}
-use Rattle.sbl_rows.proofs.StemOrderFacts.{bytes_eq-back, text_cmp}
+use Rattle.sbl_semantics.specs.Outcome.{Outcome', Stem, Refused}
+use Rattle.sbl_rows.specs.Rows.{Row}
+use Rattle.sbl_rows.specs.ChangedRows.{outcome_in, same_outcome}
+use Rattle.sbl_rows.proofs.OrderFacts.{bytes_eq-back, text_cmp}
 use Rattle.sbl_rows.proofs.Sorting.{self_equal}
 
 bytes_eq-self : (t : List ℕ) → bytes_eq t t ≡ true
@@ -29,7 +33,7 @@ each P Q f (x ∷ xs) a = (f x a.0, each P Q f xs a.1)
 
 -- ---- each word is found in its own row
 
-abbrev pub HasOutcome : (List ℕ → Option Outcome) → Row → Type 0
+abbrev pub HasOutcome : (List ℕ → Option Outcome') → Row → Type 0
 HasOutcome f r = f r.word ≡ Some r.outcome
 
 pub own_outcomes : (rows : List Row) → HasOneRowEach rows → AllByRecursion (HasOutcome (outcome_in rows)) rows
@@ -44,20 +48,20 @@ own_outcomes (r ∷ rows) one = ((λ i. option_map (λ (q : Row). q.outcome) (co
     later [] apart known = tt
     later (q ∷ qs) apart known = (other q apart.0 known.0, later qs apart.1 known.1)
 
-same_self : (o : Outcome) → same_outcome o o ≡ true
+same_self : (o : Outcome') → same_outcome o o ≡ true
 same_self (Stem s) = bytes_eq-self s
-same_self (Refused n) = bytes_eq-self n
+same_self (Refused f) = true_same fault.the_type f f refl
 
 -- ---- words that keep their stems
 
 abbrev Stays : Pair → Type 0
 Stays m = m.0 ≡ m.1
 
-stays : (f : List ℕ → Option Outcome) (rows : List Row) → AllByRecursion (HasOutcome f) rows → AllByRecursion Stays (moves_of f rows)
+stays : (f : List ℕ → Option Outcome') (rows : List Row) → AllByRecursion (HasOutcome f) rows → AllByRecursion Stays (moves_of f rows)
 stays f [] a = tt
 stays f (r ∷ rows) a = at (f r.word) r.outcome a.0 (stays f rows a.1)
   where
-    at : (x : Option Outcome) (o : Outcome) → x ≡ Some o → AllByRecursion Stays (moves_of f rows) → AllByRecursion Stays (cons_option (move_of x o) (moves_of f rows))
+    at : (x : Option Outcome') (o : Outcome') → x ≡ Some o → AllByRecursion Stays (moves_of f rows) → AllByRecursion Stays (cons_option (move_of x o) (moves_of f rows))
     at (Some (Stem s)) (Stem t) e rest = (cc e, rest)
     at (Some (Stem s)) (Refused n) e rest = rest
     at (Some (Refused m)) o e rest = rest
@@ -83,23 +87,23 @@ alike_order s (t ∷ ts) a = ⊎_elim
     (alike_order s ts a.1)
 
 module _ (moves : List Pair) (a : AllByRecursion Stays moves) where
-  none_of : (h : Class → List (List ℕ) → Option Change) → ((c : Class) → h c [] ≡ None) → ((c : Class) → h c (c.stem ∷ []) ≡ None) → (ss : List (List ℕ)) → filter_map (λ c. h c c.members) (map (class_with moves) ss) ≡ []
+  none_of : (h : Class → List (List ℕ) → Option Change) → ((c : Class) → h c [] ≡ None) → ((c : Class) → h c (c.stem ∷ []) ≡ None) → (ss : List (List ℕ)) → filter_map (λ c. h c c.members) (map (pair_class moves) ss) ≡ []
   none_of h empty one [] = refl
-  none_of h empty one (s ∷ ss) = (λ i. cons_option (here i) (filter_map (λ c. h c c.members) (map (class_with moves) ss))) ∙ none_of h empty one ss
+  none_of h empty one (s ∷ ss) = (λ i. cons_option (here i) (filter_map (λ c. h c c.members) (map (pair_class moves) ss))) ∙ none_of h empty one ss
     where
       class : Class
-      class = class_with moves s
+      class = pair_class moves s
 
       here : h class class.members ≡ None
       here = ⊎_elim (λ e. ap (h class) e ∙ empty class) (λ e. ap (h class) e ∙ one class) (alike_order s (members_of s moves) (alike s moves a))
 
-  none_split : filter_map (λ c. class_split c c.members) (classes_of moves) ≡ []
+  none_split : filter_map (λ c. class_split c c.members) (pair_classes moves) ≡ []
   none_split = none_of class_split (λ c. refl) (λ c. refl) (in_order (map (λ m. m.0) moves))
 
-  none_merged : filter_map (λ c. class_merger c c.members) (classes_of (moves_back moves)) ≡ []
-  none_merged = ap (λ ms. filter_map (λ c. class_merger c c.members) (classes_of ms)) (turned-stays moves a) ∙ none_of class_merger (λ c. refl) (λ c. refl) (in_order (map (λ m. m.0) moves))
+  none_merged : filter_map (λ c. class_merger c c.members) (pair_classes (moves_back moves)) ≡ []
+  none_merged = ap (λ ms. filter_map (λ c. class_merger c c.members) (pair_classes ms)) (turned-stays moves a) ∙ none_of class_merger (λ c. refl) (λ c. refl) (in_order (map (λ m. m.0) moves))
 
-  none_renamed : (new : List Class) → filter_map (λ c. class_renaming new c c.members) (classes_of moves) ≡ []
+  none_renamed : (new : List Class) → filter_map (λ c. class_renaming new c c.members) (pair_classes moves) ≡ []
   none_renamed new = none_of (class_renaming new) (λ c. refl) (λ c. rw (bytes_eq-self c.stem) refl) (in_order (map (λ m. m.0) moves))
 
 pub no_changes : EqualListsHaveNoChanges
@@ -115,7 +119,7 @@ no_changes rows one =
     (λ r h. ap (λ o. outcome_change o r) h ∙ unchanged r) rows known) in
     λ i. ((no_added i ++ no_removed i) ++ no_changed i)
     ++ ((none_split (moves_of (outcome_in rows) rows) still i ++ none_merged (moves_of (outcome_in rows) rows) still i)
-    ++ none_renamed (moves_of (outcome_in rows) rows) still (classes_of (moves_back (moves_of (outcome_in rows) rows))) i)
+    ++ none_renamed (moves_of (outcome_in rows) rows) still (pair_classes (moves_back (moves_of (outcome_in rows) rows))) i)
   where
     unchanged : (r : Row) → outcome_change (Some r.outcome) r ≡ None
     unchanged r = λ i. if same_self r.outcome i then None else Some (Changed r.word r.outcome r.outcome)

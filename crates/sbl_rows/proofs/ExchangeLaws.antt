@@ -5,14 +5,19 @@ use Rattle.std.specs.Option.{option_map}
 use Rattle.std.specs.Ordering.{is_eq}
 use Rattle.std.specs.Str.{bytes_eq}
 use Rattle.std.proofs.lemmas.Slice.Eq.{bytes_eq-Decides}
+use denote.Enum.Bare.{same_true, sameb, true_same}
+use Rattle.sbl_semantics.specs.contracts.fault.RunFault as fault
+use Rattle.sbl_semantics.specs.declared.fault.RunFault.{RunFault}
 use Rattle.sbl_rows.specs.Changes.{Change, Changed, Renamed, word_addition, outcome_change, is_from_one, is_one, class_merger, word_removal, class_renaming, class_split}
 use Rattle.sbl_rows.specs.ChangesAreSound.{ExchangedListsTurnChanges, HasOneRowEach, other_way}
-use Rattle.sbl_rows.specs.StemClasses.{Class, Pair, class_with, classes_of, in_order, members_of}
+use Rattle.sbl_rows.specs.Classes.{Class, Pair, pair_class, pair_classes, in_order, members_of}
 use Rattle.sbl_rows.specs.Moves.{move_of, moves_of, moves_back}
-use Rattle.sbl_rows.specs.WordRows.{Outcome, Refused, Row, Stem, outcome_in, same_outcome}
+use Rattle.sbl_semantics.specs.Outcome.{Outcome', Refused, Stem}
+use Rattle.sbl_rows.specs.Rows.{Row}
+use Rattle.sbl_rows.specs.ChangedRows.{outcome_in, same_outcome}
 use Rattle.sbl_rows.proofs.ChangeLaws.{HasOutcome, each, own_outcomes}
-use Rattle.sbl_rows.proofs.PairLaws.{any-class, any-given, any-map, any-same, some_stem}
-use Rattle.sbl_rows.proofs.StemOrderFacts.{any-in_order, any-members, any-stems, bytes_eq-back, one_order, text_cmp}
+use Rattle.sbl_rows.proofs.ClassLaws.{any-class, any-given, any-map, any-same, some_stem}
+use Rattle.sbl_rows.proofs.OrderFacts.{any-in_order, any-members, any-stems, bytes_eq-back, one_order, text_cmp}
 
 -- ---- tests of lists
 
@@ -47,16 +52,16 @@ back test c = test (other_way c)
 
 -- a property of a word, its outcome before and its outcome after
 abbrev Of : Type 0
-Of = List ℕ → Outcome → Outcome → Bool
+Of = List ℕ → Outcome' → Outcome' → Bool
 
-abbrev with_other : Of → Option Outcome → Row → Bool
+abbrev with_other : Of → Option Outcome' → Row → Bool
 with_other g None r = false
 with_other g (Some o) r = g r.word o r.outcome
 
 abbrev swap_sides : Of → Of
 swap_sides g w n o = g w o n
 
-some_row : (t : Row → Bool) (w : List ℕ) (o : Outcome) → ((q : Row) → q.word ≡ w → q.outcome ≡ o → t q ≡ true) → (rows : List Row) → outcome_in rows w ≡ Some o → list_any t rows ≡ true
+some_row : (t : Row → Bool) (w : List ℕ) (o : Outcome') → ((q : Row) → q.word ≡ w → q.outcome ≡ o → t q ≡ true) → (rows : List Row) → outcome_in rows w ≡ Some o → list_any t rows ≡ true
 some_row t w o f [] e = cc e
 some_row t w o f (q ∷ rows) e = by (bytes_eq w q.word) refl e (some_row t w o f rows)
   where
@@ -74,12 +79,12 @@ half : (before after : List Row) (g : Of) (rs : List Row) → AllByRecursion (Ha
 half before after g [] a e = cc e
 half before after g (r ∷ rs) a e = by (outcome_in before r.word) refl e (half before after g rs a.1)
   where
-    there : (o : Outcome) (q : Row) → g r.word o r.outcome ≡ true → q.word ≡ r.word → q.outcome ≡ o → with_other (swap_sides g) (outcome_in after q.word) q ≡ true
+    there : (o : Outcome') (q : Row) → g r.word o r.outcome ≡ true → q.word ≡ r.word → q.outcome ≡ o → with_other (swap_sides g) (outcome_in after q.word) q ≡ true
     there o q h w e =
-        ap (λ (x : Option Outcome). with_other (swap_sides g) x q) (ap (outcome_in after) w ∙ a.0)
+        ap (λ (x : Option Outcome'). with_other (swap_sides g) x q) (ap (outcome_in after) w ∙ a.0)
         ∙ (λ i. g (w i) (e i) r.outcome) ∙ h
 
-    by : (x : Option Outcome) → outcome_in before r.word ≡ x → (with_other g x r || list_any (λ q. with_other g (outcome_in before q.word) q) rs) ≡ true
+    by : (x : Option Outcome') → outcome_in before r.word ≡ x → (with_other g x r || list_any (λ q. with_other g (outcome_in before q.word) q) rs) ≡ true
         → (list_any (λ q. with_other g (outcome_in before q.word) q) rs ≡ true → list_any (λ q. with_other (swap_sides g) (outcome_in after q.word) q) before ≡ true)
         → list_any (λ q. with_other (swap_sides g) (outcome_in after q.word) q) before ≡ true
     by None f e rest = rest e
@@ -102,15 +107,15 @@ exchange_sides before after one other g =
 
 -- ---- classes depend on which pairs there are alone
 
-classes-same : (ps qs : List Pair) → ((t : Pair → Bool) → list_any t ps ≡ list_any t qs) → classes_of ps ≡ classes_of qs
+classes-same : (ps qs : List Pair) → ((t : Pair → Bool) → list_any t ps ≡ list_any t qs) → pair_classes ps ≡ pair_classes qs
 classes-same ps qs h =
-    ap (map (class_with ps)) (one_order (map (λ p. p.0) ps) (map (λ p. p.0) qs) (λ q. any-stems (λ x. is_eq (text_cmp q x)) ps ∙ h (λ p. is_eq (text_cmp q p.0)) ∙ sym (any-stems (λ x. is_eq (text_cmp q x)) qs)))
+    ap (map (pair_class ps)) (one_order (map (λ p. p.0) ps) (map (λ p. p.0) qs) (λ q. any-stems (λ x. is_eq (text_cmp q x)) ps ∙ h (λ p. is_eq (text_cmp q p.0)) ∙ sym (any-stems (λ x. is_eq (text_cmp q x)) qs)))
     ∙ each (in_order (map (λ p. p.0) qs))
   where
     members : (s : List ℕ) → in_order (members_of s ps) ≡ in_order (members_of s qs)
     members s = one_order (members_of s ps) (members_of s qs) (λ q. any-members (λ x. is_eq (text_cmp q x)) s ps ∙ h (λ p. bytes_eq s p.0 && is_eq (text_cmp q p.1)) ∙ sym (any-members (λ x. is_eq (text_cmp q x)) s qs))
 
-    each : (ss : List (List ℕ)) → map (class_with ps) ss ≡ map (class_with qs) ss
+    each : (ss : List (List ℕ)) → map (pair_class ps) ss ≡ map (pair_class qs) ss
     each [] = refl
     each (s ∷ ss) = λ i. record { stem = s; members = members s i } ∷ each ss i
 
@@ -120,10 +125,10 @@ flip m = (m.1, m.0)
 abbrev of_moves : (Pair → Bool) → Of
 of_moves t w o n = passes t (move_of (Some o) n)
 
-moves-same : (t : Pair → Bool) (f : List ℕ → Option Outcome) (rows : List Row) → list_any t (moves_of f rows) ≡ list_any (λ r. with_other (of_moves t) (f r.word) r) rows
+moves-same : (t : Pair → Bool) (f : List ℕ → Option Outcome') (rows : List Row) → list_any t (moves_of f rows) ≡ list_any (λ r. with_other (of_moves t) (f r.word) r) rows
 moves-same t f rows = any-made t (λ r. move_of (f r.word) r.outcome) rows ∙ any-same (λ r. passes t (move_of (f r.word) r.outcome)) (λ r. with_other (of_moves t) (f r.word) r) (λ r. by (f r.word) r) rows
   where
-    by : (x : Option Outcome) (r : Row) → passes t (move_of x r.outcome) ≡ with_other (of_moves t) x r
+    by : (x : Option Outcome') (r : Row) → passes t (move_of x r.outcome) ≡ with_other (of_moves t) x r
     by None r = refl
     by (Some o) r = refl
 
@@ -135,13 +140,13 @@ moves-turned before after one other t =
     ∙ any-same (λ r. with_other (swap_sides (of_moves t)) (outcome_in after r.word) r) (λ r. with_other (of_moves (λ m. t (flip m))) (outcome_in after r.word) r) (λ r. by (outcome_in after r.word) r) before
     ∙ sym (moves-same (λ m. t (flip m)) (outcome_in after) before)
   where
-    at : (o n : Outcome) → passes t (move_of (Some o) n) ≡ passes (λ m. t (flip m)) (move_of (Some n) o)
+    at : (o n : Outcome') → passes t (move_of (Some o) n) ≡ passes (λ m. t (flip m)) (move_of (Some n) o)
     at (Stem o) (Stem n) = refl
     at (Stem o) (Refused n) = refl
     at (Refused o) (Stem n) = refl
     at (Refused o) (Refused n) = refl
 
-    by : (x : Option Outcome) (r : Row) → with_other (swap_sides (of_moves t)) x r ≡ with_other (of_moves (λ m. t (flip m))) x r
+    by : (x : Option Outcome') (r : Row) → with_other (swap_sides (of_moves t)) x r ≡ with_other (of_moves (λ m. t (flip m))) x r
     by None r = refl
     by (Some n) r = at r.outcome n
 
@@ -189,9 +194,9 @@ abbrev has_one : List Pair → List ℕ → Bool
 has_one pairs stem = is_one (in_order (members_of stem pairs))
 
 -- a class of these pairs with this stem and one member, if a pair has the stem
-from-one : (pairs : List Pair) (stem : List ℕ) → some_stem stem pairs ≡ true → is_from_one (classes_of pairs) stem ≡ has_one pairs stem
+from-one : (pairs : List Pair) (stem : List ℕ) → some_stem stem pairs ≡ true → is_from_one (pair_classes pairs) stem ≡ has_one pairs stem
 from-one pairs stem there =
-    any-map (class_with pairs) (λ c. bytes_eq c.stem stem && is_one c.members) (in_order (map (λ p. p.0) pairs))
+    any-map (pair_class pairs) (λ c. bytes_eq c.stem stem && is_one c.members) (in_order (map (λ p. p.0) pairs))
     ∙ any-in_order (λ s. bytes_eq s stem && has_one pairs s) (map (λ p. p.0) pairs)
     ∙ any-stems (λ s. bytes_eq s stem && has_one pairs s) pairs
     ∙ any-same (λ p. bytes_eq p.0 stem && has_one pairs p.0) (λ p. bytes_eq stem p.0 && has_one pairs p.0) (λ p. ap (λ (b : Bool). b && has_one pairs p.0) (bytes_eq-back p.0 stem)) pairs
@@ -203,16 +208,16 @@ abbrev is_renamed : List Pair → List Pair → Pair → Bool
 is_renamed ps qs p = not (bytes_eq p.0 p.1) && (has_one ps p.0 && has_one qs p.1)
 
 renamed-pairs : (test : Change → Bool) (ps qs : List Pair) → ((t : Pair → Bool) → list_any t qs ≡ list_any (λ p. t (flip p)) ps)
-    → list_any test (filter_map (λ c. class_renaming (classes_of qs) c c.members) (classes_of ps)) ≡ list_any (λ p. is_renamed ps qs p && test (Renamed p.0 p.1)) ps
+    → list_any test (filter_map (λ c. class_renaming (pair_classes qs) c c.members) (pair_classes ps)) ≡ list_any (λ p. is_renamed ps qs p && test (Renamed p.0 p.1)) ps
 renamed-pairs test ps qs h =
-    any-made test (λ c. class_renaming (classes_of qs) c c.members) (classes_of ps)
-    ∙ any-map (class_with ps) (λ c. passes test (class_renaming (classes_of qs) c c.members)) (in_order (map (λ p. p.0) ps))
+    any-made test (λ c. class_renaming (pair_classes qs) c c.members) (pair_classes ps)
+    ∙ any-map (pair_class ps) (λ c. passes test (class_renaming (pair_classes qs) c c.members)) (in_order (map (λ p. p.0) ps))
     ∙ any-in_order made (map (λ p. p.0) ps)
     ∙ any-stems made ps
     ∙ any-same-in (λ p. made p.0) (λ p. is_renamed ps qs p && test (Renamed p.0 p.1)) ps (each (Passes ps) (λ p. made p.0 ≡ (is_renamed ps qs p && test (Renamed p.0 p.1))) here ps (inside ps))
   where
     made : List ℕ → Bool
-    made s = passes test (class_renaming (classes_of qs) (class_with ps s) (in_order (members_of s ps)))
+    made s = passes test (class_renaming (pair_classes qs) (pair_class ps s) (in_order (members_of s ps)))
 
     -- a class of one member
     alone : (p : Pair) (same one : Bool) → passes test (if same then None else (if one then Some (Renamed p.0 p.1) else None)) ≡ ((not same && one) && test (Renamed p.0 p.1))
@@ -221,11 +226,11 @@ renamed-pairs test ps qs h =
     alone p false false = refl
 
     at : (p : Pair) → some_stem p.1 qs ≡ true → (ms : List (List ℕ)) → list_any (bytes_eq p.1) ms ≡ true
-        → passes test (class_renaming (classes_of qs) (class_with ps p.0) ms) ≡ ((not (bytes_eq p.0 p.1) && (is_one ms && has_one qs p.1)) && test (Renamed p.0 p.1))
+        → passes test (class_renaming (pair_classes qs) (pair_class ps p.0) ms) ≡ ((not (bytes_eq p.0 p.1) && (is_one ms && has_one qs p.1)) && test (Renamed p.0 p.1))
     at p there [] e = cc e
     at p there (n ∷ []) e =
-        ap (λ (m : List ℕ). passes test (class_renaming (classes_of qs) (class_with ps p.0) (m ∷ []))) (sym ((bytes_eq-Decides p.1 n).0 (first (bytes_eq p.1 n) e)))
-        ∙ alone p (bytes_eq p.0 p.1) (is_from_one (classes_of qs) p.1)
+        ap (λ (m : List ℕ). passes test (class_renaming (pair_classes qs) (pair_class ps p.0) (m ∷ []))) (sym ((bytes_eq-Decides p.1 n).0 (first (bytes_eq p.1 n) e)))
+        ∙ alone p (bytes_eq p.0 p.1) (is_from_one (pair_classes qs) p.1)
         ∙ ap (λ (b : Bool). (not (bytes_eq p.0 p.1) && b) && test (Renamed p.0 p.1)) (from-one qs p.1 there)
       where
         first : (b : Bool) → (b || false) ≡ true → b ≡ true
@@ -243,7 +248,7 @@ renamed-pairs test ps qs h =
         (any-class (bytes_eq p.1) ps p.0 ∙ there (λ q. bytes_eq p.0 q.0 && bytes_eq p.1 q.1) (λ i. (bytes_eq-Decides p.0 p.0).1 refl i && (bytes_eq-Decides p.1 p.1).1 refl i))
 
 renamed-turned : (test : Change → Bool) (ps qs : List Pair) → ((t : Pair → Bool) → list_any t qs ≡ list_any (λ p. t (flip p)) ps)
-    → list_any test (filter_map (λ c. class_renaming (classes_of qs) c c.members) (classes_of ps)) ≡ list_any (back test) (filter_map (λ c. class_renaming (classes_of ps) c c.members) (classes_of qs))
+    → list_any test (filter_map (λ c. class_renaming (pair_classes qs) c c.members) (pair_classes ps)) ≡ list_any (back test) (filter_map (λ c. class_renaming (pair_classes ps) c c.members) (pair_classes qs))
 renamed-turned test ps qs h =
     renamed-pairs test ps qs h
     ∙ sym (h (λ q. is_renamed ps qs (flip q) && test (Renamed q.1 q.0)))
@@ -258,37 +263,45 @@ renamed-turned test ps qs h =
     and_turned false false = refl
 
 -- words that are added, the other way
-added-removed : (test : Change → Bool) (f : List ℕ → Option Outcome) (rows : List Row) → list_any test (filter_map (λ r. word_addition (f r.word) r) rows) ≡ list_any (back test) (filter_map (λ r. word_removal (f r.word) r) rows)
+added-removed : (test : Change → Bool) (f : List ℕ → Option Outcome') (rows : List Row) → list_any test (filter_map (λ r. word_addition (f r.word) r) rows) ≡ list_any (back test) (filter_map (λ r. word_removal (f r.word) r) rows)
 added-removed test f rows = alike test (back test) (λ r. word_addition (f r.word) r) (λ r. word_removal (f r.word) r) (λ r. by (f r.word) r) rows
   where
-    by : (x : Option Outcome) (r : Row) → passes test (word_addition x r) ≡ passes (back test) (word_removal x r)
+    by : (x : Option Outcome') (r : Row) → passes test (word_addition x r) ≡ passes (back test) (word_removal x r)
     by None r = refl
     by (Some o) r = refl
 
-removed-added : (test : Change → Bool) (f : List ℕ → Option Outcome) (rows : List Row) → list_any test (filter_map (λ r. word_removal (f r.word) r) rows) ≡ list_any (back test) (filter_map (λ r. word_addition (f r.word) r) rows)
+removed-added : (test : Change → Bool) (f : List ℕ → Option Outcome') (rows : List Row) → list_any test (filter_map (λ r. word_removal (f r.word) r) rows) ≡ list_any (back test) (filter_map (λ r. word_addition (f r.word) r) rows)
 removed-added test f rows = alike test (back test) (λ r. word_removal (f r.word) r) (λ r. word_addition (f r.word) r) (λ r. by (f r.word) r) rows
   where
-    by : (x : Option Outcome) (r : Row) → passes test (word_removal x r) ≡ passes (back test) (word_addition x r)
+    by : (x : Option Outcome') (r : Row) → passes test (word_removal x r) ≡ passes (back test) (word_addition x r)
     by None r = refl
     by (Some o) r = refl
 
-same-back : (o n : Outcome) → same_outcome o n ≡ same_outcome n o
+same-back : (o n : Outcome') → same_outcome o n ≡ same_outcome n o
 same-back (Stem s) (Stem t) = bytes_eq-back s t
 same-back (Stem s) (Refused n) = refl
 same-back (Refused m) (Stem t) = refl
-same-back (Refused m) (Refused n) = bytes_eq-back m n
+same-back (Refused f) (Refused g) = both (sameb fault.the_type f g) (sameb fault.the_type g f) (turn f g) (turn g f)
+  where
+    both : (a b : Bool) → (a ≡ true → b ≡ true) → (b ≡ true → a ≡ true) → a ≡ b
+    both true b t u = sym (t refl)
+    both false true t u = u refl
+    both false false t u = refl
+
+    turn : (f g : RunFault) → sameb fault.the_type f g ≡ true → sameb fault.the_type g f ≡ true
+    turn f g e = true_same fault.the_type g f (sym (same_true fault.the_type tt f g e))
 
 abbrev of_changes : (Change → Bool) → Of
 of_changes test w o n = if same_outcome o n then false else test (Changed w o n)
 
-changed-same : (test : Change → Bool) (f : List ℕ → Option Outcome) (rows : List Row) → list_any test (filter_map (λ r. outcome_change (f r.word) r) rows) ≡ list_any (λ r. with_other (of_changes test) (f r.word) r) rows
+changed-same : (test : Change → Bool) (f : List ℕ → Option Outcome') (rows : List Row) → list_any test (filter_map (λ r. outcome_change (f r.word) r) rows) ≡ list_any (λ r. with_other (of_changes test) (f r.word) r) rows
 changed-same test f rows = any-made test (λ r. outcome_change (f r.word) r) rows ∙ any-same (λ r. passes test (outcome_change (f r.word) r)) (λ r. with_other (of_changes test) (f r.word) r) (λ r. by (f r.word) r) rows
   where
     at : (b : Bool) (c : Change) → passes test (if b then None else Some c) ≡ (if b then false else test c)
     at true c = refl
     at false c = refl
 
-    by : (x : Option Outcome) (r : Row) → passes test (outcome_change x r) ≡ with_other (of_changes test) x r
+    by : (x : Option Outcome') (r : Row) → passes test (outcome_change x r) ≡ with_other (of_changes test) x r
     by None r = refl
     by (Some o) r = at (same_outcome o r.outcome) (Changed r.word o r.outcome)
 
@@ -300,7 +313,7 @@ changed-turned test before after one other =
     ∙ any-same (λ r. with_other (swap_sides (of_changes test)) (outcome_in after r.word) r) (λ r. with_other (of_changes (back test)) (outcome_in after r.word) r) (λ r. by (outcome_in after r.word) r) before
     ∙ sym (changed-same (back test) (outcome_in after) before)
   where
-    by : (x : Option Outcome) (r : Row) → with_other (swap_sides (of_changes test)) x r ≡ with_other (of_changes (back test)) x r
+    by : (x : Option Outcome') (r : Row) → with_other (swap_sides (of_changes test)) x r ≡ with_other (of_changes (back test)) x r
     by None r = refl
     by (Some n) r = ap (λ (b : Bool). if b then false else test (Changed r.word r.outcome n)) (same-back r.outcome n)
 
@@ -323,32 +336,32 @@ pub turned_changes : ExchangedListsTurnChanges
 turned_changes before after one other test =
     let moves : List Pair = moves_of (outcome_in before) after in
     let back_moves : List Pair = moves_of (outcome_in after) before in
-    let old : classes_of moves ≡ classes_of (moves_back back_moves) =
+    let old : pair_classes moves ≡ pair_classes (moves_back back_moves) =
     classes-same moves (moves_back back_moves) (λ t. moves-turned before after one other t ∙ sym (any-map flip t back_moves)) in
-    let new : classes_of (moves_back moves) ≡ classes_of back_moves =
+    let new : pair_classes (moves_back moves) ≡ pair_classes back_moves =
     classes-same (moves_back moves) back_moves (λ t. any-map flip t moves ∙ moves-turned before after one other (λ m. t (flip m))) in
     let a : List Change = filter_map (λ r. word_addition (outcome_in before r.word) r) after in
     let b : List Change = filter_map (λ r. word_removal (outcome_in after r.word) r) before in
     let c : List Change = filter_map (λ r. outcome_change (outcome_in before r.word) r) after in
-    let d : List Change = filter_map (λ k. class_split k k.members) (classes_of moves) in
-    let e : List Change = filter_map (λ k. class_merger k k.members) (classes_of (moves_back moves)) in
-    let f : List Change = filter_map (λ k. class_renaming (classes_of (moves_back moves)) k k.members) (classes_of moves) in
+    let d : List Change = filter_map (λ k. class_split k k.members) (pair_classes moves) in
+    let e : List Change = filter_map (λ k. class_merger k k.members) (pair_classes (moves_back moves)) in
+    let f : List Change = filter_map (λ k. class_renaming (pair_classes (moves_back moves)) k k.members) (pair_classes moves) in
     let a' : List Change = filter_map (λ r. word_addition (outcome_in after r.word) r) before in
     let b' : List Change = filter_map (λ r. word_removal (outcome_in before r.word) r) after in
     let c' : List Change = filter_map (λ r. outcome_change (outcome_in after r.word) r) before in
-    let d' : List Change = filter_map (λ k. class_split k k.members) (classes_of back_moves) in
-    let e' : List Change = filter_map (λ k. class_merger k k.members) (classes_of (moves_back back_moves)) in
-    let f' : List Change = filter_map (λ k. class_renaming (classes_of (moves_back back_moves)) k k.members) (classes_of back_moves) in
+    let d' : List Change = filter_map (λ k. class_split k k.members) (pair_classes back_moves) in
+    let e' : List Change = filter_map (λ k. class_merger k k.members) (pair_classes (moves_back back_moves)) in
+    let f' : List Change = filter_map (λ k. class_renaming (pair_classes (moves_back back_moves)) k k.members) (pair_classes back_moves) in
     let ab : (list_any test a || list_any test b) ≡ (list_any (back test) a' || list_any (back test) b') =
     (λ i. added-removed test (outcome_in before) after i || removed-added test (outcome_in after) before i) ∙ or_turned (list_any (back test) b') (list_any (back test) a') in
     let de : (list_any test d || list_any test e) ≡ (list_any (back test) d' || list_any (back test) e') =
-    (λ i. (split-merged test (classes_of moves) ∙ ap (λ (cs : List Class). list_any (back test) (filter_map (λ k. class_merger k k.members) cs)) old) i
-    || (merged-split test (classes_of (moves_back moves)) ∙ ap (λ (cs : List Class). list_any (back test) (filter_map (λ k. class_split k k.members) cs)) new) i)
+    (λ i. (split-merged test (pair_classes moves) ∙ ap (λ (cs : List Class). list_any (back test) (filter_map (λ k. class_merger k k.members) cs)) old) i
+    || (merged-split test (pair_classes (moves_back moves)) ∙ ap (λ (cs : List Class). list_any (back test) (filter_map (λ k. class_split k k.members) cs)) new) i)
     ∙ or_turned (list_any (back test) e') (list_any (back test) d') in
     let ff : list_any test f ≡ list_any (back test) f' =
-    (λ i. list_any test (filter_map (λ k. class_renaming (new i) k k.members) (classes_of moves)))
+    (λ i. list_any test (filter_map (λ k. class_renaming (new i) k k.members) (pair_classes moves)))
     ∙ renamed-turned test moves back_moves (λ t. moves-turned after before other one t)
-    ∙ (λ i. list_any (back test) (filter_map (λ k. class_renaming (old i) k k.members) (classes_of back_moves))) in
+    ∙ (λ i. list_any (back test) (filter_map (λ k. class_renaming (old i) k k.members) (pair_classes back_moves))) in
     parts test a b c d e f
     ∙ (λ i. (ab i || changed-turned test before after one other i) || (de i || ff i))
     ∙ sym (parts (back test) a' b' c' d' e' f')

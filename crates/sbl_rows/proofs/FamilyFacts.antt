@@ -2,11 +2,12 @@
 use Rattle.std.proofs.Common.{◌≡◌, ◌∙◌, ◌||◌, ◌++◌, Bool, true, false, ℕ, List, [], ◌∷◌, Option, None, if◌then◌else◌, option_to_list, append_assoc, Some, length, slice_get, arith, ◌<◌, ◌≤◌, refl, sym, ap}
 use Rattle.std.specs.Str.{bytes_eq}
 use Rattle.sbl_rows.specs.declared.stem_class.StemPair.{StemPair}
-use Rattle.sbl_rows.specs.StemClasses.{Pair}
-use Rattle.sbl_rows.specs.StemGrouping.{view_pairs}
+use Rattle.sbl_rows.specs.Classes.{Pair}
+use Rattle.sbl_rows.specs.Grouping.{view_pairs}
 use Rattle.sbl_rows.specs.Families.{FamilyResult, Under, pair_of_word, families_of, family_of, is_in, stems_of, under, under_with, with_stem}
 use Rattle.sbl_rows.specs.Counting.{Outcomes, all_taken, outcomes_left, pairs_taken, without}
-use Rattle.sbl_rows.specs.WordRows.{Row, outcome_in}
+use Rattle.sbl_rows.specs.Rows.{Row}
+use Rattle.sbl_rows.specs.ChangedRows.{outcome_in}
 
 -- the outcomes of the rows without those of the words before
 abbrev pub AreLeft : List Row → List (List ℕ) → Outcomes → Type 0

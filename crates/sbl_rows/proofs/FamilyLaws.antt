@@ -11,13 +11,15 @@ use Rattle.std.proofs.lemmas.List.Sums.{sum_by-cons}
 use Rattle.std.proofs.lemmas.Map.Lookups.{exact_bytes}
 use Rattle.std.proofs.lemmas.Map.Text.{is_eq-slice_cmp}
 use Rattle.std.proofs.lemmas.Slice.Eq.{bytes_eq-Decides}
-use Rattle.sbl_rows.specs.StemClasses.{Pair, members_of}
+use Rattle.sbl_rows.specs.Classes.{Pair, members_of}
 use Rattle.sbl_rows.specs.Families.{FamilyResult, all_of, any_two, pair_of_word, families_of, family_of, first_with, is_in, other_stem, over, over_rows, pairs_across, pairs_between, pairs_in, pairs_within, same_stem, stems_of, under, under_with, with_stem}
 use Rattle.sbl_rows.specs.FamiliesAreSound.{NoneApartIfNoUnder, NoneJoinedIfNoOver, PairsAddUp, WordsHaveTheirStems}
-use Rattle.sbl_rows.specs.WordRows.{Outcome, Refused, Row, Stem, outcome_in}
+use Rattle.sbl_semantics.specs.Outcome.{Outcome', Refused, Stem}
+use Rattle.sbl_rows.specs.Rows.{Row}
+use Rattle.sbl_rows.specs.ChangedRows.{outcome_in}
 use Rattle.sbl_rows.proofs.ChangeLaws.{alike_order, none_made}
 use Rattle.sbl_rows.proofs.HeadFacts.{all-first, mem-members, some}
-use Rattle.sbl_rows.proofs.StemOrderFacts.{any-in_order, text_cmp}
+use Rattle.sbl_rows.proofs.OrderFacts.{any-in_order, text_cmp}
 use Rattle.sbl_rows.proofs.PairNumbers.{count-cons, pairs-all, pairs-any, within-either}
 use Rattle.sbl_rows.proofs.Sorting.{mem}
 
@@ -144,7 +146,7 @@ HasStem rows p = outcome_in rows p.1 ≡ Some (Stem p.0)
 with_its_stem : (rows : List Row) (before : List (List ℕ)) (word : List ℕ) → All (HasStem rows) (option_to_list (pair_of_word rows before word))
 with_its_stem rows before word = by (is_in before word)
   where
-    at : (o : Option Outcome) → outcome_in rows word ≡ o → All (HasStem rows) (option_to_list (with_stem word o))
+    at : (o : Option Outcome') → outcome_in rows word ≡ o → All (HasStem rows) (option_to_list (with_stem word o))
     at None e = All-nil (HasStem rows)
     at (Some (Stem s)) e = All-cons (HasStem rows) (s, word) [] e (All-nil (HasStem rows))
     at (Some (Refused n)) e = All-nil (HasStem rows)

@@ -11,13 +11,13 @@ use Rattle.std.proofs.lemmas.List.Sorted.{ranks_by, sorted_far}
 use Rattle.std.specs.Str.{bytes_eq}
 use Rattle.std.proofs.lemmas.Map.Text.{is_eq-slice_cmp}
 use Rattle.std.proofs.lemmas.Slice.Eq.{bytes_eq-Decides}
-use Rattle.sbl_rows.specs.StemClasses.{Pair, in_order, members_of}
+use Rattle.sbl_rows.specs.Classes.{Pair, in_order, members_of}
 use Rattle.sbl_rows.specs.Families.{all_of, first_with, over, over_rows}
 use Rattle.sbl_rows.specs.Counting.{DoNotFall, firsts, heads}
 use Rattle.sbl_rows.specs.declared.stem_class.StemPair.{StemPair}
-use Rattle.sbl_rows.specs.StemGrouping.{class_sorted, classes_sorted, view_pair, view_pairs}
+use Rattle.sbl_rows.specs.Grouping.{class_sorted, classes_sorted, view_pair, view_pairs}
 use Rattle.sbl_rows.proofs.Loops.{put_option}
-use Rattle.sbl_rows.proofs.StemOrderFacts.{any-members, any-stems, one_order, text_cmp}
+use Rattle.sbl_rows.proofs.OrderFacts.{any-members, any-stems, one_order, text_cmp}
 use Rattle.sbl_rows.proofs.SetFacts.{no_pair}
 use Rattle.sbl_rows.proofs.Sorting.{mem}
 

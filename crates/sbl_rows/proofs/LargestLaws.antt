@@ -11,13 +11,11 @@ use Rattle.std.proofs.lemmas.Cmp.{back_total, nat_cmp_total, nat_list_cmp_total,
 use Rattle.std.proofs.lemmas.List.{length-take, take-append-drop}
 use Rattle.std.proofs.lemmas.List.Elements.{All-nil, All-cons, All-head, All-tail, All-weaker}
 use Rattle.std.proofs.lemmas.List.Sorted.{All-permutation, IsPermutation-cons, IsPermutation-middle, IsPermutation-refl, IsPermutation-trans, length_permutation}
-use Rattle.sbl_rows.specs.StemClasses.{Class}
+use Rattle.sbl_rows.specs.Classes.{Class, classes_of}
 use Rattle.sbl_rows.specs.Largest.{by_size, size_cmp}
 use Rattle.sbl_rows.specs.LargestAreSound.{AreRanked, IsBefore, LargestAreFirst}
-use Rattle.sbl_rows.specs.Stats.{pair_of, word_classes}
-use Rattle.std.specs.List.{filter_map}
-use Rattle.sbl_rows.proofs.PairLaws.{classes_of_pairs_rise}
-use Rattle.sbl_rows.proofs.StemOrderFacts.{text_cmp}
+use Rattle.sbl_rows.proofs.ClassLaws.{classes_rise}
+use Rattle.sbl_rows.proofs.OrderFacts.{text_cmp}
 
 total : IsTotalOrder size_cmp
 total = then_total (on_total (λ (c : Class). length c.members) (back_total nat_cmp_total)) (on_total (λ (c : Class). c.stem) nat_list_cmp_total)
@@ -101,9 +99,9 @@ are_ranked (c ∷ classes) s = (All-weaker (λ d. size_cmp c d ≡ Less) (IsBefo
 
 pub largest_are_first : LargestAreFirst
 largest_are_first n rows =
-    let classes : List Class = word_classes rows in
+    let classes : List Class = classes_of rows in
     let ordered : List Class = by_size classes in
-    let distinct : Apart classes = apart classes (classes_of_pairs_rise (filter_map (λ r. pair_of r.word r.outcome) rows)).0 in
+    let distinct : Apart classes = apart classes (classes_rise rows).0 in
     let parts : take n ordered ++ drop n ordered ≡ ordered = take-append-drop n ordered in (
       (drop n ordered, subst (IsPermutation classes) (sym parts) (by_size-permutes classes distinct), subst AreRanked (sym parts) (are_ranked ordered (by_size-sorts classes distinct))),
       length-take n ordered ∙ ap (min n) (length_permutation classes ordered (by_size-permutes classes distinct)),

@@ -7,13 +7,9 @@ pub mod GroupFacts
 pub mod LastFacts
 pub mod ClassLaws
 pub mod Loops
-pub mod StemOrderFacts
-pub mod StemGroupFacts
-pub mod StemLastFacts
 pub mod SetFacts
 pub mod ChangeFacts
 pub mod FigureFacts
-pub mod PairLaws
 pub mod ChangeLaws
 pub mod ExchangeLaws
 pub mod RankFacts

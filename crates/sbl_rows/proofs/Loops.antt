@@ -1,16 +1,9 @@
 -- Steps of loops over slices.
 use Rattle.std.proofs.Common.{◌≡◌, ◌∙◌, ◌+◌, ◌<◌, ◌≤◌, ◌++◌, ℕ, arith, length-append, suc, List, [], ◌∷◌, map, drop, take, length, Option, Some, None, get_or, add-one, append_assoc, refl, sym, ap}
-use Rattle.std.specs.List.{cons_option, filter_map}
+use Rattle.std.specs.List.{cons_option, filter_map, flat_map}
 use Rattle.std.specs.Option.{option_map, option_to_list}
 use Rattle.std.proofs.lemmas.List.{length-map, map-append, take-append-drop}
-use Rattle.std.specs.List.{flat_map}
 use Rattle.std.proofs.Math.Seq.{drop-cons, take-suc}
-use Rattle.sbl_rows.specs.declared.word_row.WordRow.{WordRow}
-use Rattle.sbl_rows.specs.declared.word_row.WordOutcome.TheVariants as code
-
--- the row past the end
-abbrev pub no_row : WordRow
-no_row = record { word = record { ref_ptr = (0, 0); now = [] }; outcome = code.Stem (record { ref_ptr = (0, 0); now = [] }) }
 
 pub next : {D V : Type 0} (view : D → V) (xs : List D) (i : ℕ) (d x : D) → i < length xs → x ≡ get_or xs i d → map view (drop i xs) ≡ view x ∷ map view (drop (i + 1) xs)
 next view xs i d x lt is =

@@ -2,7 +2,7 @@
 use Rattle.std.proofs.Common.{◌≡◌, ◌∙◌, ◌+◌, ◌*◌, ◌-◌, ◌/◌, ◌≤◌, ◌<◌, ◌^◌, ◌++◌, Bool, true, false, not, cond, ℕ, suc, List, [], ◌∷◌, length, arith, refl, ap}
 use Rattle.std.specs.List.{count_by}
 use Rattle.std.proofs.lemmas.List.Sums.{count_by-le-length, sum_by-append, sum_by-cons, sum_by_push}
-use Rattle.sbl_rows.specs.StemClasses.{Pair}
+use Rattle.sbl_rows.specs.Classes.{Pair}
 use Rattle.sbl_rows.specs.Families.{all_of, any_two, other_stem, pairs_across, pairs_between, pairs_in, pairs_within, same_stem}
 
 abbrev Test : Type 0

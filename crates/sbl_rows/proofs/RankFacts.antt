@@ -11,11 +11,10 @@ use Rattle.std.specs.BTreeMap.{insert_entry}
 use Rattle.std.specs.BTreeSet.{replace_key}
 use Rattle.std.proofs.lemmas.List.{length-map}
 use Rattle.std.proofs.lemmas.Map.Lookups.{exact_bytes, exact_unsigned}
-use Rattle.sbl_rows.specs.StemClasses.{Class}
+use Rattle.sbl_rows.specs.Classes.{Class, texts_of}
 use Rattle.sbl_rows.specs.KnownOutcomes.{Text}
 use Rattle.sbl_rows.specs.Largest.{by_size, size_cmp}
 use Rattle.sbl_rows.specs.Ranking.{Entry, Rank, view_entry}
-use Rattle.sbl_rows.specs.WordRows.{texts_of}
 
 abbrev pub rank_cmp : Rank → Rank → Ordering
 rank_cmp x y = ordering_then (nat_cmp y.0.0 x.0.0) (slice_cmp nat_cmp x.1.now y.1.now)

@@ -4,6 +4,7 @@ use Rattle.std.specs.declared.cmp.Ordering.{Ordering}
 use Rattle.std.specs.declared.cmp.Ordering.TheVariants.{Less, Equal, Greater}
 use Rattle.std.specs.Ordering.{is_eq, match_ordering, nat_cmp, ordering_then}
 use Rattle.std.specs.Cmp.Lexicographic.{slice_cmp}
+use Rattle.std.specs.Borrow.{Bor}
 use Rattle.std.specs.Str.{bytes_eq}
 use Rattle.std.specs.List.{find}
 use Rattle.std.specs.Option.{option_map, option_or, unwrap_or}
@@ -13,16 +14,17 @@ use Rattle.std.specs.BTreeSet as sorted_set
 use Rattle.std.specs.BTreeSet.{BTreeSet, insert_key}
 use Rattle.std.proofs.lemmas.Map.Text.{is_eq-slice_cmp}
 use Rattle.sbl_rows.specs.declared.stem_class.StemPair.{StemPair}
-use Rattle.sbl_rows.specs.declared.word_row.WordOutcome.{WordOutcome}
-use Rattle.sbl_rows.specs.declared.word_row.WordRow.{WordRow}
+use Rattle.sbl_semantics.specs.declared.outcome.Outcome.{Outcome}
+use Rattle.sbl_rows.specs.declared.row.Row as declared
 use Rattle.sbl_rows.specs.Changes.{is_one}
-use Rattle.sbl_rows.specs.WordRows.{texts_of}
-use Rattle.sbl_rows.specs.WordRows.{Row, outcome_in, view_outcome, view_row, view_rows}
-use Rattle.sbl_rows.specs.StemGrouping.{Key, pair_cmp, plain}
+use Rattle.sbl_rows.specs.Classes.{texts_of}
+use Rattle.sbl_rows.specs.Rows.{Row, view_outcome, view_row, view_rows}
+use Rattle.sbl_rows.specs.ChangedRows.{outcome_in}
+use Rattle.sbl_rows.specs.KnownOutcomes.{Text, has_text, known_outcome}
+use Rattle.sbl_rows.specs.Grouping.{TextPair, pair_cmp, plain_pair}
 use Rattle.std.proofs.lemmas.Slice.Eq.{bytes_eq-Decides}
 use Rattle.sbl_rows.specs.Counting.{count_in, without}
-use Rattle.sbl_rows.specs.KnownOutcomes.{Text, has_text, known_outcome}
-use Rattle.sbl_rows.proofs.StemOrderFacts.{bytes_eq-back}
+use Rattle.sbl_rows.proofs.OrderFacts.{bytes_eq-back}
 
 -- ---- moves
 
@@ -30,18 +32,18 @@ use Rattle.sbl_rows.proofs.StemOrderFacts.{bytes_eq-back}
 abbrev pub no_pair : StemPair
 no_pair = record { stem = record { ref_ptr = (0, 0); now = [] }; member = record { ref_ptr = (0, 0); now = [] } }
 
-abbrev pub key_cmp : Key → Key → Ordering
+abbrev pub key_cmp : TextPair → TextPair → Ordering
 key_cmp x y = ordering_then (slice_cmp nat_cmp x.0.now y.0.now) (slice_cmp nat_cmp x.1.now y.1.now)
 
-pub plain-insert : (keys : List Key) (k : Key) → map plain (insert_key key_cmp keys k) ≡ insert_key pair_cmp (map plain keys) (plain k)
+pub plain-insert : (keys : List TextPair) (k : TextPair) → map plain_pair (insert_key key_cmp keys k) ≡ insert_key pair_cmp (map plain_pair keys) (plain_pair k)
 plain-insert [] k = refl
 plain-insert (x ∷ keys) k = by (key_cmp k x) (plain-insert keys k)
   where
-    by : (o : Ordering) → map plain (insert_key key_cmp keys k) ≡ insert_key pair_cmp (map plain keys) (plain k)
-        → map plain (match_ordering o (k ∷ x ∷ keys) (x ∷ keys) (x ∷ insert_key key_cmp keys k)) ≡ match_ordering o (plain k ∷ plain x ∷ map plain keys) (plain x ∷ map plain keys) (plain x ∷ insert_key pair_cmp (map plain keys) (plain k))
+    by : (o : Ordering) → map plain_pair (insert_key key_cmp keys k) ≡ insert_key pair_cmp (map plain_pair keys) (plain_pair k)
+        → map plain_pair (match_ordering o (k ∷ x ∷ keys) (x ∷ keys) (x ∷ insert_key key_cmp keys k)) ≡ match_ordering o (plain_pair k ∷ plain_pair x ∷ map plain_pair keys) (plain_pair x ∷ map plain_pair keys) (plain_pair x ∷ insert_key pair_cmp (map plain_pair keys) (plain_pair k))
     by Less rest = refl
     by Equal rest = refl
-    by Greater rest = ap (λ l. plain x ∷ l) rest
+    by Greater rest = ap (λ l. plain_pair x ∷ l) rest
 
 -- ---- outcomes
 
@@ -52,7 +54,7 @@ abbrev text : List ℕ → Text
 text word = record { ref_ptr = (0, 0); now = word }
 
 -- the row before the rows that the map has
-pub row_known : (rows : List WordRow) (row : WordRow) (m n : BTreeMap Text WordOutcome) (word : List ℕ) → tree.Updates text_order m n row.word (Some row.outcome)
+pub row_known : (rows : List declared.Row) (row : declared.Row) (m n : BTreeMap Text (Bor Outcome)) (word : List ℕ) → tree.Updates text_order m n row.word (Some row.outcome)
     → option_or (outcome_in (view_rows rows) word) (known_outcome n word) ≡ option_or (outcome_in (view_rows (rows ++ row ∷ [])) word) (known_outcome m word)
 row_known [] row m n word put = ap (option_map view_outcome) (put.0 (text word)) ∙ by (is_eq (slice_cmp nat_cmp row.word.now word)) (bytes_eq word row.word.now) (is_eq-slice_cmp row.word.now word ∙ bytes_eq-back row.word.now word)
   where
@@ -91,7 +93,7 @@ and_one false one e = refl
 
 -- ---- words taken out, stems counted
 
-pub word_removed : (m n : BTreeMap Text WordOutcome) (word q : List ℕ) → tree.UpdatesBy text_order (λ (k : Text). slice_cmp nat_cmp word k.now) m n None → known_outcome n q ≡ without word (known_outcome m) q
+pub word_removed : (m n : BTreeMap Text (Bor Outcome)) (word q : List ℕ) → tree.UpdatesBy text_order (λ (k : Text). slice_cmp nat_cmp word k.now) m n None → known_outcome n q ≡ without word (known_outcome m) q
 word_removed m n word q put = ap (option_map view_outcome) (put.0 (text q)) ∙ by (is_eq (slice_cmp nat_cmp word q)) (bytes_eq q word) (is_eq-slice_cmp word q ∙ bytes_eq-back word q)
   where
     by : (a b : Bool) → a ≡ b → option_map view_outcome (cond a None (tree.get text_order m (text q))) ≡ (if b then None else known_outcome m q)

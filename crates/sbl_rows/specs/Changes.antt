@@ -4,30 +4,32 @@ use Rattle.std.specs.List.{filter_map, list_any}
 use Rattle.std.specs.Str.{bytes_eq}
 use Rattle.sbl_rows.specs.declared.change.ChangeRow.{ChangeRow}
 use Rattle.sbl_rows.specs.declared.change.ChangeRow.TheVariants as code
-use Rattle.sbl_rows.specs.WordRows.{Outcome, Row, outcome_in, same_outcome, texts_of, view_outcome}
-use Rattle.sbl_rows.specs.StemClasses.{Class, Pair}
+use Rattle.sbl_semantics.specs.Outcome.{Outcome'}
+use Rattle.sbl_rows.specs.Rows.{Row, view_outcome}
+use Rattle.sbl_rows.specs.ChangedRows.{outcome_in, same_outcome}
+use Rattle.sbl_rows.specs.Classes.{texts_of, Class, Pair}
 use Rattle.sbl_rows.specs.Moves.{moves_of, new_classes, old_classes}
 
 pub data Change : Type 0 where
   Added : List ℕ → Change
   Removed : List ℕ → Change
-  Changed : List ℕ → Outcome → Outcome → Change
+  Changed : List ℕ → Outcome' → Outcome' → Change
   Split : List ℕ → List (List ℕ) → Change
   Merged : List ℕ → List (List ℕ) → Change
   Renamed : List ℕ → List ℕ → Change
 
 -- a word that had no row is added
-abbrev pub word_addition : Option Outcome → Row → Option Change
+abbrev pub word_addition : Option Outcome' → Row → Option Change
 word_addition None r = Some (Added r.word)
 word_addition (Some o) r = None
 
 -- a word that has no row any more is removed
-abbrev pub word_removal : Option Outcome → Row → Option Change
+abbrev pub word_removal : Option Outcome' → Row → Option Change
 word_removal None r = Some (Removed r.word)
 word_removal (Some o) r = None
 
 -- a word of both lists is changed if its outcome is another one
-abbrev pub outcome_change : Option Outcome → Row → Option Change
+abbrev pub outcome_change : Option Outcome' → Row → Option Change
 outcome_change None r = None
 outcome_change (Some o) r = if same_outcome o r.outcome then None else Some (Changed r.word o r.outcome)
 

@@ -10,10 +10,10 @@ use Rattle.std.specs.BTreeMap.{BTreeMap, get_by}
 use Rattle.std.specs.declared.vec.Vec.{Vec}
 use Rattle.std.specs.declared.alloc.Global.{Global}
 use Rattle.sbl_rows.specs.declared.stem_class.StemPair.{StemPair}
-use Rattle.sbl_rows.specs.WordRows.{Outcome}
-use Rattle.sbl_rows.specs.StemClasses.{Pair}
+use Rattle.sbl_semantics.specs.Outcome.{Outcome'}
+use Rattle.sbl_rows.specs.Classes.{Pair}
 use Rattle.sbl_rows.specs.Families.{with_stem}
-use Rattle.sbl_rows.specs.StemGrouping.{view_pairs}
+use Rattle.sbl_rows.specs.Grouping.{view_pairs}
 use Rattle.sbl_rows.specs.KnownOutcomes.{Text}
 
 abbrev pub view_families : List (Vec StemPair Global) → List (List Pair)
@@ -21,7 +21,7 @@ view_families families = map (λ f. view_pairs f.items) families
 
 -- the outcomes of words
 abbrev pub Outcomes : Type 0
-Outcomes = List ℕ → Option Outcome
+Outcomes = List ℕ → Option Outcome'
 
 -- the outcomes without that of this word
 abbrev pub without : List ℕ → Outcomes → Outcomes

@@ -8,14 +8,15 @@ use Rattle.std.specs.declared.vec.Vec.{Vec}
 use Rattle.std.specs.declared.alloc.Global.{Global}
 use Rattle.sbl_rows.specs.declared.family_report.FamilyRow.{FamilyRow}
 use Rattle.sbl_rows.specs.declared.family_report.FamilyRow.TheVariants as code
-use Rattle.sbl_rows.specs.StemClasses.{Pair, in_order}
-use Rattle.sbl_rows.specs.WordRows.{Outcome, Row, outcome_in, texts_of}
-use Rattle.sbl_rows.specs.Stats.{pair_of}
+use Rattle.sbl_rows.specs.Classes.{Pair, in_order, texts_of, pair_of}
+use Rattle.sbl_semantics.specs.Outcome.{Outcome'}
+use Rattle.sbl_rows.specs.Rows.{Row}
+use Rattle.sbl_rows.specs.ChangedRows.{outcome_in}
 
 -- ---- the words that count
 
 -- a word with its stem, if it has a row and a stem
-abbrev pub with_stem : List ℕ → Option Outcome → Option Pair
+abbrev pub with_stem : List ℕ → Option Outcome' → Option Pair
 with_stem word None = None
 with_stem word (Some o) = pair_of word o
 
@@ -106,7 +107,8 @@ pairs_across test (f ∷ families) = pairs_between test f (all_of families) + pa
 
 -- the pairs of one family, those of them with different stems, the pairs of two families, those of them that share a stem
 abbrev pub pairs_row : List (List Pair) → FamilyResult
-pairs_row families = Pairs (pairs_within any_two families) (pairs_within other_stem families) (pairs_across any_two families) (pairs_across same_stem families)
+pairs_row families =
+    Pairs (pairs_within any_two families) (pairs_within other_stem families) (pairs_across any_two families) (pairs_across same_stem families)
 
 -- ---- all together
 

@@ -6,14 +6,15 @@ use Rattle.std.specs.Ordering.{nat_cmp}
 use Rattle.std.specs.Cmp.Lexicographic.{slice_cmp}
 use Rattle.std.specs.BTreeMap.{BTreeMap, get_by}
 use Rattle.std.specs.BTreeSet.{BTreeSet, contains_by}
-use Rattle.sbl_rows.specs.declared.word_row.WordOutcome.{WordOutcome}
-use Rattle.sbl_rows.specs.WordRows.{Outcome, view_outcome}
+use Rattle.sbl_semantics.specs.declared.outcome.Outcome.{Outcome}
+use Rattle.sbl_semantics.specs.Outcome.{Outcome'}
+use Rattle.sbl_rows.specs.Rows.{view_outcome}
 
 abbrev pub Text : Type 0
 Text = Bor (List ℕ)
 
 -- the outcome of a word in the map
-abbrev pub known_outcome : BTreeMap Text WordOutcome → List ℕ → Option Outcome
+abbrev pub known_outcome : BTreeMap Text (Bor Outcome) → List ℕ → Option Outcome'
 known_outcome m word = option_map view_outcome (get_by (λ (k : Text). slice_cmp nat_cmp word k.now) m)
 
 -- whether the set has the text

@@ -4,9 +4,8 @@ use Rattle.std.specs.declared.cmp.Ordering.{Ordering}
 use Rattle.std.specs.Ordering.{nat_cmp, ordering_then}
 use Rattle.std.specs.Cmp.Lexicographic.{slice_cmp}
 use Rattle.std.specs.BTreeSet.{replace_key}
-use Rattle.sbl_rows.specs.StemClasses.{Class}
-use Rattle.sbl_rows.specs.WordRows.{Row}
-use Rattle.sbl_rows.specs.Stats.{word_classes}
+use Rattle.sbl_rows.specs.Classes.{Class, classes_of}
+use Rattle.sbl_rows.specs.Rows.{Row}
 
 -- the larger class comes first; of one size, the one whose stem is earlier in code point order
 abbrev pub size_cmp : Class → Class → Ordering
@@ -19,4 +18,4 @@ by_size (c ∷ classes) = replace_key size_cmp (by_size classes) c
 
 -- the n largest classes, or all if there are no more
 abbrev pub largest_of : ℕ → List Row → List Class
-largest_of n rows = take n (by_size (word_classes rows))
+largest_of n rows = take n (by_size (classes_of rows))

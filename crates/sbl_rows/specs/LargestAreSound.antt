@@ -4,10 +4,9 @@ use Rattle.std.specs.List.Sorted.{IsPermutation}
 use Rattle.std.specs.declared.cmp.Ordering.TheVariants.{Less}
 use Rattle.std.specs.Ordering.{nat_cmp}
 use Rattle.std.specs.Cmp.Lexicographic.{slice_cmp}
-use Rattle.sbl_rows.specs.StemClasses.{Class}
+use Rattle.sbl_rows.specs.Classes.{Class, classes_of}
 use Rattle.sbl_rows.specs.Largest.{largest_of}
-use Rattle.sbl_rows.specs.WordRows.{Row}
-use Rattle.sbl_rows.specs.Stats.{word_classes}
+use Rattle.sbl_rows.specs.Rows.{Row}
 
 -- a class is before another if it has more words, or as many and an earlier stem in code point order
 abbrev pub IsBefore : Class → Class → Type 0
@@ -23,5 +22,5 @@ AreRanked (c ∷ classes) = All (IsBefore c) classes × AreRanked classes
 abbrev pub LargestAreFirst : Type 0
 LargestAreFirst =
     (n : ℕ) (rows : List Row)
-    → ((others : List Class) × IsPermutation (word_classes rows) (largest_of n rows ++ others) × AreRanked (largest_of n rows ++ others))
-    × (length (largest_of n rows) ≡ min n (length (word_classes rows)))
+    → ((others : List Class) × IsPermutation (classes_of rows) (largest_of n rows ++ others) × AreRanked (largest_of n rows ++ others))
+    × (length (largest_of n rows) ≡ min n (length (classes_of rows)))

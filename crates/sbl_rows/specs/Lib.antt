@@ -6,8 +6,6 @@ pub mod Classes
 pub mod ClassesAreSound
 pub mod Pairs
 pub mod Grouping
-pub mod WordRows
-pub mod StemClasses
 pub mod Moves
 pub mod Changes
 pub mod Stats
@@ -19,7 +17,6 @@ pub mod LargestAreSound
 -- what the functions inside the crate promise each other: nothing in these need be believed
 pub mod KnownOutcomes
 pub mod Sides
-pub mod StemGrouping
 pub mod Ranking
 pub mod Counting
 pub mod Views

@@ -3,9 +3,8 @@ use Rattle.std.specs.Prelude.{ℕ}
 use Rattle.std.specs.declared.vec.Vec.{Vec}
 use Rattle.std.specs.declared.alloc.Global.{Global}
 use Rattle.std.specs.declared.cmp.Reverse.{Reverse}
-use Rattle.sbl_rows.specs.StemClasses.{Class}
+use Rattle.sbl_rows.specs.Classes.{Class, texts_of}
 use Rattle.sbl_rows.specs.KnownOutcomes.{Text}
-use Rattle.sbl_rows.specs.WordRows.{texts_of}
 
 abbrev pub Rank : Type 0
 Rank = Reverse ℕ × Text

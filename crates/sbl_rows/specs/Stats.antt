@@ -1,29 +1,21 @@
 -- Figures about rows and their classes.
-use Rattle.std.specs.Prelude.{ℕ, Bool, true, false, List, [], ◌∷◌, length, max, Option, Some, None}
-use Rattle.std.specs.List.{count_by, filter_map}
+use Rattle.std.specs.Prelude.{ℕ, Bool, true, false, List, [], ◌∷◌, length, max}
+use Rattle.std.specs.List.{count_by}
 use Rattle.std.specs.Str.{bytes_eq}
 use Rattle.sbl_rows.specs.declared.figures.RowStats as declared
 use Rattle.sbl_rows.specs.Changes.{is_one}
-use Rattle.sbl_rows.specs.StemClasses.{Class, Pair, classes_of}
-use Rattle.sbl_rows.specs.WordRows.{Outcome, Stem, Refused, Row}
+use Rattle.sbl_rows.specs.Classes.{Class, classes_of}
+use Rattle.sbl_semantics.specs.Outcome.{Outcome', Stem, Refused}
+use Rattle.sbl_rows.specs.Rows.{Row}
 
-abbrev pub is_refused : Outcome → Bool
+abbrev pub is_refused : Outcome' → Bool
 is_refused (Stem s) = false
 is_refused (Refused n) = true
 
 -- whether the outcome is this word as its own stem
-abbrev pub is_itself : List ℕ → Outcome → Bool
+abbrev pub is_itself : List ℕ → Outcome' → Bool
 is_itself word (Stem s) = bytes_eq word s
 is_itself word (Refused n) = false
-
--- a word with its stem, if it has one
-abbrev pub pair_of : List ℕ → Outcome → Option Pair
-pair_of word (Stem s) = Some (s, word)
-pair_of word (Refused n) = None
-
--- the classes of the rows: each stem with its words
-abbrev pub word_classes : List Row → List Class
-word_classes rows = classes_of (filter_map (λ r. pair_of r.word r.outcome) rows)
 
 -- the number of words in the largest class; 0 if there is none
 abbrev pub largest_size : List Class → ℕ
@@ -42,9 +34,9 @@ abbrev pub stats_of : List Row → Stats
 stats_of rows = record {
   words = length rows;
   refused = count_by (λ r. is_refused r.outcome) rows;
-  classes = length (word_classes rows);
-  alone = count_by (λ c. is_one c.members) (word_classes rows);
-  largest = largest_size (word_classes rows);
+  classes = length (classes_of rows);
+  alone = count_by (λ c. is_one c.members) (classes_of rows);
+  largest = largest_size (classes_of rows);
   unchanged = count_by (λ r. is_itself r.word r.outcome) rows;
 }
 

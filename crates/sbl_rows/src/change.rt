@@ -1,7 +1,7 @@
 //! A change between two lists of rows.
 
 use crate::stem_class::StemClass;
-use crate::word_row::WordOutcome;
+use sbl_semantics::Outcome;
 
 /// A change between two lists of rows.
 #[derive(Debug, Drop)]
@@ -15,9 +15,9 @@ pub enum ChangeRow<'a> {
         /// The word.
         word: &'a [char],
         /// Its outcome in the first list.
-        before: WordOutcome<'a>,
+        before: &'a Outcome,
         /// Its outcome in the second list.
-        after: WordOutcome<'a>,
+        after: &'a Outcome,
     },
     /// The words of a class of the first list have two stems or more in the second, which are the members here.
     Split(StemClass<'a>),

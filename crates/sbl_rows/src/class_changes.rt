@@ -2,9 +2,9 @@
 
 ghost use Rattle.std.specs.Prelude.{◌≡◌, ◌++◌, ◌&&◌, ◌||◌, ℕ, List, IfOk, OnOk, bytes_eq, filter_map, option_map};
 ghost use Rattle.sbl_rows.specs.Changes as spec;
-ghost use Rattle.sbl_rows.specs.StemClasses.{Class};
+ghost use Rattle.sbl_rows.specs.Classes.{Class};
 ghost use Rattle.sbl_rows.specs.Sides as sides;
-ghost use Rattle.sbl_rows.specs.Views.{has_text, view_change, view_changes, view_class, view_classes};
+ghost use Rattle.sbl_rows.specs.Views.{has_text, view_change, view_changes, view_stem_class, view_stem_classes};
 
 use crate::change::{ChangeRow, Side};
 use crate::lists::push_some;
@@ -19,7 +19,7 @@ fn several<'a>(
     side: Side,
     class: &StemClass<'a>,
 ) -> Result<Option<ChangeRow<'a>>, AllocError>
-    ensures { IfOk result (λ change. option_map view_change change ≡ sides.several side (view_class class.now) (view_class class.now).members) }
+    ensures { IfOk result (λ change. option_map view_change change ≡ sides.several side (view_stem_class class.now) (view_stem_class class.now).members) }
 {
     if class.members.len() < 2 {
         return Ok(None);
@@ -40,7 +40,7 @@ fn class_renaming<'a>(
     from_one: &BTreeSet<&'a [char]>,
     class: &StemClass<'a>,
 ) -> Option<ChangeRow<'a>>
-    ensures { (now : List Class) → ((stem : List ℕ) → has_text from_one.now stem ≡ spec.is_from_one now stem) → option_map view_change result ≡ spec.class_renaming now (view_class class.now) (view_class class.now).members }
+    ensures { (now : List Class) → ((stem : List ℕ) → has_text from_one.now stem ≡ spec.is_from_one now stem) → option_map view_change result ≡ sides.renaming now (view_stem_class class.now) }
 {
     match class.members.as_slice() {
         [new] if class.stem != *new && from_one.contains(*new) => {
@@ -61,7 +61,7 @@ pub(crate) fn push_several<'a>(
     side: Side,
     classes: &[StemClass<'a>],
 ) -> Result<(), AllocError>
-    ensures { OnOk result (view_changes changes.new.items ≡ view_changes changes.old.items ++ filter_map (λ c. sides.several side c c.members) (view_classes classes.now)) }
+    ensures { OnOk result (view_changes changes.new.items ≡ view_changes changes.old.items ++ filter_map (λ c. sides.several side c c.members) (view_stem_classes classes.now)) }
 {
     for class in classes {
         push_some(changes, several(alloc, side, class)?)?;
@@ -74,7 +74,7 @@ fn stems_from_one<'a>(
     alloc: Global,
     classes: &[StemClass<'a>],
 ) -> Result<BTreeSet<&'a [char]>, AllocError>
-    ensures { IfOk result (λ stems. has_text stems ≡ spec.is_from_one (view_classes classes.now)) }
+    ensures { IfOk result (λ stems. has_text stems ≡ spec.is_from_one (view_stem_classes classes.now)) }
 {
     let mut stems = BTreeSet::new(alloc);
     for class in classes {
@@ -88,7 +88,7 @@ fn insert_if_one<'a>(
     stems: &mut BTreeSet<&'a [char]>,
     class: &StemClass<'a>,
 ) -> Result<(), AllocError>
-    ensures { OnOk result ((q : List ℕ) → has_text stems.new q ≡ ((bytes_eq (view_class class.now).stem q && spec.is_one (view_class class.now).members) || has_text stems.old q)) }
+    ensures { OnOk result ((q : List ℕ) → has_text stems.new q ≡ ((bytes_eq (view_stem_class class.now).stem q && spec.is_one (view_stem_class class.now).members) || has_text stems.old q)) }
 {
     if class.members.len() == 1 {
         stems.insert(class.stem)?;
@@ -103,7 +103,7 @@ pub(crate) fn push_renamed<'a>(
     before: &[StemClass<'a>],
     now: &[StemClass<'a>],
 ) -> Result<(), AllocError>
-    ensures { OnOk result (view_changes changes.new.items ≡ view_changes changes.old.items ++ filter_map (λ c. spec.class_renaming (view_classes now.now) c c.members) (view_classes before.now)) }
+    ensures { OnOk result (view_changes changes.new.items ≡ view_changes changes.old.items ++ filter_map (λ c. spec.class_renaming (view_stem_classes now.now) c c.members) (view_stem_classes before.now)) }
 {
     let from_one = stems_from_one(alloc, now)?;
     for class in before {

@@ -2,13 +2,14 @@
 
 ghost use Rattle.std.specs.Prelude.{◌≡◌, IfOk};
 ghost use Rattle.sbl_rows.specs.Changes.{changes_of, view_changes};
-ghost use Rattle.sbl_rows.specs.WordRows.{view_rows};
+ghost use Rattle.sbl_rows.specs.Rows.{view_rows};
 
 use crate::change::{ChangeRow, Side};
 use crate::class_changes::{push_renamed, push_several};
 use crate::moves::{moves_of, new_classes};
+use crate::outcomes::outcomes_of;
+use crate::row::Row;
 use crate::stem_class::classes_of;
-use crate::word_row::{WordRow, outcomes_of};
 use crate::words::{push_changed, push_lone};
 use std::alloc::{AllocError, Global};
 
@@ -19,8 +20,8 @@ use std::alloc::{AllocError, Global};
 /// `AllocError` if an allocation fails.
 pub fn changes<'a>(
     alloc: Global,
-    before: &[WordRow<'a>],
-    after: &[WordRow<'a>],
+    before: &[Row<'a>],
+    after: &[Row<'a>],
 ) -> Result<Vec<ChangeRow<'a>>, AllocError>
     ensures { IfOk result (λ changes. view_changes changes.items ≡ changes_of (view_rows before.now) (view_rows after.now)) }
 {

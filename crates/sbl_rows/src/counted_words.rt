@@ -6,8 +6,9 @@ ghost use Rattle.sbl_rows.specs.Counting as spec;
 ghost use Rattle.sbl_rows.specs.Views.{known_outcome, texts_of, view_families, view_pair, view_pairs, view_words};
 
 use crate::lists::push_some;
+use crate::outcomes::Outcomes;
 use crate::stem_class::StemPair;
-use crate::word_row::{Outcomes, WordOutcome};
+use sbl_semantics::Outcome;
 use std::alloc::{AllocError, Global};
 
 /// Takes a word out of the outcomes. Returns it with its stem, if it has one. Does not allocate.
@@ -16,7 +17,10 @@ fn take_word<'a>(outcomes: &mut Outcomes<'a>, word: &'a [char]) -> Option<StemPa
     ensures others { known_outcome outcomes.new ≡ spec.without word.now (known_outcome outcomes.old) }
 {
     match outcomes.remove(word) {
-        Some(WordOutcome::Stem(stem)) => Some(StemPair { stem, member: word }),
+        Some(Outcome::Stem(stem)) => Some(StemPair {
+            stem: stem.as_slice(),
+            member: word,
+        }),
         _ => None,
     }
 }

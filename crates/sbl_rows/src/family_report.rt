@@ -2,13 +2,14 @@
 
 ghost use Rattle.std.specs.Prelude.{◌≡◌, IfOk};
 ghost use Rattle.sbl_rows.specs.Families.{family_results, view_results, view_words};
-ghost use Rattle.sbl_rows.specs.WordRows.{view_rows};
+ghost use Rattle.sbl_rows.specs.Rows.{view_rows};
 
 use crate::counted_words::families_of;
 use crate::family_pairs::pairs_row;
 use crate::family_rows::{push_over, push_under};
+use crate::outcomes::outcomes_of;
+use crate::row::Row;
 use crate::stem_class::StemClass;
-use crate::word_row::{WordRow, outcomes_of};
 use std::alloc::{AllocError, Global};
 
 /// A row about families.
@@ -47,7 +48,7 @@ pub struct PairCounts {
 /// Returns `AllocError` if an allocation fails.
 pub fn families<'a>(
     alloc: Global,
-    rows: &[WordRow<'a>],
+    rows: &[Row<'a>],
     lists: &[Vec<&'a [char]>],
 ) -> Result<Vec<FamilyRow<'a>>, AllocError>
     ensures { IfOk result (λ found. view_results found.items ≡ family_results (view_rows rows.now) (view_words lists.now)) }

@@ -1,11 +1,11 @@
 //! Families whose words have several stems, and stems that several families have.
 
 ghost use Rattle.std.specs.Prelude.{◌≡◌, ◌++◌, ◌||◌, ◌∷◌, [], ℕ, List, map, false, OnOk, IfOk, bytes_eq, filter_map, if◌then◌else◌, option_map};
-ghost use Rattle.sbl_rows.specs.StemClasses.{members_of};
+ghost use Rattle.sbl_rows.specs.Classes.{members_of};
 ghost use Rattle.sbl_rows.specs.Families as spec;
 ghost use Rattle.sbl_rows.specs.Counting.{DoNotFall, firsts, heads};
-ghost use Rattle.sbl_rows.specs.StemGrouping.{classes_sorted, group_pairs};
-ghost use Rattle.sbl_rows.specs.Views.{has_text, texts_of, view_class, view_classes, view_families, view_pair, view_pairs, view_result, view_results};
+ghost use Rattle.sbl_rows.specs.Grouping.{classes_sorted, put_pairs};
+ghost use Rattle.sbl_rows.specs.Views.{has_text, texts_of, view_stem_class, view_stem_classes, view_families, view_pair, view_pairs, view_result, view_results};
 
 use crate::family_report::FamilyRow;
 use crate::lists::push_some;
@@ -23,7 +23,7 @@ fn stems_of<'a>(alloc: Global, pairs: &[StemPair<'a>]) -> Result<Vec<&'a [char]>
 
 /// Returns the stems of the classes. Returns `AllocError` if an allocation fails.
 fn class_stems<'a>(alloc: Global, classes: &[StemClass<'a>]) -> Result<Vec<&'a [char]>, AllocError>
-    ensures { IfOk result (λ stems. texts_of stems.items ≡ map (λ c. c.stem) (view_classes classes.now)) }
+    ensures { IfOk result (λ stems. texts_of stems.items ≡ map (λ c. c.stem) (view_stem_classes classes.now)) }
 {
     let mut stems = Vec::new(alloc);
     for class in classes {
@@ -113,7 +113,7 @@ fn classes_in_turn<'a>(
     alloc: Global,
     pairs: Vec<StemPair<'a>>,
 ) -> Result<Vec<StemClass<'a>>, AllocError>
-    ensures { IfOk result (λ classes. view_classes classes.items ≡ classes_sorted (view_pairs pairs.entry.items)) }
+    ensures { IfOk result (λ classes. view_stem_classes classes.items ≡ classes_sorted (view_pairs pairs.entry.items)) }
 {
     let pairs = by_stem(pairs)?;
     group_pairs(alloc, &pairs)
@@ -121,7 +121,7 @@ fn classes_in_turn<'a>(
 
 /// Returns the classes of the pairs, put one after another. Returns `AllocError` if an allocation fails.
 fn group_pairs<'a>(alloc: Global, pairs: &[StemPair<'a>]) -> Result<Vec<StemClass<'a>>, AllocError>
-    ensures { IfOk result (λ classes. view_classes classes.items ≡ group_pairs [] (view_pairs pairs.now)) }
+    ensures { IfOk result (λ classes. view_stem_classes classes.items ≡ put_pairs [] (view_pairs pairs.now)) }
 {
     let mut classes = Vec::new(alloc);
     for pair in pairs {
@@ -142,7 +142,7 @@ fn by_stem<'a>(mut pairs: Vec<StemPair<'a>>) -> Result<Vec<StemPair<'a>>, AllocE
 
 /// Returns the stem and the words, if there are two or more. Returns `AllocError` if an allocation fails.
 fn over<'a>(alloc: Global, class: &StemClass<'a>) -> Result<Option<FamilyRow<'a>>, AllocError>
-    ensures { IfOk result (λ row. option_map view_result row ≡ spec.over (view_class class.now).stem (view_class class.now).members) }
+    ensures { IfOk result (λ row. option_map view_result row ≡ spec.over (view_stem_class class.now).stem (view_stem_class class.now).members) }
 {
     if class.members.len() < 2 {
         return Ok(None);
@@ -159,7 +159,7 @@ fn push_classes<'a>(
     rows: &mut Vec<FamilyRow<'a>>,
     classes: &[StemClass<'a>],
 ) -> Result<(), AllocError>
-    ensures { OnOk result (view_results rows.new.items ≡ view_results rows.old.items ++ filter_map (λ c. spec.over c.stem c.members) (view_classes classes.now)) }
+    ensures { OnOk result (view_results rows.new.items ≡ view_results rows.old.items ++ filter_map (λ c. spec.over c.stem c.members) (view_stem_classes classes.now)) }
 {
     for class in classes {
         push_some(rows, over(alloc, class)?)?;

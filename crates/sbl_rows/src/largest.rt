@@ -1,14 +1,14 @@
 //! The largest classes.
 
 ghost use Rattle.std.specs.Prelude.{◌≡◌, IfOk, map};
-ghost use Rattle.sbl_rows.specs.StemClasses.{view_classes};
+ghost use Rattle.sbl_rows.specs.Classes.{view_stem_classes};
 ghost use Rattle.sbl_rows.specs.Largest as spec;
 ghost use Rattle.sbl_rows.specs.Ranking as ranked;
-ghost use Rattle.sbl_rows.specs.WordRows.{view_rows};
+ghost use Rattle.sbl_rows.specs.Rows.{view_rows};
 
 use crate::figures::word_classes;
+use crate::row::Row;
 use crate::stem_class::StemClass;
-use crate::word_row::WordRow;
 use std::alloc::{AllocError, Global};
 use std::cmp::Reverse;
 use std::collections::BTreeMap;
@@ -20,10 +20,10 @@ type Ranking<'a> = BTreeMap<(Reverse<usize>, &'a [char]), Vec<&'a [char]>>;
 /// all classes, if there are no more than `n`. Each word has one row. Returns `AllocError` if an allocation fails.
 pub fn largest_classes<'a>(
     alloc: Global,
-    rows: &[WordRow<'a>],
+    rows: &[Row<'a>],
     n: usize,
 ) -> Result<Vec<StemClass<'a>>, AllocError>
-    ensures { IfOk result (λ largest. view_classes largest.items ≡ spec.largest_of n (view_rows rows.now)) }
+    ensures { IfOk result (λ largest. view_stem_classes largest.items ≡ spec.largest_of n (view_rows rows.now)) }
 {
     let classes = word_classes(alloc, rows)?;
     let ranking = ranking_of(alloc, classes)?;
@@ -34,7 +34,7 @@ pub fn largest_classes<'a>(
 
 /// Returns the classes by size and stem. Returns `AllocError` if an allocation fails.
 fn ranking_of<'a>(alloc: Global, mut classes: Vec<StemClass<'a>>) -> Result<Ranking<'a>, AllocError>
-    ensures { IfOk result (λ found. map ranked.view_entry found.entries ≡ spec.by_size (view_classes classes.entry.items)) }
+    ensures { IfOk result (λ found. map ranked.view_entry found.entries ≡ spec.by_size (view_stem_classes classes.entry.items)) }
 {
     let mut ranking = BTreeMap::new(alloc);
     while let Some(class) = classes.pop() {
@@ -46,7 +46,7 @@ fn ranking_of<'a>(alloc: Global, mut classes: Vec<StemClass<'a>>) -> Result<Rank
 
 /// Returns the classes in the order of the ranking. Returns `AllocError` if an allocation fails.
 fn in_rank<'a>(alloc: Global, ranking: Ranking<'a>) -> Result<Vec<StemClass<'a>>, AllocError>
-    ensures { IfOk result (λ classes. view_classes classes.items ≡ map ranked.view_entry ranking.entry.entries) }
+    ensures { IfOk result (λ classes. view_stem_classes classes.items ≡ map ranked.view_entry ranking.entry.entries) }
 {
     let mut classes = Vec::new(alloc);
     for ((_, stem), members) in ranking {

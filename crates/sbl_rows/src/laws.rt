@@ -1,9 +1,9 @@
 //! Laws of rows: of their classes, of the changes between two lists, of the largest classes and of families.
 
-ghost use Rattle.sbl_rows.specs.ClassesAreSound.{ClassesAreOfRows, ClassesRise};
+ghost use Rattle.sbl_rows.specs.ClassesAreSound.{ClassesAreOfPairs, ClassesAreOfRows, ClassesOfPairsRise, ClassesRise};
 ghost use Rattle.sbl_rows.specs.LargestAreSound.{LargestAreFirst};
 ghost use Rattle.sbl_rows.specs.FamiliesAreSound.{NoneApartIfNoUnder, NoneJoinedIfNoOver, PairsAddUp, WordsHaveTheirStems};
-ghost use Rattle.sbl_rows.specs.ChangesAreSound.{ClassesAreOfPairs, ClassesOfPairsRise, EqualListsHaveNoChanges, ExchangedListsTurnChanges, NoClassIsSplitAndRenamed};
+ghost use Rattle.sbl_rows.specs.ChangesAreSound.{EqualListsHaveNoChanges, ExchangedListsTurnChanges, NoClassIsSplitAndRenamed};
 
 /// The stems of the classes are in strictly ascending code point order, a prefix first, and so are the words of each class.
 /// Each class has at least one word. There is a class of a stem with a word in it exactly if there is a row of that word with

@@ -16,10 +16,10 @@ mod largest;
 pub mod laws;
 mod lists;
 mod moves;
+mod outcomes;
 mod pairs;
 mod row;
 mod stem_class;
-mod word_row;
 mod words;
 
 pub use change::ChangeRow;
@@ -32,4 +32,3 @@ pub use largest::largest_classes;
 pub use pairs::{Pairs, follow_one, insert_pair, remove_key};
 pub use row::Row;
 pub use stem_class::StemClass;
-pub use word_row::{WordOutcome, WordRow};

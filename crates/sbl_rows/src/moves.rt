@@ -2,21 +2,23 @@
 
 ghost use Rattle.std.specs.Prelude.{◌≡◌, IfOk, option_map};
 ghost use Rattle.sbl_rows.specs.Moves as spec;
-ghost use Rattle.sbl_rows.specs.Views.{known_outcome, view_classes, view_pair, view_pairs, view_row, view_rows};
+ghost use Rattle.sbl_rows.specs.Views.{known_outcome, view_stem_classes, view_pair, view_pairs, view_row, view_rows};
 
 use crate::lists::push_some;
+use crate::outcomes::{Outcomes, outcome_of};
+use crate::row::Row;
 use crate::stem_class::{StemClass, StemPair, classes_of};
-use crate::word_row::{Outcomes, WordOutcome, WordRow, outcome_of};
+use sbl_semantics::Outcome;
 use std::alloc::{AllocError, Global};
 
 /// Returns the stems of a word, if it has one in both lists.
-fn move_of<'a>(before: &Outcomes<'a>, row: &WordRow<'a>) -> Option<StemPair<'a>>
+fn move_of<'a>(before: &Outcomes<'a>, row: &Row<'a>) -> Option<StemPair<'a>>
     ensures { option_map view_pair result ≡ spec.move_of (known_outcome before.now row.now.word.now) (view_row row.now).outcome }
 {
     match (outcome_of(before, row.word), row.outcome) {
-        (Some(WordOutcome::Stem(stem)), WordOutcome::Stem(member)) => Some(StemPair {
-            stem,
-            member,
+        (Some(Outcome::Stem(stem)), Outcome::Stem(member)) => Some(StemPair {
+            stem: stem.as_slice(),
+            member: member.as_slice(),
         }),
         _ => None,
     }
@@ -27,7 +29,7 @@ fn move_of<'a>(before: &Outcomes<'a>, row: &WordRow<'a>) -> Option<StemPair<'a>>
 pub(crate) fn moves_of<'a>(
     alloc: Global,
     before: &Outcomes<'a>,
-    after: &[WordRow<'a>],
+    after: &[Row<'a>],
 ) -> Result<Vec<StemPair<'a>>, AllocError>
     ensures { IfOk result (λ moves. view_pairs moves.items ≡ spec.moves_of (known_outcome before.now) (view_rows after.now)) }
 {
@@ -56,7 +58,7 @@ pub(crate) fn new_classes<'a>(
     alloc: Global,
     mut moves: Vec<StemPair<'a>>,
 ) -> Result<Vec<StemClass<'a>>, AllocError>
-    ensures { IfOk result (λ classes. view_classes classes.items ≡ spec.new_classes (view_pairs moves.entry.items)) }
+    ensures { IfOk result (λ classes. view_stem_classes classes.items ≡ spec.new_classes (view_pairs moves.entry.items)) }
 {
     turn(&mut moves);
     classes_of(alloc, &moves)

@@ -1,10 +1,10 @@
 //! Classes: stems, each with its members.
 
 ghost use Rattle.std.specs.Prelude.{◌≡◌, ◌++◌, ◌∷◌, [], map, OnOk, IfOk};
-ghost use Rattle.sbl_rows.specs.StemClasses as classes;
-ghost use Rattle.sbl_rows.specs.StemGrouping as spec;
-ghost use Rattle.sbl_rows.specs.StemGrouping.{plain};
-ghost use Rattle.sbl_rows.specs.Views.{texts_of, view_class, view_classes, view_pairs};
+ghost use Rattle.sbl_rows.specs.Classes as classes;
+ghost use Rattle.sbl_rows.specs.Grouping as spec;
+ghost use Rattle.sbl_rows.specs.Grouping.{plain_pair};
+ghost use Rattle.sbl_rows.specs.Views.{texts_of, view_stem_class, view_stem_classes, view_pairs};
 
 use std::alloc::{AllocError, Global};
 use std::collections::BTreeSet;
@@ -31,7 +31,7 @@ fn sorted_pairs<'a>(
     alloc: Global,
     pairs: &[StemPair<'a>],
 ) -> Result<BTreeSet<(&'a [char], &'a [char])>, AllocError>
-    ensures { IfOk result (λ set. map plain set.keys ≡ spec.sorted_pairs (view_pairs pairs.now)) }
+    ensures { IfOk result (λ set. map plain_pair set.keys ≡ spec.pairs_in_order (view_pairs pairs.now)) }
 {
     let mut set = BTreeSet::new(alloc);
     for pair in pairs {
@@ -46,7 +46,7 @@ pub(crate) fn classes_of<'a>(
     alloc: Global,
     pairs: &[StemPair<'a>],
 ) -> Result<Vec<StemClass<'a>>, AllocError>
-    ensures { IfOk result (λ found. view_classes found.items ≡ classes.classes_of (view_pairs pairs.now)) }
+    ensures { IfOk result (λ found. view_stem_classes found.items ≡ classes.pair_classes (view_pairs pairs.now)) }
 {
     let set = sorted_pairs(alloc, pairs)?;
     let mut classes = Vec::new(alloc);
@@ -58,7 +58,7 @@ pub(crate) fn classes_of<'a>(
 
 /// Returns whether the last class has this stem. Does not allocate.
 fn is_last(stem: &[char], classes: &[StemClass<'_>]) -> bool
-    ensures { result ≡ spec.is_last stem.now (view_classes classes.now) }
+    ensures { result ≡ spec.is_last stem.now (view_stem_classes classes.now) }
 {
     match classes.last() {
         Some(class) => class.stem == stem,
@@ -68,7 +68,7 @@ fn is_last(stem: &[char], classes: &[StemClass<'_>]) -> bool
 
 /// Appends a member to the last class. Returns `AllocError` if an allocation fails.
 fn put_in_last<'a>(classes: &mut Vec<StemClass<'a>>, member: &'a [char]) -> Result<(), AllocError>
-    ensures { OnOk result (view_classes classes.new.items ≡ spec.put_in_last (view_classes classes.old.items) member.now) }
+    ensures { OnOk result (view_stem_classes classes.new.items ≡ spec.put_in_last (view_stem_classes classes.old.items) member.now) }
 {
     match classes.last_mut() {
         Some(class) => push_text(&mut class.members, member),
@@ -89,7 +89,7 @@ fn one_member<'a>(
     stem: &'a [char],
     member: &'a [char],
 ) -> Result<StemClass<'a>, AllocError>
-    ensures { IfOk result (λ class. view_class class ≡ spec.one_member (stem.now, member.now)) }
+    ensures { IfOk result (λ class. view_stem_class class ≡ spec.one_member (stem.now, member.now)) }
 {
     let mut members = Vec::new(alloc);
     push_text(&mut members, member)?;
@@ -104,7 +104,7 @@ pub(crate) fn put_last<'a>(
     stem: &'a [char],
     member: &'a [char],
 ) -> Result<(), AllocError>
-    ensures { OnOk result (view_classes classes.new.items ≡ spec.put_last (view_classes classes.old.items) (stem.now, member.now)) }
+    ensures { OnOk result (view_stem_classes classes.new.items ≡ spec.put_last (view_stem_classes classes.old.items) (stem.now, member.now)) }
 {
     if is_last(stem, classes) {
         return put_in_last(classes, member);

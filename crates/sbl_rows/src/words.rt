@@ -6,12 +6,14 @@ ghost use Rattle.sbl_rows.specs.Sides as sides;
 ghost use Rattle.sbl_rows.specs.Views.{known_outcome, view_change, view_changes, view_row, view_rows};
 
 use crate::change::{ChangeRow, Side};
+use crate::changed_row::is_same;
 use crate::lists::push_some;
-use crate::word_row::{Outcomes, WordRow, is_same, outcome_of};
+use crate::outcomes::{Outcomes, outcome_of};
+use crate::row::Row;
 use std::alloc::AllocError;
 
 /// Returns that the word of one list is added or removed, if it has no row in the other list.
-fn lone<'a>(side: Side, other: &Outcomes<'a>, row: &WordRow<'a>) -> Option<ChangeRow<'a>>
+fn lone<'a>(side: Side, other: &Outcomes<'a>, row: &Row<'a>) -> Option<ChangeRow<'a>>
     ensures { option_map view_change result ≡ sides.lone side (known_outcome other.now row.now.word.now) (view_row row.now) }
 {
     match (outcome_of(other, row.word), side) {
@@ -22,7 +24,7 @@ fn lone<'a>(side: Side, other: &Outcomes<'a>, row: &WordRow<'a>) -> Option<Chang
 }
 
 /// Returns that the word is changed, if it has a row before with another outcome.
-fn outcome_change<'a>(before: &Outcomes<'a>, row: &WordRow<'a>) -> Option<ChangeRow<'a>>
+fn outcome_change<'a>(before: &Outcomes<'a>, row: &Row<'a>) -> Option<ChangeRow<'a>>
     ensures { option_map view_change result ≡ spec.outcome_change (known_outcome before.now row.now.word.now) (view_row row.now) }
 {
     match outcome_of(before, row.word) {
@@ -42,7 +44,7 @@ fn outcome_change<'a>(before: &Outcomes<'a>, row: &WordRow<'a>) -> Option<Change
 pub(crate) fn push_lone<'a>(
     changes: &mut Vec<ChangeRow<'a>>,
     side: Side,
-    rows: &[WordRow<'a>],
+    rows: &[Row<'a>],
     other: &Outcomes<'a>,
 ) -> Result<(), AllocError>
     ensures { OnOk result (view_changes changes.new.items ≡ view_changes changes.old.items ++ filter_map (λ r. sides.lone side (known_outcome other.now r.word) r) (view_rows rows.now)) }
@@ -57,7 +59,7 @@ pub(crate) fn push_lone<'a>(
 pub(crate) fn push_changed<'a>(
     changes: &mut Vec<ChangeRow<'a>>,
     before: &Outcomes<'a>,
-    after: &[WordRow<'a>],
+    after: &[Row<'a>],
 ) -> Result<(), AllocError>
     ensures { OnOk result (view_changes changes.new.items ≡ view_changes changes.old.items ++ filter_map (λ r. spec.outcome_change (known_outcome before.now r.word) r) (view_rows after.now)) }
 {

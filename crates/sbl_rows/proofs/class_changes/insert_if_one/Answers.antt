@@ -1,7 +1,7 @@
 use Rattle.std.proofs.Common.{◌≡◌, ◌∙◌, ◌||◌, Bool, length, ap, arith}
 use Rattle.std.specs.Str.{bytes_eq}
 use Rattle.sbl_rows.specs.Changes.{is_one}
-use Rattle.sbl_rows.specs.WordRows.{texts_of}
+use Rattle.sbl_rows.specs.Classes.{texts_of}
 use Rattle.sbl_rows.specs.KnownOutcomes.{has_text}
 use Rattle.sbl_rows.proofs.SetFacts.{and_one, one_text, text_inserted}
 use Rattle.sbl_rows.proofs.class_changes.insert_if_one.Goals as goal

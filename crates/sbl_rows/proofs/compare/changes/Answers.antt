@@ -2,10 +2,11 @@ use Rattle.std.proofs.Common.{◌≡◌, ◌∙◌, ◌++◌, List, ap}
 use Rattle.std.specs.List.{filter_map}
 use Rattle.sbl_rows.specs.declared.stem_class.StemPair.{StemPair}
 use Rattle.sbl_rows.specs.Changes as spec
-use Rattle.sbl_rows.specs.StemClasses.{Class, Pair, classes_of}
+use Rattle.sbl_rows.specs.Classes.{Class, Pair, pair_classes}
 use Rattle.sbl_rows.specs.Moves.{moves_of, new_classes}
-use Rattle.sbl_rows.specs.WordRows.{Row, outcome_in}
-use Rattle.sbl_rows.specs.Views.{known_outcome, view_changes, view_classes, view_pairs, view_rows}
+use Rattle.sbl_rows.specs.Rows.{Row}
+use Rattle.sbl_rows.specs.ChangedRows.{outcome_in}
+use Rattle.sbl_rows.specs.Views.{known_outcome, view_changes, view_stem_classes, view_pairs, view_rows}
 use Rattle.sbl_rows.proofs.ChangeFacts.{six}
 use Rattle.sbl_rows.proofs.compare.changes.Goals as goal
 
@@ -17,13 +18,13 @@ returns c =
     let is : known_outcome c.in_ok-known_after.known_after ≡ outcome_in after = c.in_ok-known_after.ensures in
     let moves : List Pair = moves_of (outcome_in before) after in
     let moved : view_pairs c.in_ok-moves.moves.items ≡ moves = c.in_ok-moves.ensures ∙ (λ i. moves_of (was i) after) in
-    let old : view_classes c.in_ok-old.old.items ≡ classes_of moves =
-    c.in_ok-old.ensures ∙ ap (λ (ms : List StemPair). classes_of (view_pairs ms)) c.deref.ensures.value ∙ ap classes_of moved in
-    let new : view_classes c.in_ok-new.new.items ≡ new_classes moves = c.in_ok-new.ensures ∙ ap new_classes moved in
-    let old-2 : view_classes c.deref-2.result.now ≡ classes_of moves = ap view_classes c.deref-2.ensures.value ∙ old in
-    let new-3 : view_classes c.deref-3.result.now ≡ new_classes moves = ap view_classes c.deref-3.ensures.value ∙ new in
-    let old-4 : view_classes c.deref-4.result.now ≡ classes_of moves = ap view_classes c.deref-4.ensures.value ∙ old in
-    let new-5 : view_classes c.deref-5.result.now ≡ new_classes moves = ap view_classes c.deref-5.ensures.value ∙ new in
+    let old : view_stem_classes c.in_ok-old.old.items ≡ pair_classes moves =
+    c.in_ok-old.ensures ∙ ap (λ (ms : List StemPair). pair_classes (view_pairs ms)) c.deref.ensures.value ∙ ap pair_classes moved in
+    let new : view_stem_classes c.in_ok-new.new.items ≡ new_classes moves = c.in_ok-new.ensures ∙ ap new_classes moved in
+    let old-2 : view_stem_classes c.deref-2.result.now ≡ pair_classes moves = ap view_stem_classes c.deref-2.ensures.value ∙ old in
+    let new-3 : view_stem_classes c.deref-3.result.now ≡ new_classes moves = ap view_stem_classes c.deref-3.ensures.value ∙ new in
+    let old-4 : view_stem_classes c.deref-4.result.now ≡ pair_classes moves = ap view_stem_classes c.deref-4.ensures.value ∙ old in
+    let new-5 : view_stem_classes c.deref-5.result.now ≡ new_classes moves = ap view_stem_classes c.deref-5.ensures.value ∙ new in
     six _ _ _ _ _ _ _ _ _ _ _ _ _ (ap view_changes c.new-changes.ensures.items)
     c.in_ok-push_lone.ensures c.in_ok-push_lone-2.ensures c.in_ok-push_changed.ensures
     c.in_ok-push_several.ensures c.in_ok-push_several-2.ensures c.in_ok-push_renamed.ensures

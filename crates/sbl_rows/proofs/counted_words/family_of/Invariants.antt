@@ -1,8 +1,8 @@
 use Rattle.std.proofs.Common.{◌≡◌, ◌++◌, drop}
 use Rattle.sbl_rows.specs.Counting as spec
-use Rattle.sbl_rows.specs.StemGrouping.{view_pairs}
+use Rattle.sbl_rows.specs.Grouping.{view_pairs}
 use Rattle.sbl_rows.specs.KnownOutcomes.{known_outcome}
-use Rattle.sbl_rows.specs.WordRows.{texts_of}
+use Rattle.sbl_rows.specs.Classes.{texts_of}
 use Rattle.sbl_rows.proofs.counted_words.family_of.Given as goal
 
 -- the pairs so far, and those of the words still to come; what is left after these

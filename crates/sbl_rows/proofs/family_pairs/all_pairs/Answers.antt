@@ -1,7 +1,7 @@
 use Rattle.std.proofs.Common.{◌≡◌, ◌+◌, ◌*◌, ℕ, length, subst}
 use Rattle.std.proofs.lemmas.List.{length-map}
 use Rattle.sbl_rows.specs.Families.{any_two, pairs_in}
-use Rattle.sbl_rows.specs.StemGrouping.{view_pair, view_pairs}
+use Rattle.sbl_rows.specs.Grouping.{view_pair, view_pairs}
 use Rattle.sbl_rows.proofs.PairNumbers.{half, pairs-any}
 use Rattle.sbl_rows.proofs.family_pairs.all_pairs.Goals as goal
 

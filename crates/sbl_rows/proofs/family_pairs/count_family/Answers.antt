@@ -1,8 +1,8 @@
 use Rattle.std.proofs.Common.{◌≡◌, ◌∙◌, ◌+◌, ◌++◌, ◌<◌, ◌≤◌, ◌^◌, List, length, arith, ap}
 use Rattle.std.proofs.lemmas.List.{length-map, map-append}
-use Rattle.sbl_rows.specs.StemClasses.{Pair}
+use Rattle.sbl_rows.specs.Classes.{Pair}
 use Rattle.sbl_rows.specs.Families.{any_two, pairs_in, same_stem}
-use Rattle.sbl_rows.specs.StemGrouping.{view_pair, view_pairs}
+use Rattle.sbl_rows.specs.Grouping.{view_pair, view_pairs}
 use Rattle.sbl_rows.proofs.PairNumbers.{both-fit, pairs-le}
 use Rattle.sbl_rows.proofs.family_pairs.count_family.Goals as goal
 

@@ -1,9 +1,9 @@
 use Rattle.std.proofs.Common.{◌≡◌, ◌∙◌, ◌+◌, ◌-◌, List, arith, ap}
 use Rattle.sbl_rows.specs.declared.stem_class.StemPair.{StemPair}
-use Rattle.sbl_rows.specs.StemClasses.{Pair}
+use Rattle.sbl_rows.specs.Classes.{Pair}
 use Rattle.sbl_rows.specs.Counting.{view_families}
 use Rattle.sbl_rows.specs.Families.{Pairs, all_of, any_two, other_stem, pairs_across, pairs_in, pairs_within, same_stem}
-use Rattle.sbl_rows.specs.StemGrouping.{view_pairs}
+use Rattle.sbl_rows.specs.Grouping.{view_pairs}
 use Rattle.sbl_rows.proofs.PairNumbers.{pairs-all, within-either}
 use Rattle.sbl_rows.proofs.family_pairs.pairs_row.Goals as goal
 

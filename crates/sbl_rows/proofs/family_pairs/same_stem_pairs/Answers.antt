@@ -3,9 +3,9 @@ use Rattle.std.specs.List.{count_by}
 use Rattle.std.specs.Str.{bytes_eq}
 use Rattle.std.proofs.lemmas.List.Sums.{sum_by_push}
 use Rattle.sbl_rows.specs.declared.stem_class.StemPair.{StemPair}
-use Rattle.sbl_rows.specs.StemClasses.{Pair}
+use Rattle.sbl_rows.specs.Classes.{Pair}
 use Rattle.sbl_rows.specs.Families.{any_two, pairs_in, same_stem}
-use Rattle.sbl_rows.specs.StemGrouping.{view_pair, view_pairs}
+use Rattle.sbl_rows.specs.Grouping.{view_pair, view_pairs}
 use Rattle.sbl_rows.proofs.Loops.{so_far, so_far-length}
 use Rattle.sbl_rows.proofs.PairNumbers.{pairs-fit, pairs-le, pairs-push}
 use Rattle.sbl_rows.proofs.SetFacts.{no_pair}

@@ -3,7 +3,7 @@ use Rattle.std.specs.List.{count_by}
 use Rattle.std.specs.Str.{bytes_eq}
 use Rattle.sbl_rows.specs.Counting.{count_in}
 use Rattle.sbl_rows.specs.Families.{pairs_in, same_stem}
-use Rattle.sbl_rows.specs.StemGrouping.{view_pairs}
+use Rattle.sbl_rows.specs.Grouping.{view_pairs}
 use Rattle.sbl_rows.proofs.family_pairs.same_stem_pairs.Given as goal
 
 -- the stems of the words so far, and the pairs of these words

@@ -1,7 +1,7 @@
 use Rattle.std.proofs.Common.{take}
 use Rattle.sbl_rows.specs.Counting.{view_families}
 use Rattle.sbl_rows.specs.Families.{any_two, same_stem}
-use Rattle.sbl_rows.specs.StemGrouping.{view_pairs}
+use Rattle.sbl_rows.specs.Grouping.{view_pairs}
 use Rattle.sbl_rows.proofs.PairNumbers.{within-at}
 use Rattle.sbl_rows.proofs.family_pairs.tally_of.Goals as goal
 

@@ -1,7 +1,7 @@
 use Rattle.std.proofs.Common.{◌≡◌, take}
 use Rattle.sbl_rows.specs.Counting.{view_families}
 use Rattle.sbl_rows.specs.Families.{all_of, any_two, pairs_within, same_stem}
-use Rattle.sbl_rows.specs.StemGrouping.{view_pairs}
+use Rattle.sbl_rows.specs.Grouping.{view_pairs}
 use Rattle.sbl_rows.proofs.family_pairs.tally_of.Given as goal
 
 -- what was counted in the families so far

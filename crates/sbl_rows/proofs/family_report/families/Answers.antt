@@ -4,7 +4,7 @@ use Rattle.std.proofs.lemmas.List.{map-append}
 use Rattle.sbl_rows.specs.Counting.{all_taken, view_families}
 use Rattle.sbl_rows.specs.Families as spec
 use Rattle.sbl_rows.specs.Families.{FamilyResult, families_of, over_rows, view_result, view_results, view_words}
-use Rattle.sbl_rows.specs.WordRows.{Row, view_rows}
+use Rattle.sbl_rows.specs.Rows.{Row, view_rows}
 use Rattle.sbl_rows.proofs.ChangeFacts.{three}
 use Rattle.sbl_rows.proofs.FamilyFacts.{all-taken}
 use Rattle.sbl_rows.proofs.family_report.families.Goals as goal

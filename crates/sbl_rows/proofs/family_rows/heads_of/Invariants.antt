@@ -1,6 +1,6 @@
 use Rattle.std.proofs.Common.{◌≡◌, ◌++◌, drop}
 use Rattle.sbl_rows.specs.Counting.{heads, view_families}
-use Rattle.sbl_rows.specs.StemGrouping.{view_pairs}
+use Rattle.sbl_rows.specs.Grouping.{view_pairs}
 use Rattle.sbl_rows.proofs.family_rows.heads_of.Given as goal
 
 -- the first words so far, and those of the families still to come

@@ -1,8 +1,8 @@
 use Rattle.std.proofs.Common.{◌∙◌, ◌+◌, ◌++◌, List, drop, get_or, ap, refl, sym}
 use Rattle.sbl_rows.specs.declared.stem_class.StemPair.{StemPair}
-use Rattle.sbl_rows.specs.StemClasses.{Pair}
+use Rattle.sbl_rows.specs.Classes.{Pair}
 use Rattle.sbl_rows.specs.Counting.{firsts}
-use Rattle.sbl_rows.specs.StemGrouping.{view_pair, view_pairs}
+use Rattle.sbl_rows.specs.Grouping.{view_pair, view_pairs}
 use Rattle.sbl_rows.specs.KnownOutcomes.{has_text}
 use Rattle.sbl_rows.proofs.HeadFacts.{firsts-step}
 use Rattle.sbl_rows.proofs.Loops.{next}

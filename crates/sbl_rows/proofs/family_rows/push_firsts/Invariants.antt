@@ -1,6 +1,6 @@
 use Rattle.std.proofs.Common.{◌≡◌, ◌++◌, drop, false}
 use Rattle.sbl_rows.specs.Counting.{firsts}
-use Rattle.sbl_rows.specs.StemGrouping.{view_pairs}
+use Rattle.sbl_rows.specs.Grouping.{view_pairs}
 use Rattle.sbl_rows.specs.KnownOutcomes.{has_text}
 use Rattle.sbl_rows.proofs.family_rows.push_firsts.Given as goal
 

@@ -1,8 +1,8 @@
 use Rattle.std.proofs.Common.{◌≡◌, ◌<◌, ◌≤◌, length, arith}
 use Rattle.std.proofs.lemmas.List.{length-map}
-use Rattle.sbl_rows.specs.StemGrouping.{view_pairs}
+use Rattle.sbl_rows.specs.Grouping.{view_pairs}
 use Rattle.sbl_rows.specs.KnownOutcomes.{Text}
-use Rattle.sbl_rows.specs.WordRows.{texts_of}
+use Rattle.sbl_rows.specs.Classes.{texts_of}
 use Rattle.sbl_rows.proofs.FamilyFacts.{under-few, under-many}
 use Rattle.sbl_rows.proofs.family_rows.under.Goals as goal
 

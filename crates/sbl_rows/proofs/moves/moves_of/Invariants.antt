@@ -1,8 +1,8 @@
 use Rattle.std.proofs.Common.{◌≡◌, ◌++◌, drop}
 use Rattle.sbl_rows.specs.Moves as spec
-use Rattle.sbl_rows.specs.StemGrouping.{view_pairs}
+use Rattle.sbl_rows.specs.Grouping.{view_pairs}
 use Rattle.sbl_rows.specs.KnownOutcomes.{known_outcome}
-use Rattle.sbl_rows.specs.WordRows.{view_rows}
+use Rattle.sbl_rows.specs.Rows.{view_rows}
 use Rattle.sbl_rows.proofs.moves.moves_of.Given as goal
 
 -- the moves so far, and those of the rows still to come

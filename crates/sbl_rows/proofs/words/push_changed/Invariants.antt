@@ -3,7 +3,7 @@ use Rattle.std.specs.List.{filter_map}
 use Rattle.sbl_rows.specs.Changes as spec
 use Rattle.sbl_rows.specs.Changes.{view_changes}
 use Rattle.sbl_rows.specs.KnownOutcomes.{known_outcome}
-use Rattle.sbl_rows.specs.WordRows.{view_rows}
+use Rattle.sbl_rows.specs.Rows.{view_rows}
 use Rattle.sbl_rows.proofs.words.push_changed.Given as goal
 
 -- the changes so far, and those of the rows still to come

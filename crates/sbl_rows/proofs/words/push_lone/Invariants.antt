@@ -2,7 +2,7 @@ use Rattle.std.proofs.Common.{◌≡◌, ◌++◌, drop}
 use Rattle.std.specs.List.{filter_map}
 use Rattle.sbl_rows.specs.Changes.{view_changes}
 use Rattle.sbl_rows.specs.KnownOutcomes.{known_outcome}
-use Rattle.sbl_rows.specs.WordRows.{view_rows}
+use Rattle.sbl_rows.specs.Rows.{view_rows}
 use Rattle.sbl_rows.specs.Sides.{lone}
 use Rattle.sbl_rows.proofs.words.push_lone.Given as goal
 
