@@ -56,13 +56,13 @@ class Samples(unittest.TestCase):
             "linked::links::row_before": ("src/linked/links.rt", Kind.ACCEPTED),
         }
         for path, (file, kind) in kinds.items():
-            verdict = judge([function(f"sbl_among_search::{path}", file=file, first=1000, last=1000)], said)
+            verdict = judge([function(f"sbl_program::{path}", file=file, first=1000, last=1000)], said)
             self.assertEqual((path, verdict and verdict.kind), (path, kind))
 
     def test_a_function_that_no_edit_of_a_group_changes_is_proved_or_not_settled(self) -> None:
         said = sample("group")
         for path, kind in (("linked::keys::keys_upto", None), ("plain::copy_strings", Kind.ACCEPTED)):
-            verdict = judge([function(f"sbl_among_search::{path}", file="src/linked.rt")], said)
+            verdict = judge([function(f"sbl_program::{path}", file="src/linked.rt")], said)
             self.assertEqual(verdict and verdict.kind, kind)
 
 

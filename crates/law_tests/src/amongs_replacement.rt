@@ -6,7 +6,7 @@ ghost use Rattle.sbl_ast.specs.Texts.{body, places_in};
 ghost use Rattle.sbl_tree_amongs.specs.Amongs.{AmongContents, amongs_of_body, nth_held, put_in_body};
 ghost use Rattle.sbl_tree_amongs.specs.Replacement.{IsBetween};
 
-use sbl_tree_amongs::one_is_replaced;
+use sbl_tree_amongs::laws::one_is_replaced;
 
 /// Needs the whole of the law `one_is_replaced`.
 pub fn needs_one_is_replaced()

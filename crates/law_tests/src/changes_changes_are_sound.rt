@@ -1,13 +1,13 @@
-//! Laws of sbl_changes (specs/ChangesAreSound.antt), written out.
+//! Laws of sbl_rows (specs/ChangesAreSound.antt), written out.
 
 ghost use Rattle.std.specs.Prelude.{◌≡◌, ◌⊎◌, ℕ, Bool, List, [], None};
 ghost use Rattle.std.specs.List.{list_any};
-ghost use Rattle.sbl_changes.specs.Changes.{Change, changes_of, class_renaming, class_split};
-ghost use Rattle.sbl_changes.specs.Classes.{Class};
-ghost use Rattle.sbl_changes.specs.Rows.{Row};
-ghost use Rattle.sbl_changes.specs.ChangesAreSound.{HasOneRowEach, other_way};
+ghost use Rattle.sbl_rows.specs.Changes.{Change, changes_of, class_renaming, class_split};
+ghost use Rattle.sbl_rows.specs.Classes.{Class};
+ghost use Rattle.sbl_rows.specs.Rows.{Row};
+ghost use Rattle.sbl_rows.specs.ChangesAreSound.{HasOneRowEach, other_way};
 
-use sbl_changes::laws::changes_are_sound;
+use sbl_rows::laws::changes_are_sound;
 
 /// Needs the whole of the law `changes_are_sound`.
 pub fn needs_changes_are_sound()

@@ -1,12 +1,14 @@
-//! Laws of sbl_changes (specs/FamiliesAreSound.antt), written out.
+//! Laws of sbl_rows (specs/FamiliesAreSound.antt), written out.
 
 ghost use Rattle.std.specs.Prelude.{◌*◌, ◌≡◌, ◌↔◌, ℕ, ◌+◌, List, [], length, Some, All};
 ghost use Rattle.std.specs.List.{filter_map};
-ghost use Rattle.sbl_changes.specs.Classes.{Pair};
-ghost use Rattle.sbl_changes.specs.Families.{all_of, any_two, families_of, other_stem, over_rows, pairs_across, pairs_within, same_stem, under};
-ghost use Rattle.sbl_changes.specs.Rows.{Row, Stem, outcome_in};
+ghost use Rattle.sbl_rows.specs.Classes.{Pair};
+ghost use Rattle.sbl_rows.specs.Families.{all_of, any_two, families_of, other_stem, over_rows, pairs_across, pairs_within, same_stem, under};
+ghost use Rattle.sbl_rows.specs.Rows.{Row};
+ghost use Rattle.sbl_semantics.specs.Outcome.{Stem};
+ghost use Rattle.sbl_rows.specs.ChangedRows.{outcome_in};
 
-use sbl_changes::laws::families_are_sound;
+use sbl_rows::laws::families_are_sound;
 
 /// Needs the whole of the law `families_are_sound`.
 pub fn needs_families_are_sound()

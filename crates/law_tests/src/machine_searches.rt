@@ -3,7 +3,7 @@
 ghost use Rattle.std.specs.Prelude.{◌↔◌, ℕ, List};
 ghost use Rattle.std.specs.List.{AllByRecursion};
 ghost use Rattle.sbl_semantics.specs.Fitting.{fitting};
-ghost use Rattle.sbl_among_search.specs.Laws.{AllDiffer, Matches, StandsIn};
+ghost use Rattle.sbl_program.specs.Laws.{AllDiffer, Matches, StandsIn};
 ghost use Rattle.sbl_resolver.specs.Checks.{WellDeclared};
 ghost use Rattle.sbl_ast.specs.Source.{Source};
 ghost use Rattle.sbl_machine.specs.Searches.{amongs_of, strings_read};

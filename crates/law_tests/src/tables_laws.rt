@@ -1,10 +1,10 @@
-//! Laws of sbl_among_search (specs/Laws.antt), written out.
+//! Laws of sbl_program (specs/Laws.antt), written out.
 
 ghost use Rattle.std.specs.Prelude.{◌≡◌, ℕ, suc, ◌<◌, ◌≤◌, List, ◌∷◌, ◌++◌, length, Option, Some, slice_get};
 ghost use Rattle.sbl_semantics.specs.Fitting.{below, fitting, first, length_at};
-ghost use Rattle.sbl_among_search.specs.Best.{IsBest};
+ghost use Rattle.sbl_program.specs.Best.{IsBest};
 
-use sbl_among_search::laws::{best_comes_first, fitting_fall, rest_is_its_own};
+use sbl_program::laws::{best_comes_first, fitting_fall, rest_is_its_own};
 
 /// Needs the whole of the law `best_comes_first`.
 pub fn needs_best_comes_first()

@@ -4,7 +4,7 @@ ghost use Rattle.std.specs.Prelude.{◌≡◌, ℕ, false, List, [], ◌∷◌, 
 ghost use Rattle.std.specs.List.{list_any};
 ghost use Rattle.sbl_semantics.specs.Meaning.{Offer, calls, search};
 ghost use Rattle.sbl_semantics.specs.Outcome.{events_at, events_of};
-ghost use Rattle.sbl_semantics.specs.Items.{Body, DeclaredNames, body_named, class_of, classes_after, known_in};
+ghost use Rattle.sbl_semantics.specs.Items.{Body, DeclaredNames, body_named, char_class_of, classes_after, known_in};
 ghost use Rattle.sbl_semantics.specs.Regions.{Among};
 ghost use Rattle.sbl_semantics.specs.Events.{Event', Searches};
 ghost use Rattle.sbl_semantics.specs.State.{State, bound_of};
@@ -18,7 +18,7 @@ use sbl_explain::laws::{each_search_takes_first, plain_searches_take_longest, se
 
 /// Needs the whole of the law `searches_take_first`.
 pub fn needs_searches_take_first()
-    ensures { (script : Source) (levels : ℕ) (a : Among) (m : Mode) (s : State) (before : List Event') → s.events ≡ Some before → let items = in_order script.items in let end = search (calls (known_in items) (class_of (classes_after items [])) (body_named items) levels) a m s in (rest : List Event') × (events_at end ≡ before ++ Searches s.routine a.number m s.cursor ∷ rest) × EndsWith (known_in items) (body_named items) a.number s.choices (fits a (ahead_at a.mode s.text s.cursor (bound_of m s))) (course rest) end }
+    ensures { (script : Source) (levels : ℕ) (a : Among) (m : Mode) (s : State) (before : List Event') → s.events ≡ Some before → let items = in_order script.items in let end = search (calls (known_in items) (char_class_of (classes_after items [])) (body_named items) levels) a m s in (rest : List Event') × (events_at end ≡ before ++ Searches s.routine a.number m s.cursor ∷ rest) × EndsWith (known_in items) (body_named items) a.number s.choices (fits a (ahead_at a.mode s.text s.cursor (bound_of m s))) (course rest) end }
 {
     searches_take_first();
 }

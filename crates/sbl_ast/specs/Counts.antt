@@ -1,6 +1,7 @@
 -- The number of amongs in a tree.
 use Rattle.std.specs.Prelude.{ℕ, ◌+◌}
-use Rattle.sbl_ast.specs.Tree.{Command, bracket, prefixed, counted, setlimit_, among_, Rows, no_rows, row, Others, no_others, joined, Starter, no_starter, starter, Groups, bare, group}
+use Rattle.sbl_ast.specs.Tree.{Command, bracket, prefixed, counted, setlimit_, among_, Rows, no_rows, row, Others}
+use Rattle.sbl_ast.specs.Tree.{no_others, joined, Starter, no_starter, starter, Groups, bare, group}
 
 abbrev mutual
   pub count_amongs : Command → ℕ

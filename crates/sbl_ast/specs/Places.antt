@@ -7,7 +7,11 @@ use Rattle.sbl_token.specs.declared.signs.Sign.TheVariants as signs
 use Rattle.sbl_ast.specs.Folds.{foldr}
 use Rattle.sbl_ast.specs.declared.tree.Base.{Base}
 use Rattle.sbl_ast.specs.Symbols as t
-use Rattle.sbl_ast.specs.Tree.{Expression, expression, Sums, no_sums, sum, Product, product, Scales, no_scales, scale, Factor, negated, bracketed, numeral, variable, fixed, length_of, Entry, entry, Command, bracket, simple_, literal_, name_, non_, prefixed, counted, move_, named, splice_, setlimit_, assign_, compare_, compare_values_, among_, Rows, no_rows, row, Others, no_others, joined, Starter, no_starter, starter, Groups, bare, group, Term, term, Plain, declaration, escapes, macro, routine, grouping, Item, plain, backward}
+use Rattle.sbl_ast.specs.Tree.{Expression, expression, Sums, no_sums, sum, Product, product, Scales, no_scales, scale, Factor, negated}
+use Rattle.sbl_ast.specs.Tree.{bracketed, numeral, variable, fixed, length_of, Entry, entry, Command, bracket, simple_, literal_, name_}
+use Rattle.sbl_ast.specs.Tree.{non_, prefixed, counted, move_, named, splice_, setlimit_, assign_, compare_, compare_values_, among_}
+use Rattle.sbl_ast.specs.Tree.{Rows, no_rows, row, Others, no_others, joined, Starter, no_starter, starter, Groups, bare, group, Term}
+use Rattle.sbl_ast.specs.Tree.{term, Plain, declaration, escapes, macro, routine, grouping, Item, plain, backward}
 
 -- the greatest nesting depth of a token
 abbrev pub max_depth : ℕ
@@ -69,8 +73,11 @@ abbrev mutual
   placed_command (setlimit_ b c) d rest = (word words.SetLimit, d) ∷ placed_command b (d + 1) ((word words.For, d) ∷ placed_command c (d + 1) rest)
   placed_command (assign_ n o e) d rest = (sign signs.Dollar, d) ∷ (name n, d) ∷ (t.assigns o, d) ∷ placed_expression e d rest
   placed_command (compare_ n o e) d rest = (sign signs.Dollar, d) ∷ (name n, d) ∷ (t.compares o, d) ∷ placed_expression e d rest
-  placed_command (compare_values_ e o f) d rest = (sign signs.Dollar, d) ∷ (sign signs.Open, d) ∷ placed_expression e d ((t.compares o, d) ∷ placed_expression f d ((sign signs.Close, d) ∷ rest))
-  placed_command (among_ s gs) d rest = (word words.Among, d) ∷ (sign signs.Open, d) ∷ placed_starter s d (placed_groups gs d ((sign signs.Close, d) ∷ rest))
+  placed_command (compare_values_ e o f) d rest =
+      (sign signs.Dollar, d) ∷ (sign signs.Open, d) ∷ placed_expression e d
+      ((t.compares o, d) ∷ placed_expression f d ((sign signs.Close, d) ∷ rest))
+  placed_command (among_ s gs) d rest =
+      (word words.Among, d) ∷ (sign signs.Open, d) ∷ placed_starter s d (placed_groups gs d ((sign signs.Close, d) ∷ rest))
 
   pub placed_rows : Rows → ℕ → List AtDepth → List AtDepth
   placed_rows no_rows d rest = rest
@@ -87,7 +94,8 @@ abbrev mutual
   pub placed_groups : Groups → ℕ → List AtDepth → List AtDepth
   placed_groups (bare es) d rest = placed_entries es d rest
   placed_groups (group e es rs gs) d rest =
-      placed_entry e d (placed_entries es d ((sign signs.Open, d + 1) ∷ placed_rows rs (d + 1 + 1) ((sign signs.Close, d + 1) ∷ placed_groups gs d rest)))
+      placed_entry e d (placed_entries es d
+      ((sign signs.Open, d + 1) ∷ placed_rows rs (d + 1 + 1) ((sign signs.Close, d + 1) ∷ placed_groups gs d rest)))
 
 abbrev pub placed_terms : List Term → List AtDepth → List AtDepth
 placed_terms [] rest = rest
@@ -97,7 +105,8 @@ placed_terms (term o a ∷ ts) rest = (t.additive o, 0) ∷ (t.argument a, 0) �
 abbrev pub placed_plain : Plain → List AtDepth → List AtDepth
 placed_plain (declaration k ns) rest = (t.declares k, 0) ∷ (sign signs.Open, 0) ∷ foldr (λ n r. (name n, 0) ∷ r) ((sign signs.Close, 0) ∷ rest) ns
 placed_plain (escapes a b) rest = (word words.StringEscapes, 0) ∷ (inserts a b, 0) ∷ rest
-placed_plain (macro n b q) rest = (word words.StringDef, 0) ∷ (macro_name n, 0) ∷ cons_option (option_map (λ x. (t.base x, 0)) b) ((t.quoted_text q, 0) ∷ rest)
+placed_plain (macro n b q) rest =
+    (word words.StringDef, 0) ∷ (macro_name n, 0) ∷ cons_option (option_map (λ x. (t.base x, 0)) b) ((t.quoted_text q, 0) ∷ rest)
 placed_plain (routine n c os) rest = (word words.Define, 0) ∷ (name n, 0) ∷ (word words.As, 0) ∷ placed_command c 1 (placed_others os 1 rest)
 placed_plain (grouping n a ts) rest = (word words.Define, 0) ∷ (name n, 0) ∷ (t.argument a, 0) ∷ placed_terms ts rest
 

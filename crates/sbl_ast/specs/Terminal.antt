@@ -26,7 +26,7 @@ use Rattle.sbl_ast.specs.declared.tree.Move.TheVariants as moves
 use Rattle.sbl_ast.specs.declared.tree.Naming.{Naming}
 use Rattle.sbl_ast.specs.declared.tree.Naming.TheVariants as namings
 use Rattle.sbl_ast.specs.declared.tree.Splice.{Splice}
-use Rattle.sbl_ast.specs.declared.tree.Splice.TheVariants as edits
+use Rattle.sbl_ast.specs.declared.tree.Splice.TheVariants as splices
 use Rattle.sbl_ast.specs.declared.tree.Additive.{Additive}
 use Rattle.sbl_ast.specs.declared.tree.Additive.TheVariants as additives
 use Rattle.sbl_ast.specs.declared.tree.Multiplicative.{Multiplicative}
@@ -75,7 +75,7 @@ word_terminal w.As = as_
 word_terminal w.AtLeast = count counts.AtLeast
 word_terminal w.AtLimit = simple simples.AtLimit
 word_terminal w.AtMark = move moves.AtMark
-word_terminal w.Attach = edit edits.Attach
+word_terminal w.Attach = edit splices.Attach
 word_terminal w.BackwardMode = backward_mode
 word_terminal w.Backwards = prefix prefixes.Backwards
 word_terminal w.Booleans = declares declarations.Booleans
@@ -94,7 +94,7 @@ word_terminal w.GoTo = prefix prefixes.GoTo
 word_terminal w.Groupings = declares declarations.Groupings
 word_terminal w.Hex = base bases.Hex
 word_terminal w.Hop = move moves.Hop
-word_terminal w.Insert = edit edits.Insert
+word_terminal w.Insert = edit splices.Insert
 word_terminal w.Integers = declares declarations.Integers
 word_terminal w.Len = constant constants.Len
 word_terminal w.LenOf = len_of
@@ -143,8 +143,8 @@ sign_terminal s.Same = compares comparisons.Same
 sign_terminal s.Differs = compares comparisons.Differs
 sign_terminal s.AtMost = compares comparisons.AtMost
 sign_terminal s.AtLeast = compares comparisons.AtLeast
-sign_terminal s.LessMinus = edit edits.Replace
-sign_terminal s.LessPlus = edit edits.InsertSign
+sign_terminal s.LessMinus = edit splices.Replace
+sign_terminal s.LessPlus = edit splices.InsertSign
 sign_terminal s.Arrow = naming namings.Arrow
 sign_terminal s.PlusEquals = assigns assignments.Plus
 sign_terminal s.MinusEquals = assigns assignments.Minus

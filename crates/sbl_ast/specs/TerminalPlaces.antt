@@ -9,7 +9,11 @@ use Rattle.sbl_ast.specs.Terminal as t
 use Rattle.sbl_ast.specs.Places.{max_depth}
 use Rattle.sbl_ast.specs.Spelled.{argument_terminal}
 use Rattle.sbl_ast.specs.Texts.{Text, TreeOf, script, body, terms, among}
-use Rattle.sbl_ast.specs.Tree.{Expression, expression, Sums, no_sums, sum, Product, product, Scales, no_scales, scale, Factor, negated, bracketed, numeral, variable, fixed, length_of, Entry, entry, Command, bracket, simple_, literal_, name_, non_, prefixed, counted, move_, named, splice_, setlimit_, assign_, compare_, compare_values_, among_, Rows, no_rows, row, Others, no_others, joined, Starter, no_starter, starter, Groups, bare, group, Term, term, Plain, declaration, escapes, macro, routine, grouping, Item, plain, backward}
+use Rattle.sbl_ast.specs.Tree.{Expression, expression, Sums, no_sums, sum, Product, product, Scales, no_scales, scale, Factor, negated}
+use Rattle.sbl_ast.specs.Tree.{bracketed, numeral, variable, fixed, length_of, Entry, entry, Command, bracket, simple_, literal_, name_}
+use Rattle.sbl_ast.specs.Tree.{non_, prefixed, counted, move_, named, splice_, setlimit_, assign_, compare_, compare_values_, among_}
+use Rattle.sbl_ast.specs.Tree.{Rows, no_rows, row, Others, no_others, joined, Starter, no_starter, starter, Groups, bare, group, Term}
+use Rattle.sbl_ast.specs.Tree.{term, Plain, declaration, escapes, macro, routine, grouping, Item, plain, backward}
 
 -- a token with its nesting depth
 abbrev pub AtDepth : Type 0
@@ -67,7 +71,8 @@ abbrev mutual
   placed_command (setlimit_ b c) d rest = (t.set_limit, d) ∷ placed_command b (d + 1) ((t.for_, d) ∷ placed_command c (d + 1) rest)
   placed_command (assign_ n o e) d rest = (t.dollar, d) ∷ (t.name n, d) ∷ (t.assigns o, d) ∷ placed_expression e d rest
   placed_command (compare_ n o e) d rest = (t.dollar, d) ∷ (t.name n, d) ∷ (t.compares o, d) ∷ placed_expression e d rest
-  placed_command (compare_values_ e o f) d rest = (t.dollar, d) ∷ (t.open_, d) ∷ placed_expression e d ((t.compares o, d) ∷ placed_expression f d ((t.close_, d) ∷ rest))
+  placed_command (compare_values_ e o f) d rest =
+      (t.dollar, d) ∷ (t.open_, d) ∷ placed_expression e d ((t.compares o, d) ∷ placed_expression f d ((t.close_, d) ∷ rest))
   placed_command (among_ s gs) d rest = (t.among, d) ∷ (t.open_, d) ∷ placed_starter s d (placed_groups gs d ((t.close_, d) ∷ rest))
 
   pub placed_rows : Rows → ℕ → List AtDepth → List AtDepth

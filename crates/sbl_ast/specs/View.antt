@@ -69,19 +69,29 @@ abbrev pub next_factor_step : NextFactor-F trees.Factor trees.Expression NextFac
 next_factor_step s = (s.operator, s.factor)
 
 abbrev pub view_next_product : NextProduct → NextProductView
-view_next_product = fold-NextProduct trees.Factor trees.Expression NextFactorView NextProductView trees.Product factor_step expression_step next_factor_step next_product_step product_step
+view_next_product =
+    fold-NextProduct trees.Factor trees.Expression NextFactorView NextProductView trees.Product
+    factor_step expression_step next_factor_step next_product_step product_step
 
 abbrev pub view_expression : Expression → trees.Expression
-view_expression = fold-Expression trees.Factor trees.Expression NextFactorView NextProductView trees.Product factor_step expression_step next_factor_step next_product_step product_step
+view_expression =
+    fold-Expression trees.Factor trees.Expression NextFactorView NextProductView trees.Product
+    factor_step expression_step next_factor_step next_product_step product_step
 
 abbrev pub view_factor : Factor → trees.Factor
-view_factor = fold-Factor trees.Factor trees.Expression NextFactorView NextProductView trees.Product factor_step expression_step next_factor_step next_product_step product_step
+view_factor =
+    fold-Factor trees.Factor trees.Expression NextFactorView NextProductView trees.Product
+    factor_step expression_step next_factor_step next_product_step product_step
 
 abbrev pub view_product : Product → trees.Product
-view_product = fold-Product trees.Factor trees.Expression NextFactorView NextProductView trees.Product factor_step expression_step next_factor_step next_product_step product_step
+view_product =
+    fold-Product trees.Factor trees.Expression NextFactorView NextProductView trees.Product
+    factor_step expression_step next_factor_step next_product_step product_step
 
 abbrev pub view_next_factor : NextFactor → NextFactorView
-view_next_factor = fold-NextFactor trees.Factor trees.Expression NextFactorView NextProductView trees.Product factor_step expression_step next_factor_step next_product_step product_step
+view_next_factor =
+    fold-NextFactor trees.Factor trees.Expression NextFactorView NextProductView trees.Product
+    factor_step expression_step next_factor_step next_product_step product_step
 
 abbrev pub view_sums : List NextProduct → trees.Sums
 view_sums ss = foldr (λ s. trees.sum s.0 s.1) trees.no_sums (map view_next_product ss)
@@ -153,7 +163,8 @@ abbrev pub view_group : Group → GroupView
 view_group = fold-Group trees.Command AmongView GroupView NextCommandView RowView command_step among_step group_step next_command_step row_step
 
 abbrev pub view_next_command : NextCommand → NextCommandView
-view_next_command = fold-NextCommand trees.Command AmongView GroupView NextCommandView RowView command_step among_step group_step next_command_step row_step
+view_next_command =
+    fold-NextCommand trees.Command AmongView GroupView NextCommandView RowView command_step among_step group_step next_command_step row_step
 
 abbrev pub view_row : Row → RowView
 view_row = fold-RowOfCommands trees.Command AmongView GroupView NextCommandView RowView command_step among_step group_step next_command_step row_step

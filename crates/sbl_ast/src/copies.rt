@@ -38,7 +38,7 @@ pub fn copy_name(alloc: Global, name: &String) -> Result<String, AllocError>
 }
 
 /// Returns a copy of a literal, with its spelling and its characters. Returns `AllocError` if an allocation fails.
-pub fn copy_literal(alloc: Global, literal: &Literal) -> Result<Literal, AllocError>
+fn copy_literal(alloc: Global, literal: &Literal) -> Result<Literal, AllocError>
     ensures { IfOk result (λ copy. view_literal copy ≡ view_literal literal.now) }
 {
     let spelling = copy_name(alloc, &literal.spelling)?;
@@ -47,7 +47,7 @@ pub fn copy_literal(alloc: Global, literal: &Literal) -> Result<Literal, AllocEr
 }
 
 /// Returns a copy of a literal or a name. Returns `AllocError` if an allocation fails.
-pub fn copy_argument(alloc: Global, argument: &Argument) -> Result<Argument, AllocError>
+fn copy_argument(alloc: Global, argument: &Argument) -> Result<Argument, AllocError>
     ensures { IfOk result (λ copy. view_argument copy ≡ view_argument argument.now) }
 {
     match argument {
@@ -243,14 +243,14 @@ pub fn copy_row(alloc: Global, row: &RowOfCommands) -> Result<RowOfCommands, All
 }
 
 /// Returns a copy of names. Returns `AllocError` if an allocation fails.
-pub fn copy_names(alloc: Global, names: &Vec<String>) -> Result<Vec<String>, AllocError>
+fn copy_names(alloc: Global, names: &Vec<String>) -> Result<Vec<String>, AllocError>
     ensures { IfOk result (λ copy. map string_bytes copy.items ≡ map string_bytes names.now.items) }
 {
     Ok(copy_each!(alloc, names, name => copy_name(alloc, name)?))
 }
 
 /// Returns a copy of the terms after the first one of a grouping. Returns `AllocError` if an allocation fails.
-pub fn copy_terms(alloc: Global, terms: &Vec<Term>) -> Result<Vec<Term>, AllocError>
+fn copy_terms(alloc: Global, terms: &Vec<Term>) -> Result<Vec<Term>, AllocError>
     ensures { IfOk result (λ copy. map view_term copy.items ≡ map view_term terms.now.items) }
 {
     Ok(copy_operations!(alloc, terms, copy_argument, Term: operator, argument))

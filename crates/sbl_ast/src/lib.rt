@@ -8,8 +8,8 @@ mod order;
 mod tree;
 
 pub use copies::{
-    copy_among, copy_argument, copy_command, copy_entries, copy_entry, copy_expression,
-    copy_literal, copy_name, copy_names, copy_plain, copy_row, copy_terms,
+    copy_among, copy_command, copy_entries, copy_entry, copy_expression, copy_name, copy_plain,
+    copy_row,
 };
 pub use mode::Mode;
 pub use order::{ItemInMode, items_in_order};

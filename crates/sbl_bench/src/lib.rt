@@ -15,6 +15,7 @@ mod last_run;
 pub mod laws;
 mod open;
 mod pairs;
+mod script_diff;
 mod traces;
 mod word_hash;
 
@@ -23,4 +24,5 @@ pub use fault::EditFault;
 pub use sbl_rows::{ChangedRow, Class, Row};
 pub use sbl_run_state::MAX_WORD_LENGTH;
 pub use sbl_script::ScriptFault;
+pub use script_diff::differences;
 pub use word_hash::{WordHasher, WordKeys};

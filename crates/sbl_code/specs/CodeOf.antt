@@ -14,7 +14,8 @@ use Rattle.sbl_code.specs.Flow.{flow}
 -- the instructions of a routine do what its body does, in each program
 pub record IsCodeOf (tables : ℕ → Listing) (code : RoutineCode) (routine : programs.Routine) : Type 0 where
   pub amongs : code.amongs ≡ routine.amongs
-  pub does : (p : programs.Program) (levels : ℕ) (m : Mode) (s : State) → flow p levels tables code.first.value m no_cursors s ≡ runs p levels routine.body m s
+  pub does : (p : programs.Program) (levels : ℕ) (m : Mode) (s : State) →
+      flow p levels tables code.first.value m no_cursors s ≡ runs p levels routine.body m s
 
 -- there is code exactly if there is a routine
 abbrev pub IsCodeOfAny : (ℕ → Listing) → Option RoutineCode → Option programs.Routine → Type 0

@@ -2,7 +2,7 @@
 -- promise each other.
 use Rattle.std.specs.Prelude.{ℕ, suc, Bool, true, false, List, [], ◌∷◌, Option, Some, None, slice_get, slice_set, slice_index_or}
 use Rattle.std.specs.Option.{option_map_or}
-use Rattle.sbl_char_class.specs.Terms.{class_at}
+use Rattle.sbl_program.specs.Terms.{class_at}
 use Rattle.sbl_program.specs.AmongStrings.{Listing}
 use Rattle.sbl_program.specs.ProgramOf.{view_action, view_number}
 use Rattle.sbl_program.specs.Actions.{acts, test_grouping}
@@ -110,7 +110,8 @@ flow_step p levels tables (code.Character cost c back next fail) m slots s =
 flow_step p levels tables (code.Literal cost string back next fail) m slots s =
     then_on (pays cost s) (λ u. after (match string.value.items m u) (next.value m slots) (back_if back m u (fail.value m slots)))
 flow_step p levels tables (code.Grouping cost wanted g back next fail) m slots s =
-    then_on (pays cost s) (λ u. after (test_grouping wanted (class_at p.groupings g) g m u) (next.value m slots) (back_if back m u (fail.value m slots)))
+    then_on (pays cost s) (λ u. after (test_grouping wanted (class_at p.groupings g) g m u)
+    (next.value m slots) (back_if back m u (fail.value m slots)))
 flow_step p levels tables (code.LeftBracket cost next) m slots s = then_on (pays cost s) (λ u. next.value m slots (left_bracket m u))
 flow_step p levels tables (code.RightBracket cost next) m slots s = then_on (pays cost s) (λ u. next.value m slots (right_bracket m u))
 flow_step p levels tables (code.Boolean cost x next fail) m slots s =
@@ -128,13 +129,16 @@ flow_step p levels tables (code.Nested cost body next fail) m slots s =
 flow_step p levels tables (code.Repeat cost body next) m slots s =
     then_on (pays cost s) (λ u. after (pay_first (turns_of (alone body.value)) m u) (next.value m slots) (Signals false))
 flow_step p levels tables (code.Loop cost count body next fail) m slots s =
-    then_on (pays cost s) (λ u. after (pay_first (loop_of (view_number count.value) (alone body.value)) m u) (next.value m slots) (fail.value m slots))
+    then_on (pays cost s) (λ u. after (pay_first (loop_of (view_number count.value) (alone body.value)) m u)
+    (next.value m slots) (fail.value m slots))
 flow_step p levels tables (code.AtLeast cost count body next fail) m slots s =
-    then_on (pays cost s) (λ u. after (pay_first (at_least_of (view_number count.value) (alone body.value)) m u) (next.value m slots) (fail.value m slots))
+    then_on (pays cost s) (λ u. after (pay_first (at_least_of (view_number count.value) (alone body.value)) m u)
+    (next.value m slots) (fail.value m slots))
 flow_step p levels tables (code.Seek cost past body next fail) m slots s =
     then_on (pays cost s) (λ u. after (pay_first (seek_of past (alone body.value)) m u) (next.value m slots) (fail.value m slots))
 flow_step p levels tables (code.SeekGrouping cost past g wanted next fail) m slots s =
-    then_on (pays cost s) (λ u. after (seek_of past (pay_first (test_grouping wanted (class_at p.groupings g) g)) m u) (next.value m slots) (fail.value m slots))
+    then_on (pays cost s) (λ u. after (seek_of past (pay_first (test_grouping wanted (class_at p.groupings g) g)) m u)
+    (next.value m slots) (fail.value m slots))
 flow_step p levels tables (code.Backwards cost body next fail) m slots s =
     then_on (pays cost s) (λ u. after (pay_first (backwards_of (alone body.value)) m u) (next.value m slots) (fail.value m slots))
 flow_step p levels tables (code.SetLimit cost first second next fail) m slots s =
@@ -142,7 +146,8 @@ flow_step p levels tables (code.SetLimit cost first second next fail) m slots s 
 flow_step p levels tables (code.Call cost routine next fail) m slots s =
     then_on (pays cost s) (λ u. after (pay_first (calls p levels routine) m u) (next.value m slots) (fail.value m slots))
 flow_step p levels tables (code.Search cost among site next fail) m slots s =
-    then_on (pays cost s) (λ u. after (pay_first (search_all (calls p levels) among site.value.entries.items (tables site.value.table)) m u) (next.value m slots) (fail.value m slots))
+    then_on (pays cost s) (λ u. after (pay_first (search_all (calls p levels) among site.value.entries.items (tables site.value.table)) m u)
+    (next.value m slots) (fail.value m slots))
 flow_step p levels tables (code.Choose cost among bodies next fail) m slots s =
     then_on (pays cost s) (λ u. chosen_flow (choice among u) bodies.value.items next.value fail.value m slots u)
 

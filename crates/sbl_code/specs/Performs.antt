@@ -63,7 +63,8 @@ abbrev pub Tests : (ℕ → Listing) → Meaning → ℕ → Instruction → Ins
 Tests tables meaning cost next stay x =
     (p : programs.Program) (levels : ℕ) (m : Mode) (slots : List SavedCursor) (s : State) →
     flow p levels tables x m slots s
-    ≡ then_on (pays cost s) (λ u. after (meaning p levels m u) (flow p levels tables next m slots) (λ f. then_on (put_back m (saved_cursor u) f) (flow p levels tables stay m slots)))
+    ≡ then_on (pays cost s) (λ u. after (meaning p levels m u) (flow p levels tables next m slots)
+    (λ f. then_on (put_back m (saved_cursor u) f) (flow p levels tables stay m slots)))
 
 abbrev pub PerformsAtWithExits : (ℕ → Listing) → Meaning → ℕ → ℕ → Exits → Instruction → Type 0
 PerformsAtWithExits tables meaning cost n exits entry = PerformsAt tables meaning cost n exits.next.value exits.fail.value entry
@@ -72,7 +73,9 @@ PerformsAtWithExits tables meaning cost n exits entry = PerformsAt tables meanin
 
 -- the end, with a signal
 abbrev pub Ends : Bool → Instruction → Type 0
-Ends b x = (p : programs.Program) (levels : ℕ) (tables : ℕ → Listing) (m : Mode) (slots : List SavedCursor) (s : State) → flow p levels tables x m slots s ≡ Signals b s
+Ends b x =
+    (p : programs.Program) (levels : ℕ) (tables : ℕ → Listing) (m : Mode) (slots : List SavedCursor) (s : State) →
+    flow p levels tables x m slots s ≡ Signals b s
 
 -- puts the cursor of a slot back
 abbrev pub Restores : ℕ → Instruction → Instruction → Type 0
@@ -119,11 +122,15 @@ IsRest tables n others exits rest =
     GoesOn (flow p levels tables exits.next.value) m n slots go →
     GoesOn (flow p levels tables exits.fail.value) m n slots stop →
     Agree n slots ys →
-    GoesOn (flow p levels tables rest.next.value) m (suc n) ys (λ s. after (others_run p levels m (slice_index_or ys n no_cursor) others (Signals true s)) go stop) ×
-    GoesOn (flow p levels tables rest.fail.value) m (suc n) ys (λ s. after (others_run p levels m (slice_index_or ys n no_cursor) others (Signals false s)) go stop)
+    GoesOn (flow p levels tables rest.next.value) m (suc n) ys
+      (λ s. after (others_run p levels m (slice_index_or ys n no_cursor) others (Signals true s)) go stop) ×
+    GoesOn (flow p levels tables rest.fail.value) m (suc n) ys
+      (λ s. after (others_run p levels m (slice_index_or ys n no_cursor) others (Signals false s)) go stop)
 
 -- for each command instructions that perform it
 abbrev pub ArePerformed : (ℕ → Listing) → List Node → ℕ → Exits → List GroupCode → Type 0
 ArePerformed tables nodes n exits [] = nodes ≡ []
 ArePerformed tables [] n exits (x ∷ xs) = ⊥
-ArePerformed tables (node ∷ nodes) n exits (x ∷ xs) = PerformsWithExits tables (λ p levels. runs p levels (view_node tables node)) 0 n exits (out-GroupCode x).first.value × ArePerformed tables nodes n exits xs
+ArePerformed tables (node ∷ nodes) n exits (x ∷ xs) =
+    PerformsWithExits tables (λ p levels. runs p levels (view_node tables node)) 0 n exits (out-GroupCode x).first.value
+    × ArePerformed tables nodes n exits xs

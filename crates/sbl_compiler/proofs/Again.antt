@@ -7,7 +7,7 @@ use Rattle.std.proofs.Math.Path.{fun_ext}
 use Rattle.std.proofs.lemmas.Bool.{eqb-true, true≢false}
 use Rattle.sbl_ast.specs.declared.tree.Additive.{Additive}
 use Rattle.sbl_ast.specs.Tree.{Argument, written_out, by_name, Term, term}
-use Rattle.sbl_char_class.specs.Terms.{class_after, class_at, is_added}
+use Rattle.sbl_program.specs.Terms.{class_after, class_at, is_added}
 use Rattle.sbl_compiler.specs.NumberedClasses.{term_class, with_terms}
 use Rattle.sbl_compiler.specs.NumberedNames.{Names, number_of}
 use Rattle.sbl_compiler.specs.NamedAgain.{is_name_of, is_named, is_named_again}

@@ -2,12 +2,12 @@
 use Rattle.std.proofs.Common.{◌≡◌, ℕ, List, [], option_map, refl, sym, ap, ◌∙◌}
 use Rattle.std.specs.Prelude.{slice_get}
 use Rattle.sbl_compiler.specs.Ahead.{routines_in}
-use Rattle.sbl_semantics.specs.Items.{known_in, class_of, classes_after, body_named}
+use Rattle.sbl_semantics.specs.Items.{known_in, char_class_of, classes_after, body_named}
 use Rattle.sbl_compiler.specs.NumberedItems.{numbered_items, plan_in, plan_with}
 use Rattle.sbl_compiler.specs.NumberedNames.{Names, names_after, no_names, number_of}
 use Rattle.sbl_compiler.specs.NumberedClasses.{numbered_classes}
 use Rattle.sbl_program.specs.Program as programs
-use Rattle.sbl_char_class.specs.Terms.{class_at}
+use Rattle.sbl_program.specs.Terms.{class_at}
 use Rattle.sbl_compiler.specs.Laws.{RoutineIsItsOwn, ClassesAreTheirTerms, names_in}
 use Rattle.sbl_compiler.proofs.OwnMade.{own_is_made}
 use Rattle.sbl_compiler.proofs.SoundItems.{placed_by, groupings_are, routines_are, classes_are, as_made, body_at}
@@ -22,7 +22,7 @@ module _ (items : List ItemInMode) (external : List ℕ) where
   abbrev program : programs.Program
   program = plan_with ns items external
 
-  pub class_same : (n : List ℕ) (c : ℕ) → class_at (numbered_classes ns items []) (number_of ns.groupings n) c ≡ class_of (classes_after items []) n c
+  pub class_same : (n : List ℕ) (c : ℕ) → class_at (numbered_classes ns items []) (number_of ns.groupings n) c ≡ char_class_of (classes_after items []) n c
   class_same n c = classes_are ns items (groupings_are items no_names) n c
 
   pub routine_same : (n : List ℕ) → slice_get program.routines (number_of ns.routines n) ≡ option_map (as_made ns) (body_named items n)

@@ -8,11 +8,11 @@ use Rattle.sbl_ast.specs.declared.tree.Additive.TheVariants.{Plus, Minus}
 use Rattle.sbl_ast.specs.declared.tree.DeclarationKind.TheVariants as kinds
 use Rattle.sbl_ast.specs.Tree.{Argument, written_out, by_name, Term, term, Plain, declaration, escapes, macro, routine, grouping}
 use Rattle.sbl_compiler.specs.Ahead.{routine_made, routine_in, routines_in}
-use Rattle.sbl_semantics.specs.Items.{is_among, place_of, names_by, known_in, Grouping, class_of, term_has, terms_have, and_grouping, classes_after, Body, body_or, body_named}
+use Rattle.sbl_semantics.specs.Items.{is_member, place_of, names_by, known_in, Grouping, char_class_of, term_has, terms_have, and_grouping, classes_after, Body, body_or, body_named}
 use Rattle.sbl_compiler.specs.NumberedNames.{Names, naming, names_after, number_from, number_of, is_one_of}
 use Rattle.sbl_compiler.specs.NumberedClasses.{numbered_classes, term_class, with_class, with_terms}
 use Rattle.sbl_program.specs.Program as programs
-use Rattle.sbl_char_class.specs.Terms.{class_after, class_at, no_character}
+use Rattle.sbl_program.specs.Terms.{class_after, class_at, no_character}
 use Rattle.sbl_ast.specs.declared.mode.Mode.{Mode}
 
 -- ---- names
@@ -125,11 +125,11 @@ among_step : (b t : Bool) (p l : ℕ) → nat_lt p l ≡ t → nat_lt (if b then
 among_step true t p l h = lt-ltb 0 (suc l) (omega arith)
 among_step false t p l h = less_suc p l t h
 
-place_below : (xs : List (List ℕ)) (n : List ℕ) → nat_lt (place_of xs n) (length xs) ≡ is_among xs n
+place_below : (xs : List (List ℕ)) (n : List ℕ) → nat_lt (place_of xs n) (length xs) ≡ is_member xs n
 place_below [] n = refl
 place_below (x ∷ xs) n = among_step (bytes_eq x n) _ (place_of xs n) (length xs) (place_below xs n)
 
-pub among_is : (xs : List (List ℕ)) (n : List ℕ) → is_one_of xs n ≡ is_among xs n
+pub among_is : (xs : List (List ℕ)) (n : List ℕ) → is_one_of xs n ≡ is_member xs n
 among_is xs n = ap (λ k. nat_lt k (length xs)) (number_is xs n) ∙ place_below xs n
 
 -- ---- a term
@@ -170,7 +170,7 @@ class_step : (b : Bool) (k : ℕ → Bool) (ks : List (ℕ → Bool)) (p c : ℕ
 class_step true k ks p c x y h i = h
 class_step false k ks p c x y h i = i
 
-named_at : (ks : List (ℕ → Bool)) (gs : List Grouping) (rest : List (List ℕ)) → Same ks gs → (n : List ℕ) (c : ℕ) → class_at ks (place_of (names_of gs ++ rest) n) c ≡ class_of gs n c
+named_at : (ks : List (ℕ → Bool)) (gs : List Grouping) (rest : List (List ℕ)) → Same ks gs → (n : List ℕ) (c : ℕ) → class_at ks (place_of (names_of gs ++ rest) n) c ≡ char_class_of gs n c
 named_at [] [] rest h n c = nothing_at (place_of rest n) c
 named_at [] (g ∷ gs) rest h n c = absurd h
 named_at (k ∷ ks) [] rest h n c = absurd h
@@ -178,7 +178,7 @@ named_at (k ∷ ks) (g ∷ gs) rest h n c =
     class_step (bytes_eq g.name n) k ks (place_of (names_of gs ++ rest) n) c (g.has c) _ (h.0 c) (named_at ks gs rest h.1 n c)
 
 module _ (ns : Names) where
-  pub class_is : (ks : List (ℕ → Bool)) (gs : List Grouping) (rest : List (List ℕ)) → ns.groupings ≡ names_of gs ++ rest → Same ks gs → (n : List ℕ) (c : ℕ) → class_at ks (number_of ns.groupings n) c ≡ class_of gs n c
+  pub class_is : (ks : List (ℕ → Bool)) (gs : List Grouping) (rest : List (List ℕ)) → ns.groupings ≡ names_of gs ++ rest → Same ks gs → (n : List ℕ) (c : ℕ) → class_at ks (number_of ns.groupings n) c ≡ char_class_of gs n c
   class_is ks gs rest e h n c =
       ap (λ i. class_at ks i c) (number_is ns.groupings n ∙ ap (λ xs. place_of xs n) e) ∙ named_at ks gs rest h n c
 
@@ -233,7 +233,7 @@ module _ (ns : Names) where
   far_all (x ∷ xs) ks gs f = far_all xs (with_class ns x.plain ks) (and_grouping x.plain gs) (far_more x.plain ks gs (known_in xs kinds.Groupings) f)
 
   -- a grouping's class has what its terms say
-  pub classes_are : (xs : List ItemInMode) → ns.groupings ≡ known_in xs kinds.Groupings → (n : List ℕ) (c : ℕ) → class_at (numbered_classes ns xs []) (number_of ns.groupings n) c ≡ class_of (classes_after xs []) n c
+  pub classes_are : (xs : List ItemInMode) → ns.groupings ≡ known_in xs kinds.Groupings → (n : List ℕ) (c : ℕ) → class_at (numbered_classes ns xs []) (number_of ns.groupings n) c ≡ char_class_of (classes_after xs []) n c
   classes_are xs e n c =
       let f = far_all xs [] [] (record { same = tt; names = e }) in
       class_is (numbered_classes ns xs []) (classes_after xs []) [] f.names f.same n c

@@ -5,7 +5,9 @@ use Rattle.sbl_ast.specs.Order.{ItemInMode}
 use Rattle.sbl_ast.specs.declared.tree.Simple.{Simple}
 use Rattle.sbl_ast.specs.declared.tree.Simple.TheVariants as simples
 use Rattle.sbl_ast.specs.Tree as trees
-use Rattle.sbl_ast.specs.Tree.{bracket, simple_, literal_, name_, non_, prefixed, counted, move_, named, splice_, setlimit_, assign_, compare_, compare_values_, among_, no_rows, row, no_others, joined, no_starter, starter, bare, group, declaration, escapes, macro, routine, grouping}
+use Rattle.sbl_ast.specs.Tree.{bracket, simple_, literal_, name_, non_, prefixed, counted, move_, named, splice_}
+use Rattle.sbl_ast.specs.Tree.{setlimit_, assign_, compare_, compare_values_, among_, no_rows, row, no_others, joined}
+use Rattle.sbl_ast.specs.Tree.{no_starter, starter, bare, group, declaration, escapes, macro, routine, grouping}
 use Rattle.sbl_program.specs.AmongStrings.{listing}
 use Rattle.sbl_program.specs.Chains.{join}
 use Rattle.sbl_compiler.specs.NumberedItems.{name_alone, after_prefix, after_count, move, change_named, edit, change_of, relation_of}
@@ -13,7 +15,8 @@ use Rattle.sbl_compiler.specs.NumberedAmongs.{AmongStrings, strings_after, entri
 use Rattle.sbl_compiler.specs.NumberedNames.{Names, number_of}
 use Rattle.sbl_compiler.specs.NumberedNumbers.{expression, text}
 use Rattle.sbl_program.specs.Program as programs
-use Rattle.sbl_semantics.specs.Regions.{Among, among_at, number_after, number_after_rows, number_after_others, number_after_starter, first, first_rows, first_others, mode_under, waits, waits_others}
+use Rattle.sbl_semantics.specs.Regions.{Among, among_at, number_after, number_after_rows, number_after_others}
+use Rattle.sbl_semantics.specs.Regions.{number_after_starter, first, first_rows, first_others, mode_under, waits, waits_others}
 use Rattle.sbl_ast.specs.declared.mode.Mode.{Mode}
 
 abbrev pub found_as : Names → Among → AmongStrings
@@ -56,11 +59,16 @@ module _ (ns : Names) where
     made_command m k w next (move_ x e) = programs.act (move x (expression ns e))
     made_command m k w next (named x n) = programs.act (change_named ns x n)
     made_command m k w next (splice_ x a) = programs.act (edit x (text ns a))
-    made_command m k w next (setlimit_ b c) = programs.setlimit (made_command m k w (first m c (number_after b k) next) b) (made_command m (number_after b k) (waits b w) next c)
+    made_command m k w next (setlimit_ b c) =
+        programs.setlimit (made_command m k w (first m c (number_after b k) next) b)
+        (made_command m (number_after b k) (waits b w) next c)
     made_command m k w next (assign_ n o e) = programs.act (programs.assign (number_of ns.integers n) (change_of o) (expression ns e))
-    made_command m k w next (compare_ n o e) = programs.act (programs.compare (programs.integer (number_of ns.integers n)) (relation_of o) (expression ns e))
+    made_command m k w next (compare_ n o e) =
+        programs.act (programs.compare (programs.integer (number_of ns.integers n)) (relation_of o) (expression ns e))
     made_command m k w next (compare_values_ e o f) = programs.act (programs.compare (expression ns e) (relation_of o) (expression ns f))
-    made_command m k w next (among_ s gs) = programs.among k (search_then ns w (among_at m k gs) (made_starter m (suc k) s)) (made_groups m (number_after_starter s (suc k)) gs)
+    made_command m k w next (among_ s gs) =
+        programs.among k (search_then ns w (among_at m k gs) (made_starter m (suc k) s))
+        (made_groups m (number_after_starter s (suc k)) gs)
 
     pub made_rows : Mode → ℕ → Bool → Option Among → trees.Rows → programs.Nodes
     made_rows m k w next no_rows = programs.no_commands

@@ -3,7 +3,9 @@
 use Rattle.std.specs.Prelude.{ℕ, ◌+◌, ◌-◌, List, [], ◌∷◌, ◌++◌, length, Option, Some, None}
 use Rattle.sbl_ast.specs.Order.{ItemInMode}
 use Rattle.sbl_ast.specs.Tree as trees
-use Rattle.sbl_ast.specs.Tree.{bracket, simple_, literal_, name_, non_, prefixed, counted, move_, named, splice_, setlimit_, assign_, compare_, compare_values_, among_, no_rows, row, no_others, joined, no_starter, starter, bare, group, declaration, escapes, macro, routine, grouping}
+use Rattle.sbl_ast.specs.Tree.{bracket, simple_, literal_, name_, non_, prefixed, counted, move_, named, splice_}
+use Rattle.sbl_ast.specs.Tree.{setlimit_, assign_, compare_, compare_values_, among_, no_rows, row, no_others, joined}
+use Rattle.sbl_ast.specs.Tree.{no_starter, starter, bare, group, declaration, escapes, macro, routine, grouping}
 use Rattle.sbl_ast.specs.declared.mode.Mode.{Mode}
 use Rattle.sbl_program.specs.declared.node.Candidate.{Candidate}
 use Rattle.sbl_program.specs.AmongStrings.{Listing, listing}

@@ -3,8 +3,8 @@ use Rattle.std.specs.Prelude.{ℕ, Bool, List, [], ◌∷◌, ◌++◌}
 use Rattle.sbl_ast.specs.Order.{ItemInMode}
 use Rattle.sbl_ast.specs.declared.tree.Additive.TheVariants.{Plus}
 use Rattle.sbl_ast.specs.Tree.{Argument, written_out, by_name, Term, term, Plain, declaration, escapes, macro, routine, grouping}
-use Rattle.sbl_char_class.specs.Characters.{has}
-use Rattle.sbl_char_class.specs.Terms.{class_after, class_at, no_character}
+use Rattle.sbl_program.specs.Characters.{has}
+use Rattle.sbl_program.specs.Terms.{class_after, class_at, no_character}
 use Rattle.sbl_compiler.specs.NumberedNames.{Names, number_of}
 
 -- the characters of a term, given the classes of the groupings before it

@@ -12,13 +12,15 @@ use Rattle.sbl_ast.specs.declared.tree.Move.TheVariants as moves
 use Rattle.sbl_ast.specs.declared.tree.Naming.{Naming}
 use Rattle.sbl_ast.specs.declared.tree.Naming.TheVariants as namings
 use Rattle.sbl_ast.specs.declared.tree.Splice.{Splice}
-use Rattle.sbl_ast.specs.declared.tree.Splice.TheVariants as edits
+use Rattle.sbl_ast.specs.declared.tree.Splice.TheVariants as splices
 use Rattle.sbl_ast.specs.declared.tree.Assignment.{Assignment}
 use Rattle.sbl_ast.specs.declared.tree.Assignment.TheVariants as assignments
 use Rattle.sbl_ast.specs.declared.tree.Comparison.{Comparison}
 use Rattle.sbl_ast.specs.declared.tree.Comparison.TheVariants as comparisons
 use Rattle.sbl_ast.specs.Tree as trees
-use Rattle.sbl_ast.specs.Tree.{bracket, simple_, literal_, name_, non_, prefixed, counted, move_, named, splice_, setlimit_, assign_, compare_, compare_values_, among_, no_rows, row, no_others, joined, no_starter, starter, bare, group, declaration, escapes, macro, routine, grouping}
+use Rattle.sbl_ast.specs.Tree.{bracket, simple_, literal_, name_, non_, prefixed, counted, move_, named, splice_}
+use Rattle.sbl_ast.specs.Tree.{setlimit_, assign_, compare_, compare_values_, among_, no_rows, row, no_others, joined}
+use Rattle.sbl_ast.specs.Tree.{no_starter, starter, bare, group, declaration, escapes, macro, routine, grouping}
 use Rattle.sbl_ast.specs.declared.mode.Mode.TheVariants.{Forward}
 use Rattle.sbl_program.specs.declared.action.Change.{Change}
 use Rattle.sbl_program.specs.declared.action.Change.TheVariants as changes
@@ -166,10 +168,10 @@ change_named ns namings.Arrow n = programs.keep (number_of ns.strings n)
 
 -- `<+` is `insert`
 abbrev pub edit : Splice → programs.StringTerm → programs.Action
-edit edits.Replace t = programs.replace t
-edit edits.InsertSign t = programs.insert t
-edit edits.Insert t = programs.insert t
-edit edits.Attach t = programs.attach t
+edit splices.Replace t = programs.replace t
+edit splices.InsertSign t = programs.insert t
+edit splices.Insert t = programs.insert t
+edit splices.Attach t = programs.attach t
 
 abbrev pub change_of : Assignment → Change
 change_of assignments.Equals = changes.Becomes
@@ -204,7 +206,8 @@ abbrev mutual
   numbered_command ns (splice_ x a) p = programs.act (edit x (text ns a))
   numbered_command ns (setlimit_ b c) p = programs.setlimit (numbered_command ns b p) (numbered_command ns c (past b p))
   numbered_command ns (assign_ n o e) p = programs.act (programs.assign (number_of ns.integers n) (change_of o) (expression ns e))
-  numbered_command ns (compare_ n o e) p = programs.act (programs.compare (programs.integer (number_of ns.integers n)) (relation_of o) (expression ns e))
+  numbered_command ns (compare_ n o e) p =
+      programs.act (programs.compare (programs.integer (number_of ns.integers n)) (relation_of o) (expression ns e))
   numbered_command ns (compare_values_ e o f) p = programs.act (programs.compare (expression ns e) (relation_of o) (expression ns f))
   numbered_command ns (among_ s gs) p =
       programs.among (next_of p.coming).number (commands_of (search_first p (numbered_starter ns s (inside p))))

@@ -3,8 +3,8 @@
 use crate::characters::cut;
 use crate::places::{Title, fault_of, fault_text, offset_of_byte, push_title, script_fault_text};
 use crate::sentences::Faulty;
-use sbl_script::{EditFault, Script, ScriptFault};
-use sbl_source_map::{Part, cut_at_part, offset_in_block};
+use sbl_script::{EditFault, Part, Script, ScriptFault};
+use sbl_source_map::{cut_at_part, offset_in_block};
 use sbl_text::{Kind, Lexer, Token, Word, tokens};
 use std::alloc::{AllocError, Global};
 
@@ -26,9 +26,9 @@ pub struct TypedBlock<'a> {
 /// Returns the command of an edit.
 fn title_of(alloc: Global, part: Part<'_>) -> Result<String, AllocError> {
     match part {
-        Part::Body(name) => format!(in alloc; "routine {}", cut(alloc, name)?),
+        Part::Routine(name) => format!(in alloc; "routine {}", cut(alloc, name)?),
         Part::Among(name, k) => format!(in alloc; "among {} {k}", cut(alloc, name)?),
-        Part::Terms(name) => format!(in alloc; "grouping {}", cut(alloc, name)?),
+        Part::Grouping(name) => format!(in alloc; "grouping {}", cut(alloc, name)?),
     }
 }
 
@@ -43,8 +43,8 @@ fn end_if(token: Option<&Token<'_>>, word: &str) -> Option<usize> {
 /// Returns where a text begins after `define NAME as`, or after `define NAME` for a grouping; 0 if it does not begin so.
 fn head_end(tokens: &[Token<'_>], part: Part<'_>) -> usize {
     let (name, is_routine) = match part {
-        Part::Body(name) => (name, true),
-        Part::Terms(name) => (name, false),
+        Part::Routine(name) => (name, true),
+        Part::Grouping(name) => (name, false),
         Part::Among(_, _) => return 0,
     };
     if end_if(tokens.first(), "define").is_none() {
@@ -74,12 +74,7 @@ fn first_tokens(alloc: Global, text: &str) -> Result<Vec<Token<'_>>, AllocError>
 
 /// Returns the fault with which an edit is refused, if it is refused.
 fn edit_fault(alloc: Global, script: &Script, part: Part<'_>, text: &str) -> Option<EditFault> {
-    let edited = match part {
-        Part::Body(name) => script.with_routine(alloc, name, text),
-        Part::Among(name, k) => script.with_among(alloc, name, k, text),
-        Part::Terms(name) => script.with_grouping(alloc, name, text),
-    };
-    match edited {
+    match script.with(alloc, part, text) {
         Ok(script) => {
             script.discard();
             None

@@ -3,7 +3,7 @@
 use crate::characters::{cut, push_cut};
 use crate::declarations::{declaration_of, declared_in};
 use crate::sentences::{Faulty, Place, tokens_before};
-use sbl_source_map::Part;
+use sbl_script::Part;
 use sbl_text::{Kind, Sign, Token, Word, tokens};
 use std::alloc::{AllocError, Global};
 
@@ -77,7 +77,7 @@ fn last_defined<'a>(tokens: &[Token<'a>]) -> Option<&'a str> {
 fn is_in_itself(alloc: Global, place: Place<'_>) -> bool {
     let Place { faulty, spot } = place;
     match faulty.part {
-        Some(Part::Terms(name)) => name == spot.token,
+        Some(Part::Grouping(name)) => name == spot.token,
         Some(_) => false,
         None => match tokens_before(alloc, faulty.text, spot.begin) {
             Some(before) => last_defined(&before) == Some(spot.token),
@@ -129,7 +129,7 @@ fn end_in_terms(tokens: &[Token<'_>]) -> bool {
 pub(crate) fn is_at_terms(alloc: Global, place: Place<'_>) -> bool {
     let Place { faulty, spot } = place;
     match faulty.part {
-        Some(Part::Terms(_)) => true,
+        Some(Part::Grouping(_)) => true,
         Some(_) => false,
         None => match tokens_before(alloc, faulty.text, spot.begin) {
             Some(before) => end_in_terms(&before),

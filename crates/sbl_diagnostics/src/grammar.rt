@@ -1,6 +1,6 @@
 //! What the grammar expects after some tokens: a stack of symbols, as docs/LANGUAGE.md has them.
 
-use sbl_source_map::Part;
+use sbl_script::Part;
 use sbl_text::{Kind, Sign, Token, Word};
 use std::alloc::{AllocError, Global};
 
@@ -329,9 +329,9 @@ impl Outlook {
     fn new(alloc: Global, part: Option<Part<'_>>) -> Result<Outlook, AllocError> {
         let symbols: &[Symbol] = match part {
             None => &[Symbol::Items],
-            Some(Part::Body(_)) => &[Symbol::Command, Symbol::Joiners],
+            Some(Part::Routine(_)) => &[Symbol::Command, Symbol::Joiners],
             Some(Part::Among(_, _)) => &[Symbol::Among],
-            Some(Part::Terms(_)) => &[Symbol::Argument, Symbol::Terms],
+            Some(Part::Grouping(_)) => &[Symbol::Argument, Symbol::Terms],
         };
         let mut stack = Vec::new(alloc);
         push_all(&mut stack, symbols)?;

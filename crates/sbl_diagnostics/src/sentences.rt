@@ -10,7 +10,8 @@ use crate::near::{push_listed, push_near, push_near_reserved, push_near_word};
 use crate::reasons::{begins_sentence, reason};
 use crate::sites::{Site, push_advice};
 use crate::undeclared::push_undeclared;
-use sbl_source_map::{Part, Position, ScriptFault, begins_item, position_of};
+use sbl_script::Part;
+use sbl_source_map::{Position, ScriptFault, begins_item, position_of};
 use sbl_text::{Kind, Lexer, Sign, Token, Word, tokens};
 use std::alloc::{AllocError, Global};
 
@@ -48,9 +49,9 @@ pub(crate) struct Place<'a> {
 /// What the text of a block is.
 fn whole_text(part: Part<'_>) -> &'static str {
     match part {
-        Part::Body(_) => "The text of routine is one command: put several into parentheses.",
+        Part::Routine(_) => "The text of routine is one command: put several into parentheses.",
         Part::Among(_, _) => "The text of among is a whole among ( .. ), and nothing else.",
-        Part::Terms(_) => {
+        Part::Grouping(_) => {
             "The text of grouping is what follows the name in its definition, such as v + 'y'."
         }
     }
@@ -138,8 +139,8 @@ fn push_beginning(
     faulty: Faulty<'_>,
 ) -> Result<bool, AllocError> {
     let (word, name) = match faulty.part {
-        Some(Part::Body(name)) => ("routine", name),
-        Some(Part::Terms(name)) => ("grouping", name),
+        Some(Part::Routine(name)) => ("routine", name),
+        Some(Part::Grouping(name)) => ("grouping", name),
         _ => return Ok(false),
     };
     let Some(other) = defined_first(alloc, faulty.text)? else {
@@ -355,7 +356,7 @@ fn push_character(shown: &mut String, place: Place<'_>) -> Result<(), AllocError
     shown.push_str(" can only be in a literal or a comment")?;
     let advice = if is_end_line(faulty.text, spot.begin) {
         Some("The line that ends a text has a point and no blank after it")
-    } else if character > '\u{7F}' && matches!(faulty.part, Some(Part::Terms(_))) {
+    } else if character > '\u{7F}' && matches!(faulty.part, Some(Part::Grouping(_))) {
         Some("Characters are in quotes")
     } else {
         foreign_character(character)

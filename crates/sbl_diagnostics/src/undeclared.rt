@@ -7,7 +7,7 @@ use crate::foreign::advice_on;
 use crate::grammar::is_operator;
 use crate::near::{push_near, push_near_reserved};
 use crate::sentences::{Faulty, Place, tokens_before};
-use sbl_source_map::Part;
+use sbl_script::Part;
 use sbl_text::{Kind, Sign, Token, Word, tokens};
 use std::alloc::{AllocError, Global};
 
@@ -162,7 +162,7 @@ fn usable_names<'a>(
     need: Need,
 ) -> Result<Vec<&'a str>, AllocError> {
     let own = match part {
-        Some(Part::Terms(name)) => name,
+        Some(Part::Grouping(name)) => name,
         _ => "",
     };
     let mut found = Vec::new(alloc);

@@ -5,7 +5,7 @@ use Rattle.std.specs.List.{list_any}
 use Rattle.std.specs.Str.{bytes_eq}
 use Rattle.sbl_machine.specs.BuiltFrom.{is_affected_by, and_built, any_names, built_after, built_from, built_on, names}
 use Rattle.sbl_semantics.specs.TouchedItems.{Item', Routine, Among, Grouping, same_item}
-use Rattle.sbl_semantics.specs.Items.{is_among}
+use Rattle.sbl_semantics.specs.Items.{is_member}
 use Rattle.sbl_ast.specs.Source.{Source}
 use Rattle.sbl_ast.specs.Order.{ItemInMode, in_order}
 use Rattle.sbl_ast.specs.Tree.{Argument, written_out, by_name, Term, term, Plain, declaration, escapes, macro, routine, grouping}
@@ -70,22 +70,22 @@ no_names (term o a ∷ ts) = ap₂ (λ (b c : Bool). b || c) (no_name a) (no_nam
 not_built : (a : Argument) (ts : List Term) → built_on (λ k. false) a ts ≡ false
 not_built a ts = ap₂ (λ (b c : Bool). b || c) (no_name a) (no_names ts)
 
-name_more : (m : List ℕ) (ns : List (List ℕ)) (a : Argument) → names (is_among (m ∷ ns)) a ≡ (names (bytes_eq m) a || names (is_among ns) a)
+name_more : (m : List ℕ) (ns : List (List ℕ)) (a : Argument) → names (is_member (m ∷ ns)) a ≡ (names (bytes_eq m) a || names (is_member ns) a)
 name_more m ns (written_out q) = refl
-name_more m ns (by_name n) = if_or (bytes_eq m n) (is_among ns n)
+name_more m ns (by_name n) = if_or (bytes_eq m n) (is_member ns n)
 
-names_more : (m : List ℕ) (ns : List (List ℕ)) (ts : List Term) → any_names (is_among (m ∷ ns)) ts ≡ (any_names (bytes_eq m) ts || any_names (is_among ns) ts)
+names_more : (m : List ℕ) (ns : List (List ℕ)) (ts : List Term) → any_names (is_member (m ∷ ns)) ts ≡ (any_names (bytes_eq m) ts || any_names (is_member ns) ts)
 names_more m ns [] = refl
 names_more m ns (term o a ∷ ts) =
     ap₂ (λ (b c : Bool). b || c) (name_more m ns a) (names_more m ns ts)
-    ∙ or_four (names (bytes_eq m) a) (names (is_among ns) a) (any_names (bytes_eq m) ts) (any_names (is_among ns) ts)
+    ∙ or_four (names (bytes_eq m) a) (names (is_member ns) a) (any_names (bytes_eq m) ts) (any_names (is_member ns) ts)
 
-built_more : (m : List ℕ) (ns : List (List ℕ)) (a : Argument) (ts : List Term) → built_on (is_among (m ∷ ns)) a ts ≡ (built_on (bytes_eq m) a ts || built_on (is_among ns) a ts)
+built_more : (m : List ℕ) (ns : List (List ℕ)) (a : Argument) (ts : List Term) → built_on (is_member (m ∷ ns)) a ts ≡ (built_on (bytes_eq m) a ts || built_on (is_member ns) a ts)
 built_more m ns a ts =
     ap₂ (λ (b c : Bool). b || c) (name_more m ns a) (names_more m ns ts)
-    ∙ or_four (names (bytes_eq m) a) (names (is_among ns) a) (any_names (bytes_eq m) ts) (any_names (is_among ns) ts)
+    ∙ or_four (names (bytes_eq m) a) (names (is_member ns) a) (any_names (bytes_eq m) ts) (any_names (is_member ns) ts)
 
-built_any : (ns : List (List ℕ)) (a : Argument) (ts : List Term) → built_on (is_among ns) a ts ≡ list_any (λ m. built_on (bytes_eq m) a ts) ns
+built_any : (ns : List (List ℕ)) (a : Argument) (ts : List Term) → built_on (is_member ns) a ts ≡ list_any (λ m. built_on (bytes_eq m) a ts) ns
 built_any [] a ts = not_built a ts
 built_any (m ∷ ns) a ts = built_more m ns a ts ∙ ap (λ (b : Bool). built_on (bytes_eq m) a ts || b) (built_any ns a ts)
 
@@ -139,8 +139,8 @@ module _ (us : List Item') where
       at : (x : Plain) → ((ms : List (List ℕ)) → list_any is_touched (built_after ps ms) ≡ list_any (λ m. is_reached us ps (Grouping m)) ms) →
           list_any is_touched (built_after ps (and_built x ns)) ≡ list_any (λ m. and_terms x (is_reached us ps) (Grouping m)) ns
       at (grouping r a ts) rest =
-          rest (if built_on (is_among ns) a ts then ns ++ r ∷ [] else ns)
-          ∙ any_if (λ m. is_reached us ps (Grouping m)) ns r (built_on (is_among ns) a ts)
+          rest (if built_on (is_member ns) a ts then ns ++ r ∷ [] else ns)
+          ∙ any_if (λ m. is_reached us ps (Grouping m)) ns r (built_on (is_member ns) a ts)
           ∙ ap (λ (b : Bool). (is_reached us ps (Grouping r) && b) || list_any (λ m. is_reached us ps (Grouping m)) ns) (built_any ns a ts)
           ∙ sym (any_and (is_reached us ps (Grouping r)) (λ m. built_on (bytes_eq m) a ts) (λ m. is_reached us ps (Grouping m)) ns)
       at (declaration k xs) rest = rest ns
@@ -148,9 +148,9 @@ module _ (us : List Item') where
       at (macro n b q) rest = rest ns
       at (routine n c os) rest = rest ns
 
-among_any : (ns : List (List ℕ)) (n : List ℕ) → is_among ns n ≡ list_any (λ k. bytes_eq k n) ns
+among_any : (ns : List (List ℕ)) (n : List ℕ) → is_member ns n ≡ list_any (λ k. bytes_eq k n) ns
 among_any [] n = refl
-among_any (k ∷ ns) n = if_or (bytes_eq k n) (is_among ns n) ∙ ap (λ (b : Bool). bytes_eq k n || b) (among_any ns n)
+among_any (k ∷ ns) n = if_or (bytes_eq k n) (is_member ns n) ∙ ap (λ (b : Bool). bytes_eq k n || b) (among_any ns n)
 
 affects_one : (s : Source) (m : List ℕ) (u : Item') → is_affected_by s (Grouping m) u ≡ list_any (λ k. same_item (Grouping k) u) (built_from m s)
 affects_one s m (Routine n) = sym (none_of (built_from m s))

@@ -9,7 +9,7 @@ use Rattle.sbl_ast.specs.Tree as trees
 use Rattle.sbl_ast.specs.Tree.{bracket, simple_, literal_, name_, non_, prefixed, counted, move_, named, splice_, setlimit_, assign_, compare_, compare_values_, among_, no_rows, row, no_others, joined, no_starter, starter, bare, group}
 use Rattle.sbl_ast.specs.declared.mode.Mode.{Mode}
 use Rattle.sbl_ast.specs.declared.mode.Mode.TheVariants.{Forward, Backward}
-use Rattle.sbl_semantics.specs.Items.{DeclaredNames, Body, place_of, is_among}
+use Rattle.sbl_semantics.specs.Items.{DeclaredNames, Body, place_of, is_member}
 use Rattle.sbl_semantics.specs.Regions.{Among, among_at, number_after, number_after_rows, number_after_others, number_after_starter, first, first_rows, first_others, mode_under, waits, waits_others}
 use Rattle.sbl_semantics.specs.Moves.{touch_grouping}
 use Rattle.sbl_semantics.specs.Numbers.{Value, with_value, integer_at, value_in_range}
@@ -17,7 +17,9 @@ use Rattle.sbl_semantics.specs.Control.{with_group, pay_first}
 use Rattle.sbl_semantics.specs.Choices.{choice}
 use Rattle.sbl_semantics.specs.State.{State, Ending, Signals, Doing}
 use Rattle.sbl_semantics.specs.Meaning as meaning
-use Rattle.sbl_semantics.specs.Meaning.{Offer, prefixed_does, counted_does, joined_does, limited_does, simple_does, moved_does, assigned_does, compared_does, named_does, edited_does, begins, takes, try_each, search}
+use Rattle.sbl_semantics.specs.inside.MeaningParts as parts
+use Rattle.sbl_semantics.specs.Meaning.{Offer, prefixed_does, counted_does, joined_does, limited_does, simple_does, moved_does, assigned_does, compared_does, named_does, edited_does, takes, try_each, search}
+use Rattle.sbl_semantics.specs.inside.MeaningParts.{begins}
 use Rattle.sbl_ast.specs.declared.tree.Constant.{Constant}
 use Rattle.sbl_ast.specs.declared.tree.Constant.TheVariants as constants
 use Rattle.sbl_explain.specs.RoutineAmongs.{HasAmong, IsIn, IsInGroups, IsInOthers, IsInRows, IsInStarter}
@@ -84,20 +86,20 @@ module _ (ns : DeclaredNames) (class : List ℕ → ℕ → Bool) (bodies : List
     pays : (d : Doing) → GoodDoing d → GoodDoing (pay_first d)
     pays d i = paid_good ns bodies r d i
 
-    ahead_good : (n : Option Among) → ((a : Among) → n ≡ Some a → Has a) → GoodDoing (pay_first (meaning.search_ahead ns class call n))
-    ahead_good None q = pays (meaning.search_ahead ns class call None) (λ m s. still ns bodies r s s false refl refl refl)
+    ahead_good : (n : Option Among) → ((a : Among) → n ≡ Some a → Has a) → GoodDoing (pay_first (parts.search_ahead ns class call n))
+    ahead_good None q = pays (parts.search_ahead ns class call None) (λ m s. still ns bodies r s s false refl refl refl)
     ahead_good (Some a) q = search_good a (q a refl)
 
-    simple_paid : (n : Option Among) → ((a : Among) → n ≡ Some a → Has a) → (y : Simple) → GoodDoing (pay_first (simple_does (meaning.search_ahead ns class call n) y))
+    simple_paid : (n : Option Among) → ((a : Among) → n ≡ Some a → Has a) → (y : Simple) → GoodDoing (pay_first (simple_does (parts.search_ahead ns class call n) y))
     simple_paid n q simples.Substring = ahead_good n q
-    simple_paid n q simples.LeftBracket = pays _ (simple_good ns bodies r (meaning.search_ahead ns class call n) simples.LeftBracket tt)
-    simple_paid n q simples.RightBracket = pays _ (simple_good ns bodies r (meaning.search_ahead ns class call n) simples.RightBracket tt)
-    simple_paid n q simples.Next = pays _ (simple_good ns bodies r (meaning.search_ahead ns class call n) simples.Next tt)
-    simple_paid n q simples.ToLimit = pays _ (simple_good ns bodies r (meaning.search_ahead ns class call n) simples.ToLimit tt)
-    simple_paid n q simples.AtLimit = pays _ (simple_good ns bodies r (meaning.search_ahead ns class call n) simples.AtLimit tt)
-    simple_paid n q simples.Delete = pays _ (simple_good ns bodies r (meaning.search_ahead ns class call n) simples.Delete tt)
-    simple_paid n q simples.True = pays _ (simple_good ns bodies r (meaning.search_ahead ns class call n) simples.True tt)
-    simple_paid n q simples.False = pays _ (simple_good ns bodies r (meaning.search_ahead ns class call n) simples.False tt)
+    simple_paid n q simples.LeftBracket = pays _ (simple_good ns bodies r (parts.search_ahead ns class call n) simples.LeftBracket tt)
+    simple_paid n q simples.RightBracket = pays _ (simple_good ns bodies r (parts.search_ahead ns class call n) simples.RightBracket tt)
+    simple_paid n q simples.Next = pays _ (simple_good ns bodies r (parts.search_ahead ns class call n) simples.Next tt)
+    simple_paid n q simples.ToLimit = pays _ (simple_good ns bodies r (parts.search_ahead ns class call n) simples.ToLimit tt)
+    simple_paid n q simples.AtLimit = pays _ (simple_good ns bodies r (parts.search_ahead ns class call n) simples.AtLimit tt)
+    simple_paid n q simples.Delete = pays _ (simple_good ns bodies r (parts.search_ahead ns class call n) simples.Delete tt)
+    simple_paid n q simples.True = pays _ (simple_good ns bodies r (parts.search_ahead ns class call n) simples.True tt)
+    simple_paid n q simples.False = pays _ (simple_good ns bodies r (parts.search_ahead ns class call n) simples.False tt)
 
     either : (s : State) (b : Bool) (x y : Family) → Part ns bodies r s x s.steps → Part ns bodies r s y s.steps → Part ns bodies r s (λ n. if b then x n else y n) s.steps
     either s b x y h i = if_part ns bodies r (Some_end ns bodies r) (Any_refusal ns bodies r) s s.steps b x y h i
@@ -105,9 +107,9 @@ module _ (ns : DeclaredNames) (class : List ℕ → ℕ → Bool) (bodies : List
     name_good : (x : List ℕ) → GoodDoing (meaning.name_does ns class call x)
     name_good x m s =
         let g = touch_grouping (place_of (ns kinds.Groupings) x) s in
-        either s (is_among (ns kinds.Strings) x) _ _ (match_good ns bodies r (slice_index_or s.strings (place_of (ns kinds.Strings) x) []) m s)
-        (either s (is_among (ns kinds.Booleans) x) _ _ (still ns bodies r s s (slice_index_or s.booleans (place_of (ns kinds.Booleans) x) false) refl refl refl)
-        (either s (is_among (ns kinds.Groupings) x) _ _ (class_good ns bodies r true (class x) m g) (call_good x m s)))
+        either s (is_member (ns kinds.Strings) x) _ _ (match_good ns bodies r (slice_index_or s.strings (place_of (ns kinds.Strings) x) []) m s)
+        (either s (is_member (ns kinds.Booleans) x) _ _ (still ns bodies r s s (slice_index_or s.booleans (place_of (ns kinds.Booleans) x) false) refl refl refl)
+        (either s (is_member (ns kinds.Groupings) x) _ _ (class_good ns bodies r true (class x) m g) (call_good x m s)))
 
     -- the same with a value that is worked out at the beginning
     by_value : (s : State) (f : Value → State → Ending) (v : Value) (w : ℕ → Value) → ((n : ℕ) → w n ≡ v) → Part ns bodies r s (λ n. f v (at n s)) s.steps → Part ns bodies r s (λ n. f (w n) (at n s)) s.steps

@@ -13,7 +13,7 @@ use Rattle.sbl_ast.specs.declared.tree.Naming.TheVariants as namings
 use Rattle.sbl_ast.specs.declared.tree.Simple.{Simple}
 use Rattle.sbl_ast.specs.declared.tree.Simple.TheVariants as simples
 use Rattle.sbl_ast.specs.declared.tree.Splice.{Splice}
-use Rattle.sbl_ast.specs.declared.tree.Splice.TheVariants as edits
+use Rattle.sbl_ast.specs.declared.tree.Splice.TheVariants as splices
 use Rattle.sbl_ast.specs.declared.mode.Mode.{Mode}
 use Rattle.sbl_ast.specs.declared.mode.Mode.TheVariants.{Forward, Backward}
 use Rattle.sbl_semantics.specs.Fitting.{read_as}
@@ -25,7 +25,8 @@ use Rattle.sbl_semantics.specs.Numbers.{Value, continue_with, natural, with_valu
 use Rattle.sbl_semantics.specs.Slices.{is_slice, replace_slice, replace, keep, insert_string, put_in, left_bracket, right_bracket}
 use Rattle.sbl_semantics.specs.State.{State, Signals, Stops, Doing, ahead, room, at_place, at_difference, to_limit, put_back, step_over, place_after, move_cursor}
 use Rattle.sbl_semantics.specs.Meaning as meaning
-use Rattle.sbl_semantics.specs.Meaning.{Offer, prefixed_does, counted_does, joined_does, limited_does, simple_does, moved_does, assigned_does, compared_does, named_does, edited_does, begins, takes, try_each, search}
+use Rattle.sbl_semantics.specs.Meaning.{Offer, prefixed_does, counted_does, joined_does, limited_does, simple_does, moved_does, assigned_does, compared_does, named_does, edited_does, takes, try_each, search}
+use Rattle.sbl_semantics.specs.inside.MeaningParts.{begins}
 use Rattle.sbl_semantics.specs.declared.fault.RunFault.{RunFault}
 use Rattle.sbl_semantics.specs.declared.fault.RunFault.TheVariants as faults
 use Rattle.sbl_explain.specs.Searches.{course}
@@ -120,13 +121,13 @@ module _ (ns : DeclaredNames) (bodies : List ℕ → Option Body) (r : ℕ) wher
       (or_stops s (nat_le (length s.text + length cs) 1024) faults.TooLong (λ n. Signals true (at n (insert_string right cs s))) (puts s (insert_string right cs s) s.cursor s.cursor cs refl refl refl))
 
   pub edited_good : (x : Splice) (cs : List ℕ) (m : Mode) → Good ns bodies r (edited_does x cs m)
-  edited_good edits.Replace cs m s = replace_good cs s
-  edited_good edits.InsertSign cs Forward s = put_in_good true cs s
-  edited_good edits.InsertSign cs Backward s = put_in_good false cs s
-  edited_good edits.Insert cs Forward s = put_in_good true cs s
-  edited_good edits.Insert cs Backward s = put_in_good false cs s
-  edited_good edits.Attach cs Forward s = put_in_good false cs s
-  edited_good edits.Attach cs Backward s = put_in_good true cs s
+  edited_good splices.Replace cs m s = replace_good cs s
+  edited_good splices.InsertSign cs Forward s = put_in_good true cs s
+  edited_good splices.InsertSign cs Backward s = put_in_good false cs s
+  edited_good splices.Insert cs Forward s = put_in_good true cs s
+  edited_good splices.Insert cs Backward s = put_in_good false cs s
+  edited_good splices.Attach cs Forward s = put_in_good false cs s
+  edited_good splices.Attach cs Backward s = put_in_good true cs s
 
   pub still : (s u : State) (b : Bool) → u.events ≡ s.events → u.text ≡ s.text → u.routine ≡ s.routine → Part ns bodies r s (λ n. Signals b (at n u)) s.steps
   still s u b e x y = here ns bodies r s u b s.steps e x y

@@ -16,7 +16,8 @@ use Rattle.sbl_semantics.specs.Numbers.{Value, continue_with}
 use Rattle.sbl_semantics.specs.Control.{turns, times, count_of, seeks, end_search, limits, restore_limit, limit_here, limit_back, backwards_from, backwards_end, with_group, pay_first}
 use Rattle.sbl_semantics.specs.Choices.{choice}
 use Rattle.sbl_semantics.specs.State.{State, Ending, Signals, Stops, Doing, after, then_on, saved_cursor, put_back}
-use Rattle.sbl_semantics.specs.Meaning.{prefixed_does, counted_does, joined_does, limited_does, begins}
+use Rattle.sbl_semantics.specs.Meaning.{prefixed_does, counted_does, joined_does, limited_does}
+use Rattle.sbl_semantics.specs.inside.MeaningParts.{begins}
 use Rattle.sbl_semantics.specs.declared.fault.RunFault.TheVariants as faults
 use Rattle.sbl_explain.proofs.RunParts.{Any_refusal, Family, Good, GoodIn, Part, PartBy, Some_end, at, given_part, part_same, signals_good, stop}
 use Rattle.sbl_explain.proofs.Onward.{after_part, then_part}

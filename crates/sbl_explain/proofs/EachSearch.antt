@@ -7,13 +7,15 @@ use Rattle.sbl_ast.specs.Order.{in_order}
 use Rattle.sbl_ast.specs.declared.mode.Mode.{Mode}
 use Rattle.sbl_ast.specs.declared.mode.Mode.TheVariants.{Forward}
 use Rattle.sbl_semantics.specs.Fitting.{ahead_at}
-use Rattle.sbl_semantics.specs.Items.{DeclaredNames, Body, place_of, known_in, class_of, classes_after, body_named}
+use Rattle.sbl_semantics.specs.Items.{DeclaredNames, Body, place_of, known_in, char_class_of, classes_after, body_named}
 use Rattle.sbl_semantics.specs.Regions.{Among, number_after, number_after_others, first_others, waits}
 use Rattle.sbl_semantics.specs.Events.{Event', Enters, Leaves, Searches, Finds, Puts, with_event}
 use Rattle.sbl_semantics.specs.Control.{end_search, back_in, enter, leave, pay_first}
 use Rattle.sbl_semantics.specs.State.{State, Ending, Signals, Stops, Doing, bound_of}
 use Rattle.sbl_semantics.specs.Meaning as meaning
-use Rattle.sbl_semantics.specs.Meaning.{Offer, prefixed_does, counted_does, joined_does, limited_does, simple_does, moved_does, assigned_does, compared_does, named_does, edited_does, begins, takes, try_each, search}
+use Rattle.sbl_semantics.specs.inside.MeaningParts as parts
+use Rattle.sbl_semantics.specs.Meaning.{Offer, prefixed_does, counted_does, joined_does, limited_does, simple_does, moved_does, assigned_does, compared_does, named_does, edited_does, takes, try_each, search}
+use Rattle.sbl_semantics.specs.inside.MeaningParts.{begins}
 use Rattle.sbl_semantics.specs.declared.fault.RunFault.TheVariants as faults
 use Rattle.sbl_semantics.specs.Outcome.{events_at, events_in, events_of}
 use Rattle.sbl_machine.specs.Why.{text_after}
@@ -35,7 +37,7 @@ module _ (ns : DeclaredNames) (class : List ℕ → ℕ → Bool) (bodies : List
       start_state = enter p (number_after_others b.others (number_after b.first 0)) s
 
       abbrev row_run : Doing
-      row_run = meaning.row_does ns class call b.mode b.first b.others
+      row_run = parts.row_does ns class call b.mode b.first b.others
 
       abbrev HasHere : Among → Type 0
       HasHere a = HasAmong ns bodies p a
@@ -145,8 +147,8 @@ searches_take_first script levels a m s before e =
     let items = in_order script.items in
     let known = known_in items in
     let bodies = body_named items in
-    let call = meaning.calls known (class_of (classes_after items [])) bodies levels in
-    let calls = calls_are known (class_of (classes_after items [])) bodies levels 0 in
+    let call = meaning.calls known (char_class_of (classes_after items [])) bodies levels in
+    let calls = calls_are known (char_class_of (classes_after items [])) bodies levels 0 in
     let end_search = search_found known bodies 0 call calls a m s s.steps in
     let h = first_in known bodies 0 call calls a m s end_search.0 (λ n. search call a m (at n s)) s.steps end_search.2 in (
       h.0,
@@ -172,7 +174,7 @@ each_search_takes_first script word limit before rest i k m c e =
     let items = in_order script.items in
     let known = known_in items in
     let bodies = body_named items in
-    let class = class_of (classes_after items []) in
+    let class = char_class_of (classes_after items []) in
     let start : State = record (meaning.start known word limit) { events = Some [] } in
     let run : Family = meaning.ending_with_events script word in
     let all : Each known bodies 0 (IsWhole (run limit)) (Some []) word 0 run limit [] (events_of script word limit) [] =

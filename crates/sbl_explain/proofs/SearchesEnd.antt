@@ -6,8 +6,9 @@ use Rattle.std.specs.Cmp.Lexicographic.{pointwise}
 use Rattle.std.proofs.lemmas.Bool.{lt-ltb, true≢false}
 use Rattle.std.proofs.lemmas.Grind.{flat_map-append}
 use Rattle.std.proofs.lemmas.List.Recursion.{is_position_or_len}
-use Rattle.sbl_semantics.specs.Meaning as meaning
-use Rattle.sbl_semantics.specs.Meaning.{Offer, offering, offers, search, takes, try_each}
+use Rattle.sbl_semantics.specs.inside.MeaningParts as parts
+use Rattle.sbl_semantics.specs.Meaning.{Offer, offers, search, takes, try_each}
+use Rattle.sbl_semantics.specs.inside.MeaningParts.{offering}
 use Rattle.sbl_semantics.specs.Items.{Body, DeclaredNames}
 use Rattle.sbl_semantics.specs.Regions.{Among}
 use Rattle.sbl_compiler.proofs.SoundItems.{less_suc}
@@ -186,7 +187,7 @@ module _ (ns : DeclaredNames) (bodies : List ℕ → Option Body) (r : ℕ) wher
       string_taken =
           placed_then (refusals ns bodies passed ++ condition_calls ns bodies true o.condition) (λ t. Signals true (take_string k (length o.string) o.group t)) (one_good passed o others split c) m (saved_cursor from) (length o.string)
 
-      condition_finds : (x : Option (List ℕ)) → o.condition ≡ x → Finds_by (refusals ns bodies passed) (λ a. after (meaning.condition_does call x m a) takes_it next)
+      condition_finds : (x : Option (List ℕ)) → o.condition ≡ x → Finds_by (refusals ns bodies passed) (λ a. after (parts.condition_does call x m a) takes_it next)
       condition_finds None e =
           subst (λ cs. Finds_by cs takes_it) (ap (λ x. refusals ns bodies passed ++ condition_calls ns bodies true x) e ∙ append-nil (refusals ns bodies passed)) string_taken
       condition_finds (Some n) e =
@@ -196,7 +197,7 @@ module _ (ns : DeclaredNames) (bodies : List ℕ → Option Body) (r : ℕ) wher
           (subst (λ cs. Finds_by cs next) more (go (ap is_conditional e))) m
 
       one_tried : Finds_by (refusals ns bodies passed) (λ t. takes call k (Some o) m from t next)
-      one_tried = placed_then (refusals ns bodies passed) (λ a. after (meaning.condition_does call o.condition m a) takes_it next) (condition_finds o.condition refl) m (saved_cursor from) (length o.string)
+      one_tried = placed_then (refusals ns bodies passed) (λ a. after (parts.condition_does call o.condition m a) takes_it next) (condition_finds o.condition refl) m (saved_cursor from) (length o.string)
 
     -- the entries that fit, one length after another
     module _ (offers : List Offer) (w m : Mode) (from : State) (x : List ℕ) where

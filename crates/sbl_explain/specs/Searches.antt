@@ -5,7 +5,7 @@ use Rattle.std.specs.List.{flat_map, list_all, list_any}
 use Rattle.sbl_semantics.specs.Meaning.{Offer, calls, ending_with_events, offers, search}
 use Rattle.sbl_semantics.specs.Outcome.{events_at, events_of}
 use Rattle.sbl_machine.specs.Why.{text_after}
-use Rattle.sbl_semantics.specs.Items.{Body, DeclaredNames, body_named, class_of, classes_after, known_in, place_of}
+use Rattle.sbl_semantics.specs.Items.{Body, DeclaredNames, body_named, char_class_of, classes_after, known_in, place_of}
 use Rattle.sbl_semantics.specs.Regions.{Among}
 use Rattle.sbl_semantics.specs.Events.{Event', Enters, Leaves, Searches, Finds, Puts}
 use Rattle.sbl_semantics.specs.declared.fault.RunFault.TheVariants as faults
@@ -137,7 +137,7 @@ abbrev pub SearchesTakeFirst : Type 0
 SearchesTakeFirst =
     (script : Source) (levels : ℕ) (a : Among) (m : Mode) (s : State) (before : List Event') → s.events ≡ Some before →
     let items = in_order script.items in
-    let end = search (calls (known_in items) (class_of (classes_after items [])) (body_named items) levels) a m s in
+    let end = search (calls (known_in items) (char_class_of (classes_after items [])) (body_named items) levels) a m s in
     (rest : List Event') ×
     (events_at end ≡ before ++ Searches s.routine a.number m s.cursor ∷ rest) ×
     EndsWith (known_in items) (body_named items) a.number s.choices (fits a (ahead_at a.mode s.text s.cursor (bound_of m s))) (course rest) end

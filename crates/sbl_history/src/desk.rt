@@ -7,14 +7,14 @@ ghost use Rattle.sbl_print.specs.Canonical.{canonical};
 ghost use Rattle.sbl_rows.specs.Rows.{view_row};
 ghost use Rattle.sbl_history.specs.Desks.{Redoes, Undoes, state_of, text_in, view_text};
 ghost use Rattle.sbl_history.specs.{Editing.NotesLimit, Editing.Replaces, Editing.ReplacesPart, History.ToText, History.remember_turn, Splicing.Reads};
-ghost use Rattle.sbl_source_map.specs.Parts.{view_part};
+ghost use Rattle.sbl_script.specs.Parts.{view_part};
 
 use crate::history::{HistoryFault, text_of, turn};
 use crate::marks::{MarkedRow, copy_rows, views_of};
 use crate::splice::{SplicedText, splice};
 use crate::steps::{History, Step};
 use sbl_bench::{Bench, EditFault, Row};
-use sbl_source_map::Part;
+use sbl_script::Part;
 use std::alloc::{AllocError, Global};
 
 /// What is kept beside a bench at work: the text of its script, the edits that can be undone and redone, and the rows at the
@@ -198,9 +198,9 @@ fn edit_part(bench: &mut Bench, target: Part<'_>, text: &str) -> Result<(), Edit
     ensures { Edits result (contents_of bench.old) (Replace (view_part target.entry) text.now) (contents_of bench.new) }
 {
     match target {
-        Part::Body(name) => bench.replace_routine(name, text),
+        Part::Routine(name) => bench.replace_routine(name, text),
         Part::Among(name, k) => bench.replace_among(name, k, text),
-        Part::Terms(name) => bench.replace_grouping(name, text),
+        Part::Grouping(name) => bench.replace_grouping(name, text),
     }
 }
 

@@ -3,8 +3,8 @@ ghost use Rattle.std.specs.Prelude.{◌≡◌, IfOk, IfSome, string_bytes};
 ghost use Rattle.sbl_history.specs.Splicing.{Reads};
 
 use crate::line_ends::{has_crlf, push_crlf};
-use sbl_script::{Script, ScriptFault};
-use sbl_source_map::{Excerpt, Part, cut_at_part};
+use sbl_script::{Part, Script, ScriptFault};
+use sbl_source_map::{Excerpt, cut_at_part};
 use std::alloc::{AllocError, Global};
 
 /// A text of a script, with the canonical text of the script that it reads as.

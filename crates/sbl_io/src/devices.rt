@@ -152,7 +152,7 @@ impl Stops {
 /// Converts the result of a read of `std::io`, for a device with this number of failures. An error of kind
 /// `Interrupted` is an interruption, every other error is a failure; but if `failures` is the greatest `u64`, each
 /// error is an interruption.
-pub fn judge_read(failures: u64, answer: io::Result<usize>) -> Result<usize, Stop>
+fn judge_read(failures: u64, answer: io::Result<usize>) -> Result<usize, Stop>
     ensures judged { IsConverted failures answer result }
     ensures counted { result ≡ Err Stop.Failed → failures < 2 ^ 64 - 1 }
 {
@@ -166,7 +166,7 @@ pub fn judge_read(failures: u64, answer: io::Result<usize>) -> Result<usize, Sto
 
 /// Converts the result of a write of these bytes in the same way. A write that takes none of some bytes is an error of
 /// kind `WriteZero`.
-pub fn judge_write(failures: u64, bytes: &[u8], answer: io::Result<usize>) -> Result<usize, Stop>
+fn judge_write(failures: u64, bytes: &[u8], answer: io::Result<usize>) -> Result<usize, Stop>
     ensures judged { IsConvertedWrite failures bytes.now answer result }
     ensures counted { result ≡ Err Stop.Failed → failures < 2 ^ 64 - 1 }
 {

@@ -11,10 +11,10 @@ mod text_buffer;
 mod text_lines;
 mod writing;
 
-pub use devices::{Device, Sink, Source, Stop, judge_read, judge_write};
+pub use devices::{Device, Sink, Source, Stop};
 pub use faults::{LineFault, ServeFault};
 pub use lines::{Lines, MAX_LINE};
-pub use records::{push_line, push_text, record_line, set_text, text_of};
+pub use records::{push_line, push_text, record_line, text_of};
 pub use report::{Report, ReportLength, ReportText};
 pub use text_buffer::TextBuffer;
 pub use text_lines::first_line;

@@ -17,7 +17,7 @@ pub fn text_of(alloc: Global, characters: &[char]) -> Result<String, AllocError>
 }
 
 /// Replaces the text by these characters. Returns `AllocError` if an allocation fails.
-pub fn set_text(text: &mut String, characters: &[char]) -> Result<(), AllocError>
+fn set_text(text: &mut String, characters: &[char]) -> Result<(), AllocError>
     ensures { OnOk result (string_bytes text.new ≡ encode_utf8_all characters.now) }
 {
     text.clear();

@@ -5,7 +5,7 @@ use Rattle.std.specs.Str.{bytes_eq}
 use Rattle.std.proofs.lemmas.Bool.{le-ltb, lt-ltb, true≢false}
 use Rattle.std.proofs.lemmas.List.{length-append, length-set}
 use Rattle.std.proofs.lemmas.Slice.Eq.{bytes_eq-Decides}
-use Rattle.sbl_semantics.specs.Items.{is_among, place_of}
+use Rattle.sbl_semantics.specs.Items.{is_member, place_of}
 use Rattle.sbl_compiler.specs.NumberedNames.{number_of}
 use Rattle.sbl_compiler.proofs.SoundItems.{among_is, number_is}
 use Rattle.sbl_machine.specs.AmongList.{AmongList', numbers_of, with_number}
@@ -30,24 +30,24 @@ listed_is (h ∷ hs) (r ∷ rows) n e = by (bytes_eq h n) (listed_is hs rows n (
     by true i = refl
     by false i = i
 
-not_listed : (hs rows : List (List ℕ)) (m : List ℕ) → is_among hs m ≡ false → listed_numbers hs rows m ≡ []
+not_listed : (hs rows : List (List ℕ)) (m : List ℕ) → is_member hs m ≡ false → listed_numbers hs rows m ≡ []
 not_listed [] rows m none = refl
 not_listed (h ∷ hs) [] m none = refl
 not_listed (h ∷ hs) (r ∷ rows) m none = by (bytes_eq h m) none (λ k. not_listed hs rows m k)
   where
-    by : (b : Bool) → (if b then true else is_among hs m) ≡ false → (is_among hs m ≡ false → listed_numbers hs rows m ≡ []) → (if b then r else listed_numbers hs rows m) ≡ []
+    by : (b : Bool) → (if b then true else is_member hs m) ≡ false → (is_member hs m ≡ false → listed_numbers hs rows m ≡ []) → (if b then r else listed_numbers hs rows m) ≡ []
     by true k rest = absurd (true≢false k)
     by false k rest = rest k
 
 -- a name that is not listed comes at the end
-listed_new : (hs rows : List (List ℕ)) (m r n : List ℕ) → length rows ≡ length hs → is_among hs m ≡ false → listed_numbers (hs ++ m ∷ []) (rows ++ r ∷ []) n ≡ (if bytes_eq m n then r else listed_numbers hs rows n)
+listed_new : (hs rows : List (List ℕ)) (m r n : List ℕ) → length rows ≡ length hs → is_member hs m ≡ false → listed_numbers (hs ++ m ∷ []) (rows ++ r ∷ []) n ≡ (if bytes_eq m n then r else listed_numbers hs rows n)
 listed_new [] [] m r n e none = refl
 listed_new [] (q ∷ rows) m r n e none = absurd cc
 listed_new (h ∷ hs) [] m r n e none = absurd cc
 listed_new (h ∷ hs) (q ∷ rows) m r n e none = by (bytes_eq h n) (bytes_eq m n) refl refl (bytes_eq h m) refl none (λ k. listed_new hs rows m r n (omega (arith, e)) k)
   where
-    by : (b c : Bool) → bytes_eq h n ≡ b → bytes_eq m n ≡ c → (d : Bool) → bytes_eq h m ≡ d → (if d then true else is_among hs m) ≡ false
-        → (is_among hs m ≡ false → listed_numbers (hs ++ m ∷ []) (rows ++ r ∷ []) n ≡ (if bytes_eq m n then r else listed_numbers hs rows n))
+    by : (b c : Bool) → bytes_eq h n ≡ b → bytes_eq m n ≡ c → (d : Bool) → bytes_eq h m ≡ d → (if d then true else is_member hs m) ≡ false
+        → (is_member hs m ≡ false → listed_numbers (hs ++ m ∷ []) (rows ++ r ∷ []) n ≡ (if bytes_eq m n then r else listed_numbers hs rows n))
         → (if b then q else listed_numbers (hs ++ m ∷ []) (rows ++ r ∷ []) n) ≡ (if c then r else (if b then q else listed_numbers hs rows n))
     by b c p o true i k rest = absurd (true≢false k)
     by true true p o false i k rest = absurd (true≢false (sym (same_by h m n p o) ∙ i))
@@ -55,7 +55,7 @@ listed_new (h ∷ hs) (q ∷ rows) m r n e none = by (bytes_eq h n) (bytes_eq m 
     by false c p o false i k rest = rest k ∙ ap (λ (x : Bool). if x then r else listed_numbers hs rows n) o
 
 -- a name that is listed gets another row
-listed_set : (hs rows : List (List ℕ)) (m r n : List ℕ) → length rows ≡ length hs → is_among hs m ≡ true → listed_numbers hs (slice_set rows (place_of hs m) r) n ≡ (if bytes_eq m n then r else listed_numbers hs rows n)
+listed_set : (hs rows : List (List ℕ)) (m r n : List ℕ) → length rows ≡ length hs → is_member hs m ≡ true → listed_numbers hs (slice_set rows (place_of hs m) r) n ≡ (if bytes_eq m n then r else listed_numbers hs rows n)
 listed_set [] rows m r n e there = absurd (true≢false (sym there))
 listed_set (h ∷ hs) [] m r n e there = absurd cc
 listed_set (h ∷ hs) (q ∷ rows) m r n e there = by (bytes_eq h m) refl there (λ k. listed_set hs rows m r n (omega (arith, e)) k)
@@ -71,8 +71,8 @@ listed_set (h ∷ hs) (q ∷ rows) m r n e there = by (bytes_eq h m) refl there 
     other true false p o i rest = refl
     other false c p o i rest = rest ∙ ap (λ (x : Bool). if x then r else listed_numbers hs rows n) o
 
-    by : (d : Bool) → bytes_eq h m ≡ d → (if d then true else is_among hs m) ≡ true
-        → (is_among hs m ≡ true → listed_numbers hs (slice_set rows (place_of hs m) r) n ≡ (if bytes_eq m n then r else listed_numbers hs rows n))
+    by : (d : Bool) → bytes_eq h m ≡ d → (if d then true else is_member hs m) ≡ true
+        → (is_member hs m ≡ true → listed_numbers hs (slice_set rows (place_of hs m) r) n ≡ (if bytes_eq m n then r else listed_numbers hs rows n))
         → listed_numbers (h ∷ hs) (slice_set (q ∷ rows) (if d then 0 else suc (place_of hs m)) r) n ≡ (if bytes_eq m n then r else listed_numbers (h ∷ hs) (q ∷ rows) n)
     by true i k rest = same i (bytes_eq m n) refl
     by false i k rest = other (bytes_eq h n) (bytes_eq m n) refl refl i (rest k)
@@ -94,7 +94,7 @@ module _ (list new : AmongList') (m n : List ℕ) (k : ℕ) (e : length list.num
 
   pub number_put : number_of hs m < length rows → new.routines ≡ hs → new.numbers ≡ slice_set rows (number_of hs m) more → numbers_of new n ≡ with_number m k n (numbers_of list n)
   number_put below same set =
-      let there : is_among hs m ≡ true = sym (among_is hs m) ∙ lt-ltb (number_of hs m) (length hs) (omega (arith, below, e)) in
+      let there : is_member hs m ≡ true = sym (among_is hs m) ∙ lt-ltb (number_of hs m) (length hs) (omega (arith, below, e)) in
       let put : new.numbers ≡ slice_set rows (place_of hs m) more = set ∙ ap (λ (i : ℕ). slice_set rows i more) (number_is hs m) in
       let long : length new.numbers ≡ length new.routines = ap length set ∙ length-set rows (number_of hs m) more ∙ e ∙ sym (ap length same) in
       at_place new n long ∙ (λ i. listed_numbers (same i) (put i) n) ∙ listed_set hs rows m more n e there ∙ by (bytes_eq m n) refl
@@ -105,14 +105,14 @@ module _ (list new : AmongList') (m n : List ℕ) (k : ℕ) (e : length list.num
 
   pub number_new : length rows ≤ number_of hs m → new.routines ≡ hs ++ m ∷ [] → new.numbers ≡ rows ++ (k ∷ []) ∷ [] → numbers_of new n ≡ with_number m k n (numbers_of list n)
   number_new past same set =
-      let none : is_among hs m ≡ false = sym (among_is hs m) ∙ le-ltb (number_of hs m) (length hs) (omega (arith, past, e)) in
+      let none : is_member hs m ≡ false = sym (among_is hs m) ∙ le-ltb (number_of hs m) (length hs) (omega (arith, past, e)) in
       let a = ap length set ∙ length-append rows ((k ∷ []) ∷ []) in
       let b = ap length same ∙ length-append hs (m ∷ []) in
       let long : length new.numbers ≡ length new.routines = omega (arith, a, b, e) in
       at_place new n long ∙ (λ i. listed_numbers (same i) (set i) n) ∙ listed_new hs rows m (k ∷ []) n e none ∙ by (bytes_eq m n) refl none
     where
-      by : (b : Bool) → bytes_eq m n ≡ b → is_among hs m ≡ false → (if b then k ∷ [] else listed_numbers hs rows n) ≡ (if b then numbers_of list n ++ k ∷ [] else numbers_of list n)
-      by true i none = ap (λ (x : List ℕ). x ++ k ∷ []) (sym (at_place list n e ∙ not_listed hs rows n (ap (is_among hs) (sym ((bytes_eq-Decides m n).0 i)) ∙ none)))
+      by : (b : Bool) → bytes_eq m n ≡ b → is_member hs m ≡ false → (if b then k ∷ [] else listed_numbers hs rows n) ≡ (if b then numbers_of list n ++ k ∷ [] else numbers_of list n)
+      by true i none = ap (λ (x : List ℕ). x ++ k ∷ []) (sym (at_place list n e ∙ not_listed hs rows n (ap (is_member hs) (sym ((bytes_eq-Decides m n).0 i)) ∙ none)))
       by false i none = sym (at_place list n e)
 
 -- a row as a list

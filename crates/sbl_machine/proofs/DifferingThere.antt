@@ -14,7 +14,7 @@ use Rattle.sbl_ast.specs.Order.{ItemInMode, in_mode, in_order}
 use Rattle.sbl_ast.specs.declared.mode.Mode.TheVariants.{Backward}
 use Rattle.sbl_ast.specs.declared.tree.DeclarationKind.TheVariants as kinds
 use Rattle.sbl_ast.specs.Tree.{Plain, declaration, escapes, macro, routine, grouping, Item, plain, backward}
-use Rattle.sbl_semantics.specs.Items.{is_among, known_in, names_by}
+use Rattle.sbl_semantics.specs.Items.{is_member, known_in, names_by}
 use Rattle.sbl_semantics.specs.Regions.{number_after}
 use Rattle.sbl_parser.proofs.OneTree.{trees_are_one}
 use Rattle.sbl_machine.specs.DifferLaws.{DifferingAreThere}
@@ -33,8 +33,8 @@ module _ (names : Names') where
 
   -- the names have the routine or the grouping that an item defines
   abbrev HasPlain : Plain → Type 0
-  HasPlain (routine n c os) = is_among names.routines n ≡ true
-  HasPlain (grouping n a ts) = is_among names.groupings n ≡ true
+  HasPlain (routine n c os) = is_member names.routines n ≡ true
+  HasPlain (grouping n a ts) = is_member names.groupings n ≡ true
   HasPlain (declaration k ns) = ⊤
   HasPlain (escapes a b) = ⊤
   HasPlain (macro n b q) = ⊤
@@ -48,15 +48,15 @@ module _ (names : Names') where
   none_there : (b : Bool) (zs : List Item') → when b ≡ Some zs → There zs
   none_there b zs is = subst There (none_listed b zs is) refl
 
-  amongs_there : (n : List ℕ) → is_among names.routines n ≡ true → (ks : List ℕ) → There (map (Among n) ks)
+  amongs_there : (n : List ℕ) → is_member names.routines n ≡ true → (ks : List ℕ) → There (map (Among n) ks)
   amongs_there n has [] = refl
   amongs_there n has (k ∷ ks) = also _ _ has (amongs_there n has ks)
 
-  body_there : (n : List ℕ) → is_among names.routines n ≡ true → (o : Option (List ℕ)) → There (items_by n o)
+  body_there : (n : List ℕ) → is_member names.routines n ≡ true → (o : Option (List ℕ)) → There (items_by n o)
   body_there n has None = also _ _ has refl
   body_there n has (Some ks) = amongs_there n has ks
 
-  terms_there : (n : List ℕ) → is_among names.groupings n ≡ true → (same : Bool) → There (if same then [] else Grouping n ∷ [])
+  terms_there : (n : List ℕ) → is_member names.groupings n ≡ true → (same : Bool) → There (if same then [] else Grouping n ∷ [])
   terms_there n has true = refl
   terms_there n has false = also _ _ has refl
 
@@ -119,7 +119,7 @@ module _ (names : Names') where
 -- ---- the names of a script have what its items define
 
 abbrev Within : List (List ℕ) → List (List ℕ) → Type 0
-Within ms ns = (n : List ℕ) → is_among ms n ≡ true → is_among ns n ≡ true
+Within ms ns = (n : List ℕ) → is_member ms n ≡ true → is_member ns n ≡ true
 
 own_plain : (names : Names') (x : Plain) (routines groupings : List (List ℕ)) → Within (names_by kinds.Routines x ++ routines) names.routines → Within (names_by kinds.Groupings x ++ groupings) names.groupings → HasPlain names x
 own_plain names (routine n c os) routines groupings p q = p n (first_name n n routines (name_self n))

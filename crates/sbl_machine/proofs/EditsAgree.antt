@@ -10,14 +10,13 @@ use Rattle.sbl_ast.specs.View.{RowView}
 use Rattle.sbl_ast.specs.Counts.{count_in_among}
 use Rattle.sbl_resolver.specs.Laws.{WellDeclaredPasses}
 use Rattle.sbl_tree_amongs.specs.Amongs.{AmongContents, amongs_of_body, nth_held, put_in_body}
-use Rattle.sbl_semantics.specs.Items.{is_among, known_in, names_by}
+use Rattle.sbl_semantics.specs.Items.{is_member, known_in, names_by}
 use Rattle.sbl_semantics.specs.Regions.{number_after}
 use Rattle.sbl_ast.specs.Order.{ItemInMode, in_mode, in_order}
 use Rattle.sbl_ast.specs.declared.mode.Mode.TheVariants.{Backward}
 use Rattle.sbl_ast.specs.declared.tree.DeclarationKind.{DeclarationKind}
 use Rattle.sbl_ast.specs.declared.tree.DeclarationKind.TheVariants as kinds
-use Rattle.sbl_script.specs.declared.edits.DefinitionKind.TheVariants as defined
-use Rattle.sbl_script.specs.Edits.{ScriptEdit, body, among, terms, changes, defines, plains_with, items_with}
+use Rattle.sbl_script.specs.Edits.{ScriptEdit, body, among, terms, changes, is_routine_named, is_grouping_named, plains_with, items_with}
 use Rattle.sbl_script.specs.Homes.{Home, first_in, first_passing, home_in, home_of_among, home_of_body, home_of_held, home_of_terms, plain_if, IsSubstitutedAt}
 use Rattle.sbl_script.proofs.Agreement.{edited_in}
 use Rattle.sbl_script.proofs.Found.{grouping_found, routine_found, some_plain}
@@ -107,7 +106,7 @@ among_same n k b a h at count =
 -- a grouping is changed with itself, so its terms are of no matter
 terms_same : (s : Source) (n : List ℕ) (a b : Argument) (xs ys : List Term) → holed_plain (is_affected_by s (Grouping n)) (grouping n a xs) ≡ holed_plain (is_affected_by s (Grouping n)) (grouping n b ys)
 terms_same s n a b xs ys =
-    let own : is_among (built_from n s) n ≡ true = built_more (in_order s.items) (n ∷ []) n (ap (λ (v : Bool). if v then true else false) (same_bytes n)) in
+    let own : is_member (built_from n s) n ≡ true = built_more (in_order s.items) (n ∷ []) n (ap (λ (v : Bool). if v then true else false) (same_bytes n)) in
     let gone = λ (c : Argument) (zs : List Term). ap (λ (v : Bool). if v then grouping n (written_out nothing) [] else grouping n c zs) own in
     gone a xs ∙ sym (gone b ys)
 
@@ -119,32 +118,32 @@ script_agree picked s t p new old same at items external =
     (λ i. record { items = is i; external = sym external i })
 
 -- a home that there is, by what is found in the script
-body_agree : (s t : Source) (n text : List ℕ) (b : RowView) (h : Home) → first_passing (defines defined.Routine n) s.items ≡ Some (routine n b.0 b.1) → home_of_body s.items n ≡ h → IsSubstitutedAt s h text true t
+body_agree : (s t : Source) (n text : List ℕ) (b : RowView) (h : Home) → first_passing (is_routine_named n) s.items ≡ Some (routine n b.0 b.1) → home_of_body s.items n ≡ h → IsSubstitutedAt s h text true t
     → AgreeOutside (same_item (Routine n)) s t
 body_agree s t n text b h at is =
     subst (λ h. IsSubstitutedAt s h text true t → AgreeOutside (same_item (Routine n)) s t) is
     (λ (z : IsSubstitutedAt s (home_of_body s.items n) text true t).
-    script_agree (same_item (Routine n)) s t (defines defined.Routine n) (routine n z.tree.0 z.tree.1) (routine n b.0 b.1) (whole_same n b z.tree) at z.items_are z.external_is)
+    script_agree (same_item (Routine n)) s t (is_routine_named n) (routine n z.tree.0 z.tree.1) (routine n b.0 b.1) (whole_same n b z.tree) at z.items_are z.external_is)
 
-among_agree : (s t : Source) (n : List ℕ) (k : ℕ) (text : List ℕ) (b : RowView) (g : AmongContents) (h : Home) → first_passing (defines defined.Routine n) s.items ≡ Some (routine n b.0 b.1) → nth_held k (amongs_of_body b) ≡ Some g
+among_agree : (s t : Source) (n : List ℕ) (k : ℕ) (text : List ℕ) (b : RowView) (g : AmongContents) (h : Home) → first_passing (is_routine_named n) s.items ≡ Some (routine n b.0 b.1) → nth_held k (amongs_of_body b) ≡ Some g
     → home_of_among s.items n b k g ≡ h → IsSubstitutedAt s h text true t → AgreeOutside (same_item (Among n k)) s t
 among_agree s t n k text b g h at there is =
     subst (λ h. IsSubstitutedAt s h text true t → AgreeOutside (same_item (Among n k)) s t) is
     (λ (z : IsSubstitutedAt s (home_of_among s.items n b k g) text true t).
-    script_agree (same_item (Among n k)) s t (defines defined.Routine n) (routine n (put_in_body b k z.tree).0 (put_in_body b k z.tree).1) (routine n b.0 b.1)
+    script_agree (same_item (Among n k)) s t (is_routine_named n) (routine n (put_in_body b k z.tree).0 (put_in_body b k z.tree).1) (routine n b.0 b.1)
     (among_same n k b z.tree g there (eqb-true _ _ z.counted)) at z.items_are z.external_is)
 
-among_by : (s t : Source) (n : List ℕ) (k : ℕ) (text : List ℕ) (b : RowView) (h : Home) → first_passing (defines defined.Routine n) s.items ≡ Some (routine n b.0 b.1) → (o : Option AmongContents) → nth_held k (amongs_of_body b) ≡ o
+among_by : (s t : Source) (n : List ℕ) (k : ℕ) (text : List ℕ) (b : RowView) (h : Home) → first_passing (is_routine_named n) s.items ≡ Some (routine n b.0 b.1) → (o : Option AmongContents) → nth_held k (amongs_of_body b) ≡ o
     → home_of_held s.items n b k o ≡ Ok h → IsSubstitutedAt s h text true t → AgreeOutside (same_item (Among n k)) s t
 among_by s t n k text b h at None there is = let never : home_of_held s.items n b k None ≡ Ok h = is in absurd cc
 among_by s t n k text b h at (Some g) there is = let same : home_of_among s.items n b k g ≡ h = cc in among_agree s t n k text b g h at there same
 
-terms_agree : (s t : Source) (n text : List ℕ) (a : Argument) (xs : List Term) (h : Home) → first_passing (defines defined.Grouping n) s.items ≡ Some (grouping n a xs) → home_of_terms s.items n ≡ h → IsSubstitutedAt s h text true t
+terms_agree : (s t : Source) (n text : List ℕ) (a : Argument) (xs : List Term) (h : Home) → first_passing (is_grouping_named n) s.items ≡ Some (grouping n a xs) → home_of_terms s.items n ≡ h → IsSubstitutedAt s h text true t
     → AgreeOutside (is_affected_by s (Grouping n)) s t
 terms_agree s t n text a xs h at is =
     subst (λ h. IsSubstitutedAt s h text true t → AgreeOutside (is_affected_by s (Grouping n)) s t) is
     (λ (z : IsSubstitutedAt s (home_of_terms s.items n) text true t).
-    script_agree (is_affected_by s (Grouping n)) s t (defines defined.Grouping n) (grouping n z.tree.0 z.tree.1) (grouping n a xs) (terms_same s n z.tree.0 a z.tree.1 xs) at z.items_are z.external_is)
+    script_agree (is_affected_by s (Grouping n)) s t (is_grouping_named n) (grouping n z.tree.0 z.tree.1) (grouping n a xs) (terms_same s n z.tree.0 a z.tree.1 xs) at z.items_are z.external_is)
 
 -- ---- what is found is in the script
 
@@ -152,67 +151,67 @@ or_more : {A : Type 0} (a b c : Option A) → option_or a (option_or b c) ≡ op
 or_more (Some x) b c = refl
 or_more None b c = refl
 
-module _ (n : List ℕ) (k : DeclarationKind) (p : Plain → Bool) (own : (x : Plain) → p x ≡ true → (rest : List (List ℕ)) → is_among (names_by k x ++ rest) n ≡ true)
-    (more : (x : Plain) (rest : List (List ℕ)) → is_among rest n ≡ true → is_among (names_by k x ++ rest) n ≡ true) where
-  plain_known : (x : Plain) (v : Bool) → p x ≡ v → (o : Option Plain) (old : Plain) → option_or (if v then Some x else None) o ≡ Some old → (rest : List (List ℕ)) → (o ≡ Some old → is_among rest n ≡ true)
-      → is_among (names_by k x ++ rest) n ≡ true
+module _ (n : List ℕ) (k : DeclarationKind) (p : Plain → Bool) (own : (x : Plain) → p x ≡ true → (rest : List (List ℕ)) → is_member (names_by k x ++ rest) n ≡ true)
+    (more : (x : Plain) (rest : List (List ℕ)) → is_member rest n ≡ true → is_member (names_by k x ++ rest) n ≡ true) where
+  plain_known : (x : Plain) (v : Bool) → p x ≡ v → (o : Option Plain) (old : Plain) → option_or (if v then Some x else None) o ≡ Some old → (rest : List (List ℕ)) → (o ≡ Some old → is_member rest n ≡ true)
+      → is_member (names_by k x ++ rest) n ≡ true
   plain_known x true e o old is rest later = own x e rest
   plain_known x false e o old is rest later = more x rest (later is)
 
-  plains_known : (xs : List Plain) (o : Option Plain) (old : Plain) → option_or (first_in p xs) o ≡ Some old → (ys : List ItemInMode) → (o ≡ Some old → is_among (known_in ys k) n ≡ true)
-      → is_among (known_in (in_mode Backward xs ++ ys) k) n ≡ true
+  plains_known : (xs : List Plain) (o : Option Plain) (old : Plain) → option_or (first_in p xs) o ≡ Some old → (ys : List ItemInMode) → (o ≡ Some old → is_member (known_in ys k) n ≡ true)
+      → is_member (known_in (in_mode Backward xs ++ ys) k) n ≡ true
   plains_known [] o old is ys later = later is
   plains_known (x ∷ xs) o old is ys later =
       plain_known x (p x) refl (option_or (first_in p xs) o) old (or_more (plain_if p x) (first_in p xs) o ∙ is) (known_in (in_mode Backward xs ++ ys) k) (λ g. plains_known xs o old g ys later)
 
-  items_known : (is : List Item) (old : Plain) → first_passing p is ≡ Some old → is_among (known_in (in_order is) k) n ≡ true
+  items_known : (is : List Item) (old : Plain) → first_passing p is ≡ Some old → is_member (known_in (in_order is) k) n ≡ true
   items_known [] old h = let never : None ≡ Some old = h in absurd cc
   items_known (plain x ∷ is) old h = plain_known x (p x) refl (first_passing p is) old h (known_in (in_order is) k) (λ g. items_known is old g)
   items_known (backward xs ∷ is) old h = plains_known xs (first_passing p is) old h (in_order is) (λ g. items_known is old g)
 
-pub first_name : (n m : List ℕ) (rest : List (List ℕ)) → bytes_eq n m ≡ true → is_among (m ∷ rest) n ≡ true
-first_name n m rest e = ap (λ (v : Bool). if v then true else is_among rest n) (flip n m e)
+pub first_name : (n m : List ℕ) (rest : List (List ℕ)) → bytes_eq n m ≡ true → is_member (m ∷ rest) n ≡ true
+first_name n m rest e = ap (λ (v : Bool). if v then true else is_member rest n) (flip n m e)
 
-later_name : (n m : List ℕ) (rest : List (List ℕ)) → is_among rest n ≡ true → is_among (m ∷ rest) n ≡ true
+later_name : (n m : List ℕ) (rest : List (List ℕ)) → is_member rest n ≡ true → is_member (m ∷ rest) n ≡ true
 later_name n m rest h = by (bytes_eq m n)
   where
-    by : (v : Bool) → (if v then true else is_among rest n) ≡ true
+    by : (v : Bool) → (if v then true else is_member rest n) ≡ true
     by true = refl
     by false = h
 
-routine_own : (n : List ℕ) (x : Plain) → defines defined.Routine n x ≡ true → (rest : List (List ℕ)) → is_among (names_by kinds.Routines x ++ rest) n ≡ true
+routine_own : (n : List ℕ) (x : Plain) → is_routine_named n x ≡ true → (rest : List (List ℕ)) → is_member (names_by kinds.Routines x ++ rest) n ≡ true
 routine_own n (routine m c os) e rest = first_name n m rest e
 routine_own n (declaration k ns) e rest = absurd (true≢false (sym e))
 routine_own n (escapes a b) e rest = absurd (true≢false (sym e))
 routine_own n (macro m b q) e rest = absurd (true≢false (sym e))
 routine_own n (grouping m a ts) e rest = absurd (true≢false (sym e))
 
-pub routine_more : (n : List ℕ) (x : Plain) (rest : List (List ℕ)) → is_among rest n ≡ true → is_among (names_by kinds.Routines x ++ rest) n ≡ true
+pub routine_more : (n : List ℕ) (x : Plain) (rest : List (List ℕ)) → is_member rest n ≡ true → is_member (names_by kinds.Routines x ++ rest) n ≡ true
 routine_more n (routine m c os) rest h = later_name n m rest h
 routine_more n (declaration k ns) rest h = h
 routine_more n (escapes a b) rest h = h
 routine_more n (macro m b q) rest h = h
 routine_more n (grouping m a ts) rest h = h
 
-grouping_own : (n : List ℕ) (x : Plain) → defines defined.Grouping n x ≡ true → (rest : List (List ℕ)) → is_among (names_by kinds.Groupings x ++ rest) n ≡ true
+grouping_own : (n : List ℕ) (x : Plain) → is_grouping_named n x ≡ true → (rest : List (List ℕ)) → is_member (names_by kinds.Groupings x ++ rest) n ≡ true
 grouping_own n (grouping m a ts) e rest = first_name n m rest e
 grouping_own n (declaration k ns) e rest = absurd (true≢false (sym e))
 grouping_own n (escapes a b) e rest = absurd (true≢false (sym e))
 grouping_own n (macro m b q) e rest = absurd (true≢false (sym e))
 grouping_own n (routine m c os) e rest = absurd (true≢false (sym e))
 
-pub grouping_more : (n : List ℕ) (x : Plain) (rest : List (List ℕ)) → is_among rest n ≡ true → is_among (names_by kinds.Groupings x ++ rest) n ≡ true
+pub grouping_more : (n : List ℕ) (x : Plain) (rest : List (List ℕ)) → is_member rest n ≡ true → is_member (names_by kinds.Groupings x ++ rest) n ≡ true
 grouping_more n (grouping m a ts) rest h = later_name n m rest h
 grouping_more n (declaration k ns) rest h = h
 grouping_more n (escapes a b) rest h = h
 grouping_more n (macro m b q) rest h = h
 grouping_more n (routine m c os) rest h = h
 
-routine_known : (n : List ℕ) (is : List Item) (x : Plain) → first_passing (defines defined.Routine n) is ≡ Some x → is_among (known_in (in_order is) kinds.Routines) n ≡ true
-routine_known n is x at = items_known n kinds.Routines (defines defined.Routine n) (routine_own n) (routine_more n) is x at
+routine_known : (n : List ℕ) (is : List Item) (x : Plain) → first_passing (is_routine_named n) is ≡ Some x → is_member (known_in (in_order is) kinds.Routines) n ≡ true
+routine_known n is x at = items_known n kinds.Routines (is_routine_named n) (routine_own n) (routine_more n) is x at
 
-grouping_known : (n : List ℕ) (is : List Item) (x : Plain) → first_passing (defines defined.Grouping n) is ≡ Some x → is_among (known_in (in_order is) kinds.Groupings) n ≡ true
-grouping_known n is x at = items_known n kinds.Groupings (defines defined.Grouping n) (grouping_own n) (grouping_more n) is x at
+grouping_known : (n : List ℕ) (is : List Item) (x : Plain) → first_passing (is_grouping_named n) is ≡ Some x → is_member (known_in (in_order is) kinds.Groupings) n ≡ true
+grouping_known n is x at = items_known n kinds.Groupings (is_grouping_named n) (grouping_own n) (grouping_more n) is x at
 
 -- ---- an edit, by what is found in the script
 

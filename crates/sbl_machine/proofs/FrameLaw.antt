@@ -9,7 +9,7 @@ use Rattle.sbl_ast.specs.declared.tree.DeclarationKind.TheVariants as kinds
 use Rattle.sbl_ast.specs.Tree.{bracket, no_rows, no_others}
 use Rattle.sbl_ast.specs.declared.mode.Mode.{Mode}
 use Rattle.sbl_ast.specs.declared.mode.Mode.TheVariants.{Forward}
-use Rattle.sbl_semantics.specs.Items.{DeclaredNames, known_in, class_of, classes_after, is_among, place_of, Body, body_named}
+use Rattle.sbl_semantics.specs.Items.{DeclaredNames, known_in, char_class_of, classes_after, is_member, place_of, Body, body_named}
 use Rattle.sbl_semantics.specs.Regions.{number_after, number_after_others}
 use Rattle.sbl_semantics.specs.declared.fault.RunFault.TheVariants.{Depth}
 use Rattle.sbl_semantics.specs.declared.touch.Touch.{Touch}
@@ -17,7 +17,8 @@ use Rattle.sbl_semantics.specs.declared.touch.Touch.TheVariants.{Entered, Tested
 use Rattle.sbl_machine.specs.BuiltFrom.{IsClosed, IsClosedAt}
 use Rattle.sbl_machine.specs.Frame.{AgreeOutside, RunsAlike, Frame}
 use Rattle.sbl_machine.specs.Holes.{with_holes, others_with_holes, holed_script}
-use Rattle.sbl_semantics.specs.Meaning.{row_does, body_does, calls, start, ending}
+use Rattle.sbl_semantics.specs.Meaning.{body_does, calls, start, ending}
+use Rattle.sbl_semantics.specs.inside.MeaningParts.{row_does}
 use Rattle.sbl_semantics.specs.Outcome.{outcome_at, used_at, touched_at, run_of, used_of, touches_of}
 use Rattle.sbl_semantics.specs.Control.{pay_first, enter, leave}
 use Rattle.sbl_semantics.specs.State.{State, Ending, Signals, Stops, Doing, pay}
@@ -95,22 +96,22 @@ module _ (picked : Item' → Bool) (items : List ItemInMode) (closed : AllByRecu
   ns = known_in items
 
   abbrev class : List ℕ → ℕ → Bool
-  class = class_of (classes_after items [])
+  class = char_class_of (classes_after items [])
 
   -- the same with holes
   abbrev class' : List ℕ → ℕ → Bool
-  class' = class_of (classes_after (holed_items picked items) [])
+  class' = char_class_of (classes_after (holed_items picked items) [])
 
   abbrev is_marked : Touch → Bool
   is_marked = marked_by picked (record { routines = known_in items kinds.Routines; groupings = known_in items kinds.Groupings })
 
   -- a grouping that is not marked has the same; so has a name of none, which has nothing
   classes_alike : (n : List ℕ) → is_marked (Tested (place_of (ns kinds.Groupings) n)) ≡ false → class' n ≡ class n
-  classes_alike n clear = at (is_among (known_in items kinds.Groupings) n) refl
+  classes_alike n clear = at (is_member (known_in items kinds.Groupings) n) refl
     where
-      at : (b : Bool) → is_among (known_in items kinds.Groupings) n ≡ b → class' n ≡ class n
+      at : (b : Bool) → is_member (known_in items kinds.Groupings) n ≡ b → class' n ≡ class n
       at true e = classes_same picked items closed n (ap (λ x. picked (Grouping x)) (sym (place_names (known_in items kinds.Groupings) n e)) ∙ clear)
-      at false e = fun_ext (λ c. no_class (holed_items picked items) n c (ap (λ l. is_among l n) (ap (λ known. known kinds.Groupings) (known_same picked items)) ∙ e) ∙ sym (no_class items n c e))
+      at false e = fun_ext (λ c. no_class (holed_items picked items) n c (ap (λ l. is_member l n) (ap (λ known. known kinds.Groupings) (known_same picked items)) ∙ e) ∙ sym (no_class items n c e))
 
   routine_by : (i : ℕ) (n : List ℕ) (body : Body) (call call' : List ℕ → Doing) (m : Mode) (b : Bool) → picked (Routine n) ≡ b → slice_index_or (known_in items kinds.Routines) (place_of (known_in items kinds.Routines) n) [] ≡ n
       → Alike is_marked (place_of (known_in items kinds.Routines) n) (pay_first (row_does ns class call body.mode body.first body.others))
@@ -161,14 +162,14 @@ module _ (picked : Item' → Bool) (items : List ItemInMode) (closed : AllByRecu
 
 -- a run on so many levels
 abbrev run_on : ℕ → List ItemInMode → List ℕ → List ℕ → ℕ → Ending
-run_on l items external word limit = calls (known_in items) (class_of (classes_after items [])) (body_named items) l external Forward (start (known_in items) word limit)
+run_on l items external word limit = calls (known_in items) (char_class_of (classes_after items [])) (body_named items) l external Forward (start (known_in items) word limit)
 
 holed_run : (picked : Item' → Bool) (l : ℕ) (items : List ItemInMode) (external word : List ℕ) (limit : ℕ) →
     run_on l (holed_items picked items) external word limit
-    ≡ calls (known_in items) (class_of (classes_after (holed_items picked items) [])) (body_named (holed_items picked items)) l external Forward (start (known_in items) word limit)
+    ≡ calls (known_in items) (char_class_of (classes_after (holed_items picked items) [])) (body_named (holed_items picked items)) l external Forward (start (known_in items) word limit)
 holed_run picked l items external word limit =
     let bodies = body_named (holed_items picked items) in
-    ap (λ ns. calls ns (class_of (classes_after (holed_items picked items) [])) bodies l external Forward (start ns word limit)) (known_same picked items)
+    ap (λ ns. calls ns (char_class_of (classes_after (holed_items picked items) [])) bodies l external Forward (start ns word limit)) (known_same picked items)
 
 -- two endings are the same, or something that is picked was touched in both
 abbrev Kin : (Touch → Bool) → Ending → Ending → Type 0

@@ -16,7 +16,7 @@ use Rattle.sbl_resolver.specs.Occurrences.{Occurrence, put, uses, defines_routin
 use Rattle.sbl_resolver.specs.OccurrenceView.{noted_terms}
 use Rattle.sbl_resolver.specs.Checks.{kind_of, defined_at, definition_of, is_some_and, is_routine, is_grouping, is_earlier}
 use Rattle.sbl_resolver.proofs.Extends.{Extends, then_, items_more, put_more}
-use Rattle.sbl_semantics.specs.Items.{known_in, names_by, is_among}
+use Rattle.sbl_semantics.specs.Items.{known_in, names_by, is_member}
 use Rattle.sbl_machine.proofs.Noticed.{look, look_kept, kinds_at, site_is, sites_quiet, routine_still, grouping_still}
 use Rattle.sbl_machine.proofs.NamesStand.{names_site, site_put, Passing, at_mark, kind_kept, routine_kind, test_fails, rest_fails, not_false, terms_extend, plain_after, grouping_after, flip, or_true}
 
@@ -78,7 +78,7 @@ not_before (x ∷ xs) i s n d e h = at (place_after x.plain (place_of i x) s n e
         omega arith
 
 -- a grouping that is not that of an item is one of the others
-others_have : (y : Plain) (p : Site) (s : List Occurrence) (n : List ℕ) (rest : List (List ℕ)) → is_among (names_by kinds.Groupings y ++ rest) n ≡ true → site_in n s ≡ None → site_in n (noted_plain y p s) ≡ None → is_among rest n ≡ true
+others_have : (y : Plain) (p : Site) (s : List Occurrence) (n : List ℕ) (rest : List (List ℕ)) → is_member (names_by kinds.Groupings y ++ rest) n ≡ true → site_in n s ≡ None → site_in n (noted_plain y p s) ≡ None → is_member rest n ≡ true
 others_have (declaration k ns) p s n rest h e none = h
 others_have (escapes a b) p s n rest h e none = h
 others_have (macro m b q) p s n rest h e none = h
@@ -88,7 +88,7 @@ others_have (grouping r a ts) p s n rest h e none = at (bytes_eq r n) refl h
     still : site_in n (noted_plain (grouping r a ts) p s) ≡ site_in n (put (defines_grouping r) p s)
     still = grouping_still (defined_at n) (sites_quiet n) r a ts p s
 
-    at : (b : Bool) → bytes_eq r n ≡ b → cond b true (is_among rest n) ≡ true → is_among rest n ≡ true
+    at : (b : Bool) → bytes_eq r n ≡ b → cond b true (is_member rest n) ≡ true → is_member rest n ≡ true
     at true k g =
         let there : site_in n (put (defines_grouping r) p s) ≡ Some p = site_put n (defines_grouping r) p s (Some p) e (ap (λ c. cond c (Some p) None) (flip r n k)) in
         let both = sym none ∙ still ∙ there in
@@ -97,7 +97,7 @@ others_have (grouping r a ts) p s n rest h e none = at (bytes_eq r n) refl h
     at false k g = g
 
 -- a grouping that some items define is defined in one of them
-defined_in : (xs : List ItemInMode) (i : ℕ) (s : List Occurrence) (n : List ℕ) → is_among (known_in xs kinds.Groupings) n ≡ true → site_in n s ≡ None → (d : Site) × (site_in n (noted_items xs i s) ≡ Some d) × (d.item < i + length xs)
+defined_in : (xs : List ItemInMode) (i : ℕ) (s : List Occurrence) (n : List ℕ) → is_member (known_in xs kinds.Groupings) n ≡ true → site_in n s ≡ None → (d : Site) × (site_in n (noted_items xs i s) ≡ Some d) × (d.item < i + length xs)
 defined_in [] i s n h e = let none : ⊥ = cc in absurd none
 defined_in (x ∷ xs) i s n h e = at (place_after x.plain (place_of i x) s n e) (λ none. defined_in xs (i + 1) (following x i s) n (others_have x.plain (place_of i x) s n (known_in xs kinds.Groupings) h e none) none)
   where
@@ -120,7 +120,7 @@ not_both (Some kinds.Groupings) r g = cc
 -- the names of a term, and of some, are among these
 abbrev pub IsKnown : List (List ℕ) → Argument → Type 0
 IsKnown ns (written_out q) = ⊤
-IsKnown ns (by_name n) = is_among ns n ≡ true
+IsKnown ns (by_name n) = is_member ns n ≡ true
 
 abbrev pub AreKnown : List (List ℕ) → List Term → Type 0
 AreKnown ns [] = ⊤
@@ -131,17 +131,17 @@ module _ (all : List Occurrence) (passing : Passing all) where
   is_grouping_name n = is_some_and is_grouping (look (kinds_at n) all) ≡ true
 
   -- what some items define is a grouping of theirs, if its name is a grouping's
-  grouping_in : (xs : List ItemInMode) (i : ℕ) (s : List Occurrence) (n : List ℕ) (d : Site) → is_grouping_name n → Extends (noted_items xs i s) all → site_in n s ≡ None → site_in n (noted_items xs i s) ≡ Some d → is_among (known_in xs kinds.Groupings) n ≡ true
+  grouping_in : (xs : List ItemInMode) (i : ℕ) (s : List Occurrence) (n : List ℕ) (d : Site) → is_grouping_name n → Extends (noted_items xs i s) all → site_in n s ≡ None → site_in n (noted_items xs i s) ≡ Some d → is_member (known_in xs kinds.Groupings) n ≡ true
   grouping_in [] i s n d g more e h = let none : ⊥ = cc in absurd none
   grouping_in (x ∷ xs) i s n d g more e h = at x.plain (then_ (items_more xs (i + 1) (following x i s)) more) (λ none. grouping_in xs (i + 1) (following x i s) n d g more none h)
     where
-      at : (y : Plain) → Extends (noted_plain y (place_of i x) s) all → (site_in n (noted_plain y (place_of i x) s) ≡ None → is_among (known_in xs kinds.Groupings) n ≡ true) → is_among (names_by kinds.Groupings y ++ known_in xs kinds.Groupings) n ≡ true
+      at : (y : Plain) → Extends (noted_plain y (place_of i x) s) all → (site_in n (noted_plain y (place_of i x) s) ≡ None → is_member (known_in xs kinds.Groupings) n ≡ true) → is_member (names_by kinds.Groupings y ++ known_in xs kinds.Groupings) n ≡ true
       at (declaration k ns) ext rest = rest (names_site k ns (place_of i x) s n e)
       at (escapes a b) ext rest = rest e
       at (macro m b q) ext rest = rest e
       at (routine r c os) ext rest = pick (bytes_eq n r) refl
         where
-          pick : (b : Bool) → bytes_eq n r ≡ b → is_among (known_in xs kinds.Groupings) n ≡ true
+          pick : (b : Bool) → bytes_eq n r ≡ b → is_member (known_in xs kinds.Groupings) n ≡ true
           pick true k =
               absurd (not_both (look (kinds_at n) all)
               (ap (λ z. is_some_and is_routine (look (kinds_at z) all)) ((bytes_eq-Decides n r).0 k) ∙ routine_kind all s r (place_of i x) passing (then_ (plain_after r c os (place_of i x) s) ext)) g)
@@ -149,10 +149,10 @@ module _ (all : List Occurrence) (passing : Passing all) where
               rest (routine_still (defined_at n) (sites_quiet n) r c os (place_of i x) s ∙ site_put n (defines_routine r) (place_of i x) s None e (ap (λ b. cond b (Some (place_of i x)) None) k))
       at (grouping r a ts) ext rest = pick (bytes_eq n r) refl
         where
-          pick : (b : Bool) → bytes_eq n r ≡ b → cond (bytes_eq r n) true (is_among (known_in xs kinds.Groupings) n) ≡ true
-          pick true k = ap (λ b. cond b true (is_among (known_in xs kinds.Groupings) n)) (flip n r k)
+          pick : (b : Bool) → bytes_eq n r ≡ b → cond (bytes_eq r n) true (is_member (known_in xs kinds.Groupings) n) ≡ true
+          pick true k = ap (λ b. cond b true (is_member (known_in xs kinds.Groupings) n)) (flip n r k)
           pick false k =
-              or_true (bytes_eq r n) (is_among (known_in xs kinds.Groupings) n)
+              or_true (bytes_eq r n) (is_member (known_in xs kinds.Groupings) n)
               (rest (grouping_still (defined_at n) (sites_quiet n) r a ts (place_of i x) s ∙ site_put n (defines_grouping r) (place_of i x) s None e (ap (λ b. cond b (Some (place_of i x)) None) k)))
 
   -- ---- the items before one
@@ -165,7 +165,7 @@ module _ (all : List Occurrence) (passing : Passing all) where
     first_more = subst (Extends s0) (sym parts) (items_more rest (1 + length bs) s0)
 
     -- a grouping that is defined earlier is one of theirs
-    earlier_in : (n : List ℕ) → is_grouping_name n → is_earlier (1 + length bs) (definition_of n all) ≡ true → is_among (known_in bs kinds.Groupings) n ≡ true
+    earlier_in : (n : List ℕ) → is_grouping_name n → is_earlier (1 + length bs) (definition_of n all) ≡ true → is_member (known_in bs kinds.Groupings) n ≡ true
     earlier_in n g h = at (site_in n s0) refl
       where
         whole : (o : Option Site) → site_in n all ≡ o → site_in n s0 ≡ None → ⊥
@@ -176,15 +176,15 @@ module _ (all : List Occurrence) (passing : Passing all) where
             let high = not_before rest (1 + length bs) s0 n d e (sym (ap (site_in n) parts) ∙ k) in
             omega arith
 
-        at : (o : Option Site) → site_in n s0 ≡ o → is_among (known_in bs kinds.Groupings) n ≡ true
+        at : (o : Option Site) → site_in n s0 ≡ o → is_member (known_in bs kinds.Groupings) n ≡ true
         at None e = absurd (whole (site_in n all) refl e)
         at (Some d) e = grouping_in bs 1 [] n d g first_more refl e
 
     -- what is not defined earlier is none of theirs
-    not_in : (n : List ℕ) → is_earlier (1 + length bs) (definition_of n all) ≡ false → is_among (known_in bs kinds.Groupings) n ≡ false
-    not_in n h = at (is_among (known_in bs kinds.Groupings) n) refl
+    not_in : (n : List ℕ) → is_earlier (1 + length bs) (definition_of n all) ≡ false → is_member (known_in bs kinds.Groupings) n ≡ false
+    not_in n h = at (is_member (known_in bs kinds.Groupings) n) refl
       where
-        at : (b : Bool) → is_among (known_in bs kinds.Groupings) n ≡ b → is_among (known_in bs kinds.Groupings) n ≡ false
+        at : (b : Bool) → is_member (known_in bs kinds.Groupings) n ≡ b → is_member (known_in bs kinds.Groupings) n ≡ false
         at false e = e
         at true e =
             let d = defined_in bs 1 [] n e refl in
@@ -194,7 +194,7 @@ module _ (all : List Occurrence) (passing : Passing all) where
             let gone : ⊥ = cc in
             absurd gone
 
-    name_known : (m : Mode) (s : List Occurrence) (n : List ℕ) → Extends (put (uses use_as.Term n) (record { item = 1 + length bs; mode = m }) s) all → is_among (known_in bs kinds.Groupings) n ≡ true
+    name_known : (m : Mode) (s : List Occurrence) (n : List ℕ) → Extends (put (uses use_as.Term n) (record { item = 1 + length bs; mode = m }) s) all → is_member (known_in bs kinds.Groupings) n ≡ true
     name_known m s n e =
         let p : Site = record { item = 1 + length bs; mode = m } in
         let mark : Occurrence = record { site = p; notice = uses use_as.Term n } in
@@ -218,7 +218,7 @@ module _ (all : List Occurrence) (passing : Passing all) where
 
 -- the names of a grouping's definition: none of the groupings before has its own, and those of its terms are all among them
 pub record AreNames (bs : List ItemInMode) (n : List ℕ) (a : Argument) (ts : List Term) : Type 0 where
-  pub once : is_among (known_in bs kinds.Groupings) n ≡ false
+  pub once : is_member (known_in bs kinds.Groupings) n ≡ false
   pub first : IsKnown (known_in bs kinds.Groupings) a
   pub others : AreKnown (known_in bs kinds.Groupings) ts
 

@@ -12,7 +12,7 @@ use Rattle.sbl_ast.specs.declared.tree.Additive.TheVariants.{Plus, Minus}
 use Rattle.sbl_ast.specs.declared.tree.DeclarationKind.TheVariants as kinds
 use Rattle.sbl_ast.specs.Tree.{Argument, written_out, by_name, Term, term, Plain, declaration, escapes, macro, routine, grouping}
 use Rattle.sbl_resolver.specs.Laws.{WellDeclaredPasses}
-use Rattle.sbl_semantics.specs.Items.{Grouping, and_grouping, class_of, classes_after, known_in, names_by, is_among, term_has, terms_have}
+use Rattle.sbl_semantics.specs.Items.{Grouping, and_grouping, char_class_of, classes_after, known_in, names_by, is_member, term_has, terms_have}
 use Rattle.sbl_machine.specs.Groupings.{groupings_of, Has, Leaves, IsOfTerms, GroupingsAreTheirTerms, GroupingsHaveTheirTerms}
 use Rattle.sbl_machine.proofs.GroupingNames.{IsKnown, AreKnown, AreNames, names_are}
 
@@ -59,20 +59,20 @@ class_names (x ∷ xs) gs = class_names xs (and_grouping x.plain gs) ∙ names_m
 -- ---- names among groupings
 
 -- a name that is one of some stands for the same among more
-class_kept : (gs more : List Grouping) (n : List ℕ) (c : ℕ) → is_among (map name_of gs) n ≡ true → class_of (gs ++ more) n c ≡ class_of gs n c
+class_kept : (gs more : List Grouping) (n : List ℕ) (c : ℕ) → is_member (map name_of gs) n ≡ true → char_class_of (gs ++ more) n c ≡ char_class_of gs n c
 class_kept [] more n c h = absurd cc
 class_kept (g ∷ gs) more n c h = at (bytes_eq g.name n) h (class_kept gs more n c)
   where
-    at : (b : Bool) → cond b true (is_among (map name_of gs) n) ≡ true → (is_among (map name_of gs) n ≡ true → class_of (gs ++ more) n c ≡ class_of gs n c) → cond b (g.has c) (class_of (gs ++ more) n c) ≡ cond b (g.has c) (class_of gs n c)
+    at : (b : Bool) → cond b true (is_member (map name_of gs) n) ≡ true → (is_member (map name_of gs) n ≡ true → char_class_of (gs ++ more) n c ≡ char_class_of gs n c) → cond b (g.has c) (char_class_of (gs ++ more) n c) ≡ cond b (g.has c) (char_class_of gs n c)
     at true k rest = refl
     at false k rest = rest k
 
 -- one that is none of some stands for the grouping after them, if it is that one's
-class_after : (gs : List Grouping) (g : Grouping) (more : List Grouping) (n : List ℕ) (c : ℕ) → is_among (map name_of gs) n ≡ false → bytes_eq g.name n ≡ true → class_of (gs ++ g ∷ more) n c ≡ g.has c
-class_after [] g more n c h k = ap (λ b. cond b (g.has c) (class_of more n c)) k
+class_after : (gs : List Grouping) (g : Grouping) (more : List Grouping) (n : List ℕ) (c : ℕ) → is_member (map name_of gs) n ≡ false → bytes_eq g.name n ≡ true → char_class_of (gs ++ g ∷ more) n c ≡ g.has c
+class_after [] g more n c h k = ap (λ b. cond b (g.has c) (char_class_of more n c)) k
 class_after (f ∷ gs) g more n c h k = at (bytes_eq f.name n) h (λ e. class_after gs g more n c e k)
   where
-    at : (b : Bool) → cond b true (is_among (map name_of gs) n) ≡ false → (is_among (map name_of gs) n ≡ false → class_of (gs ++ g ∷ more) n c ≡ g.has c) → cond b (f.has c) (class_of (gs ++ g ∷ more) n c) ≡ g.has c
+    at : (b : Bool) → cond b true (is_member (map name_of gs) n) ≡ false → (is_member (map name_of gs) n ≡ false → char_class_of (gs ++ g ∷ more) n c ≡ g.has c) → cond b (f.has c) (char_class_of (gs ++ g ∷ more) n c) ≡ g.has c
     at true e rest = absurd cc
     at false e rest = rest e
 
@@ -113,11 +113,11 @@ module _ (bs after : List ItemInMode) (m : Mode) (n : List ℕ) (a : Argument) (
       let rest = classes_more after (gs ++ g ∷ []) in
       (rest.0, classes_split bs ((record { mode = m; plain = grouping n a ts }) ∷ after) [] ∙ rest.1 ∙ append_assoc gs (g ∷ []) rest.0)
 
-  class_is : (c : ℕ) → class_of all n c ≡ terms_have all ts (term_has all a c) c
+  class_is : (c : ℕ) → char_class_of all n c ≡ terms_have all ts (term_has all a c) c
   class_is c =
       let more = g ∷ whole.0 in
-      ap (λ l. class_of l n c) whole.1
-      ∙ class_after gs g whole.0 n c (ap (λ l. is_among l n) known_names ∙ names.once) (same_name n)
+      ap (λ l. char_class_of l n c) whole.1
+      ∙ class_after gs g whole.0 n c (ap (λ l. is_member l n) known_names ∙ names.once) (same_name n)
       ∙ sym (
       ap (λ l. terms_have l ts (term_has l a c) c) whole.1
       ∙ terms_kept gs more ts (term_has (gs ++ more) a c) c (subst (λ l. AreKnown l ts) (sym known_names) names.others)
@@ -127,7 +127,7 @@ module _ (bs after : List ItemInMode) (m : Mode) (n : List ℕ) (a : Argument) (
 pub groupings_are : WellDeclaredPasses → GroupingsAreTheirTerms
 groupings_are passes script well n a ts defined c =
     let names = names_are script.items (record { each = (passes script.items script.external well).0 }) defined.0 defined.2 defined.1 n a ts defined.3 in
-    let law : (items : List ItemInMode) → in_order script.items ≡ items → class_of (classes_after items []) n c ≡ terms_have (classes_after items []) ts (term_has (classes_after items []) a c) c → class_of (groupings_of script) n c ≡ terms_have (groupings_of script) ts (term_has (groupings_of script) a c) c = λ items e h. subst (λ l. class_of (classes_after l []) n c ≡ terms_have (classes_after l []) ts (term_has (classes_after l []) a c) c) (sym e) h in
+    let law : (items : List ItemInMode) → in_order script.items ≡ items → char_class_of (classes_after items []) n c ≡ terms_have (classes_after items []) ts (term_has (classes_after items []) a c) c → char_class_of (groupings_of script) n c ≡ terms_have (groupings_of script) ts (term_has (groupings_of script) a c) c = λ items e h. subst (λ l. char_class_of (classes_after l []) n c ≡ terms_have (classes_after l []) ts (term_has (classes_after l []) a c) c) (sym e) h in
     law _ defined.3 (class_is defined.0 defined.2 defined.1 n a ts names c)
 
 -- ---- what the terms give

@@ -10,7 +10,7 @@ use Rattle.sbl_ast.specs.Order.{ItemInMode}
 use Rattle.sbl_ast.specs.declared.tree.Additive.TheVariants.{Plus, Minus}
 use Rattle.sbl_ast.specs.declared.tree.DeclarationKind.TheVariants as kinds
 use Rattle.sbl_ast.specs.Tree.{Command, Others, Argument, written_out, by_name, Term, term, Plain, declaration, escapes, macro, routine, grouping}
-use Rattle.sbl_semantics.specs.Items.{Grouping, and_grouping, class_of, classes_after, is_among, known_in, term_has, terms_have}
+use Rattle.sbl_semantics.specs.Items.{Grouping, and_grouping, char_class_of, classes_after, is_member, known_in, term_has, terms_have}
 use Rattle.sbl_machine.specs.BuiltFrom.{names, any_names, built_on, IsClosedAt}
 use Rattle.sbl_machine.specs.Holes.{nothing, holed_plain}
 use Rattle.sbl_semantics.specs.TouchedItems.{Item', Routine}
@@ -28,16 +28,16 @@ not_so false c f e = refl
 
 -- ---- a name that is none of some groupings
 
-none_has : (gs : List Grouping) (n : List ℕ) (c : ℕ) → is_among (map name_of gs) n ≡ false → class_of gs n c ≡ false
+none_has : (gs : List Grouping) (n : List ℕ) (c : ℕ) → is_member (map name_of gs) n ≡ false → char_class_of gs n c ≡ false
 none_has [] n c h = refl
 none_has (g ∷ gs) n c h = at (bytes_eq g.name n) h (none_has gs n c)
   where
-    at : (b : Bool) → (if b then true else is_among (map name_of gs) n) ≡ false → (is_among (map name_of gs) n ≡ false → class_of gs n c ≡ false) → (if b then g.has c else class_of gs n c) ≡ false
+    at : (b : Bool) → (if b then true else is_member (map name_of gs) n) ≡ false → (is_member (map name_of gs) n ≡ false → char_class_of gs n c ≡ false) → (if b then g.has c else char_class_of gs n c) ≡ false
     at true k rest = absurd (true≢false k)
     at false k rest = rest k
 
-pub no_class : (xs : List ItemInMode) (n : List ℕ) (c : ℕ) → is_among (known_in xs kinds.Groupings) n ≡ false → class_of (classes_after xs []) n c ≡ false
-no_class xs n c h = none_has (classes_after xs []) n c (ap (λ l. is_among l n) (class_names xs []) ∙ h)
+pub no_class : (xs : List ItemInMode) (n : List ℕ) (c : ℕ) → is_member (known_in xs kinds.Groupings) n ≡ false → char_class_of (classes_after xs []) n c ≡ false
+no_class xs n c h = none_has (classes_after xs []) n c (ap (λ l. is_member l n) (class_names xs []) ∙ h)
 
 -- ---- groupings beside those of the same items with holes
 
@@ -64,17 +64,17 @@ module _ (picked : Item' → Bool) where
   more_like (f ∷ fs) [] g g' h l = absurd h
   more_like (f ∷ fs) (f' ∷ fs') g g' h l = (h.0, more_like fs fs' g g' h.1 l)
 
-  class_like : (gs gs' : List Grouping) → AllLike gs gs' → (n : List ℕ) → is_picked n ≡ false → (c : ℕ) → class_of gs' n c ≡ class_of gs n c
+  class_like : (gs gs' : List Grouping) → AllLike gs gs' → (n : List ℕ) → is_picked n ≡ false → (c : ℕ) → char_class_of gs' n c ≡ char_class_of gs n c
   unfolding AllLike
   class_like [] [] h n e c = refl
   class_like [] (g' ∷ gs') h n e c = absurd h
   class_like (g ∷ gs) [] h n e c = absurd h
   class_like (g ∷ gs) (g' ∷ gs') h n e c =
-      ap (λ (m : List ℕ). if bytes_eq m n then g'.has c else class_of gs' n c) h.0.name
+      ap (λ (m : List ℕ). if bytes_eq m n then g'.has c else char_class_of gs' n c) h.0.name
       ∙ by (bytes_eq g.name n) refl
       ∙ ap (λ (b : Bool). if bytes_eq g.name n then g.has c else b) (class_like gs gs' h.1 n e c)
     where
-      by : (b : Bool) → bytes_eq g.name n ≡ b → (if b then g'.has c else class_of gs' n c) ≡ (if b then g.has c else class_of gs' n c)
+      by : (b : Bool) → bytes_eq g.name n ≡ b → (if b then g'.has c else char_class_of gs' n c) ≡ (if b then g.has c else char_class_of gs' n c)
       by true k = h.0.has (ap is_picked ((bytes_eq-Decides g.name n).0 k) ∙ e) c
       by false k = refl
 
@@ -133,5 +133,5 @@ module _ (picked : Item' → Bool) where
   unfolding AllLike
   none_like = tt
 
-  pub classes_same : (xs : List ItemInMode) → AllByRecursion (λ x. IsClosedAt picked x.plain) xs → (n : List ℕ) → picked (items.Grouping n) ≡ false → class_of (classes_after (holed_items picked xs) []) n ≡ class_of (classes_after xs []) n
+  pub classes_same : (xs : List ItemInMode) → AllByRecursion (λ x. IsClosedAt picked x.plain) xs → (n : List ℕ) → picked (items.Grouping n) ≡ false → char_class_of (classes_after (holed_items picked xs) []) n ≡ char_class_of (classes_after xs []) n
   classes_same xs closed n e = fun_ext (class_like (classes_after xs []) (classes_after (holed_items picked xs) []) (items_like xs [] [] none_like closed) n e)

@@ -12,7 +12,7 @@ use Rattle.sbl_ast.specs.declared.tree.DeclarationKind.TheVariants as kinds
 use Rattle.sbl_ast.specs.Tree.{Command, Others, Argument, written_out, Term, Plain, Item, bracket, no_rows, no_others, declaration, escapes, macro, routine, grouping, plain, backward}
 use Rattle.sbl_ast.specs.declared.mode.Mode.{Mode}
 use Rattle.sbl_ast.specs.declared.mode.Mode.TheVariants.{Forward, Backward}
-use Rattle.sbl_semantics.specs.Items.{DeclaredNames, is_among, place_of, names_by, known_in, Body, body_or, body_named}
+use Rattle.sbl_semantics.specs.Items.{DeclaredNames, is_member, place_of, names_by, known_in, Body, body_or, body_named}
 use Rattle.sbl_semantics.specs.Regions.{number_after}
 use Rattle.sbl_machine.specs.BuiltFrom.{IsClosed, IsClosedAt}
 use Rattle.sbl_machine.specs.Holes.{nothing, with_holes, others_with_holes, holed_plain, holed_item, holed_script}
@@ -174,10 +174,10 @@ name_stands [] n b is = let never : None ≡ Some b = is in absurd cc
 name_stands (x ∷ xs) n b is = stands_item x.mode x.plain n xs (name_stands xs n) b is
 
 -- a name that is one of some is at its place among them
-pub place_names : (xs : List (List ℕ)) (n : List ℕ) → is_among xs n ≡ true → slice_index_or xs (place_of xs n) [] ≡ n
+pub place_names : (xs : List (List ℕ)) (n : List ℕ) → is_member xs n ≡ true → slice_index_or xs (place_of xs n) [] ≡ n
 place_names [] n h = absurd (true≢false (sym h))
 place_names (x ∷ xs) n h = at (bytes_eq x n) refl h (place_names xs n)
   where
-    at : (b : Bool) → bytes_eq x n ≡ b → (if b then true else is_among xs n) ≡ true → (is_among xs n ≡ true → slice_index_or xs (place_of xs n) [] ≡ n) → slice_index_or (x ∷ xs) (if b then 0 else suc (place_of xs n)) [] ≡ n
+    at : (b : Bool) → bytes_eq x n ≡ b → (if b then true else is_member xs n) ≡ true → (is_member xs n ≡ true → slice_index_or xs (place_of xs n) [] ≡ n) → slice_index_or (x ∷ xs) (if b then 0 else suc (place_of xs n)) [] ≡ n
     at true e k rest = (bytes_eq-Decides x n).0 e
     at false e k rest = rest k

@@ -9,7 +9,7 @@ use Rattle.std.proofs.lemmas.List.Folds.{list_any-append}
 use Rattle.std.proofs.Math.Path.{fun_ext}
 use Rattle.sbl_ast.specs.Order.{ItemInMode, in_order}
 use Rattle.sbl_ast.specs.declared.tree.DeclarationKind.TheVariants as kinds
-use Rattle.sbl_semantics.specs.Items.{is_among, known_in}
+use Rattle.sbl_semantics.specs.Items.{is_member, known_in}
 use Rattle.sbl_compiler.proofs.SoundItems.{among_is}
 use Rattle.sbl_semantics.specs.declared.touch.Touch.{Touch}
 use Rattle.sbl_semantics.specs.declared.touch.Touch.TheVariants.{Entered, Searched, Tested}
@@ -214,11 +214,11 @@ module _ (p : List ℕ → Bool) where
   any_grouping (Among n k ∷ xs) ns = any_grouping xs ns
   any_grouping (Routine n ∷ xs) ns = any_grouping xs ns
 
-among_any : (ns : List (List ℕ)) (n : List ℕ) → is_among ns n ≡ list_any (λ m. bytes_eq m n) ns
+among_any : (ns : List (List ℕ)) (n : List ℕ) → is_member ns n ≡ list_any (λ m. bytes_eq m n) ns
 among_any [] n = refl
 among_any (m ∷ ns) n = by (bytes_eq m n) (among_any ns n)
   where
-    by : (b : Bool) → is_among ns n ≡ list_any (λ m. bytes_eq m n) ns → (if b then true else is_among ns n) ≡ (b || list_any (λ m. bytes_eq m n) ns)
+    by : (b : Bool) → is_member ns n ≡ list_any (λ m. bytes_eq m n) ns → (if b then true else is_member ns n) ≡ (b || list_any (λ m. bytes_eq m n) ns)
     by true h = refl
     by false h = h
 
@@ -230,7 +230,7 @@ none_passes p q f (x ∷ xs) h =
 
 -- ---- items
 
-has_name : (names : List (List ℕ)) (n : List ℕ) → is_among names [] ≡ false → is_among names n ≡ true → bytes_eq n [] ≡ false
+has_name : (names : List (List ℕ)) (n : List ℕ) → is_member names [] ≡ false → is_member names n ≡ true → bytes_eq n [] ≡ false
 has_name names [] none there = absurd (true≢false (sym there ∙ none))
 has_name names (c ∷ cs) none there = refl
 
@@ -251,7 +251,7 @@ module _ (s : Source) (spelled : AreSpelled s.items) where
   routine_is n (Among m k) = refl
   routine_is n (Grouping m) = refl
 
-  routines_are : (xs : List Item') (n : List ℕ) → is_among (routines_after xs []) n ≡ list_any (λ x. is_affected_by s x (Routine n)) xs
+  routines_are : (xs : List Item') (n : List ℕ) → is_member (routines_after xs []) n ≡ list_any (λ x. is_affected_by s x (Routine n)) xs
   routines_are xs n =
       among_any (routines_after xs []) n ∙ any_routine (λ m. bytes_eq m n) xs [] ∙ ap (λ (p : Item' → Bool). list_any p xs) (fun_ext (routine_is n))
 
@@ -263,21 +263,21 @@ module _ (s : Source) (spelled : AreSpelled s.items) where
   -- ---- groupings
 
   -- nothing without a name is built from a grouping
-  built_named : (n : List ℕ) → has_item (names_of s) (Grouping n) ≡ true → is_among (built_after items (n ∷ [])) [] ≡ false
+  built_named : (n : List ℕ) → has_item (names_of s) (Grouping n) ≡ true → is_member (built_after items (n ∷ [])) [] ≡ false
   built_named n there =
       let none = groupings_named s.items spelled in
-      not_then (is_among (built_after items (n ∷ [])) []) (is_among (n ∷ []) []) (built_back items (n ∷ []) [] none)
+      not_then (is_member (built_after items (n ∷ [])) []) (is_member (n ∷ []) []) (built_back items (n ∷ []) [] none)
       (ap (λ (b : Bool). if b then true else false) (has_name (known_in items kinds.Groupings) n none there))
 
-  grouping_is : (n : List ℕ) (x : Item') → grouping_passes (λ m. is_among (built_after items (m ∷ [])) n) x ≡ is_affected_by s x (Grouping n)
+  grouping_is : (n : List ℕ) (x : Item') → grouping_passes (λ m. is_member (built_after items (m ∷ [])) n) x ≡ is_affected_by s x (Grouping n)
   grouping_is n (Routine m) = refl
   grouping_is n (Among m k) = refl
   grouping_is n (Grouping m) = refl
 
-  groupings_are : (xs : List Item') (n : List ℕ) → is_among (built_after items (groupings_after xs [])) n ≡ list_any (λ x. is_affected_by s x (Grouping n)) xs
+  groupings_are : (xs : List Item') (n : List ℕ) → is_member (built_after items (groupings_after xs [])) n ≡ list_any (λ x. is_affected_by s x (Grouping n)) xs
   groupings_are xs n =
       built_from_several items (groupings_after xs []) n
-      ∙ any_grouping (λ m. is_among (built_after items (m ∷ [])) n) xs []
+      ∙ any_grouping (λ m. is_member (built_after items (m ∷ [])) n) xs []
       ∙ ap (λ (p : Item' → Bool). list_any p xs) (fun_ext (grouping_is n))
 
   named_grouping : (x : Item') → has_item (names_of s) x ≡ true → is_affected_by s x (Grouping []) ≡ false
@@ -330,10 +330,10 @@ module _ (s : Source) (spelled : AreSpelled s.items) where
     test_touches test other = with_names Tested test 0 groupings (entry_touches other)
 
     abbrev in_routines : List ℕ → Bool
-    in_routines = is_among (routines_after xs [])
+    in_routines = is_member (routines_after xs [])
 
     abbrev in_built : List ℕ → Bool
-    in_built = is_among (built_after items (groupings_after xs []))
+    in_built = is_member (built_after items (groupings_after xs []))
 
     no_routine : in_routines [] ≡ false
     no_routine = routines_are xs [] ∙ none_passes (λ x. is_affected_by s x (Routine [])) (has_item (names_of s)) named_routine xs there

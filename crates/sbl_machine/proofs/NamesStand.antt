@@ -19,7 +19,7 @@ use Rattle.sbl_resolver.specs.OccurrenceView.{noted_names, noted_terms}
 use Rattle.sbl_resolver.specs.Checks.{kind_of, defined_at, definition_of, may_be, is_some_and, is_kind, is_routine, is_grouping, is_mode, needs_definition, fault_at}
 use Rattle.sbl_resolver.specs.Laws.{EachPasses, NamesResolve, Resolves, WellDeclaredPasses}
 use Rattle.sbl_resolver.proofs.Extends.{Extends, same, then_, items_more, put_more, command_more, others_more}
-use Rattle.sbl_semantics.specs.Items.{Body, body_named, is_among, known_in, names_by}
+use Rattle.sbl_semantics.specs.Items.{Body, body_named, is_member, known_in, names_by}
 use Rattle.sbl_semantics.proofs.SameParts as parts
 use Rattle.sbl_machine.specs.NamesStand.{HasBody, StandsFor, NamesStand}
 use Rattle.sbl_machine.proofs.Noticed.{look, or_none, look_put, look_kept, kinds_at, kind_is, site_is, routine_still, grouping_still, kinds_quiet, sites_quiet}
@@ -40,17 +40,17 @@ pub or_true : (b c : Bool) → c ≡ true → cond b true c ≡ true
 or_true true c h = refl
 or_true false c h = h
 
-among_left : (xs ys : List (List ℕ)) (n : List ℕ) → is_among xs n ≡ true → is_among (xs ++ ys) n ≡ true
+among_left : (xs ys : List (List ℕ)) (n : List ℕ) → is_member xs n ≡ true → is_member (xs ++ ys) n ≡ true
 among_left [] ys n h = absurd cc
 among_left (x ∷ xs) ys n h = at (bytes_eq x n) h (among_left xs ys n)
   where
-    at : (b : Bool) → cond b true (is_among xs n) ≡ true → (is_among xs n ≡ true → is_among (xs ++ ys) n ≡ true) → cond b true (is_among (xs ++ ys) n) ≡ true
+    at : (b : Bool) → cond b true (is_member xs n) ≡ true → (is_member xs n ≡ true → is_member (xs ++ ys) n ≡ true) → cond b true (is_member (xs ++ ys) n) ≡ true
     at true e rest = refl
     at false e rest = rest e
 
-among_right : (xs ys : List (List ℕ)) (n : List ℕ) → is_among ys n ≡ true → is_among (xs ++ ys) n ≡ true
+among_right : (xs ys : List (List ℕ)) (n : List ℕ) → is_member ys n ≡ true → is_member (xs ++ ys) n ≡ true
 among_right [] ys n h = h
-among_right (x ∷ xs) ys n h = or_true (bytes_eq x n) (is_among (xs ++ ys) n) (among_right xs ys n h)
+among_right (x ∷ xs) ys n h = or_true (bytes_eq x n) (is_member (xs ++ ys) n) (among_right xs ys n h)
 
 -- ---- declarations
 
@@ -61,16 +61,16 @@ names_kept : (k : DeclarationKind) (ns : List (List ℕ)) (p : Site) (s : List O
 names_kept k [] p s n j h = h
 names_kept k (x ∷ ns) p s n j h = names_kept k ns p (put (declares k x) p s) n j (look_kept (kinds_at n) s (put (declares k x) p s) j (put_more (declares k x) p s) h)
 
-names_case : (k : DeclarationKind) (ns : List (List ℕ)) (p : Site) (s : List Occurrence) (n : List ℕ) → look (kinds_at n) s ≡ None → (look (kinds_at n) (noted_names k ns p s) ≡ None) ⊎ ((is_among ns n ≡ true) × (look (kinds_at n) (noted_names k ns p s) ≡ Some k))
+names_case : (k : DeclarationKind) (ns : List (List ℕ)) (p : Site) (s : List Occurrence) (n : List ℕ) → look (kinds_at n) s ≡ None → (look (kinds_at n) (noted_names k ns p s) ≡ None) ⊎ ((is_member ns n ≡ true) × (look (kinds_at n) (noted_names k ns p s) ≡ Some k))
 names_case k [] p s n e = inl e
 names_case k (x ∷ ns) p s n e = at (bytes_eq n x) refl (names_case k ns p (put (declares k x) p s) n)
   where
-    further : (look (kinds_at n) (noted_names k ns p (put (declares k x) p s)) ≡ None) ⊎ ((is_among ns n ≡ true) × (look (kinds_at n) (noted_names k ns p (put (declares k x) p s)) ≡ Some k)) → (look (kinds_at n) (noted_names k (x ∷ ns) p s) ≡ None) ⊎ ((is_among (x ∷ ns) n ≡ true) × (look (kinds_at n) (noted_names k (x ∷ ns) p s) ≡ Some k))
+    further : (look (kinds_at n) (noted_names k ns p (put (declares k x) p s)) ≡ None) ⊎ ((is_member ns n ≡ true) × (look (kinds_at n) (noted_names k ns p (put (declares k x) p s)) ≡ Some k)) → (look (kinds_at n) (noted_names k (x ∷ ns) p s) ≡ None) ⊎ ((is_member (x ∷ ns) n ≡ true) × (look (kinds_at n) (noted_names k (x ∷ ns) p s) ≡ Some k))
     further (inl h) = inl h
-    further (inr h) = inr (or_true (bytes_eq x n) (is_among ns n) h.0, h.1)
+    further (inr h) = inr (or_true (bytes_eq x n) (is_member ns n) h.0, h.1)
 
-    at : (b : Bool) → bytes_eq n x ≡ b → (look (kinds_at n) (put (declares k x) p s) ≡ None → (look (kinds_at n) (noted_names k ns p (put (declares k x) p s)) ≡ None) ⊎ ((is_among ns n ≡ true) × (look (kinds_at n) (noted_names k ns p (put (declares k x) p s)) ≡ Some k))) → (look (kinds_at n) (noted_names k (x ∷ ns) p s) ≡ None) ⊎ ((is_among (x ∷ ns) n ≡ true) × (look (kinds_at n) (noted_names k (x ∷ ns) p s) ≡ Some k))
-    at true h rest = inr (ap (λ c. cond c true (is_among ns n)) (flip n x h), names_kept k ns p (put (declares k x) p s) n k (kind_put n k x p s true e h))
+    at : (b : Bool) → bytes_eq n x ≡ b → (look (kinds_at n) (put (declares k x) p s) ≡ None → (look (kinds_at n) (noted_names k ns p (put (declares k x) p s)) ≡ None) ⊎ ((is_member ns n ≡ true) × (look (kinds_at n) (noted_names k ns p (put (declares k x) p s)) ≡ Some k))) → (look (kinds_at n) (noted_names k (x ∷ ns) p s) ≡ None) ⊎ ((is_member (x ∷ ns) n ≡ true) × (look (kinds_at n) (noted_names k (x ∷ ns) p s) ≡ Some k))
+    at true h rest = inr (ap (λ c. cond c true (is_member ns n)) (flip n x h), names_kept k ns p (put (declares k x) p s) n k (kind_put n k x p s true e h))
     at false h rest = further (rest (kind_put n k x p s false e h))
 
 -- the item after which a name has its kind
@@ -78,13 +78,13 @@ record Declares (y : Plain) (p : Site) (s : List Occurrence) (n : List ℕ) : Ty
   kind : DeclarationKind
   names : List (List ℕ)
   item : y ≡ declaration kind names
-  there : is_among names n ≡ true
+  there : is_member names n ≡ true
   is : look (kinds_at n) (noted_plain y p s) ≡ Some kind
 
 kind_after : (y : Plain) (p : Site) (s : List Occurrence) (n : List ℕ) → look (kinds_at n) s ≡ None → (look (kinds_at n) (noted_plain y p s) ≡ None) ⊎ Declares y p s n
 kind_after (declaration k ns) p s n e = at (names_case k ns p s n e)
   where
-    at : (look (kinds_at n) (noted_names k ns p s) ≡ None) ⊎ ((is_among ns n ≡ true) × (look (kinds_at n) (noted_names k ns p s) ≡ Some k)) → (look (kinds_at n) (noted_names k ns p s) ≡ None) ⊎ Declares (declaration k ns) p s n
+    at : (look (kinds_at n) (noted_names k ns p s) ≡ None) ⊎ ((is_member ns n ≡ true) × (look (kinds_at n) (noted_names k ns p s) ≡ Some k)) → (look (kinds_at n) (noted_names k ns p s) ≡ None) ⊎ Declares (declaration k ns) p s n
     at (inl h) = inl h
     at (inr h) = inr (record { kind = k; names = ns; item = refl; there = h.0; is = h.1 })
 kind_after (escapes a b) p s n e = inl e
@@ -97,17 +97,17 @@ site_of i x = record { item = i; mode = x.mode }
 
 -- the names of one kind of variables, by the items
 module _ (kind : DeclarationKind) (here : (ns : List (List ℕ)) → names_by kind (declaration kind ns) ≡ ns) where
-  declared_among : (n : List ℕ) (xs : List ItemInMode) (i : ℕ) (s : List Occurrence) → look (kinds_at n) s ≡ None → look (kinds_at n) (noted_items xs i s) ≡ Some kind → is_among (known_in xs kind) n ≡ true
+  declared_among : (n : List ℕ) (xs : List ItemInMode) (i : ℕ) (s : List Occurrence) → look (kinds_at n) s ≡ None → look (kinds_at n) (noted_items xs i s) ≡ Some kind → is_member (known_in xs kind) n ≡ true
   declared_among n [] i s e h = let no : ⊥ = cc in absurd no
   declared_among n (x ∷ xs) i s e h = at (kind_after x.plain (site_of i x) s n e) (λ none. declared_among n xs (i + 1) (noted_plain x.plain (site_of i x) s) none h)
     where
-      at : (look (kinds_at n) (noted_plain x.plain (site_of i x) s) ≡ None) ⊎ Declares x.plain (site_of i x) s n → (look (kinds_at n) (noted_plain x.plain (site_of i x) s) ≡ None → is_among (known_in xs kind) n ≡ true) → is_among (names_by kind x.plain ++ known_in xs kind) n ≡ true
+      at : (look (kinds_at n) (noted_plain x.plain (site_of i x) s) ≡ None) ⊎ Declares x.plain (site_of i x) s n → (look (kinds_at n) (noted_plain x.plain (site_of i x) s) ≡ None → is_member (known_in xs kind) n ≡ true) → is_member (names_by kind x.plain ++ known_in xs kind) n ≡ true
       at (inl none) rest = among_right (names_by kind x.plain) (known_in xs kind) n (rest none)
       at (inr d) rest =
           let kept : look (kinds_at n) (noted_items xs (i + 1) (noted_plain x.plain (site_of i x) s)) ≡ Some d.kind = look_kept (kinds_at n) (noted_plain x.plain (site_of i x) s) (noted_items xs (i + 1) (noted_plain x.plain (site_of i x) s)) d.kind (items_more xs (i + 1) (noted_plain x.plain (site_of i x) s)) d.is in
           let same : d.kind ≡ kind = cc in
-          ap (λ y. is_among (names_by kind y ++ known_in xs kind) n) (d.item ∙ ap (λ k. declaration k d.names) same)
-          ∙ ap (λ l. is_among (l ++ known_in xs kind) n) (here d.names)
+          ap (λ y. is_member (names_by kind y ++ known_in xs kind) n) (d.item ∙ ap (λ k. declaration k d.names) same)
+          ∙ ap (λ l. is_member (l ++ known_in xs kind) n) (here d.names)
           ∙ among_left d.names (known_in xs kind) n d.there
 
 -- ---- definitions
@@ -169,10 +169,10 @@ grouping_after n a ts p s = let b = put (defines_grouping n) p s in then_ (term_
 
 -- what a name is defined as
 abbrev Defined : List Occurrence → List ItemInMode → List ℕ → Mode → Type 0
-Defined all items n m = ((is_some_and is_routine (look (kinds_at n) all) ≡ true) × HasBody items n m) ⊎ ((is_some_and is_grouping (look (kinds_at n) all) ≡ true) × (is_among (known_in items kinds.Groupings) n ≡ true))
+Defined all items n m = ((is_some_and is_routine (look (kinds_at n) all) ≡ true) × HasBody items n m) ⊎ ((is_some_and is_grouping (look (kinds_at n) all) ≡ true) × (is_member (known_in items kinds.Groupings) n ≡ true))
 
 -- an item that does not define the name
-passed_over : (all : List Occurrence) (x : ItemInMode) (xs : List ItemInMode) (n : List ℕ) (m : Mode) → body_named (x ∷ xs) n ≡ body_named xs n → (is_among (known_in xs kinds.Groupings) n ≡ true → is_among (known_in (x ∷ xs) kinds.Groupings) n ≡ true) → Defined all xs n m → Defined all (x ∷ xs) n m
+passed_over : (all : List Occurrence) (x : ItemInMode) (xs : List ItemInMode) (n : List ℕ) (m : Mode) → body_named (x ∷ xs) n ≡ body_named xs n → (is_member (known_in xs kinds.Groupings) n ≡ true → is_member (known_in (x ∷ xs) kinds.Groupings) n ≡ true) → Defined all xs n m → Defined all (x ∷ xs) n m
 passed_over all x xs n m b g (inl h) = inl (h.0, (h.1.0, b ∙ h.1.1, h.1.2))
 passed_over all x xs n m b g (inr h) = inr (h.0, g h.1)
 
@@ -238,10 +238,10 @@ module _ (all : List Occurrence) (passing : Passing all) (n : List ℕ) (d : Sit
       at true h =
           inr (
             ap (λ z. is_some_and is_grouping (look (kinds_at z) all)) ((bytes_eq-Decides n r).0 h) ∙ grouping_kind all s r p passing (then_ (grouping_after r a ts p s) more),
-            ap (λ k. cond k true (is_among (known_in xs kinds.Groupings) n)) (flip n r h),
+            ap (λ k. cond k true (is_member (known_in xs kinds.Groupings) n)) (flip n r h),
           )
       at false h =
-          passed_over all x xs n d.mode refl (or_true (bytes_eq r n) (is_among (known_in xs kinds.Groupings) n))
+          passed_over all x xs n d.mode refl (or_true (bytes_eq r n) (is_member (known_in xs kinds.Groupings) n))
           (later (still ∙ site_put n (defines_grouping r) p s None e (ap (λ k. cond k (Some p) None) h)))
 
   in_item : (y : Plain) (p : Site) (s : List Occurrence) (xs : List ItemInMode) → Extends (noted_plain y p s) all → look (defined_at n) s ≡ None → Later y p s xs → Goal (record { mode = p.mode; plain = y }) xs
@@ -275,15 +275,15 @@ module _ (items : List Item) (passing : Passing (occurrences_of items)) (u : Use
   kind_there : look (kinds_at n) all ≡ Some r.kind
   kind_there = sym (kind_is n all) ∙ r.declared
 
-  string_there : r.kind ≡ kinds.Strings → is_among (known_in ours kinds.Strings) n ≡ true
+  string_there : r.kind ≡ kinds.Strings → is_member (known_in ours kinds.Strings) n ≡ true
   string_there k =
       declared_among kinds.Strings (λ ns. refl) n ours 1 [] refl (kind_there ∙ ap Some k)
 
-  integer_there : r.kind ≡ kinds.Integers → is_among (known_in ours kinds.Integers) n ≡ true
+  integer_there : r.kind ≡ kinds.Integers → is_member (known_in ours kinds.Integers) n ≡ true
   integer_there k =
       declared_among kinds.Integers (λ ns. refl) n ours 1 [] refl (kind_there ∙ ap Some k)
 
-  boolean_there : r.kind ≡ kinds.Booleans → is_among (known_in ours kinds.Booleans) n ≡ true
+  boolean_there : r.kind ≡ kinds.Booleans → is_member (known_in ours kinds.Booleans) n ≡ true
   boolean_there k =
       declared_among kinds.Booleans (λ ns. refl) n ours 1 [] refl (kind_there ∙ ap Some k)
 
@@ -319,13 +319,13 @@ module _ (items : List Item) (passing : Passing (occurrences_of items)) (u : Use
           pick (inl h) = (h.1.0, h.1.1, h.1.2 ∙ same_mode m d.0.mode (r.same_mode k d.0 d.1))
           pick (inr h) = absurd (never_both r.kind k (kind_passes is_grouping h.0))
 
-  grouping_there : is_grouping r.kind ≡ true → is_among (known_in ours kinds.Groupings) n ≡ true
+  grouping_there : is_grouping r.kind ≡ true → is_member (known_in ours kinds.Groupings) n ≡ true
   grouping_there k = at (r.defined (either (is_routine r.kind) (is_grouping r.kind) k))
     where
-      at : (p : Site) × (definition_of n all ≡ Some p) → is_among (known_in ours kinds.Groupings) n ≡ true
+      at : (p : Site) × (definition_of n all ≡ Some p) → is_member (known_in ours kinds.Groupings) n ≡ true
       at d = pick (definition_there d.0 d.1)
         where
-          pick : Defined all ours n d.0.mode → is_among (known_in ours kinds.Groupings) n ≡ true
+          pick : Defined all ours n d.0.mode → is_member (known_in ours kinds.Groupings) n ≡ true
           pick (inl h) = absurd (never_both r.kind (kind_passes is_routine h.0) k)
           pick (inr h) = h.1
 

@@ -21,7 +21,7 @@ use Rattle.sbl_ast.specs.Tree.{Plain, declaration, escapes, macro, routine, grou
 use Rattle.sbl_ast.specs.declared.mode.Mode.TheVariants.{Backward}
 use Rattle.sbl_ast.specs.declared.tree.DeclarationKind.{DeclarationKind}
 use Rattle.sbl_ast.specs.declared.tree.DeclarationKind.TheVariants as kinds
-use Rattle.sbl_semantics.specs.Items.{is_among, known_in, names_by}
+use Rattle.sbl_semantics.specs.Items.{is_member, known_in, names_by}
 use Rattle.sbl_script.specs.SpelledScript.{AreSpelled}
 
 -- ---- an empty name is not said
@@ -75,31 +75,31 @@ plains_rest : (xs : List Plain) (r : Ps) → Each (placed_plains xs r) → Each 
 plains_rest [] r h = h
 plains_rest (x ∷ xs) r h = plains_rest xs r (plain_rest x (placed_plains xs r) h)
 
-one_more : (n : List ℕ) (rest : List (List ℕ)) → (name n ≡ name [] → ⊥) → is_among rest [] ≡ false → is_among (n ∷ rest) [] ≡ false
+one_more : (n : List ℕ) (rest : List (List ℕ)) → (name n ≡ name [] → ⊥) → is_member rest [] ≡ false → is_member (n ∷ rest) [] ≡ false
 one_more [] rest h e = absurd (h refl)
 one_more (c ∷ cs) rest h e = e
 
-routine_named : (x : Plain) (r : Ps) → Each (placed_plain x r) → (rest : List (List ℕ)) → is_among rest [] ≡ false → is_among (names_by kinds.Routines x ++ rest) [] ≡ false
+routine_named : (x : Plain) (r : Ps) → Each (placed_plain x r) → (rest : List (List ℕ)) → is_member rest [] ≡ false → is_member (names_by kinds.Routines x ++ rest) [] ≡ false
 routine_named (routine n c os) r h rest e = one_more n rest h.1.0 e
 routine_named (grouping n a ts) r h rest e = e
 routine_named (declaration k ns) r h rest e = e
 routine_named (escapes a b) r h rest e = e
 routine_named (macro n b q) r h rest e = e
 
-grouping_named : (x : Plain) (r : Ps) → Each (placed_plain x r) → (rest : List (List ℕ)) → is_among rest [] ≡ false → is_among (names_by kinds.Groupings x ++ rest) [] ≡ false
+grouping_named : (x : Plain) (r : Ps) → Each (placed_plain x r) → (rest : List (List ℕ)) → is_member rest [] ≡ false → is_member (names_by kinds.Groupings x ++ rest) [] ≡ false
 grouping_named (grouping n a ts) r h rest e = one_more n rest h.1.0 e
 grouping_named (routine n c os) r h rest e = e
 grouping_named (declaration k ns) r h rest e = e
 grouping_named (escapes a b) r h rest e = e
 grouping_named (macro n b q) r h rest e = e
 
-module _ (k : DeclarationKind) (one : (x : Plain) (r : Ps) → Each (placed_plain x r) → (rest : List (List ℕ)) → is_among rest [] ≡ false → is_among (names_by k x ++ rest) [] ≡ false) where
-  plains_named : (xs : List Plain) (r : Ps) → Each (placed_plains xs r) → (ys : List ItemInMode) → is_among (known_in ys k) [] ≡ false → is_among (known_in (in_mode Backward xs ++ ys) k) [] ≡ false
+module _ (k : DeclarationKind) (one : (x : Plain) (r : Ps) → Each (placed_plain x r) → (rest : List (List ℕ)) → is_member rest [] ≡ false → is_member (names_by k x ++ rest) [] ≡ false) where
+  plains_named : (xs : List Plain) (r : Ps) → Each (placed_plains xs r) → (ys : List ItemInMode) → is_member (known_in ys k) [] ≡ false → is_member (known_in (in_mode Backward xs ++ ys) k) [] ≡ false
   plains_named [] r h ys e = e
   plains_named (x ∷ xs) r h ys e =
       one x (placed_plains xs r) h (known_in (in_mode Backward xs ++ ys) k) (plains_named xs r (plain_rest x (placed_plains xs r) h) ys e)
 
-  items_named : (is : List Item) → Each (placed_items is []) → is_among (known_in (in_order is) k) [] ≡ false
+  items_named : (is : List Item) → Each (placed_items is []) → is_member (known_in (in_order is) k) [] ≡ false
   items_named [] h = refl
   items_named (plain x ∷ is) h =
       one x (placed_items is []) h (known_in (in_order is) k) (items_named is (plain_rest x (placed_items is []) h))
@@ -109,8 +109,8 @@ module _ (k : DeclarationKind) (one : (x : Plain) (r : Ps) → Each (placed_plai
 each_in : (items : List Item) → AreSpelled items → Each (places items)
 each_in items h = each_named start (places items) h
 
-pub routines_named : (items : List Item) → AreSpelled items → is_among (known_in (in_order items) kinds.Routines) [] ≡ false
+pub routines_named : (items : List Item) → AreSpelled items → is_member (known_in (in_order items) kinds.Routines) [] ≡ false
 routines_named items h = items_named kinds.Routines routine_named items (each_in items h)
 
-pub groupings_named : (items : List Item) → AreSpelled items → is_among (known_in (in_order items) kinds.Groupings) [] ≡ false
+pub groupings_named : (items : List Item) → AreSpelled items → is_member (known_in (in_order items) kinds.Groupings) [] ≡ false
 groupings_named items h = items_named kinds.Groupings grouping_named items (each_in items h)

@@ -21,14 +21,14 @@ use Rattle.sbl_ast.specs.declared.tree.Prefix.TheVariants as prefixes
 use Rattle.sbl_ast.specs.declared.tree.Simple.{Simple}
 use Rattle.sbl_ast.specs.declared.tree.Simple.TheVariants as simples
 use Rattle.sbl_ast.specs.declared.tree.Splice.{Splice}
-use Rattle.sbl_ast.specs.declared.tree.Splice.TheVariants as edits
+use Rattle.sbl_ast.specs.declared.tree.Splice.TheVariants as splices
 use Rattle.sbl_ast.specs.Order.{in_order}
 use Rattle.sbl_ast.specs.Tree as trees
 use Rattle.sbl_ast.specs.Tree.{bracket, simple_, literal_, name_, non_, prefixed, counted, move_, named, splice_, setlimit_, assign_, compare_, compare_values_, among_, no_rows, row, no_others, joined, no_starter, starter, bare, group}
 use Rattle.sbl_ast.specs.declared.mode.Mode.{Mode}
 use Rattle.sbl_ast.specs.declared.mode.Mode.TheVariants.{Forward, Backward}
 use Rattle.sbl_semantics.specs.Fitting.{read_as, ahead_at}
-use Rattle.sbl_semantics.specs.Items.{DeclaredNames, Body, place_of, is_among, known_in, class_of, classes_after, body_named}
+use Rattle.sbl_semantics.specs.Items.{DeclaredNames, Body, place_of, is_member, known_in, char_class_of, classes_after, body_named}
 use Rattle.sbl_semantics.specs.Regions.{Among, among_at, number_after, number_after_rows, number_after_others, number_after_starter, first, first_rows, first_others, mode_under, waits, waits_others}
 use Rattle.sbl_semantics.specs.declared.cursor.SavedCursor.{SavedCursor}
 use Rattle.sbl_semantics.specs.declared.limits.Limits.{Limits}
@@ -43,7 +43,9 @@ use Rattle.sbl_semantics.specs.Choices.{choice, choose, take_none, take_string, 
 use Rattle.sbl_semantics.specs.Slices.{is_slice, replace_slice, replace, keep, insert_string, put_in}
 use Rattle.sbl_semantics.specs.State.{State, Ending, Signals, Stops, Doing, bound_of, ahead, room, after, then_on, pay, at_place, at_difference, to_limit, saved_cursor, put_back, step_over, place_after, note_event}
 use Rattle.sbl_semantics.specs.Meaning as meaning
-use Rattle.sbl_semantics.specs.Meaning.{Offer, prefixed_does, counted_does, joined_does, limited_does, simple_does, moved_does, assigned_does, compared_does, named_does, edited_does, begins, takes, try_each, search}
+use Rattle.sbl_semantics.specs.inside.MeaningParts as parts
+use Rattle.sbl_semantics.specs.Meaning.{Offer, prefixed_does, counted_does, joined_does, limited_does, simple_does, moved_does, assigned_does, compared_does, named_does, edited_does, takes, try_each, search}
+use Rattle.sbl_semantics.specs.inside.MeaningParts.{begins}
 use Rattle.sbl_semantics.specs.Outcome.{Stem, outcome_at, touched_at, run_of, events_at, events_in, events_of}
 use Rattle.sbl_machine.specs.Why.{text_after, text_after_one, PutsGiveTheStem, touches_after, touches_after_one, is_no_test, EventsTouch}
 use Rattle.sbl_machine.proofs.WhyLaw.{events_change_nothing}
@@ -179,13 +181,13 @@ module _ (word : List ℕ) where
   put_in_keeps right cs s h = if_keeps (nat_le (s.cursor + s.beyond) (length s.text)) _ _ (if_keeps (nat_le (length s.text + length cs) 1024) _ _ (put_keeps s.cursor s.cursor cs s h) h) h
 
   edited_keeps : (x : Splice) (cs : List ℕ) (m : Mode) → Keeps (edited_does x cs m)
-  edited_keeps edits.Replace cs m s h = replace_keeps cs s h
-  edited_keeps edits.InsertSign cs Forward s h = put_in_keeps true cs s h
-  edited_keeps edits.InsertSign cs Backward s h = put_in_keeps false cs s h
-  edited_keeps edits.Insert cs Forward s h = put_in_keeps true cs s h
-  edited_keeps edits.Insert cs Backward s h = put_in_keeps false cs s h
-  edited_keeps edits.Attach cs Forward s h = put_in_keeps false cs s h
-  edited_keeps edits.Attach cs Backward s h = put_in_keeps true cs s h
+  edited_keeps splices.Replace cs m s h = replace_keeps cs s h
+  edited_keeps splices.InsertSign cs Forward s h = put_in_keeps true cs s h
+  edited_keeps splices.InsertSign cs Backward s h = put_in_keeps false cs s h
+  edited_keeps splices.Insert cs Forward s h = put_in_keeps true cs s h
+  edited_keeps splices.Insert cs Backward s h = put_in_keeps false cs s h
+  edited_keeps splices.Attach cs Forward s h = put_in_keeps false cs s h
+  edited_keeps splices.Attach cs Backward s h = put_in_keeps true cs s h
 
   named_keeps : (ns : DeclaredNames) (x : Naming) (y : List ℕ) (m : Mode) → Keeps (named_does ns x y m)
   named_keeps ns namings.SetMark y m s h = h
@@ -315,7 +317,7 @@ module _ (word : List ℕ) where
   -- ---- searches
 
   module _ (call : List ℕ → Doing) (calls_keep : (x : List ℕ) → KeepsIn (call x)) where
-    condition_keeps : (o : Option (List ℕ)) → KeepsIn (meaning.condition_does call o)
+    condition_keeps : (o : Option (List ℕ)) → KeepsIn (parts.condition_does call o)
     condition_keeps None m s h = h
     condition_keeps (Some x) m s h = paid_keeps (call x) (calls_keep x) m s h
 
@@ -326,13 +328,13 @@ module _ (word : List ℕ) where
         let to_keeps = place_after_keeps m (saved_cursor from) (length o.string) in
         let end : State → Ending = λ c. Signals true (take_string k (length o.string) o.group c) in
         let taken : State → Ending = λ b. then_on (to b) end in
-        then_keeps (to s) (λ a. after (meaning.condition_does call o.condition m a) taken go) (to_keeps s h)
-        (λ a j. after_keeps (meaning.condition_does call o.condition m a) taken go (condition_keeps o.condition m a j)
+        then_keeps (to s) (λ a. after (parts.condition_does call o.condition m a) taken go) (to_keeps s h)
+        (λ a j. after_keeps (parts.condition_does call o.condition m a) taken go (condition_keeps o.condition m a j)
         (λ b k'. then_keeps (to b) end (to_keeps b k') (λ c l. tell_keeps (Finds k (Some (length o.string))) (choose k (Some o.group) c) (λ t. refl) (λ t. refl) l)) i)
 
     tried_keeps : (k : ℕ) (os : List Offer) (r m : Mode) (from : State) (x : List ℕ) (l : ℕ) → Keeps (try_each call k os r m from x l)
     tried_keeps k os r m from x zero s h = tell_keeps (Finds k None) (choose k None s) (λ t. refl) (λ t. refl) h
-    tried_keeps k os r m from x (suc l) s h = take_keeps k (meaning.offering r (take l x) os) m from (try_each call k os r m from x l) (tried_keeps k os r m from x l) s h
+    tried_keeps k os r m from x (suc l) s h = take_keeps k (parts.offering r (take l x) os) m from (try_each call k os r m from x l) (tried_keeps k os r m from x l) s h
 
     search_keeps : (a : Among) → KeepsIn (search call a)
     search_keeps a m s h =
@@ -343,15 +345,15 @@ module _ (word : List ℕ) where
   -- ---- the commands of a script
 
   module _ (ns : DeclaredNames) (class : List ℕ → ℕ → Bool) (call : List ℕ → Doing) (go : (x : List ℕ) → KeepsIn (call x)) where
-    ahead_keeps : (n : Option Among) → KeepsIn (meaning.search_ahead ns class call n)
+    ahead_keeps : (n : Option Among) → KeepsIn (parts.search_ahead ns class call n)
     ahead_keeps None m s h = h
     ahead_keeps (Some a) m s h = search_keeps call go a m s h
 
     name_keeps : (x : List ℕ) → KeepsIn (meaning.name_does ns class call x)
     name_keeps x m s h =
-        if_keeps (is_among (ns kinds.Strings) x) _ _ (match_keeps (slice_index_or s.strings (place_of (ns kinds.Strings) x) []) m s h)
-        (if_keeps (is_among (ns kinds.Booleans) x) _ _ h
-        (if_keeps (is_among (ns kinds.Groupings) x) _ _ (class_keeps true (class x) m (touch_grouping (place_of (ns kinds.Groupings) x) s) (test_keeps (place_of (ns kinds.Groupings) x) s h)) (go x m s h)))
+        if_keeps (is_member (ns kinds.Strings) x) _ _ (match_keeps (slice_index_or s.strings (place_of (ns kinds.Strings) x) []) m s h)
+        (if_keeps (is_member (ns kinds.Booleans) x) _ _ h
+        (if_keeps (is_member (ns kinds.Groupings) x) _ _ (class_keeps true (class x) m (touch_grouping (place_of (ns kinds.Groupings) x) s) (test_keeps (place_of (ns kinds.Groupings) x) s h)) (go x m s h)))
 
     abbrev does : Mode → ℕ → Bool → Option Among → trees.Command → Doing
     does = meaning.act ns class call
@@ -359,7 +361,7 @@ module _ (word : List ℕ) where
     mutual
       act_keeps : (t : trees.Command) (r : Mode) (i : ℕ) (w : Bool) (x : Option Among) → KeepsIn (does r i w x t)
       act_keeps (bracket rs) r i w x m s h = rows_keep rs r i w x m s h
-      act_keeps (simple_ y) r i w x m s h = simple_keeps (meaning.search_ahead ns class call x) (ahead_keeps x) y m s h
+      act_keeps (simple_ y) r i w x m s h = simple_keeps (parts.search_ahead ns class call x) (ahead_keeps x) y m s h
       act_keeps (literal_ q) r i w x m s h = match_keeps q.value m s h
       act_keeps (name_ y) r i w x m s h = name_keeps y m s h
       act_keeps (non_ b y) r i w x m s h = class_keeps false (class y) m (touch_grouping (place_of (ns kinds.Groupings) y) s) (test_keeps (place_of (ns kinds.Groupings) y) s h)
@@ -410,7 +412,7 @@ module _ (word : List ℕ) where
     body_keeps : (x : List ℕ) (b : Option Body) → KeepsIn (meaning.body_does ns class call x b)
     body_keeps x None m s h = h
     body_keeps x (Some b) m s h =
-        let d = meaning.row_does ns class call b.mode b.first b.others in
+        let d = parts.row_does ns class call b.mode b.first b.others in
         let i = place_of (ns kinds.Routines) x in
         let begun = enter i (number_after_others b.others (number_after b.first 0)) s in
         let row = others_keep b.others b.mode (number_after b.first 0) (waits b.first false) None (does b.mode 0 false (first_others b.mode b.others (number_after b.first 0) None) b.first) (act_keeps b.first b.mode 0 false (first_others b.mode b.others (number_after b.first 0) None)) in
@@ -437,7 +439,7 @@ puts_give_the_stem script word limit stem p =
     let items = in_order script.items in
     let known = known_in items in
     stem_of word (meaning.ending_with_events script word limit) stem
-    (calls_keep word known (class_of (classes_after items [])) (body_named items) 32 script.external Forward (record (meaning.start known word limit) { events = Some [] }) ([], refl, refl, refl))
+    (calls_keep word known (char_class_of (classes_after items [])) (body_named items) 32 script.external Forward (record (meaning.start known word limit) { events = Some [] }) ([], refl, refl, refl))
     ((events_change_nothing script word limit).outcome ∙ p)
 
 pub events_touch : EventsTouch
@@ -446,5 +448,5 @@ events_touch script word limit =
     let items = in_order script.items in
     let known = known_in items in
     touches_at word (meaning.ending_with_events script word limit)
-    (calls_keep word known (class_of (classes_after items [])) (body_named items) 32 script.external Forward (record (meaning.start known word limit) { events = Some [] }) ([], refl, refl, refl))
+    (calls_keep word known (char_class_of (classes_after items [])) (body_named items) 32 script.external Forward (record (meaning.start known word limit) { events = Some [] }) ([], refl, refl, refl))
     ∙ ap (filter is_no_test) (events_change_nothing script word limit).touches

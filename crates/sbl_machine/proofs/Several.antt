@@ -9,7 +9,7 @@ use Rattle.sbl_ast.specs.Order.{ItemInMode, in_order}
 use Rattle.sbl_ast.specs.Tree.{Argument, written_out, by_name, Term, term, Plain, declaration, escapes, macro, routine, grouping}
 use Rattle.sbl_resolver.specs.Checks.{WellDeclared}
 use Rattle.sbl_resolver.specs.Laws.{WellDeclaredPasses}
-use Rattle.sbl_semantics.specs.Items.{is_among}
+use Rattle.sbl_semantics.specs.Items.{is_member}
 use Rattle.sbl_machine.specs.BuiltFrom.{names, any_names, built_on, IsClosed, IsClosedAt, and_built, built_after, is_affected_by, affected_by, meets, meets_one}
 use Rattle.sbl_machine.specs.DifferLaws.{OneAffects, OneMeets}
 use Rattle.sbl_semantics.specs.Outcome.{touches_of}
@@ -118,7 +118,7 @@ one_meets x s word limit = ap (λ (p : Item' → Bool). list_any p (map (item_of
 
 -- ---- what is built from several groupings
 
-added_by : (b : Bool) (x r n : List ℕ) (ms : List (List ℕ)) → is_among (ms ++ r ∷ []) n ≡ (is_among ms n || bytes_eq r n) → (if b then true else is_among (ms ++ r ∷ []) n) ≡ ((if b then true else is_among ms n) || bytes_eq r n)
+added_by : (b : Bool) (x r n : List ℕ) (ms : List (List ℕ)) → is_member (ms ++ r ∷ []) n ≡ (is_member ms n || bytes_eq r n) → (if b then true else is_member (ms ++ r ∷ []) n) ≡ ((if b then true else is_member ms n) || bytes_eq r n)
 added_by true x r n ms h = refl
 added_by false x r n ms h = h
 
@@ -127,27 +127,27 @@ itself true = refl
 itself false = refl
 
 -- one name more
-pub is_among_more : (ms : List (List ℕ)) (r n : List ℕ) → is_among (ms ++ r ∷ []) n ≡ (is_among ms n || bytes_eq r n)
-is_among_more [] r n = itself (bytes_eq r n)
-is_among_more (x ∷ ms) r n = added_by (bytes_eq x n) x r n ms (is_among_more ms r n)
+pub is_member_more : (ms : List (List ℕ)) (r n : List ℕ) → is_member (ms ++ r ∷ []) n ≡ (is_member ms n || bytes_eq r n)
+is_member_more [] r n = itself (bytes_eq r n)
+is_member_more (x ∷ ms) r n = added_by (bytes_eq x n) x r n ms (is_member_more ms r n)
 
-if_built : (b : Bool) (r n : List ℕ) (ms : List (List ℕ)) → is_among (if b then ms ++ r ∷ [] else ms) n ≡ (is_among ms n || (b && bytes_eq r n))
-if_built true r n ms = is_among_more ms r n
-if_built false r n ms = sym (or_false (is_among ms n))
+if_built : (b : Bool) (r n : List ℕ) (ms : List (List ℕ)) → is_member (if b then ms ++ r ∷ [] else ms) n ≡ (is_member ms n || (b && bytes_eq r n))
+if_built true r n ms = is_member_more ms r n
+if_built false r n ms = sym (or_false (is_member ms n))
 
 module _ {X : Type 0} (xs : List X) where
   -- a name is one of these exactly if it is one of those of an x
   abbrev AreOf : List (List ℕ) → (X → List (List ℕ)) → Type 0
-  AreOf ms of = (n : List ℕ) → is_among ms n ≡ list_any (λ x. is_among (of x) n) xs
+  AreOf ms of = (n : List ℕ) → is_member ms n ≡ list_any (λ x. is_member (of x) n) xs
 
   item_of_several : (y : Plain) (ms : List (List ℕ)) (of : X → List (List ℕ)) → AreOf ms of → AreOf (and_built y ms) (λ x. and_built y (of x))
   item_of_several (grouping r a ts) ms of are n =
-      let on : built_on (is_among ms) a ts ≡ list_any (λ x. built_on (is_among (of x)) a ts) xs = ap (λ (c : List ℕ → Bool). built_on c a ts) (fun_ext are) ∙ built_on_any (λ x. is_among (of x)) xs a ts in
-      if_built (built_on (is_among ms) a ts) r n ms
+      let on : built_on (is_member ms) a ts ≡ list_any (λ x. built_on (is_member (of x)) a ts) xs = ap (λ (c : List ℕ → Bool). built_on c a ts) (fun_ext are) ∙ built_on_any (λ x. is_member (of x)) xs a ts in
+      if_built (built_on (is_member ms) a ts) r n ms
       ∙ (λ i. are n i || (on i && bytes_eq r n))
-      ∙ ap (λ (b : Bool). list_any (λ x. is_among (of x) n) xs || b) (sym (any_and (λ x. built_on (is_among (of x)) a ts) (bytes_eq r n) xs))
-      ∙ sym (any_or (λ x. is_among (of x) n) (λ x. built_on (is_among (of x)) a ts && bytes_eq r n) xs)
-      ∙ ap (λ (p : X → Bool). list_any p xs) (fun_ext (λ x. sym (if_built (built_on (is_among (of x)) a ts) r n (of x))))
+      ∙ ap (λ (b : Bool). list_any (λ x. is_member (of x) n) xs || b) (sym (any_and (λ x. built_on (is_member (of x)) a ts) (bytes_eq r n) xs))
+      ∙ sym (any_or (λ x. is_member (of x) n) (λ x. built_on (is_member (of x)) a ts && bytes_eq r n) xs)
+      ∙ ap (λ (p : X → Bool). list_any p xs) (fun_ext (λ x. sym (if_built (built_on (is_member (of x)) a ts) r n (of x))))
   item_of_several (declaration k ns) ms of are n = are n
   item_of_several (escapes a b) ms of are n = are n
   item_of_several (macro m b q) ms of are n = are n
@@ -161,10 +161,10 @@ alone : (ms : List (List ℕ)) → AreOf ms ms (λ n. n ∷ [])
 alone [] n = refl
 alone (m ∷ ms) n = by (bytes_eq m n) (alone ms n)
   where
-    by : (b : Bool) → is_among ms n ≡ list_any (λ k. is_among (k ∷ []) n) ms → (if b then true else is_among ms n) ≡ ((if b then true else false) || list_any (λ k. is_among (k ∷ []) n) ms)
+    by : (b : Bool) → is_member ms n ≡ list_any (λ k. is_member (k ∷ []) n) ms → (if b then true else is_member ms n) ≡ ((if b then true else false) || list_any (λ k. is_member (k ∷ []) n) ms)
     by true h = refl
     by false h = h
 
 -- a grouping is built from one of several exactly if it is built from one of them alone
-pub built_from_several : (is : List ItemInMode) (ms : List (List ℕ)) (n : List ℕ) → is_among (built_after is ms) n ≡ list_any (λ m. is_among (built_after is (m ∷ [])) n) ms
+pub built_from_several : (is : List ItemInMode) (ms : List (List ℕ)) (n : List ℕ) → is_member (built_after is ms) n ≡ list_any (λ m. is_member (built_after is (m ∷ [])) n) ms
 built_from_several is ms n = built_of ms is ms (λ m. m ∷ []) (alone ms) n

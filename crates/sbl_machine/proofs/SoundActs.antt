@@ -17,14 +17,16 @@ use Rattle.sbl_ast.specs.declared.tree.Move.TheVariants as moves
 use Rattle.sbl_ast.specs.declared.tree.Naming.{Naming}
 use Rattle.sbl_ast.specs.declared.tree.Naming.TheVariants as namings
 use Rattle.sbl_ast.specs.declared.tree.Splice.{Splice}
-use Rattle.sbl_ast.specs.declared.tree.Splice.TheVariants as edits
+use Rattle.sbl_ast.specs.declared.tree.Splice.TheVariants as splices
 use Rattle.sbl_ast.specs.declared.tree.DeclarationKind.TheVariants as kinds
 use Rattle.sbl_ast.specs.Tree as trees
 use Rattle.sbl_ast.specs.Tree.{bracket, simple_, literal_, name_, non_, prefixed, counted, move_, named, splice_, setlimit_, assign_, compare_, compare_values_, among_, no_rows, row, no_others, joined, no_starter, starter, bare, group}
 use Rattle.sbl_compiler.specs.Ahead.{search_next, search_of, found_as, search_then, simple_by, made_command, made_rows, made_others, made_starter, made_groups}
-use Rattle.sbl_semantics.specs.Items.{DeclaredNames, place_of, is_among}
-use Rattle.sbl_semantics.specs.Meaning.{prefixed_does, counted_does, joined_does, limited_does, simple_does, moved_does, named_does, edited_does, assigned_does, compared_does, begins, worth}
+use Rattle.sbl_semantics.specs.Items.{DeclaredNames, place_of, is_member}
+use Rattle.sbl_semantics.specs.Meaning.{prefixed_does, counted_does, joined_does, limited_does, simple_does, moved_does, named_does, edited_does, assigned_does, compared_does, worth}
+use Rattle.sbl_semantics.specs.inside.MeaningParts.{begins}
 use Rattle.sbl_semantics.specs.Meaning as meaning
+use Rattle.sbl_semantics.specs.inside.MeaningParts as parts
 use Rattle.sbl_program.specs.Arithmetic.{characters, value, changed_value, holds}
 use Rattle.sbl_semantics.specs.Moves.{one_of, touch_grouping, match, set_mark, set_boolean, test_boolean}
 use Rattle.sbl_compiler.specs.NumberedItems.{name_alone, after_prefix, after_count, move, change_named, edit, change_of, relation_of}
@@ -33,7 +35,7 @@ use Rattle.sbl_compiler.specs.NumberedNames.{Names, is_one_of, number_of}
 use Rattle.sbl_compiler.specs.NumberedNumbers.{expression, text}
 use Rattle.sbl_semantics.specs.Numbers.{Value, continue_with, integer_at, with_value}
 use Rattle.sbl_program.specs.Program as programs
-use Rattle.sbl_char_class.specs.Terms.{class_at}
+use Rattle.sbl_program.specs.Terms.{class_at}
 use Rattle.sbl_semantics.specs.Regions.{Among, among_at, number_after, number_after_rows, number_after_others, number_after_starter, first, first_rows, first_others, mode_under, waits, waits_others}
 use Rattle.sbl_program.specs.Run as run
 use Rattle.sbl_semantics.specs.Control as control
@@ -75,8 +77,8 @@ module _ (ns : Names) (known : DeclaredNames) (agree : Agree ns known) (classes 
   boolean_of : (n : List ℕ) → number_of ns.booleans n ≡ place_of (known kinds.Booleans) n
   boolean_of n = placed_by _ _ n agree.booleans
 
-  one_kind : (xs ys : List (List ℕ)) (n : List ℕ) → xs ≡ ys → is_one_of xs n ≡ is_among ys n
-  one_kind xs ys n e = among_is xs n ∙ ap (λ zs. is_among zs n) e
+  one_kind : (xs ys : List (List ℕ)) (n : List ℕ) → xs ≡ ys → is_one_of xs n ≡ is_member ys n
+  one_kind xs ys n e = among_is xs n ∙ ap (λ zs. is_member zs n) e
 
   grouping_same : (w : Bool) (n : List ℕ) (m : Mode) (s : State) → one_of w (class_at classes (number_of ns.groupings n)) m (touch_grouping (number_of ns.groupings n) s) ≡ meaning.tests known class w n m s
   grouping_same w n m s =
@@ -99,11 +101,11 @@ module _ (ns : Names) (known : DeclaredNames) (agree : Agree ns known) (classes 
   search_is : (a : Among) → does_as (search_of (found_as ns a)) (meaning.search call' a)
   search_is a m s = search_same ns known agree call call' same_call a m s
 
-  ahead_same : (n : Option Among) → does_as (search_next ns n) (meaning.search_ahead known class call' n)
+  ahead_same : (n : Option Among) → does_as (search_next ns n) (parts.search_ahead known class call' n)
   ahead_same None m s = refl
   ahead_same (Some a) m s = search_is a m s
 
-  simple_same : (x : Simple) (n : Option Among) → does_as (simple_by ns x n) (simple_does (meaning.search_ahead known class call' n) x)
+  simple_same : (x : Simple) (n : Option Among) → does_as (simple_by ns x n) (simple_does (parts.search_ahead known class call' n) x)
   simple_same simples.Substring n m s = ahead_same n m s
   simple_same simples.LeftBracket n m s = refl
   simple_same simples.RightBracket n m s = refl
@@ -145,10 +147,10 @@ module _ (ns : Names) (known : DeclaredNames) (agree : Agree ns known) (classes 
   naming_same namings.Arrow n m s = ap (λ i. keep i s) (string_at n)
 
   edit_same : (x : Splice) (t : programs.StringTerm) (cs : List ℕ) (m : Mode) (s : State) → characters t s ≡ cs → run.act classes call (programs.act (edit x t)) m s ≡ edited_does x cs m s
-  edit_same edits.Replace t cs m s h = ap (λ cs. edited_does edits.Replace cs m s) h
-  edit_same edits.InsertSign t cs m s h = ap (λ cs. edited_does edits.InsertSign cs m s) h
-  edit_same edits.Insert t cs m s h = ap (λ cs. edited_does edits.Insert cs m s) h
-  edit_same edits.Attach t cs m s h = ap (λ cs. edited_does edits.Attach cs m s) h
+  edit_same splices.Replace t cs m s h = ap (λ cs. edited_does splices.Replace cs m s) h
+  edit_same splices.InsertSign t cs m s h = ap (λ cs. edited_does splices.InsertSign cs m s) h
+  edit_same splices.Insert t cs m s h = ap (λ cs. edited_does splices.Insert cs m s) h
+  edit_same splices.Attach t cs m s h = ap (λ cs. edited_does splices.Attach cs m s) h
 
   abbrev assigning : ℕ → (ℤ → ℤ → Value) → Value → State → Ending
   assigning x f v s = continue_with (with_value v (f (integer_at x s))) s (λ z. Signals true (record s { integers = slice_set s.integers x z }))
@@ -235,7 +237,7 @@ module _ (ns : Names) (known : DeclaredNames) (agree : Agree ns known) (classes 
     groups_sound (group e es rs gs) r k (suc g) m s = groups_sound gs r (number_after_rows rs k) g m s
 
   -- a routine's body
-  pub row_sound : (r : Mode) (c : trees.Command) (os : trees.Others) → run.act classes call (made_others ns r (number_after c 0) (waits c false) None os (made_command ns r 0 false (first_others r os (number_after c 0) None) c)) ≡ meaning.row_does known class call' r c os
+  pub row_sound : (r : Mode) (c : trees.Command) (os : trees.Others) → run.act classes call (made_others ns r (number_after c 0) (waits c false) None os (made_command ns r 0 false (first_others r os (number_after c 0) None) c)) ≡ parts.row_does known class call' r c os
   row_sound r c os =
       let n1 = first_others r os (number_after c 0) None in
       others_sound os r (number_after c 0) (waits c false) None (made_command ns r 0 false n1 c) (does r 0 false n1 c) (fun_ext (λ m. fun_ext (λ s. sound c r 0 false n1 m s)))

@@ -10,7 +10,7 @@ use Rattle.sbl_ast.specs.declared.tree.Move.TheVariants as moves
 use Rattle.sbl_ast.specs.declared.tree.Naming.{Naming}
 use Rattle.sbl_ast.specs.declared.tree.Naming.TheVariants as namings
 use Rattle.sbl_ast.specs.declared.tree.Splice.{Splice}
-use Rattle.sbl_ast.specs.declared.tree.Splice.TheVariants as edits
+use Rattle.sbl_ast.specs.declared.tree.Splice.TheVariants as splices
 use Rattle.sbl_ast.specs.declared.tree.DeclarationKind.TheVariants as kinds
 use Rattle.sbl_ast.specs.declared.mode.Mode.{Mode}
 use Rattle.sbl_ast.specs.declared.mode.Mode.TheVariants.{Forward, Backward}
@@ -158,7 +158,7 @@ named_same ns namings.Unset n m s = refl
 named_same ns namings.Arrow n m s = keep_same (place_of (ns kinds.Strings) n) s
 
 pub edited_same : (x : Splice) (cs : List ℕ) (m : Mode) (s : State) → Same s (edited_does x cs m s)
-edited_same edits.Replace cs m s = replace_same cs s
-edited_same edits.InsertSign cs m s = insert_same cs m s
-edited_same edits.Insert cs m s = insert_same cs m s
-edited_same edits.Attach cs m s = attach_same cs m s
+edited_same splices.Replace cs m s = replace_same cs s
+edited_same splices.InsertSign cs m s = insert_same cs m s
+edited_same splices.Insert cs m s = insert_same cs m s
+edited_same splices.Attach cs m s = attach_same cs m s

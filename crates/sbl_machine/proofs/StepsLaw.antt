@@ -7,7 +7,7 @@ use Rattle.sbl_semantics.specs.Outcome.{Refused, outcome_at, touched_at, used_at
 use Rattle.sbl_semantics.specs.State.{State, Ending, Signals, Stops}
 use Rattle.sbl_machine.proofs.Steps.{Within, Goes}
 use Rattle.sbl_machine.proofs.StepsRuns.{calls_go}
-use Rattle.sbl_semantics.specs.Items.{known_in, class_of, classes_after, body_named}
+use Rattle.sbl_semantics.specs.Items.{known_in, char_class_of, classes_after, body_named}
 use Rattle.sbl_ast.specs.Source.{Source}
 use Rattle.sbl_ast.specs.Order.{in_order}
 use Rattle.sbl_ast.specs.declared.mode.Mode.TheVariants.{Forward}
@@ -41,7 +41,7 @@ ending_goes : (script : Source) (word : List ℕ) (limit k : ℕ) → Goes k (su
 unfolding meaning.ending
 ending_goes script word limit k =
     let items = in_order script.items in
-    calls_go (known_in items) (class_of (classes_after items [])) (body_named items) 32 script.external Forward k (suc limit) (meaning.start (known_in items) word limit) (omega arith)
+    calls_go (known_in items) (char_class_of (classes_after items [])) (body_named items) 32 script.external Forward k (suc limit) (meaning.start (known_in items) word limit) (omega arith)
 
 -- of two numbers one is the other and some more
 apart : (a b : ℕ) → ((k : ℕ) × (a + k ≡ b)) ⊎ ((k : ℕ) × (b + k ≡ a))

@@ -7,7 +7,7 @@ use Rattle.sbl_machine.specs.Why.{EventsChangeNothing}
 use Rattle.sbl_semantics.specs.State.{State, Ending, Signals, Stops}
 use Rattle.sbl_machine.proofs.Steps.{Goes}
 use Rattle.sbl_machine.proofs.StepsRuns.{calls_go}
-use Rattle.sbl_semantics.specs.Items.{known_in, class_of, classes_after, body_named}
+use Rattle.sbl_semantics.specs.Items.{known_in, char_class_of, classes_after, body_named}
 use Rattle.sbl_ast.specs.Source.{Source}
 use Rattle.sbl_ast.specs.Order.{in_order}
 use Rattle.sbl_ast.specs.declared.mode.Mode.TheVariants.{Forward}
@@ -17,7 +17,7 @@ unfolding meaning.ending meaning.ending_with_events
 recording_goes script word limit =
     let items = in_order script.items in
     let known = known_in items in
-    let class = class_of (classes_after items []) in
+    let class = char_class_of (classes_after items []) in
     let begun : State = record (meaning.start known word limit) { events = Some [] } in
     let run : State → Ending = meaning.calls known class (body_named items) 32 script.external Forward in
     let none : limit + 0 ≡ limit = omega arith in

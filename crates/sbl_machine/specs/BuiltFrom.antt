@@ -4,7 +4,7 @@ use Rattle.std.specs.List.{AllByRecursion, fold, list_any}
 use Rattle.sbl_ast.specs.declared.tree.Additive.TheVariants.{Plus}
 use Rattle.sbl_ast.specs.Order.{ItemInMode, in_order}
 use Rattle.sbl_ast.specs.Tree.{Argument, written_out, by_name, Term, term, Plain, grouping}
-use Rattle.sbl_semantics.specs.Items.{is_among}
+use Rattle.sbl_semantics.specs.Items.{is_member}
 use Rattle.sbl_resolver.specs.Checks.{WellDeclared}
 use Rattle.sbl_semantics.specs.Outcome.{touches_of}
 use Rattle.sbl_semantics.specs.TouchedItems.{Item', Grouping, item_of_touch, names_of, same_item}
@@ -37,7 +37,7 @@ IsClosed picked s = AllByRecursion (λ x. IsClosedAt picked x.plain) (in_order s
 
 -- adds the grouping that an item defines, if one of its terms names one of ns
 abbrev pub and_built : Plain → List (List ℕ) → List (List ℕ)
-and_built (grouping n a ts) ns = if any_names (is_among ns) (term Plus a ∷ ts) then ns ++ n ∷ [] else ns
+and_built (grouping n a ts) ns = if any_names (is_member ns) (term Plus a ∷ ts) then ns ++ n ∷ [] else ns
 and_built x ns = ns
 
 -- the grouping with name n, and those that are built from it
@@ -46,7 +46,7 @@ built_from n s = fold (λ ns x. and_built x.plain ns) (n ∷ []) (in_order s.ite
 
 -- whether an edit of one item affects another: the item itself or, if it is a grouping, a grouping built from it
 abbrev pub is_affected_by : Source → Item' → Item' → Bool
-is_affected_by s (Grouping m) (Grouping n) = is_among (built_from m s) n
+is_affected_by s (Grouping m) (Grouping n) = is_member (built_from m s) n
 is_affected_by s x y = same_item x y
 
 -- whether a run of a script on a word, with this limit, touches something that an edit of item x affects

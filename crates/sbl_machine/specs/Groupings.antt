@@ -5,7 +5,7 @@ use Rattle.sbl_ast.specs.Order.{ItemInMode, in_order}
 use Rattle.sbl_ast.specs.declared.mode.Mode.{Mode}
 use Rattle.sbl_ast.specs.declared.tree.Additive.TheVariants.{Plus, Minus}
 use Rattle.sbl_ast.specs.Tree.{Argument, written_out, by_name, Term, term, grouping}
-use Rattle.sbl_semantics.specs.Items.{Grouping, class_of, classes_after, term_has, terms_have}
+use Rattle.sbl_semantics.specs.Items.{Grouping, char_class_of, classes_after, term_has, terms_have}
 use Rattle.sbl_resolver.specs.Checks.{WellDeclared}
 use Rattle.sbl_ast.specs.Source.{Source}
 
@@ -22,7 +22,7 @@ Defines script n a ts =
 -- a term has a character if it writes it out, or if the grouping that it names has it
 abbrev pub Has : List Grouping → ℕ → Argument → Type 0
 Has all c (written_out q) = Contains q.value c
-Has all c (by_name n) = class_of all n c ≡ true
+Has all c (by_name n) = char_class_of all n c ≡ true
 
 -- a term does not remove a character
 abbrev pub Leaves : List Grouping → ℕ → Term → Type 0
@@ -44,11 +44,11 @@ abbrev pub GroupingsHaveTheirTerms : Type 0
 GroupingsHaveTheirTerms =
     (script : Source) → WellDeclared script.items script.external →
     (n : List ℕ) (a : Argument) (ts : List Term) → Defines script n a ts → (c : ℕ) →
-    (class_of (groupings_of script) n c ≡ true) ↔ IsOfTerms (groupings_of script) (term Plus a ∷ ts) c
+    (char_class_of (groupings_of script) n c ≡ true) ↔ IsOfTerms (groupings_of script) (term Plus a ∷ ts) c
 
 -- the same, computed
 abbrev pub GroupingsAreTheirTerms : Type 0
 GroupingsAreTheirTerms =
     (script : Source) → WellDeclared script.items script.external →
     (n : List ℕ) (a : Argument) (ts : List Term) → Defines script n a ts → (c : ℕ) →
-    class_of (groupings_of script) n c ≡ terms_have (groupings_of script) ts (term_has (groupings_of script) a c) c
+    char_class_of (groupings_of script) n c ≡ terms_have (groupings_of script) ts (term_has (groupings_of script) a c) c

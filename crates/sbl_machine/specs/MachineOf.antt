@@ -5,11 +5,11 @@ use Rattle.sbl_machine.specs.declared.machine.Machine.{Machine}
 use Rattle.sbl_semantics.specs.TouchedItems.{names_of}
 use Rattle.sbl_program.specs.AmongStrings.{Listing}
 use Rattle.sbl_program.specs.Listing.{listed_by}
-use Rattle.sbl_among_search.specs.declared.linked.LinkedTable.{LinkedTable}
+use Rattle.sbl_program.specs.declared.linked.LinkedTable.{LinkedTable}
 use Rattle.sbl_machine.specs.NumberedScript.{numbered_script}
 use Rattle.sbl_program.specs.Program.{Program}
 use Rattle.sbl_program.specs.ProgramOf.{program_of}
-use Rattle.sbl_among_search.specs.LinkedStrings.{entries_of, mode_of}
+use Rattle.sbl_program.specs.LinkedStrings.{entries_of, mode_of}
 use Rattle.sbl_ast.specs.Source.{Source}
 
 -- the strings of an among of the machine, by its number

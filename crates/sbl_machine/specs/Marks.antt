@@ -1,7 +1,7 @@
 -- What an edit affects, by number.
 use Rattle.std.specs.Prelude.{◌≡◌, ℕ, Bool, true, List}
 use Rattle.std.specs.List.{list_any}
-use Rattle.sbl_semantics.specs.Items.{is_among}
+use Rattle.sbl_semantics.specs.Items.{is_member}
 use Rattle.sbl_semantics.specs.declared.touch.Touch.{Touch}
 use Rattle.sbl_semantics.specs.Touches.{same_touch}
 use Rattle.sbl_script.specs.Edits.{ScriptEdit, IsEdited}
@@ -12,9 +12,9 @@ use Rattle.sbl_machine.specs.EditedItem.{edited_item}
 
 -- whether a script defines the routine or the grouping of an item
 abbrev pub has_item : Names' → Item' → Bool
-has_item names (Routine n) = is_among names.routines n
-has_item names (Among n k) = is_among names.routines n
-has_item names (Grouping n) = is_among names.groupings n
+has_item names (Routine n) = is_member names.routines n
+has_item names (Among n k) = is_member names.routines n
+has_item names (Grouping n) = is_member names.groupings n
 
 -- The marks of some items: a touch is one of them exactly if an edit of one of the items affects what it touches.
 abbrev pub AreMarksOf : Source → List Item' → List Touch → Type 0

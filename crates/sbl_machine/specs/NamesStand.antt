@@ -3,7 +3,7 @@ use Rattle.std.specs.Prelude.{◌≡◌, ◌⊎◌, ℕ, true, List, ◌∷◌, 
 use Rattle.sbl_ast.specs.Order.{ItemInMode, in_order}
 use Rattle.sbl_ast.specs.declared.tree.DeclarationKind.TheVariants as kinds
 use Rattle.sbl_ast.specs.declared.mode.Mode.{Mode}
-use Rattle.sbl_semantics.specs.Items.{Body, body_named, known_in, is_among}
+use Rattle.sbl_semantics.specs.Items.{Body, body_named, known_in, is_member}
 use Rattle.sbl_resolver.specs.Checks.{WellDeclared}
 use Rattle.sbl_resolver.specs.Occurrences.{Occurrence, uses, occurrences_of}
 use Rattle.sbl_ast.specs.Source.{Source}
@@ -17,15 +17,15 @@ HasBody items n m = (b : Body) × (body_named items n ≡ Some b) × (b.mode ≡
 
 -- a name, used in this way in a command of this mode, means an existing variable, grouping or routine
 abbrev pub StandsFor : List ItemInMode → Use → List ℕ → Mode → Type 0
-StandsFor items use_as.String n m = is_among (known_in items kinds.Strings) n ≡ true
-StandsFor items use_as.Integer n m = is_among (known_in items kinds.Integers) n ≡ true
-StandsFor items use_as.Boolean n m = is_among (known_in items kinds.Booleans) n ≡ true
-StandsFor items use_as.Excluded n m = is_among (known_in items kinds.Groupings) n ≡ true
-StandsFor items use_as.Term n m = is_among (known_in items kinds.Groupings) n ≡ true
+StandsFor items use_as.String n m = is_member (known_in items kinds.Strings) n ≡ true
+StandsFor items use_as.Integer n m = is_member (known_in items kinds.Integers) n ≡ true
+StandsFor items use_as.Boolean n m = is_member (known_in items kinds.Booleans) n ≡ true
+StandsFor items use_as.Excluded n m = is_member (known_in items kinds.Groupings) n ≡ true
+StandsFor items use_as.Term n m = is_member (known_in items kinds.Groupings) n ≡ true
 StandsFor items use_as.Condition n m = HasBody items n m
 StandsFor items use_as.Command n m =
-    (is_among (known_in items kinds.Strings) n ≡ true) ⊎
-    ((is_among (known_in items kinds.Booleans) n ≡ true) ⊎ ((is_among (known_in items kinds.Groupings) n ≡ true) ⊎ HasBody items n m))
+    (is_member (known_in items kinds.Strings) n ≡ true) ⊎
+    ((is_member (known_in items kinds.Booleans) n ≡ true) ⊎ ((is_member (known_in items kinds.Groupings) n ≡ true) ⊎ HasBody items n m))
 
 -- In a well-declared script each name that is used means something that exists, and a routine is called in the mode in
 -- which it is defined. So the cases of the definition of a run for other names do not arise.

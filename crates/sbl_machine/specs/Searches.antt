@@ -2,7 +2,7 @@
 use Rattle.std.specs.Prelude.{◌↔◌, ℕ, List, []}
 use Rattle.std.specs.List.{AllByRecursion}
 use Rattle.sbl_semantics.specs.Fitting.{fitting, read_all}
-use Rattle.sbl_among_search.specs.Laws.{AllDiffer, Matches, StandsIn}
+use Rattle.sbl_program.specs.Laws.{AllDiffer, Matches, StandsIn}
 use Rattle.sbl_ast.specs.Order.{in_order}
 use Rattle.sbl_compiler.specs.Laws.{names_in}
 use Rattle.sbl_compiler.specs.NumberedAmongs.{AmongStrings, found_after}

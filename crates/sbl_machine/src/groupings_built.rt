@@ -2,7 +2,7 @@
 //! is built from one of them.
 
 ghost use Rattle.std.specs.Prelude.{◌≡◌, map, OnOk, IfOk};
-ghost use Rattle.sbl_semantics.specs.Items.{is_among};
+ghost use Rattle.sbl_semantics.specs.Items.{is_member};
 ghost use Rattle.sbl_ast.specs.Order.{in_order};
 ghost use Rattle.sbl_ast.specs.View.{view_argument, view_items, view_plain, view_term};
 ghost use Rattle.sbl_machine.specs.BuiltFrom as spec;
@@ -13,7 +13,7 @@ use std::alloc::{AllocError, Global};
 
 // Whether a term is the name of one of these groupings.
 fn names_one(names: &NameList, argument: &Argument) -> bool
-    ensures { result ≡ spec.names (is_among names.now) (view_argument argument.now) }
+    ensures { result ≡ spec.names (is_member names.now) (view_argument argument.now) }
 {
     match argument {
         Argument::Literal(_) => false,
@@ -23,7 +23,7 @@ fn names_one(names: &NameList, argument: &Argument) -> bool
 
 // Whether one of these terms is the name of one of these groupings.
 fn one_names_one(names: &NameList, terms: &[Term]) -> bool
-    ensures { result ≡ spec.any_names (is_among names.now) (map view_term terms.now) }
+    ensures { result ≡ spec.any_names (is_member names.now) (map view_term terms.now) }
 {
     for term in terms {
         if names_one(names, &term.argument) {

@@ -11,7 +11,7 @@ ghost use Rattle.sbl_machine.specs.Searches.{SearchesAreExact, TablesDiffer};
 ghost use Rattle.sbl_machine.specs.Sound.{RunIsSound};
 ghost use Rattle.sbl_machine.specs.Why.{EventsChangeNothing, EventsTouch, PutsGiveTheStem};
 
-use sbl_among_search::laws::fitting_are_matches;
+use sbl_program::laws::fitting_are_matches;
 use sbl_resolver::laws::{amongs_are_sound, names_resolve, well_declared_passes};
 
 /// A run of the program of a script is a run of the script.

@@ -3,6 +3,7 @@
 
 mod among_list;
 mod groupings_built;
+mod item_ref;
 pub mod laws;
 mod limit;
 mod machine;
@@ -12,12 +13,13 @@ mod naming;
 mod outcome;
 mod run_stop;
 
+pub use item_ref::ItemRef;
 pub use limit::DEFAULT_LIMIT;
 pub use machine::Machine;
 pub use meter::Meter;
 pub use outcome::{Ran, RunTrace, Why};
 pub use run_stop::RunStop;
-pub use sbl_among_search::{AmongSearch, LinkedTable, PlainTable};
+pub use sbl_program::{AmongSearch, LinkedTable, PlainTable};
 pub use sbl_run_state::TouchLog;
 pub use sbl_script::ScriptFault;
 pub use sbl_semantics::{Event, Item, Outcome, RunFault, Touch};

@@ -12,7 +12,7 @@ use Rattle.sbl_ast.specs.declared.tree.Prefix.TheVariants as prefixes
 use Rattle.sbl_ast.specs.declared.tree.Count.TheVariants as counts
 use Rattle.sbl_ast.specs.declared.tree.Move.TheVariants as moves
 use Rattle.sbl_ast.specs.declared.tree.Naming.TheVariants as namings
-use Rattle.sbl_ast.specs.declared.tree.Splice.TheVariants as edits
+use Rattle.sbl_ast.specs.declared.tree.Splice.TheVariants as splices
 use Rattle.sbl_ast.specs.declared.tree.Additive.TheVariants as additives
 use Rattle.sbl_ast.specs.declared.tree.Multiplicative.TheVariants as multiplicatives
 use Rattle.sbl_ast.specs.declared.tree.Assignment.TheVariants as assignments
@@ -126,7 +126,7 @@ back (t.joiner joiners.And) = refl
 back (t.count counts.AtLeast) = refl
 back (t.simple simples.AtLimit) = refl
 back (t.move moves.AtMark) = refl
-back (t.edit edits.Attach) = refl
+back (t.edit splices.Attach) = refl
 back (t.prefix prefixes.Backwards) = refl
 back (t.declares declarations.Booleans) = refl
 back (t.constant constants.Cursor) = refl
@@ -142,7 +142,7 @@ back (t.prefix prefixes.GoTo) = refl
 back (t.declares declarations.Groupings) = refl
 back (t.base bases.Hex) = refl
 back (t.move moves.Hop) = refl
-back (t.edit edits.Insert) = refl
+back (t.edit splices.Insert) = refl
 back (t.declares declarations.Integers) = refl
 back (t.constant constants.Len) = refl
 back (t.constant constants.Limit) = refl
@@ -181,8 +181,8 @@ back (t.compares comparisons.Same) = refl
 back (t.compares comparisons.Differs) = refl
 back (t.compares comparisons.AtMost) = refl
 back (t.compares comparisons.AtLeast) = refl
-back (t.edit edits.Replace) = refl
-back (t.edit edits.InsertSign) = refl
+back (t.edit splices.Replace) = refl
+back (t.edit splices.InsertSign) = refl
 back (t.naming namings.Arrow) = refl
 back (t.assigns assignments.Plus) = refl
 back (t.assigns assignments.Minus) = refl

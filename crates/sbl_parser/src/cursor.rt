@@ -64,7 +64,7 @@ impl<'a, 't> Cursor<'a, 't> {
     }
 
     /// Returns the role of the next token, or `End` if there is none.
-    pub fn role(&self) -> Role
+    pub(crate) fn role(&self) -> Role
         ensures { result ≡ role_of (ahead self.now) }
     {
         first_role(self.tokens)

@@ -134,7 +134,7 @@ pub fn is_left_out(token: &Token<'_>) -> bool
 }
 
 /// Returns the role of the first token, or `End` if there is none.
-pub fn first_role(tokens: &[Token<'_>]) -> Role
+pub(crate) fn first_role(tokens: &[Token<'_>]) -> Role
     ensures { result ≡ role_of (terminals_of tokens.now) }
 {
     match tokens.first() {

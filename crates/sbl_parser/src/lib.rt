@@ -16,4 +16,3 @@ mod tokens;
 
 pub use first_tokens::is_left_out;
 pub use reading::{one_fault, one_tree, parse, parse_among, parse_body, parse_terms};
-pub use role::Role;

@@ -7,7 +7,7 @@ use sbl_ast::{
 
 /// The role of a token in the grammar, without its text or its value.
 #[derive(Clone, Copy)]
-pub enum Role {
+pub(crate) enum Role {
     /// `(`
     Open,
     /// `)`

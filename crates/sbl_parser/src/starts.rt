@@ -6,7 +6,7 @@ ghost use Rattle.sbl_parser.specs.Starts as spec;
 use crate::role::Role;
 
 /// Returns whether a command can begin with this token.
-pub fn begins_command(role: Role) -> bool
+pub(crate) fn begins_command(role: Role) -> bool
     ensures { result ≡ spec.begins_command role }
 {
     matches!(
@@ -28,7 +28,7 @@ pub fn begins_command(role: Role) -> bool
 }
 
 /// Returns whether an item that is allowed in a `backwardmode` can begin with this token.
-pub fn begins_plain(role: Role) -> bool
+pub(crate) fn begins_plain(role: Role) -> bool
     ensures { result ≡ spec.begins_plain role }
 {
     matches!(
@@ -38,7 +38,7 @@ pub fn begins_plain(role: Role) -> bool
 }
 
 /// Returns whether an item can begin with this token.
-pub fn begins_item(role: Role) -> bool
+pub(crate) fn begins_item(role: Role) -> bool
     ensures { result ≡ spec.begins_item role }
 {
     matches!(

@@ -1,3 +1,14 @@
 pub mod Arms
 pub mod ChainRuns
 pub mod Turns
+pub mod Exact
+pub mod Fits
+pub mod SoFar
+pub mod Mirror
+pub mod Next
+pub mod Taken
+pub mod Order
+pub mod Keys
+pub mod Sorted
+pub mod Chain
+pub mod Beginnings

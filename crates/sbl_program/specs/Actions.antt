@@ -4,7 +4,7 @@ use Rattle.sbl_program.specs.Arithmetic.{characters, value, assign, compare}
 use Rattle.sbl_semantics.specs.Moves.{match, one_of, touch_grouping, next, hop, at_limit, set_mark, at_mark, to_mark, set_boolean, test_boolean}
 use Rattle.sbl_semantics.specs.Numbers.{natural, continue_with}
 use Rattle.sbl_program.specs.Program as programs
-use Rattle.sbl_char_class.specs.Terms.{class_at}
+use Rattle.sbl_program.specs.Terms.{class_at}
 use Rattle.sbl_semantics.specs.Slices.{left_bracket, right_bracket, replace, keep, insert, attach}
 use Rattle.sbl_semantics.specs.State.{State, Ending, Signals, Doing, to_limit}
 use Rattle.sbl_ast.specs.declared.mode.Mode.{Mode}

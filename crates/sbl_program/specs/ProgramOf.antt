@@ -17,7 +17,7 @@ use Rattle.sbl_program.specs.declared.node.Node.TheFolds.{fold-Node, fold-Joined
 use Rattle.sbl_program.specs.declared.node.JoinedNode.{JoinedNode}
 use Rattle.sbl_program.specs.declared.node.Program.{Program}
 use Rattle.sbl_program.specs.declared.node.Routine.{Routine}
-use Rattle.sbl_char_class.specs.CharacterClasses.{members}
+use Rattle.sbl_program.specs.CharacterClasses.{members}
 use Rattle.sbl_program.specs.Chains.{AddedView, JoinedView, ScaledView, all_sums, row_node, all_products}
 use Rattle.sbl_program.specs.AmongStrings.{Listing}
 use Rattle.sbl_program.specs.Program as programs

@@ -7,8 +7,8 @@ ghost use Rattle.sbl_program.specs.AmongStrings.{Listing};
 ghost use Rattle.sbl_program.specs.ProgramOf.{program_of, view_routine};
 
 use crate::action::{Action, Arithmetic};
+use crate::character_class::CharacterClass;
 use sbl_ast::Joiner;
-use sbl_char_class::CharacterClass;
 
 /// A command of a routine's body.
 #[cycle(node)]

@@ -2,7 +2,8 @@
 use Rattle.std.specs.Prelude.{◌≡◌, ℕ, false, List, [], ◌∷◌, ◌++◌, map}
 use Rattle.std.specs.List.{IsDistinct}
 use Rattle.std.specs.Str.{bytes_eq}
-use Rattle.sbl_ast.specs.Tree.{Entry, entry, Command, bracket, prefixed, counted, setlimit_, among_, Rows, no_rows, row, Others, no_others, joined, Starter, no_starter, starter, Groups, bare, group, Plain, routine, Item, plain, backward}
+use Rattle.sbl_ast.specs.Tree.{Entry, entry, Command, bracket, prefixed, counted, setlimit_, among_, Rows, no_rows, row, Others, no_others}
+use Rattle.sbl_ast.specs.Tree.{joined, Starter, no_starter, starter, Groups, bare, group, Plain, routine, Item, plain, backward}
 use Rattle.sbl_resolver.specs.Occurrences.{is_empty}
 use Rattle.sbl_resolver.specs.Checks.{WellDeclared}
 

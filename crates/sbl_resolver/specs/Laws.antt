@@ -8,7 +8,8 @@ use Rattle.sbl_ast.specs.declared.mode.Mode.{Mode}
 use Rattle.sbl_resolver.specs.declared.occurrences.Site.{Site}
 use Rattle.sbl_resolver.specs.declared.occurrences.Use.{Use}
 use Rattle.sbl_resolver.specs.Occurrences.{Occurrence, uses, substring, occurrences_of}
-use Rattle.sbl_resolver.specs.Checks.{kind_of, definition_of, may_be, needs_definition, is_routine, is_mode, is_followed, fault_at, fault_of, has_external, WellDeclared}
+use Rattle.sbl_resolver.specs.Checks.{kind_of, definition_of, may_be, needs_definition, is_routine, is_mode}
+use Rattle.sbl_resolver.specs.Checks.{is_followed, fault_at, fault_of, has_external, WellDeclared}
 
 -- no check fails at any occurrence
 abbrev pub EachPasses : List Occurrence → Type 0
@@ -25,13 +26,16 @@ pub record IsFirst (all : List Occurrence) (f : ScriptFault) : Type 0 where
 
 -- if a script is well declared, no check fails, and its external is declared and defined
 abbrev pub WellDeclaredPasses : Type 0
-WellDeclaredPasses = (items : List Item) (external : List ℕ) → WellDeclared items external → EachPasses (occurrences_of items) × (has_external items external (occurrences_of items) ≡ true)
+WellDeclaredPasses =
+    (items : List Item) (external : List ℕ) → WellDeclared items external →
+    EachPasses (occurrences_of items) × (has_external items external (occurrences_of items) ≡ true)
 
 -- the fault of a script is the fault of the first occurrence at which a check fails; the fault of the external comes
 -- last
 abbrev pub FaultIsFirst : Type 0
 FaultIsFirst = (items : List Item) (external : List ℕ) (f : ScriptFault) → fault_of items external ≡ Some f →
-    IsFirst (occurrences_of items) f ⊎ (EachPasses (occurrences_of items) × (has_external items external (occurrences_of items) ≡ false) × (f ≡ fault.NoExternal))
+    IsFirst (occurrences_of items) f
+    ⊎ (EachPasses (occurrences_of items) × (has_external items external (occurrences_of items) ≡ false) × (f ≡ fault.NoExternal))
 
 -- the name is declared and its kind is allowed in this use; if the kind needs a definition, there is one; the
 -- definition of a routine is in this mode
@@ -44,7 +48,8 @@ pub record Resolves (all : List Occurrence) (u : Use) (n : List ℕ) (mode : Mod
 
 -- each name that is used in a well declared script resolves
 abbrev pub NamesResolve : Type 0
-NamesResolve = (items : List Item) (external : List ℕ) → WellDeclared items external → (before after : List Occurrence) (p : Site) (u : Use) (n : List ℕ)
+NamesResolve =
+    (items : List Item) (external : List ℕ) → WellDeclared items external → (before after : List Occurrence) (p : Site) (u : Use) (n : List ℕ)
     → occurrences_of items ≡ before ++ (record { site = p; notice = uses u n }) ∷ after → Resolves (occurrences_of items) u n p.mode
 
 -- each substring in a well declared script has its among

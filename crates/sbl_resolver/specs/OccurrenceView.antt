@@ -7,7 +7,8 @@ use Rattle.sbl_ast.specs.declared.tree.DeclarationKind.{DeclarationKind}
 use Rattle.sbl_ast.specs.declared.tree.Prefix.{Prefix}
 use Rattle.sbl_ast.specs.declared.tree.Prefix.TheVariants as prefixes
 use Rattle.sbl_ast.specs.declared.tree.Simple.{Simple}
-use Rattle.sbl_ast.specs.Tree.{Expression, expression, Sums, no_sums, sum, Product, product, Scales, no_scales, scale, Factor, negated, bracketed, numeral, variable, fixed, length_of, Starter, no_starter, starter, Groups, Term, term, simple_}
+use Rattle.sbl_ast.specs.Tree.{Expression, expression, Sums, no_sums, sum, Product, product, Scales, no_scales, scale, Factor, negated}
+use Rattle.sbl_ast.specs.Tree.{bracketed, numeral, variable, fixed, length_of, Starter, no_starter, starter, Groups, Term, term, simple_}
 use Rattle.sbl_resolver.specs.declared.occurrences.Use.TheVariants as use_as
 use Rattle.sbl_resolver.specs.declared.occurrences.Notice.{Notice}
 use Rattle.sbl_resolver.specs.declared.occurrences.Notice.TheVariants as notices
@@ -90,7 +91,8 @@ noted_starter no_starter p sofar = sofar
 noted_starter (starter rs) p sofar = spec.put spec.region_end p (spec.noted_rows rs p sofar)
 
 abbrev pub noted_among : Starter → Groups → Site → List spec.Occurrence → List spec.Occurrence
-noted_among s gs p sofar = spec.noted_groups gs (spec.amongs_in sofar 0 + 1) p (noted_starter s p (spec.put (spec.among (has_starter s) (spec.is_empty gs)) p sofar))
+noted_among s gs p sofar =
+    spec.noted_groups gs (spec.amongs_in sofar 0 + 1) p (noted_starter s p (spec.put (spec.among (has_starter s) (spec.is_empty gs)) p sofar))
 
 abbrev pub noted_terms : List Term → Site → List spec.Occurrence → List spec.Occurrence
 noted_terms ts p sofar = fold (λ s x. elim x [ term o a ↦ spec.noted_name use_as.Term a p s ]) sofar ts

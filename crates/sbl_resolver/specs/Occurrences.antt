@@ -10,7 +10,10 @@ use Rattle.sbl_ast.specs.declared.tree.Naming.TheVariants as namings
 use Rattle.sbl_token.specs.Lexemes.{Lexeme, word, name}
 use Rattle.sbl_token.specs.declared.words.Word.TheVariants as words
 use Rattle.sbl_ast.specs.Places.{placed_expression, tokens}
-use Rattle.sbl_ast.specs.Tree.{Argument, written_out, by_name, Expression, Entry, entry, Command, bracket, simple_, literal_, name_, non_, prefixed, counted, move_, named, splice_, setlimit_, assign_, compare_, compare_values_, among_, Rows, no_rows, row, Others, no_others, joined, Starter, no_starter, starter, Groups, bare, group, Term, term, Plain, declaration, escapes, macro, routine, grouping, Item}
+use Rattle.sbl_ast.specs.Tree.{Argument, written_out, by_name, Expression, Entry, entry, Command, bracket, simple_, literal_, name_}
+use Rattle.sbl_ast.specs.Tree.{non_, prefixed, counted, move_, named, splice_, setlimit_, assign_, compare_, compare_values_}
+use Rattle.sbl_ast.specs.Tree.{among_, Rows, no_rows, row, Others, no_others, joined, Starter, no_starter, starter, Groups, bare}
+use Rattle.sbl_ast.specs.Tree.{group, Term, term, Plain, declaration, escapes, macro, routine, grouping, Item}
 use Rattle.sbl_ast.specs.Order.{ItemInMode, in_order}
 use Rattle.sbl_ast.specs.declared.mode.Mode.TheVariants.{Backward}
 use Rattle.sbl_resolver.specs.declared.occurrences.Use.{Use}
@@ -104,7 +107,8 @@ abbrev mutual
   noted_command (compare_ n o e) p sofar = noted_expression e p (put (uses use_as.Integer n) p sofar)
   noted_command (compare_values_ e o f) p sofar = noted_expression f p (noted_expression e p sofar)
   noted_command (among_ no_starter gs) p sofar = noted_groups gs (amongs_in sofar 0 + 1) p (put (among false (is_empty gs)) p sofar)
-  noted_command (among_ (starter rs) gs) p sofar = noted_groups gs (amongs_in sofar 0 + 1) p (put region_end p (noted_rows rs p (put (among true (is_empty gs)) p sofar)))
+  noted_command (among_ (starter rs) gs) p sofar =
+      noted_groups gs (amongs_in sofar 0 + 1) p (put region_end p (noted_rows rs p (put (among true (is_empty gs)) p sofar)))
 
   pub noted_rows : Rows → Site → List Occurrence → List Occurrence
   noted_rows no_rows p sofar = sofar
@@ -116,7 +120,8 @@ abbrev mutual
 
   pub noted_groups : Groups → ℕ → Site → List Occurrence → List Occurrence
   noted_groups (bare es) k p sofar = noted_entries es k p sofar
-  noted_groups (group e es rs gs) k p sofar = noted_groups gs k p (put region_end p (noted_rows rs p (noted_entries es k p (noted_entry e k p sofar))))
+  noted_groups (group e es rs gs) k p sofar =
+      noted_groups gs k p (put region_end p (noted_rows rs p (noted_entries es k p (noted_entry e k p sofar))))
 
 -- ---- items
 

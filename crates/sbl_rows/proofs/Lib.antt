@@ -6,3 +6,16 @@ pub mod Ranging
 pub mod GroupFacts
 pub mod LastFacts
 pub mod ClassLaws
+pub mod Loops
+pub mod SetFacts
+pub mod ChangeFacts
+pub mod FigureFacts
+pub mod ChangeLaws
+pub mod ExchangeLaws
+pub mod RankFacts
+pub mod TurnFacts
+pub mod PairNumbers
+pub mod FamilyFacts
+pub mod HeadFacts
+pub mod FamilyLaws
+pub mod LargestLaws

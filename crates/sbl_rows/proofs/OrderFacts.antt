@@ -1,6 +1,6 @@
 -- Texts in order: the same texts have one order, and texts in order stay as they are.
 use Rattle.std.proofs.Common.{◌≡◌, ◌∙◌, ◌||◌, ◌&&◌, Bool, true, false, ℕ, List, [], ◌∷◌, map, cond, refl, sym, ap}
-use Rattle.std.specs.List.{AllByRecursion, cons_option, filter, list_any}
+use Rattle.std.specs.List.{AllByRecursion, filter, list_any}
 use Rattle.std.specs.List.Sorted.{IsStrictlySortedBy}
 use Rattle.std.specs.Cmp.{IsTotalOrder}
 use Rattle.std.specs.Cmp.Lexicographic.{slice_cmp}
@@ -13,10 +13,8 @@ use Rattle.std.proofs.lemmas.Cmp.{nat_list_cmp_total, on_total, then_total}
 use Rattle.std.proofs.lemmas.Map.Lookups.{CmpEqualImpliesEq, btree_set_from_contains, exact_bytes, exact_pairs}
 use Rattle.std.proofs.lemmas.Map.Text.{is_eq-slice_cmp}
 use Rattle.std.proofs.lemmas.Slice.Eq.{bytes_eq-Decides}
-use Rattle.sbl_semantics.specs.Outcome.{Outcome', Stem, Refused}
-use Rattle.sbl_rows.specs.Rows.{Row}
-use Rattle.sbl_rows.specs.Classes.{in_order, is_stem, stem_of, stems_in, words_with}
-use Rattle.sbl_rows.specs.Grouping.{Pair, pair_cmp, pairs_in_order, stem_pairs, with_pair, words_paired}
+use Rattle.sbl_rows.specs.Classes.{Pair, in_order, members_of}
+use Rattle.sbl_rows.specs.Grouping.{pair_cmp, pairs_in_order}
 use Rattle.sbl_rows.proofs.Sorting.{any_inserted, first_below, mem, sorted-insert}
 
 pub total : IsTotalOrder pair_cmp
@@ -49,21 +47,21 @@ unfolding IsStrictlySortedBy
 in_order-stays [] s = refl
 in_order-stays (t ∷ ts) s = ap (λ (l : List (List ℕ)). insert_key text_cmp l t) (in_order-stays ts s.1) ∙ first_below text_cmp nat_list_cmp_total exact_bytes t ts s.0
 
--- ---- the pairs in order have the same stems, and the same words with a stem
+-- ---- the pairs in order have the same stems, and the same members with a stem
 
 pub any-sorted : (test : Pair → Bool) (ps : List Pair) → list_any test (pairs_in_order ps) ≡ list_any test ps
 any-sorted test [] = refl
 any-sorted test (p ∷ ps) = any_inserted pair_cmp total exact test (pairs_in_order ps) p ∙ ap (λ (b : Bool). test p || b) (any-sorted test ps)
 
-any-stems : (test : List ℕ → Bool) (ps : List Pair) → list_any test (map (λ p. p.0) ps) ≡ list_any (λ p. test p.0) ps
+pub any-stems : (test : List ℕ → Bool) (ps : List Pair) → list_any test (map (λ p. p.0) ps) ≡ list_any (λ p. test p.0) ps
 any-stems test [] = refl
 any-stems test (p ∷ ps) = ap (λ (b : Bool). test p.0 || b) (any-stems test ps)
 
-any-words : (test : List ℕ → Bool) (stem : List ℕ) (ps : List Pair) → list_any test (words_paired stem ps) ≡ list_any (λ p. bytes_eq stem p.0 && test p.1) ps
-any-words test stem [] = refl
-any-words test stem (p ∷ ps) = by (bytes_eq stem p.0) (any-words test stem ps)
+pub any-members : (test : List ℕ → Bool) (stem : List ℕ) (ps : List Pair) → list_any test (members_of stem ps) ≡ list_any (λ p. bytes_eq stem p.0 && test p.1) ps
+any-members test stem [] = refl
+any-members test stem (p ∷ ps) = by (bytes_eq stem p.0) (any-members test stem ps)
   where
-    by : (b : Bool) → list_any test (words_paired stem ps) ≡ list_any (λ p. bytes_eq stem p.0 && test p.1) ps
+    by : (b : Bool) → list_any test (members_of stem ps) ≡ list_any (λ p. bytes_eq stem p.0 && test p.1) ps
         → list_any test (map (λ p. p.1) (cond b (p ∷ filter (λ p. bytes_eq stem p.0) ps) (filter (λ p. bytes_eq stem p.0) ps))) ≡ ((b && test p.1) || list_any (λ p. bytes_eq stem p.0 && test p.1) ps)
     by true rest = ap (λ (b : Bool). test p.1 || b) rest
     by false rest = rest
@@ -73,16 +71,16 @@ stems-sorted ps =
     one_order (map (λ p. p.0) (pairs_in_order ps)) (map (λ p. p.0) ps)
     (λ q. any-stems (λ x. is_eq (text_cmp q x)) (pairs_in_order ps) ∙ any-sorted (λ p. is_eq (text_cmp q p.0)) ps ∙ sym (any-stems (λ x. is_eq (text_cmp q x)) ps))
 
-words-sorted : (stem : List ℕ) (ps : List Pair) → in_order (words_paired stem (pairs_in_order ps)) ≡ in_order (words_paired stem ps)
-words-sorted stem ps =
-    one_order (words_paired stem (pairs_in_order ps)) (words_paired stem ps)
-    (λ q. any-words (λ x. is_eq (text_cmp q x)) stem (pairs_in_order ps) ∙ any-sorted (λ p. bytes_eq stem p.0 && is_eq (text_cmp q p.1)) ps ∙ sym (any-words (λ x. is_eq (text_cmp q x)) stem ps))
+members-sorted : (stem : List ℕ) (ps : List Pair) → in_order (members_of stem (pairs_in_order ps)) ≡ in_order (members_of stem ps)
+members-sorted stem ps =
+    one_order (members_of stem (pairs_in_order ps)) (members_of stem ps)
+    (λ q. any-members (λ x. is_eq (text_cmp q x)) stem (pairs_in_order ps) ∙ any-sorted (λ p. bytes_eq stem p.0 && is_eq (text_cmp q p.1)) ps ∙ sym (any-members (λ x. is_eq (text_cmp q x)) stem ps))
 
--- the words with a stem are in order where the pairs are
-words_rise : (stem : List ℕ) (ps : List Pair) → IsStrictlySortedBy pair_cmp ps → IsStrictlySortedBy text_cmp (words_paired stem ps)
+-- the members with a stem are in order if the pairs are
+members_rise : (stem : List ℕ) (ps : List Pair) → IsStrictlySortedBy pair_cmp ps → IsStrictlySortedBy text_cmp (members_of stem ps)
 unfolding IsStrictlySortedBy
-words_rise stem [] s = tt
-words_rise stem (p ∷ ps) s = by (bytes_eq stem p.0) refl (words_rise stem ps s.1)
+members_rise stem [] s = tt
+members_rise stem (p ∷ ps) s = by (bytes_eq stem p.0) refl (members_rise stem ps s.1)
   where
     second : (o r : Ordering) → o ≡ Equal → ordering_then o r ≡ Less → r ≡ Less
     second Less r e h = cc e
@@ -97,16 +95,16 @@ words_rise stem (p ∷ ps) s = by (bytes_eq stem p.0) refl (words_rise stem ps s
         tied Equal h = refl
         tied Greater h = cc h
 
-    later : bytes_eq stem p.0 ≡ true → (qs : List Pair) → AllByRecursion (λ q. pair_cmp p q ≡ Less) qs → AllByRecursion (λ w. text_cmp p.1 w ≡ Less) (words_paired stem qs)
+    later : bytes_eq stem p.0 ≡ true → (qs : List Pair) → AllByRecursion (λ q. pair_cmp p q ≡ Less) qs → AllByRecursion (λ w. text_cmp p.1 w ≡ Less) (members_of stem qs)
     later e [] a = tt
     later e (q ∷ qs) a = at (bytes_eq stem q.0) refl (later e qs a.1)
       where
-        at : (b : Bool) → bytes_eq stem q.0 ≡ b → AllByRecursion (λ w. text_cmp p.1 w ≡ Less) (words_paired stem qs)
+        at : (b : Bool) → bytes_eq stem q.0 ≡ b → AllByRecursion (λ w. text_cmp p.1 w ≡ Less) (members_of stem qs)
             → AllByRecursion (λ w. text_cmp p.1 w ≡ Less) (map (λ q. q.1) (cond (bytes_eq stem q.0) (q ∷ filter (λ q. bytes_eq stem q.0) qs) (filter (λ q. bytes_eq stem q.0) qs)))
         at true f rest = rw f (second (text_cmp p.0 q.0) (text_cmp p.1 q.1) (same_stem q e f) a.0, rest)
         at false f rest = rw f rest
 
-    by : (b : Bool) → bytes_eq stem p.0 ≡ b → IsStrictlySortedBy text_cmp (words_paired stem ps)
+    by : (b : Bool) → bytes_eq stem p.0 ≡ b → IsStrictlySortedBy text_cmp (members_of stem ps)
         → IsStrictlySortedBy text_cmp (map (λ p. p.1) (cond (bytes_eq stem p.0) (p ∷ filter (λ p. bytes_eq stem p.0) ps) (filter (λ p. bytes_eq stem p.0) ps)))
     by true e rest = rw e (later e ps s.0, rest)
     by false e rest = rw e rest
@@ -116,8 +114,6 @@ unfolding IsStrictlySortedBy
 sorted-sorted [] = tt
 sorted-sorted (p ∷ ps) = sorted-insert pair_cmp total exact (pairs_in_order ps) p (sorted-sorted ps)
 
--- ---- the pairs of rows
-
 pub bytes_eq-back : (x y : List ℕ) → bytes_eq x y ≡ bytes_eq y x
 bytes_eq-back x y = both (bytes_eq x y) (bytes_eq y x) (λ e. (bytes_eq-Decides y x).1 (sym ((bytes_eq-Decides x y).0 e))) (λ e. (bytes_eq-Decides x y).1 (sym ((bytes_eq-Decides y x).0 e)))
   where
@@ -126,36 +122,42 @@ bytes_eq-back x y = both (bytes_eq x y) (bytes_eq y x) (λ e. (bytes_eq-Decides 
     both false true f g = g refl
     both false false f g = refl
 
-stems_paired : (rows : List Row) → map (λ p. p.0) (stem_pairs rows) ≡ stems_in rows
-stems_paired [] = refl
-stems_paired (r ∷ rows) = by r.outcome (stems_paired rows)
+-- the members with a stem among the pairs in order
+pub members-in_order : (stem : List ℕ) (pairs : List Pair) → members_of stem (pairs_in_order pairs) ≡ in_order (members_of stem pairs)
+members-in_order stem pairs =
+    sym (in_order-stays (members_of stem (pairs_in_order pairs)) (members_rise stem (pairs_in_order pairs) (sorted-sorted pairs)))
+    ∙ members-sorted stem pairs
+
+-- ---- pairs that are put in from the first on
+
+abbrev pub put_in : List Pair → List Pair → List Pair
+put_in keys [] = keys
+put_in keys (m ∷ pairs) = put_in (insert_key pair_cmp keys m) pairs
+
+put_in-sorted : (keys pairs : List Pair) → IsStrictlySortedBy pair_cmp keys → IsStrictlySortedBy pair_cmp (put_in keys pairs)
+put_in-sorted keys [] s = s
+put_in-sorted keys (m ∷ pairs) s = put_in-sorted (insert_key pair_cmp keys m) pairs (sorted-insert pair_cmp total exact keys m s)
+
+mem-put_in : (q : Pair) (keys pairs : List Pair) → mem pair_cmp q (put_in keys pairs) ≡ (mem pair_cmp q pairs || mem pair_cmp q keys)
+mem-put_in q keys [] = refl
+mem-put_in q keys (m ∷ pairs) =
+    mem-put_in q (insert_key pair_cmp keys m) pairs
+    ∙ ap (λ (b : Bool). mem pair_cmp q pairs || b) (any_inserted pair_cmp total exact (λ x. is_eq (pair_cmp q x)) keys m)
+    ∙ or_shift (mem pair_cmp q pairs) (is_eq (pair_cmp q m)) (mem pair_cmp q keys)
   where
-    by : (o : Outcome') → map (λ p. p.0) (stem_pairs rows) ≡ stems_in rows → map (λ p. p.0) (with_pair o r.word (stem_pairs rows)) ≡ cons_option (stem_of o) (stems_in rows)
-    by (Stem s) rest = ap (λ (l : List (List ℕ)). s ∷ l) rest
-    by (Refused f) rest = rest
+    or_shift : (a b c : Bool) → (a || (b || c)) ≡ ((b || a) || c)
+    or_shift true true c = refl
+    or_shift true false c = refl
+    or_shift false true c = refl
+    or_shift false false c = refl
 
-words_of_rows : (stem : List ℕ) (rows : List Row) → words_paired stem (stem_pairs rows) ≡ words_with stem rows
-words_of_rows stem [] = refl
-words_of_rows stem (r ∷ rows) = by r.outcome (words_of_rows stem rows)
+-- the order in which pairs are put in is all one
+pub put_in-all : (pairs : List Pair) → put_in [] pairs ≡ pairs_in_order pairs
+unfolding IsStrictlySortedBy
+put_in-all pairs =
+    btree_set_from_contains total (record { keys = put_in [] pairs }) (record { keys = pairs_in_order pairs }) (put_in-sorted [] pairs tt) (sorted-sorted pairs)
+    (λ q. mem-put_in q [] pairs ∙ or_false (mem pair_cmp q pairs) ∙ sym (any-sorted (λ x. is_eq (pair_cmp q x)) pairs)) exact
   where
-    here : (b c : Bool) (s : List ℕ) → b ≡ c → words_paired stem (stem_pairs rows) ≡ words_with stem rows
-        → map (λ (p : Pair). p.1) (cond b ((s, r.word) ∷ filter (λ p. bytes_eq stem p.0) (stem_pairs rows)) (filter (λ p. bytes_eq stem p.0) (stem_pairs rows)))
-        ≡ map (λ (q : Row). q.word) (cond c (r ∷ filter (λ q. is_stem stem q.outcome) rows) (filter (λ q. is_stem stem q.outcome) rows))
-    here true true s e rest = ap (λ (l : List (List ℕ)). r.word ∷ l) rest
-    here true false s e rest = cc e
-    here false true s e rest = cc e
-    here false false s e rest = rest
-
-    by : (o : Outcome') → words_paired stem (stem_pairs rows) ≡ words_with stem rows
-        → words_paired stem (with_pair o r.word (stem_pairs rows)) ≡ map (λ (q : Row). q.word) (cond (is_stem stem o) (r ∷ filter (λ q. is_stem stem q.outcome) rows) (filter (λ q. is_stem stem q.outcome) rows))
-    by (Stem s) rest = here (bytes_eq stem s) (bytes_eq s stem) s (bytes_eq-back stem s) rest
-    by (Refused f) rest = rest
-
--- the stems of the pairs of the rows, and the words with each
-pub stems-rows : (rows : List Row) → in_order (map (λ p. p.0) (pairs_in_order (stem_pairs rows))) ≡ in_order (stems_in rows)
-stems-rows rows = stems-sorted (stem_pairs rows) ∙ ap in_order (stems_paired rows)
-
-pub words-rows : (stem : List ℕ) (rows : List Row) → words_paired stem (pairs_in_order (stem_pairs rows)) ≡ in_order (words_with stem rows)
-words-rows stem rows =
-    sym (in_order-stays (words_paired stem (pairs_in_order (stem_pairs rows))) (words_rise stem (pairs_in_order (stem_pairs rows)) (sorted-sorted (stem_pairs rows))))
-    ∙ words-sorted stem (stem_pairs rows) ∙ ap in_order (words_of_rows stem rows)
+    or_false : (a : Bool) → (a || false) ≡ a
+    or_false true = refl
+    or_false false = refl

@@ -15,7 +15,8 @@ use Rattle.std.proofs.lemmas.List.Folds.{list_any_at}
 use Rattle.std.proofs.lemmas.Map.Lookups.{exact_bytes}
 use Rattle.std.proofs.lemmas.Map.Text.{is_eq-slice_cmp}
 use Rattle.std.proofs.lemmas.Slice.Eq.{bytes_eq-Decides}
-use Rattle.sbl_rows.specs.Grouping.{pair_cmp, words_paired}
+use Rattle.sbl_rows.specs.Classes.{members_of}
+use Rattle.sbl_rows.specs.Grouping.{pair_cmp}
 use Rattle.sbl_rows.specs.Pairs.{Key, has, key_cmp, plain}
 use Rattle.sbl_rows.proofs.OrderFacts.{exact, text_cmp, total}
 use Rattle.sbl_rows.proofs.Sorting.{self_equal}
@@ -51,12 +52,12 @@ stem_from stem first is none k h =
 
 -- the words with the stem are all in the range
 pub words_from : (stem : List ℕ) (first : Key) → first.0.items ≡ stem → first.1.items ≡ [] → (ks : List Key)
-    → words_paired stem (map plain (filter (from first) ks)) ≡ words_paired stem (map plain ks)
+    → members_of stem (map plain (filter (from first) ks)) ≡ members_of stem (map plain ks)
 words_from stem first is none [] = refl
 words_from stem first is none (k ∷ ks) = by (from first k) refl (bytes_eq stem k.0.items) refl (words_from stem first is none ks)
   where
-    by : (t : Bool) → from first k ≡ t → (b : Bool) → bytes_eq stem k.0.items ≡ b → words_paired stem (map plain (filter (from first) ks)) ≡ words_paired stem (map plain ks)
-        → words_paired stem (map plain (cond t (k ∷ filter (from first) ks) (filter (from first) ks))) ≡ words_paired stem (map plain (k ∷ ks))
+    by : (t : Bool) → from first k ≡ t → (b : Bool) → bytes_eq stem k.0.items ≡ b → members_of stem (map plain (filter (from first) ks)) ≡ members_of stem (map plain ks)
+        → members_of stem (map plain (cond t (k ∷ filter (from first) ks) (filter (from first) ks))) ≡ members_of stem (map plain (k ∷ ks))
     by true f true h rest = rw (h) (ap (λ (l : List (List ℕ)). k.1.items ∷ l) rest)
     by true f false h rest = rw (h) rest
     by false f true h rest = cc (sym f ∙ stem_from stem first is none k h)
@@ -94,13 +95,13 @@ from_later stem ks rest k split a =
     record { rise = b.rise.1; above = b.above.1 }
 
 -- a pair of the stem gives its word
-pub one_paired : (stem : List ℕ) (ks rest : List Key) (k : Key) → ks ≡ k ∷ rest → bytes_eq stem k.0.items ≡ true → k.1.items ∷ words_paired stem (map plain rest) ≡ words_paired stem (map plain ks)
-one_paired stem ks rest k split same = sym (ap (λ (l : List Key). words_paired stem (map plain l)) split ∙ rw same refl)
+pub one_paired : (stem : List ℕ) (ks rest : List Key) (k : Key) → ks ≡ k ∷ rest → bytes_eq stem k.0.items ≡ true → k.1.items ∷ members_of stem (map plain rest) ≡ members_of stem (map plain ks)
+one_paired stem ks rest k split same = sym (ap (λ (l : List Key). members_of stem (map plain l)) split ∙ rw same refl)
 
 -- after a pair of another stem there is none of this one
-pub none_later : (stem : List ℕ) (ks rest : List Key) (k : Key) → ks ≡ k ∷ rest → AreFrom stem ks → bytes_eq stem k.0.items ≡ false → words_paired stem (map plain ks) ≡ []
+pub none_later : (stem : List ℕ) (ks rest : List Key) (k : Key) → ks ≡ k ∷ rest → AreFrom stem ks → bytes_eq stem k.0.items ≡ false → members_of stem (map plain ks) ≡ []
 unfolding IsStrictlySortedBy
-none_later stem ks rest k split a other = ap (λ (l : List Key). words_paired stem (map plain l)) split ∙ rw other (later rest b.rise.0)
+none_later stem ks rest k split a other = ap (λ (l : List Key). members_of stem (map plain l)) split ∙ rw other (later rest b.rise.0)
   where
     b : AreFrom stem (k ∷ rest)
     b = subst (AreFrom stem) split a
@@ -115,6 +116,6 @@ none_later stem ks rest k split a other = ap (λ (l : List Key). words_paired st
     beyond q Equal e h = ap (λ (x : List ℕ). bytes_eq stem x) (sym (exact_bytes k.0.items q.0.items e)) ∙ other
     beyond q Greater e h = cc h
 
-    later : (qs : List Key) → AllByRecursion (λ y. key_cmp k y ≡ Less) qs → words_paired stem (map plain qs) ≡ []
+    later : (qs : List Key) → AllByRecursion (λ y. key_cmp k y ≡ Less) qs → members_of stem (map plain qs) ≡ []
     later [] a = refl
     later (q ∷ qs) a = rw (beyond q (text_cmp k.0.items q.0.items) refl a.0) (later qs a.1)

@@ -2,7 +2,7 @@
 
 ghost use Rattle.std.specs.Prelude.{◌≡◌, ◌++◌, ◌∷◌, [], map, OnOk, IfOk};
 ghost use Rattle.std.specs.BTreeSet.{IsOrdered};
-ghost use Rattle.sbl_rows.specs.Classes.{view_class, words_of};
+ghost use Rattle.sbl_rows.specs.Classes.{members_of, view_class, words_of};
 ghost use Rattle.sbl_rows.specs.Grouping as spec;
 ghost use Rattle.sbl_rows.specs.Pairs.{key_cmp, plain};
 
@@ -37,7 +37,7 @@ pub fn words_among(
     stem: &[char],
     pairs: &Pairs,
 ) -> Result<Vec<Vec<char>>, AllocError>
-    ensures words { IfOk result (λ words. words_of words.items ≡ spec.words_paired stem.now (map plain pairs.now.keys)) }
+    ensures words { IfOk result (λ words. words_of words.items ≡ members_of stem.now (map plain pairs.now.keys)) }
     ensures ordered { IsOrdered key_cmp pairs.now }
 {
     let _count = pairs.len();
@@ -83,7 +83,7 @@ fn push_word(words: &mut Vec<Vec<char>>, word: Vec<char>) -> Result<(), AllocErr
 
 /// Returns a class of one word. Returns `AllocError` if an allocation fails.
 fn one_word(alloc: Global, stem: &[char], word: Vec<char>) -> Result<Class, AllocError>
-    ensures { IfOk result (λ class. view_class class ≡ spec.one_word (stem.now, word.items)) }
+    ensures { IfOk result (λ class. view_class class ≡ spec.one_member (stem.now, word.items)) }
 {
     let stem = Vec::from_slice(alloc, stem)?;
     let mut words = Vec::new(alloc);

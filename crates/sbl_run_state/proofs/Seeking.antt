@@ -6,7 +6,7 @@ use Rattle.std.specs.Option.{unwrap_or}
 use Rattle.std.proofs.lemmas.Bool.{le-leb, leb-true, leb-false, ltb-false}
 use Rattle.std.proofs.lemmas.List.{take_more, reverse-append, length-take-le, length-drop, length-reverse}
 use Rattle.std.proofs.lemmas.List.Sums.{prefix_len-le-length}
-use Rattle.sbl_char_class.specs.Terms.{class_at, no_character}
+use Rattle.sbl_program.specs.Terms.{class_at, no_character}
 use Rattle.sbl_ast.specs.declared.mode.Mode.{Mode}
 use Rattle.sbl_ast.specs.declared.mode.Mode.TheVariants.{Forward, Backward}
 use Rattle.sbl_semantics.specs.declared.fault.RunFault.TheVariants.{Steps, Cursor}

@@ -6,8 +6,7 @@ ghost use Rattle.sbl_program.specs.AmongStrings.{Listing};
 ghost use Rattle.sbl_program.specs.FoundView.{listing_found};
 ghost use Rattle.sbl_program.specs.Listing.{fits_at, listed_by, listed_of};
 
-use sbl_among_search::AmongSearch;
-use sbl_program::AmongStrings;
+use sbl_program::{AmongSearch, AmongStrings};
 use std::alloc::{AllocError, Global};
 
 /// The searches of all amongs of a script.

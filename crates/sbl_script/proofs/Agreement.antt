@@ -24,9 +24,8 @@ use Rattle.sbl_tree_amongs.proofs.Swapped.{body_one}
 use Rattle.sbl_parser.proofs.OneTree.{trees_are_one}
 use Rattle.sbl_script.specs.declared.edit_fault.EditFault.{EditFault}
 use Rattle.sbl_script.specs.declared.edit_fault.EditFault.TheVariants as edits
-use Rattle.sbl_script.specs.declared.edits.DefinitionKind.TheVariants as kinds
 use Rattle.sbl_script.specs.Reading.{HasTokens, IsFaultIn}
-use Rattle.sbl_script.specs.Edits.{ScriptEdit, body, among, terms, changes, defines, escapes_after, first_of, keeps_count, items_with, plains_of, plains_with, state_before, text_for, text_in, IsAmongReplaced, IsEdited, IsEditFault, IsMade, IsSubstituted}
+use Rattle.sbl_script.specs.Edits.{ScriptEdit, body, among, terms, changes, is_routine_named, is_grouping_named, escapes_after, first_of, keeps_count, items_with, plains_of, plains_with, state_before, text_for, text_in, IsAmongReplaced, IsEdited, IsEditFault, IsMade, IsSubstituted}
 use Rattle.sbl_script.specs.Homes.{Home, Walk, first_in, first_passing, home, home_in, home_of_among, home_of_body, home_of_held, home_of_terms, plain_if, state_reached, walk_in, walk_to, IsEditedAt, IsEditFaultAt, IsFaultAt, IsSubstitutedAt}
 use Rattle.sbl_script.proofs.AmongEnds.{after_same, inside}
 use Rattle.sbl_script.proofs.AmongDepths.{N, both_n, same_test, text_same, words_with}
@@ -281,10 +280,10 @@ record Agrees (items : List Item) (e : ScriptEdit) (h : Home) : Type 0 where
 
 module _ (items : List Item) (n : List ℕ) where
   abbrev r : Plain → Bool
-  r = defines kinds.Routine n
+  r = is_routine_named n
 
   abbrev g : Plain → Bool
-  g = defines kinds.Grouping n
+  g = is_grouping_named n
 
   body_agrees : (m : List ℕ) (c : Command) (os : Others) → first_passing r items ≡ Some (routine m c os) → Agrees items (body n) (home_of_body items n)
   body_agrees m c os at = record {

@@ -13,12 +13,11 @@ use Rattle.sbl_ast.specs.View.{RowView}
 use Rattle.sbl_parser.specs.Reading.{IsReadAs}
 use Rattle.sbl_script.specs.declared.edit_fault.EditFault.{EditFault}
 use Rattle.sbl_script.specs.declared.edit_fault.EditFault.TheVariants as edits
-use Rattle.sbl_script.specs.declared.edits.DefinitionKind.TheVariants as kinds
 use Rattle.sbl_ast.specs.Source.{Source}
 use Rattle.sbl_resolver.specs.Checks.{WellDeclared, fault_of}
 use Rattle.sbl_script.specs.Reading.{HasTokens, IsTextFault, IsUnread, first_left_out, max_script, lexemes}
 use Rattle.sbl_script.specs.Refusals.{Refuses}
-use Rattle.sbl_script.specs.Edits.{ScriptEdit, body, among, terms, defines, text_for, IsEditFault}
+use Rattle.sbl_script.specs.Edits.{ScriptEdit, body, among, terms, is_routine_named, is_grouping_named, text_for, IsEditFault}
 use Rattle.sbl_script.specs.Homes.{Home, IsSubstitutedAt, first_passing, home, home_in, home_of_among, IsFaultAt, home_of_body, home_of_held, home_of_terms}
 use Rattle.sbl_script.proofs.Agreement.{fault_out, missing_in}
 
@@ -31,16 +30,16 @@ tokens_there e f text bytes ts same is short utf8 cut = record {
 
 -- ---- the home
 
-pub body_home : (items : List Item) (n : List ℕ) (b : RowView) → first_passing (defines kinds.Routine n) items ≡ Some (routine n b.0 b.1) → home items (body n) ≡ Ok (home_of_body items n)
+pub body_home : (items : List Item) (n : List ℕ) (b : RowView) → first_passing (is_routine_named n) items ≡ Some (routine n b.0 b.1) → home items (body n) ≡ Ok (home_of_body items n)
 body_home items n b is = ap (λ (o : Option Plain). home_in items o (body n)) is
 
-pub no_among : (items : List Item) (n : List ℕ) (k : ℕ) (b : RowView) → first_passing (defines kinds.Routine n) items ≡ Some (routine n b.0 b.1) → nth_held k (amongs_of_body b) ≡ None → home items (among n k) ≡ Err edits.NoAmong
+pub no_among : (items : List Item) (n : List ℕ) (k : ℕ) (b : RowView) → first_passing (is_routine_named n) items ≡ Some (routine n b.0 b.1) → nth_held k (amongs_of_body b) ≡ None → home items (among n k) ≡ Err edits.NoAmong
 no_among items n k b is none = ap (λ (o : Option Plain). home_in items o (among n k)) is ∙ ap (home_of_held items n b k) none
 
-pub among_home : (items : List Item) (n : List ℕ) (k : ℕ) (b : RowView) (h : AmongContents) → first_passing (defines kinds.Routine n) items ≡ Some (routine n b.0 b.1) → nth_held k (amongs_of_body b) ≡ Some h → home items (among n k) ≡ Ok (home_of_among items n b k h)
+pub among_home : (items : List Item) (n : List ℕ) (k : ℕ) (b : RowView) (h : AmongContents) → first_passing (is_routine_named n) items ≡ Some (routine n b.0 b.1) → nth_held k (amongs_of_body b) ≡ Some h → home items (among n k) ≡ Ok (home_of_among items n b k h)
 among_home items n k b h is there = ap (λ (o : Option Plain). home_in items o (among n k)) is ∙ ap (home_of_held items n b k) there
 
-pub terms_home : (items : List Item) (n : List ℕ) (a : Argument) (ts : List Term) → first_passing (defines kinds.Grouping n) items ≡ Some (grouping n a ts) → home items (terms n) ≡ Ok (home_of_terms items n)
+pub terms_home : (items : List Item) (n : List ℕ) (a : Argument) (ts : List Term) → first_passing (is_grouping_named n) items ≡ Some (grouping n a ts) → home items (terms n) ≡ Ok (home_of_terms items n)
 terms_home items n a ts is = ap (λ (o : Option Plain). home_in items o (terms n)) is
 
 -- where there is a home nothing is missing

@@ -12,8 +12,7 @@ use Rattle.sbl_ast.specs.declared.tree.Plain.TheVariants as plains
 use Rattle.sbl_ast.specs.Tree.{Command, Others, Plain, declaration, escapes, macro, routine, grouping, Item, plain, backward}
 use Rattle.sbl_ast.specs.Tree as trees
 use Rattle.sbl_ast.specs.View.{view_plain}
-use Rattle.sbl_script.specs.declared.edits.DefinitionKind.TheVariants as kinds
-use Rattle.sbl_script.specs.Edits.{defines}
+use Rattle.sbl_script.specs.Edits.{is_routine_named, is_grouping_named}
 use Rattle.sbl_script.specs.Homes.{first_in, first_passing, plain_if}
 
 pub some_plain : (x y : Plain) → Some x ≡ Some y → x ≡ y
@@ -45,14 +44,14 @@ found_is p (backward xs ∷ is) y e = either_is p (first_in p xs) (first_passing
 pub same_name : (n : List ℕ) → bytes_eq n n ≡ true
 same_name n = (bytes_eq-Decides n n).1 refl
 
-pub routine_is : (n : List ℕ) (x : Plain) → defines kinds.Routine n x ≡ true → (c : Command) × (os : Others) × (x ≡ routine n c os)
+pub routine_is : (n : List ℕ) (x : Plain) → is_routine_named n x ≡ true → (c : Command) × (os : Others) × (x ≡ routine n c os)
 routine_is n (routine m c os) h = (c, os, ap (λ (z : List ℕ). routine z c os) (sym ((bytes_eq-Decides n m).0 h)))
 routine_is n (declaration k ns) h = absurd cc
 routine_is n (escapes a b) h = absurd cc
 routine_is n (macro m b q) h = absurd cc
 routine_is n (grouping m a ts) h = absurd cc
 
-pub grouping_is : (n : List ℕ) (x : Plain) → defines kinds.Grouping n x ≡ true → (a : trees.Argument) × (ts : List trees.Term) × (x ≡ grouping n a ts)
+pub grouping_is : (n : List ℕ) (x : Plain) → is_grouping_named n x ≡ true → (a : trees.Argument) × (ts : List trees.Term) × (x ≡ grouping n a ts)
 grouping_is n (grouping m a ts) h = (a, ts, ap (λ (z : List ℕ). grouping z a ts) (sym ((bytes_eq-Decides n m).0 h)))
 grouping_is n (declaration k ns) h = absurd cc
 grouping_is n (escapes a b) h = absurd cc
@@ -60,23 +59,23 @@ grouping_is n (macro m b q) h = absurd cc
 grouping_is n (routine m c os) h = absurd cc
 
 -- what is found under a name has that name
-pub routine_found : (n : List ℕ) (items : List Item) (m : List ℕ) (c : Command) (os : Others) → first_passing (defines kinds.Routine n) items ≡ Some (routine m c os) → first_passing (defines kinds.Routine n) items ≡ Some (routine n c os)
-routine_found n items m c os e = e ∙ ap (λ (z : List ℕ). Some (routine z c os)) (sym ((bytes_eq-Decides n m).0 (found_is (defines kinds.Routine n) items (routine m c os) e)))
+pub routine_found : (n : List ℕ) (items : List Item) (m : List ℕ) (c : Command) (os : Others) → first_passing (is_routine_named n) items ≡ Some (routine m c os) → first_passing (is_routine_named n) items ≡ Some (routine n c os)
+routine_found n items m c os e = e ∙ ap (λ (z : List ℕ). Some (routine z c os)) (sym ((bytes_eq-Decides n m).0 (found_is (is_routine_named n) items (routine m c os) e)))
 
-pub grouping_found : (n : List ℕ) (items : List Item) (m : List ℕ) (a : trees.Argument) (ts : List trees.Term) → first_passing (defines kinds.Grouping n) items ≡ Some (grouping m a ts) → first_passing (defines kinds.Grouping n) items ≡ Some (grouping n a ts)
-grouping_found n items m a ts e = e ∙ ap (λ (z : List ℕ). Some (grouping z a ts)) (sym ((bytes_eq-Decides n m).0 (found_is (defines kinds.Grouping n) items (grouping m a ts) e)))
+pub grouping_found : (n : List ℕ) (items : List Item) (m : List ℕ) (a : trees.Argument) (ts : List trees.Term) → first_passing (is_grouping_named n) items ≡ Some (grouping m a ts) → first_passing (is_grouping_named n) items ≡ Some (grouping n a ts)
+grouping_found n items m a ts e = e ∙ ap (λ (z : List ℕ). Some (grouping z a ts)) (sym ((bytes_eq-Decides n m).0 (found_is (is_grouping_named n) items (grouping m a ts) e)))
 
 -- and is of that kind
-pub no_other_routine : (n : List ℕ) (items : List Item) (x : declared.Plain) → ((m : String Global) (b : Row) → x ≡ plains.Routine m b → ⊥) → first_passing (defines kinds.Routine n) items ≡ Some (view_plain x) → ⊥
+pub no_other_routine : (n : List ℕ) (items : List Item) (x : declared.Plain) → ((m : String Global) (b : Row) → x ≡ plains.Routine m b → ⊥) → first_passing (is_routine_named n) items ≡ Some (view_plain x) → ⊥
 no_other_routine n items (plains.Routine m b) h e = h m b refl
-no_other_routine n items (plains.Declaration k ns) h e = let no : false ≡ true = found_is (defines kinds.Routine n) items _ e in absurd cc
-no_other_routine n items (plains.StringEscapes a b) h e = let no : false ≡ true = found_is (defines kinds.Routine n) items _ e in absurd cc
-no_other_routine n items (plains.StringDef m b l) h e = let no : false ≡ true = found_is (defines kinds.Routine n) items _ e in absurd cc
-no_other_routine n items (plains.Grouping g) h e = let no : false ≡ true = found_is (defines kinds.Routine n) items _ e in absurd cc
+no_other_routine n items (plains.Declaration k ns) h e = let no : false ≡ true = found_is (is_routine_named n) items _ e in absurd cc
+no_other_routine n items (plains.StringEscapes a b) h e = let no : false ≡ true = found_is (is_routine_named n) items _ e in absurd cc
+no_other_routine n items (plains.StringDef m b l) h e = let no : false ≡ true = found_is (is_routine_named n) items _ e in absurd cc
+no_other_routine n items (plains.Grouping g) h e = let no : false ≡ true = found_is (is_routine_named n) items _ e in absurd cc
 
-pub no_other_grouping : (n : List ℕ) (items : List Item) (x : declared.Plain) → ((g : declared-grouping.Grouping) → x ≡ plains.Grouping g → ⊥) → first_passing (defines kinds.Grouping n) items ≡ Some (view_plain x) → ⊥
+pub no_other_grouping : (n : List ℕ) (items : List Item) (x : declared.Plain) → ((g : declared-grouping.Grouping) → x ≡ plains.Grouping g → ⊥) → first_passing (is_grouping_named n) items ≡ Some (view_plain x) → ⊥
 no_other_grouping n items (plains.Grouping g) h e = h g refl
-no_other_grouping n items (plains.Declaration k ns) h e = let no : false ≡ true = found_is (defines kinds.Grouping n) items _ e in absurd cc
-no_other_grouping n items (plains.StringEscapes a b) h e = let no : false ≡ true = found_is (defines kinds.Grouping n) items _ e in absurd cc
-no_other_grouping n items (plains.StringDef m b l) h e = let no : false ≡ true = found_is (defines kinds.Grouping n) items _ e in absurd cc
-no_other_grouping n items (plains.Routine m b) h e = let no : false ≡ true = found_is (defines kinds.Grouping n) items _ e in absurd cc
+no_other_grouping n items (plains.Declaration k ns) h e = let no : false ≡ true = found_is (is_grouping_named n) items _ e in absurd cc
+no_other_grouping n items (plains.StringEscapes a b) h e = let no : false ≡ true = found_is (is_grouping_named n) items _ e in absurd cc
+no_other_grouping n items (plains.StringDef m b l) h e = let no : false ≡ true = found_is (is_grouping_named n) items _ e in absurd cc
+no_other_grouping n items (plains.Routine m b) h e = let no : false ≡ true = found_is (is_grouping_named n) items _ e in absurd cc

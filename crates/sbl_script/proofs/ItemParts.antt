@@ -9,9 +9,7 @@ use Rattle.sbl_ast.specs.declared.mode.Mode.TheVariants.{Forward, Backward}
 use Rattle.sbl_ast.specs.Tree.{Plain, declaration, escapes, macro, routine, grouping, Item, plain, backward}
 use Rattle.sbl_ast.specs.Order.{ItemInMode, in_mode, in_order}
 use Rattle.sbl_resolver.specs.Bodies.{body_in}
-use Rattle.sbl_script.specs.declared.edits.DefinitionKind.{DefinitionKind}
-use Rattle.sbl_script.specs.declared.edits.DefinitionKind.TheVariants as kinds
-use Rattle.sbl_script.specs.Edits.{defines, plains_with, items_with}
+use Rattle.sbl_script.specs.Edits.{ScriptEdit, body, among, terms, changes, is_routine_named, is_grouping_named, plains_with, items_with}
 use Rattle.sbl_script.specs.Homes.{first_in, first_passing, plain_if}
 use Rattle.sbl_script.specs.OnlyTheItem.{number_from}
 
@@ -103,31 +101,40 @@ module _ (p : Plain → Bool) (y : Plain) where
 
 -- ---- a routine that is defined in forward mode stays so
 
--- one definition for another of its kind and name
-body_stays : (d : DefinitionKind) (n x : List ℕ) (z y : Plain) (is : List Item) → defines d n z ≡ true → defines d n y ≡ true → is_some (body_in x (plain y ∷ is)) ≡ is_some (body_in x (plain z ∷ is))
-body_stays kinds.Routine n x (routine r c os) (routine m b qs) is e f =
+-- one routine for another of its name
+routine_stays : (n x : List ℕ) (z y : Plain) (is : List Item) → is_routine_named n z ≡ true → is_routine_named n y ≡ true → is_some (body_in x (plain y ∷ is)) ≡ is_some (body_in x (plain z ∷ is))
+routine_stays n x (routine r c os) (routine m b qs) is e f =
     let same : m ≡ r = sym ((bytes_eq-Decides n m).0 f) ∙ (bytes_eq-Decides n r).0 e in
     go (bytes_eq x m) ∙ ap (λ w. is_some (cond (bytes_eq x w) (Some (c, os)) (body_in x is))) same where
       go : (k : Bool) → is_some (cond k (Some (b, qs)) (body_in x is)) ≡ is_some (cond k (Some (c, os)) (body_in x is))
       go true = refl
       go false = refl
-body_stays kinds.Grouping n x (grouping r c os) (grouping m b qs) is e f = refl
-body_stays kinds.Routine n x (declaration k ns) y is e f = absurd cc
-body_stays kinds.Routine n x (escapes k ns) y is e f = absurd cc
-body_stays kinds.Routine n x (macro k ns q) y is e f = absurd cc
-body_stays kinds.Routine n x (grouping k a ts) y is e f = absurd cc
-body_stays kinds.Routine n x (routine r c os) (declaration k ns) is e f = absurd cc
-body_stays kinds.Routine n x (routine r c os) (escapes k ns) is e f = absurd cc
-body_stays kinds.Routine n x (routine r c os) (macro k ns q) is e f = absurd cc
-body_stays kinds.Routine n x (routine r c os) (grouping k a ts) is e f = absurd cc
-body_stays kinds.Grouping n x (declaration k ns) y is e f = absurd cc
-body_stays kinds.Grouping n x (escapes k ns) y is e f = absurd cc
-body_stays kinds.Grouping n x (macro k ns q) y is e f = absurd cc
-body_stays kinds.Grouping n x (routine k a ts) y is e f = absurd cc
-body_stays kinds.Grouping n x (grouping r c os) (declaration k ns) is e f = absurd cc
-body_stays kinds.Grouping n x (grouping r c os) (escapes k ns) is e f = absurd cc
-body_stays kinds.Grouping n x (grouping r c os) (macro k ns q) is e f = absurd cc
-body_stays kinds.Grouping n x (grouping r c os) (routine k a ts) is e f = absurd cc
+routine_stays n x (declaration k ns) y is e f = absurd cc
+routine_stays n x (escapes k ns) y is e f = absurd cc
+routine_stays n x (macro k ns q) y is e f = absurd cc
+routine_stays n x (grouping k a ts) y is e f = absurd cc
+routine_stays n x (routine r c os) (declaration k ns) is e f = absurd cc
+routine_stays n x (routine r c os) (escapes k ns) is e f = absurd cc
+routine_stays n x (routine r c os) (macro k ns q) is e f = absurd cc
+routine_stays n x (routine r c os) (grouping k a ts) is e f = absurd cc
+
+-- one grouping for another
+grouping_stays : (n x : List ℕ) (z y : Plain) (is : List Item) → is_grouping_named n z ≡ true → is_grouping_named n y ≡ true → is_some (body_in x (plain y ∷ is)) ≡ is_some (body_in x (plain z ∷ is))
+grouping_stays n x (grouping r c os) (grouping m b qs) is e f = refl
+grouping_stays n x (declaration k ns) y is e f = absurd cc
+grouping_stays n x (escapes k ns) y is e f = absurd cc
+grouping_stays n x (macro k ns q) y is e f = absurd cc
+grouping_stays n x (routine k a ts) y is e f = absurd cc
+grouping_stays n x (grouping r c os) (declaration k ns) is e f = absurd cc
+grouping_stays n x (grouping r c os) (escapes k ns) is e f = absurd cc
+grouping_stays n x (grouping r c os) (macro k ns q) is e f = absurd cc
+grouping_stays n x (grouping r c os) (routine k a ts) is e f = absurd cc
+
+-- one definition for another that the same edit changes
+body_stays : (d : ScriptEdit) (x : List ℕ) (z y : Plain) (is : List Item) → changes d z ≡ true → changes d y ≡ true → is_some (body_in x (plain y ∷ is)) ≡ is_some (body_in x (plain z ∷ is))
+body_stays (body n) = routine_stays n
+body_stays (among n k) = routine_stays n
+body_stays (terms n) = grouping_stays n
 
 -- one item more before the same
 body_after : (x : List ℕ) (z : Plain) (is js : List Item) → is_some (body_in x is) ≡ is_some (body_in x js) → is_some (body_in x (plain z ∷ is)) ≡ is_some (body_in x (plain z ∷ js))
@@ -140,16 +147,16 @@ body_after x (escapes k ns) is js h = h
 body_after x (macro k ns q) is js h = h
 body_after x (grouping k a ts) is js h = h
 
-module _ (d : DefinitionKind) (n : List ℕ) (y : Plain) (new : defines d n y ≡ true) where
+module _ (d : ScriptEdit) (y : Plain) (new : changes d y ≡ true) where
   abbrev p : Plain → Bool
-  p = defines d n
+  p = changes d
 
   pub still_defined : (is : List Item) (x : List ℕ) → is_some (body_in x (items_with p y is)) ≡ is_some (body_in x is)
   still_defined [] x = refl
   still_defined (plain z ∷ is) x = at (p z) refl (still_defined is x) where
     at : (k : Bool) → p z ≡ k → is_some (body_in x (items_with p y is)) ≡ is_some (body_in x is)
         → is_some (body_in x (cond k (plain y ∷ is) (plain z ∷ items_with p y is))) ≡ is_some (body_in x (plain z ∷ is))
-    at true h more = body_stays d n x z y is h new
+    at true h more = body_stays d x z y is h new
     at false h more = body_after x z (items_with p y is) is more
   still_defined (backward xs ∷ is) x = at (list_any p xs) (still_defined is x) where
     at : (k : Bool) → is_some (body_in x (items_with p y is)) ≡ is_some (body_in x is) → is_some (body_in x (cond k (backward (plains_with p y xs) ∷ is) (backward xs ∷ items_with p y is))) ≡ is_some (body_in x (backward xs ∷ is))

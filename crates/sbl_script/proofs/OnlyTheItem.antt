@@ -20,9 +20,7 @@ use Rattle.sbl_script.specs.Reading.{IsCheckFault}
 use Rattle.sbl_resolver.specs.Bodies.{body_in}
 use Rattle.sbl_resolver.specs.Checks.{declared_as, kind_of, defined_at, definition_of, waits_after, is_awaited, is_text, is_text_of, has_text, is_some_and, is_kind, has_external, fault_at, fault_of, WellDeclared}
 use Rattle.sbl_resolver.specs.Laws.{EachPasses, IsFirst}
-use Rattle.sbl_script.specs.declared.edits.DefinitionKind.{DefinitionKind}
-use Rattle.sbl_script.specs.declared.edits.DefinitionKind.TheVariants as kinds
-use Rattle.sbl_script.specs.Edits.{ScriptEdit, body, terms, changes, defines, items_with}
+use Rattle.sbl_script.specs.Edits.{ScriptEdit, body, terms, changes, is_routine_named, is_grouping_named, items_with}
 use Rattle.sbl_script.specs.Homes.{Home, first_passing, home, home_in, home_of_among, home_of_body, home_of_held, home_of_terms, IsEditFaultAt, IsFaultAt}
 use Rattle.sbl_script.specs.Edits as script
 use Rattle.sbl_script.specs.OnlyTheItem.{item_of, number_of, OnlyTheItem, ExternalStays}
@@ -171,18 +169,26 @@ groupings_alike n p xs ys h g old new = record {
   new_sites = new;
 }
 
--- two definitions of a kind and a name
-alike : (d : DefinitionKind) (n : List ℕ) (x y : Plain) (p : Site) → defines d n x ≡ true → defines d n y ≡ true → Alike p.item (own x p) (own y p)
-alike kinds.Routine n x y p e f =
+-- two definitions of a routine, or of a grouping
+two_routines : (n : List ℕ) (x y : Plain) (p : Site) → is_routine_named n x ≡ true → is_routine_named n y ≡ true → Alike p.item (own x p) (own y p)
+two_routines n x y p e f =
     let a = routine_is n x e in
     let b = routine_is n y f in
     subst (λ (z : Plain). Alike p.item (own z p) (own y p)) (sym a.2) (subst (λ (z : Plain). Alike p.item (own (routine n a.0 a.1) p) (own z p)) (sym b.2)
     (routines_alike n p (own (routine n a.0 a.1) p) (own (routine n b.0 b.1) p) (routine_parts n a.0 a.1 p) (routine_parts n b.0 b.1 p)))
-alike kinds.Grouping n x y p e f =
+
+two_groupings : (n : List ℕ) (x y : Plain) (p : Site) → is_grouping_named n x ≡ true → is_grouping_named n y ≡ true → Alike p.item (own x p) (own y p)
+two_groupings n x y p e f =
     let a = grouping_is n x e in
     let b = grouping_is n y f in
     subst (λ (z : Plain). Alike p.item (own z p) (own y p)) (sym a.2) (subst (λ (z : Plain). Alike p.item (own (grouping n a.0 a.1) p) (own z p)) (sym b.2)
     (groupings_alike n p (own (grouping n a.0 a.1) p) (own (grouping n b.0 b.1) p) (grouping_parts n a.0 a.1 p) (grouping_parts n b.0 b.1 p) (plain_sites (grouping n a.0 a.1) p) (plain_sites (grouping n b.0 b.1) p)))
+
+-- two definitions that the same edit changes
+alike : (e : ScriptEdit) (x y : Plain) (p : Site) → changes e x ≡ true → changes e y ≡ true → Alike p.item (own x p) (own y p)
+alike (body n) = two_routines n
+alike (script.among n k) = two_routines n
+alike (terms n) = two_groupings n
 
 -- ---- where an occurrence stands
 
@@ -311,11 +317,11 @@ module _ (prefix mine other rest : List Occurrence) (i : ℕ) (closed : Closed p
 
 -- ---- a script
 
-module _ (items : List Item) (external : List ℕ) (d : DefinitionKind) (n : List ℕ) (y : Plain) (same : defines d n y ≡ true) (well : WellDeclared items external) where
+module _ (items : List Item) (external : List ℕ) (d : ScriptEdit) (y : Plain) (same : changes d y ≡ true) (well : WellDeclared items external) where
   abbrev edited_items : List Item
-  edited_items = items_with (defines d n) y items
+  edited_items = items_with (changes d) y items
 
-  fault_item : (q : Parts (defines d n) y (in_order items) (in_order edited_items)) (f : ScriptFault) → fault_of edited_items external ≡ Some f → (i : ℕ) × (item_of f ≡ Some i) × (number_of (defines d n) items ≡ Some i)
+  fault_item : (q : Parts (changes d) y (in_order items) (in_order edited_items)) (f : ScriptFault) → fault_of edited_items external ≡ Some f → (i : ℕ) × (item_of f ≡ Some i) × (number_of (changes d) items ≡ Some i)
   fault_item q f bad = (i, at (first.fault_is_first edited_items external f bad), q.number 1)
     where
       i : ℕ
@@ -343,7 +349,7 @@ module _ (items : List Item) (external : List ℕ) (d : DefinitionKind) (n : Lis
       new_is = ap (λ l. noted_items l 1 []) q.new ∙ round_item q.before (at_mode q.mode y) q.after
 
       two : Alike (1 + length q.before) mine other
-      two = alike d n q.item y p q.passes same
+      two = alike d q.item y p q.passes same
 
       closed : Closed prefix
       closed = items_closed q.before 1
@@ -357,7 +363,7 @@ module _ (items : List Item) (external : List ℕ) (d : DefinitionKind) (n : Lis
       kept : has_external edited_items external (occurrences_of edited_items) ≡ true
       kept =
           ap (λ o. is_some_and (is_kind declared_kinds.Externals) o && is_some (body_in external edited_items)) (ap (kind_of external) new_is ∙ kinds_same prefix mine other rest (1 + length q.before) closed two later external rest ∙ sym (ap (kind_of external) old_is))
-          ∙ ap (λ c. is_some_and (is_kind declared_kinds.Externals) (kind_of external (occurrences_of items)) && c) (still_defined d n y same items external) ∙ fine.1
+          ∙ ap (λ c. is_some_and (is_kind declared_kinds.Externals) (kind_of external (occurrences_of items)) && c) (still_defined d y same items external) ∙ fine.1
 
       at : IsFirst (occurrences_of edited_items) f ⊎ (EachPasses (occurrences_of edited_items) × (has_external edited_items external (occurrences_of edited_items) ≡ false) × (f ≡ fault.NoExternal)) → item_of f ≡ Some (1 + length q.before)
       at (inl h) = in_item prefix mine other rest (1 + length q.before) closed two later (subst EachPasses old_is fine.0) f (subst (λ l. IsFirst l f) new_is h)
@@ -366,15 +372,12 @@ module _ (items : List Item) (external : List ℕ) (d : DefinitionKind) (n : Lis
         true_false true h g = cc
         true_false false h g = cc
 
--- an edit with a place puts another definition of the same kind and name in the place of the first that it changes
+-- an edit with a place puts another definition that it may change in the place of the first such
 pub record Replaces (items : List Item) (e : ScriptEdit) (h : Home) (x : TreeOf h.text) : Type 0 where
-  pub kind : DefinitionKind
-  pub name : List ℕ
   pub item : Plain
-  pub which : changes e ≡ defines kind name
-  pub there : is_some (first_passing (defines kind name) items) ≡ true
-  pub same : defines kind name item ≡ true
-  pub is : h.around x ≡ items_with (defines kind name) item items
+  pub there : is_some (first_passing (changes e) items) ≡ true
+  pub same : changes e item ≡ true
+  pub is : h.around x ≡ items_with (changes e) item items
 
 abbrev IsPlaced : List Item → ScriptEdit → Home → Type 0
 IsPlaced items e h = (x : TreeOf h.text) → Replaces items e h x
@@ -388,16 +391,16 @@ home_one r h g a b = cc
 place_of : (items : List Item) (e : ScriptEdit) (h : Home) (o : Option Plain) → first_passing (changes e) items ≡ o → home_in items o e ≡ Ok h → IsPlaced items e h
 place_of items (body n) h (Some (routine m c os)) at is =
     subst (IsPlaced items (body n)) (home_one (home_in items (Some (routine m c os)) (body n)) (home_of_body items n) h refl is)
-    (λ b. record { kind = kinds.Routine; name = n; item = routine n b.0 b.1; which = refl; there = is_there (first_passing (defines kinds.Routine n) items) (routine m c os) at; same = same_name n; is = refl })
+    (λ b. record { item = routine n b.0 b.1; there = is_there (first_passing (is_routine_named n) items) (routine m c os) at; same = same_name n; is = refl })
 place_of items (script.among n k) h (Some (routine m c os)) at is = held (nth_held k (amongs_of_body (c, os))) is where
   held : (o : Option AmongContents) → home_of_held items n (c, os) k o ≡ Ok h → IsPlaced items (script.among n k) h
   held None e = absurd cc
   held (Some g) e =
       subst (IsPlaced items (script.among n k)) (home_one (home_of_held items n (c, os) k (Some g)) (home_of_among items n (c, os) k g) h refl e)
-      (λ a. record { kind = kinds.Routine; name = n; item = routine n (put_in_body (c, os) k a).0 (put_in_body (c, os) k a).1; which = refl; there = is_there (first_passing (defines kinds.Routine n) items) (routine m c os) at; same = same_name n; is = refl })
+      (λ a. record { item = routine n (put_in_body (c, os) k a).0 (put_in_body (c, os) k a).1; there = is_there (first_passing (is_routine_named n) items) (routine m c os) at; same = same_name n; is = refl })
 place_of items (terms n) h (Some (grouping m a ts)) at is =
     subst (IsPlaced items (terms n)) (home_one (home_in items (Some (grouping m a ts)) (terms n)) (home_of_terms items n) h refl is)
-    (λ x. record { kind = kinds.Grouping; name = n; item = grouping n x.0 x.1; which = refl; there = is_there (first_passing (defines kinds.Grouping n) items) (grouping m a ts) at; same = same_name n; is = refl })
+    (λ x. record { item = grouping n x.0 x.1; there = is_there (first_passing (is_grouping_named n) items) (grouping m a ts) at; same = same_name n; is = refl })
 place_of items (body n) h None at is = absurd cc
 place_of items (body n) h (Some (declaration d ns)) at is = absurd cc
 place_of items (body n) h (Some (escapes a b)) at is = absurd cc
@@ -419,9 +422,8 @@ check_tells : (s : Source) (e : ScriptEdit) (h : Home) (ts : List PlacedToken) (
     (i : ℕ) × (item_of f ≡ Some i) × (number_of (changes e) s.items ≡ Some i)
 check_tells s e h ts f well there bad =
     let r = place_of s.items e h (first_passing (changes e) s.items) refl there bad.tree in
-    let parts = parts_of (defines r.kind r.name) r.item s.items r.there in
-    let tells = fault_item s.items s.external r.kind r.name r.item r.same well parts f (ap (λ (is : List Item). fault_of is s.external) (sym r.is) ∙ bad.is) in
-    (tells.0, tells.1, ap (λ (p : Plain → Bool). number_of p s.items) r.which ∙ tells.2)
+    let parts = parts_of (changes e) r.item s.items r.there in
+    fault_item s.items s.external e r.item r.same well parts f (ap (λ (is : List Item). fault_of is s.external) (sym r.is) ∙ bad.is)
 
 -- a fault of a text tells none
 not_told : (f : ScriptFault) (i : ℕ) → is_checked f ≡ false → item_of f ≡ Some i → ⊥

@@ -17,7 +17,7 @@ use Rattle.sbl_ast.specs.declared.tree.Move.TheVariants as moves
 use Rattle.sbl_ast.specs.declared.tree.Naming.{Naming}
 use Rattle.sbl_ast.specs.declared.tree.Naming.TheVariants as namings
 use Rattle.sbl_ast.specs.declared.tree.Splice.{Splice}
-use Rattle.sbl_ast.specs.declared.tree.Splice.TheVariants as edits
+use Rattle.sbl_ast.specs.declared.tree.Splice.TheVariants as splices
 use Rattle.sbl_ast.specs.declared.tree.Additive.{Additive}
 use Rattle.sbl_ast.specs.declared.tree.Additive.TheVariants as additives
 use Rattle.sbl_ast.specs.declared.tree.Multiplicative.{Multiplicative}
@@ -98,10 +98,10 @@ naming_keeps namings.Unset e = refl
 naming_keeps namings.Arrow e = refl
 
 splice_keeps : (x : Splice) → Keeps (t.splice x)
-splice_keeps edits.Attach e = refl
-splice_keeps edits.Insert e = refl
-splice_keeps edits.Replace e = refl
-splice_keeps edits.InsertSign e = refl
+splice_keeps splices.Attach e = refl
+splice_keeps splices.Insert e = refl
+splice_keeps splices.Replace e = refl
+splice_keeps splices.InsertSign e = refl
 
 additive_keeps : (x : Additive) → Keeps (t.additive x)
 additive_keeps additives.Plus e = refl

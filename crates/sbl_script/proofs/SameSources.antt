@@ -1,5 +1,5 @@
 -- Two scripts with one canonical text have the same items.
-use Rattle.std.proofs.Common.{◌≡◌, ℕ, List, ap, subst, ◌∙◌}
+use Rattle.std.proofs.Common.{◌≡◌, ℕ, List, subst}
 use Rattle.std.specs.Str.{chars}
 use Rattle.sbl_text.specs.Directives.{start}
 use Rattle.sbl_text.specs.Laws.{TokensAreOne}
@@ -8,7 +8,6 @@ use Rattle.sbl_text.specs.Tokens.{AreTokensFrom, MayEnd}
 use Rattle.sbl_ast.specs.Tree.{Item}
 use Rattle.sbl_ast.specs.Places.{lexemes_of}
 use Rattle.sbl_print.specs.Canonical.{canonical}
-use Rattle.sbl_ast.specs.Source.{Source}
 use Rattle.sbl_script.proofs.Printed.{Facts, tokens_back}
 
 -- what is known of the tokens of items
@@ -20,7 +19,3 @@ pub items_are_one : Facts → TokensAreOne → ((t u : List Item) → lexemes_of
 items_are_one k one tree a b x y same =
     let read = subst (λ (text : List ℕ). AreTokensFrom start (chars text) (lexemes_of a)) same (tokens_back k a x.said x.ends) in
     tree a b (one start (chars (canonical b)) (lexemes_of a) (lexemes_of b) read (tokens_back k b y.said y.ends))
-
-pub sources_same : (a b : Source) → a.items ≡ b.items → a.external ≡ b.external → a ≡ b
-sources_same a b is es =
-    ap (λ (xs : List Item). let s : Source = record { items = xs; external = a.external } in s) is ∙ ap (λ (x : List ℕ). let s : Source = record { items = b.items; external = x } in s) es

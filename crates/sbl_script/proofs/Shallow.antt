@@ -10,9 +10,8 @@ use Rattle.sbl_ast.specs.Places.{AtDepth, placed_command, placed_plain, placed_p
 use Rattle.sbl_ast.specs.Texts.{among, body, terms, places_in}
 use Rattle.sbl_ast.specs.View.{RowView}
 use Rattle.sbl_ast.proofs.After.{IsBefore, by_itself, after_it, with_after, plain_before}
-use Rattle.sbl_script.specs.declared.edits.DefinitionKind.TheVariants as kinds
 use Rattle.sbl_script.proofs.Found.{some_plain}
-use Rattle.sbl_script.specs.Edits.{defines, items_with, plains_with}
+use Rattle.sbl_script.specs.Edits.{is_routine_named, items_with, plains_with}
 use Rattle.sbl_script.specs.Homes.{first_in, first_passing, plain_if}
 
 abbrev Ps : Type 0
@@ -83,8 +82,8 @@ routine_shallow n b hb = let top : 0 ≤ 64 = omega arith in (top, (top, (top, h
 pub grouping_shallow : (n : List ℕ) (a : Argument) (ts : List Term) → AreShallow (places_in terms (a, ts)) → AreShallow (placed_plain (grouping n a ts) [])
 grouping_shallow n a ts h = let top : 0 ≤ 64 = omega arith in (top, (top, h))
 
-pub body_shallow : (n : List ℕ) (items : List Item) (b : RowView) → AreShallow (placed_items items []) → first_passing (defines kinds.Routine n) items ≡ Some (routine n b.0 b.1) → AreShallow (places_in body b)
-body_shallow n items b h is = (first_shallow (defines kinds.Routine n) items (routine n b.0 b.1) h is).1.1.1
+pub body_shallow : (n : List ℕ) (items : List Item) (b : RowView) → AreShallow (placed_items items []) → first_passing (is_routine_named n) items ≡ Some (routine n b.0 b.1) → AreShallow (places_in body b)
+body_shallow n items b h is = (first_shallow (is_routine_named n) items (routine n b.0 b.1) h is).1.1.1
 
 -- what is read where an among stands may stand there
 held_one : (o : Option AmongContents) (d g : AmongContents) → o ≡ Some d → o ≡ Some g → d ≡ g

@@ -25,9 +25,8 @@ use Rattle.sbl_ast.specs.Spelled.{spelled_command}
 use Rattle.sbl_ast.proofs.Lexed.{text_lexed}
 use Rattle.sbl_ast.proofs.After.{IsBefore, plain_before}
 use Rattle.sbl_parser.proofs.Faults.{tree_tokens}
-use Rattle.sbl_script.specs.declared.edits.DefinitionKind.{DefinitionKind}
-use Rattle.sbl_script.specs.declared.edits.DefinitionKind.TheVariants as kinds
-use Rattle.sbl_script.specs.Edits.{defines, escapes_after, items_with, plains_with}
+use Rattle.sbl_script.specs.Edits as edits
+use Rattle.sbl_script.specs.Edits.{ScriptEdit, changes, is_routine_named, is_grouping_named, escapes_after, items_with, plains_with}
 use Rattle.sbl_script.specs.Homes.{Walk, escapes_before, first_in, first_passing, plain_if, walk_to, walk_in, state_reached}
 use Rattle.sbl_script.specs.Reading.{HasTokens, lexemes}
 use Rattle.sbl_script.specs.SpelledScript.{AreSpelled, IsSpelled}
@@ -142,14 +141,16 @@ after_plain e x r h = subst (λ (s : Directives). Say s r) (plain_sets e x) (par
 
 -- ---- with another definition
 
-sets_nothing : (k : DefinitionKind) (n : List ℕ) (x : Plain) (e : InForce) → defines k n x ≡ true → escapes_after e x ≡ e
-sets_nothing k n (routine m c os) e h = refl
-sets_nothing k n (grouping m a ts) e h = refl
-sets_nothing k n (declaration d ns) e h = refl
-sets_nothing kinds.Routine n (escapes a b) e h = absurd cc
-sets_nothing kinds.Grouping n (escapes a b) e h = absurd cc
-sets_nothing kinds.Routine n (macro m b q) e h = absurd cc
-sets_nothing kinds.Grouping n (macro m b q) e h = absurd cc
+sets_nothing : (d : ScriptEdit) (x : Plain) (e : InForce) → changes d x ≡ true → escapes_after e x ≡ e
+sets_nothing d (routine m c os) e h = refl
+sets_nothing d (grouping m a ts) e h = refl
+sets_nothing d (declaration k ns) e h = refl
+sets_nothing (edits.body n) (escapes a b) e h = absurd cc
+sets_nothing (edits.among n k) (escapes a b) e h = absurd cc
+sets_nothing (edits.terms n) (escapes a b) e h = absurd cc
+sets_nothing (edits.body n) (macro m b q) e h = absurd cc
+sets_nothing (edits.among n k) (macro m b q) e h = absurd cc
+sets_nothing (edits.terms n) (macro m b q) e h = absurd cc
 
 step_same : (e : InForce) (x : Plain) (r q : Ps) → (Say (no_directive (escapes_after e x)) r → Say (no_directive (escapes_after e x)) q) → Say (no_directive e) (placed_plain x r) → Say (no_directive e) (placed_plain x q)
 step_same e x r q f h =
@@ -164,9 +165,9 @@ plains_same : (xs : List Plain) (e : InForce) (r q : Ps) → (Say (no_directive 
 plains_same [] e r q f h = f h
 plains_same (x ∷ xs) e r q f h = step_same e x (placed_plains xs r) (placed_plains xs q) (λ z. plains_same xs (escapes_after e x) r q f z) h
 
-module _ (k : DefinitionKind) (n : List ℕ) (y : Plain) (new : defines k n y ≡ true) where
+module _ (d : ScriptEdit) (y : Plain) (new : changes d y ≡ true) where
   abbrev p : Plain → Bool
-  p = defines k n
+  p = changes d
 
   abbrev InPlains : List Plain → InForce → Ps → Ps → Type 0
   InPlains xs e r q = list_any p xs ≡ true → Say (no_directive (walk_in p xs e).0) (placed_plain y []) → Say (no_directive e) (placed_plains xs r) → Say (no_directive e) (placed_plains (plains_with p y xs) q)
@@ -178,8 +179,8 @@ module _ (k : DefinitionKind) (n : List ℕ) (y : Plain) (new : defines k n y �
     go : (here : Bool) → p x ≡ here → here || list_any p xs ≡ true → Say (no_directive (if here then (e, true) else walk_in p xs (escapes_after e x)).0) (placed_plain y []) → InPlains xs (escapes_after e x) r q
         → Say (no_directive e) (placed_plains (if here then y ∷ xs else x ∷ plains_with p y xs) q)
     go true i a l more =
-        let g = subst (λ (z : InForce). Say (no_directive (all_after z xs)) r → Say (no_directive (all_after z xs)) q) (sets_nothing k n x e i) f in
-        step_new e x y (placed_plains xs r) (placed_plains xs q) (sets_nothing k n x e i) (sets_nothing k n y e new) l (λ z. plains_same xs e r q g z) h
+        let g = subst (λ (z : InForce). Say (no_directive (all_after z xs)) r → Say (no_directive (all_after z xs)) q) (sets_nothing d x e i) f in
+        step_new e x y (placed_plains xs r) (placed_plains xs q) (sets_nothing d x e i) (sets_nothing d y e new) l (λ z. plains_same xs e r q g z) h
     go false i a l more = step_same e x (placed_plains xs r) (placed_plains (plains_with p y xs) q) (λ z. more a l z) h
 
 -- an item that passes is reached; if none does, all items were gone through
@@ -197,9 +198,9 @@ not_held p (x ∷ xs) e h = go (p x) h (λ l. not_held p xs (escapes_after e x) 
   go true l more = absurd cc
   go false l more = more l
 
-module _ (k : DefinitionKind) (n : List ℕ) (y : Plain) (new : defines k n y ≡ true) where
+module _ (d : ScriptEdit) (y : Plain) (new : changes d y ≡ true) where
   abbrev q : Plain → Bool
-  q = defines k n
+  q = changes d
 
   abbrev InItems : List Item → InForce → Type 0
   InItems is e = Say (no_directive (walk_to q is e).0) (placed_plain y []) → Say (no_directive e) (placed_items is []) → Say (no_directive e) (placed_items (items_with q y is) [])
@@ -208,7 +209,7 @@ module _ (k : DefinitionKind) (n : List ℕ) (y : Plain) (new : defines k n y �
   items_said [] e hy h = h
   items_said (plain x ∷ is) e hy h = go (q x) refl hy (λ l z. items_said is (escapes_after e x) l z) where
     go : (here : Bool) → q x ≡ here → Say (no_directive (if here then (e, true) else walk_to q is (escapes_after e x)).0) (placed_plain y []) → InItems is (escapes_after e x) → Say (no_directive e) (placed_items (if here then plain y ∷ is else plain x ∷ items_with q y is) [])
-    go true i l more = step_new e x y (placed_items is []) (placed_items is []) (sets_nothing k n x e i) (sets_nothing k n y e new) l (λ z. z) h
+    go true i l more = step_new e x y (placed_items is []) (placed_items is []) (sets_nothing d x e i) (sets_nothing d y e new) l (λ z. z) h
     go false i l more = step_same e x (placed_items is []) (placed_items (items_with q y is) []) (λ z. more l z) h
   items_said (backward xs ∷ is) e hy h = go (list_any q xs) refl (λ l z. items_said is (all_after e xs) l z) where
     found : (here : Bool) → list_any q xs ≡ here → Say (no_directive (if here then walk_in q xs e else walk_to q is (walk_in q xs e).0).0) (placed_plain y [])
@@ -217,7 +218,7 @@ module _ (k : DefinitionKind) (n : List ℕ) (y : Plain) (new : defines k n y �
     go : (here : Bool) → list_any q xs ≡ here → InItems is (all_after e xs) → Say (no_directive e) (placed_items (if here then backward (plains_with q y xs) ∷ is else backward xs ∷ items_with q y is) [])
     go true i more =
         let rest = (lex.sign signs.Close, 0) ∷ placed_items is [] in
-        (h.0, (h.1.0, plains_new k n y new xs e rest rest i (found true i) (λ z. z) h.1.1))
+        (h.0, (h.1.0, plains_new d y new xs e rest rest i (found true i) (λ z. z) h.1.1))
     go false i more =
         let l = subst (λ (f : InForce). Say (no_directive (walk_to q is f).0) (placed_plain y [])) (not_held q xs e i) (found false i) in
         (h.0, (h.1.0, plains_same xs e ((lex.sign signs.Close, 0) ∷ placed_items is []) ((lex.sign signs.Close, 0) ∷ placed_items (items_with q y is) []) (λ z. (z.0, more l z.1)) h.1.1))
@@ -269,26 +270,26 @@ read_said s bytes ts w x has read =
 pub script_said : (bytes : List ℕ) (ts : List PlacedToken) (items : List Item) → HasTokens start bytes ts → IsReadAs script (lexemes ts) items → AreSpelled items
 script_said bytes ts items has read = read_said start bytes ts script items has read
 
-pub definition_replaced : (k : DefinitionKind) (n : List ℕ) (y : Plain) (items : List Item) → defines k n y ≡ true → AreSpelled items → IsSpelled (state_reached (defines k n) items) y → AreSpelled (items_with (defines k n) y items)
-definition_replaced k n y items new h hy = items_said k n y new items nothing_set hy h
+pub definition_replaced : (d : ScriptEdit) (y : Plain) (items : List Item) → changes d y ≡ true → AreSpelled items → IsSpelled (state_reached (changes d) items) y → AreSpelled (items_with (changes d) y items)
+definition_replaced d y items new h hy = items_said d y new items nothing_set hy h
 
 -- a routine with another body, or with another among in it, and a grouping with other terms
-pub body_said : (n : List ℕ) (items : List Item) (b new : RowView) → AreSpelled items → first_passing (defines kinds.Routine n) items ≡ Some (routine n b.0 b.1) → AreSaid (state_reached (defines kinds.Routine n) items) (tokens_of body new)
-    → IsSpelled (state_reached (defines kinds.Routine n) items) (routine n new.0 new.1)
+pub body_said : (n : List ℕ) (items : List Item) (b new : RowView) → AreSpelled items → first_passing (is_routine_named n) items ≡ Some (routine n b.0 b.1) → AreSaid (state_reached (is_routine_named n) items) (tokens_of body new)
+    → IsSpelled (state_reached (is_routine_named n) items) (routine n new.0 new.1)
 body_said n items b new h is piece_lexemes =
-    let old = found_said (defines kinds.Routine n) items nothing_set (routine n b.0 b.1) is h in
+    let old = found_said (is_routine_named n) items nothing_set (routine n b.0 b.1) is h in
     (old.0, (old.1.0, (old.1.1.0, piece_lexemes)))
 
-pub among_said : (n : List ℕ) (items : List Item) (b : RowView) (k : ℕ) (a : Starter × Groups) (d : ℕ) → AreSpelled items → first_passing (defines kinds.Routine n) items ≡ Some (routine n b.0 b.1)
-    → AreSaid (state_reached (defines kinds.Routine n) items) (tokens_of (texts.among d) a) → IsSpelled (state_reached (defines kinds.Routine n) items) (routine n (put_in_body b k a).0 (put_in_body b k a).1)
+pub among_said : (n : List ℕ) (items : List Item) (b : RowView) (k : ℕ) (a : Starter × Groups) (d : ℕ) → AreSpelled items → first_passing (is_routine_named n) items ≡ Some (routine n b.0 b.1)
+    → AreSaid (state_reached (is_routine_named n) items) (tokens_of (texts.among d) a) → IsSpelled (state_reached (is_routine_named n) items) (routine n (put_in_body b k a).0 (put_in_body b k a).1)
 among_said n items b k a d h is ha =
-    let old = found_said (defines kinds.Routine n) items nothing_set (routine n b.0 b.1) is h in
-    body_said n items b (put_in_body b k a) h is (put_said (escapes_before (defines kinds.Routine n) items) b k a d old.1.1.1 ha)
+    let old = found_said (is_routine_named n) items nothing_set (routine n b.0 b.1) is h in
+    body_said n items b (put_in_body b k a) h is (put_said (escapes_before (is_routine_named n) items) b k a d old.1.1.1 ha)
 
-pub terms_said : (n : List ℕ) (items : List Item) (a : Argument) (ts : List Term) (x : Argument × List Term) → AreSpelled items → first_passing (defines kinds.Grouping n) items ≡ Some (grouping n a ts)
-    → AreSaid (state_reached (defines kinds.Grouping n) items) (tokens_of texts.terms x) → IsSpelled (state_reached (defines kinds.Grouping n) items) (grouping n x.0 x.1)
+pub terms_said : (n : List ℕ) (items : List Item) (a : Argument) (ts : List Term) (x : Argument × List Term) → AreSpelled items → first_passing (is_grouping_named n) items ≡ Some (grouping n a ts)
+    → AreSaid (state_reached (is_grouping_named n) items) (tokens_of texts.terms x) → IsSpelled (state_reached (is_grouping_named n) items) (grouping n x.0 x.1)
 terms_said n items a ts x h is piece_lexemes =
-    let old = found_said (defines kinds.Grouping n) items nothing_set (grouping n a ts) is h in
+    let old = found_said (is_grouping_named n) items nothing_set (grouping n a ts) is h in
     (old.0, (old.1.0, piece_lexemes))
 
 -- a text may end after a script

@@ -19,8 +19,6 @@ use Rattle.sbl_ast.specs.Texts as texts
 use Rattle.sbl_parser.specs.Reading.{IsReadAs}
 use Rattle.sbl_script.specs.declared.edit_fault.EditFault.{EditFault}
 use Rattle.sbl_script.specs.declared.edit_fault.EditFault.TheVariants as edits
-use Rattle.sbl_script.specs.declared.edits.DefinitionKind.{DefinitionKind}
-use Rattle.sbl_script.specs.declared.edits.DefinitionKind.TheVariants as kinds
 use Rattle.sbl_ast.specs.Source.{Source}
 use Rattle.sbl_resolver.specs.Checks.{WellDeclared}
 use Rattle.sbl_script.specs.Reading.{HasTokens, IsFaultIn, first_left_out, lexemes}
@@ -36,17 +34,21 @@ pub data ScriptEdit : Type 0 where
 
 -- ---- the definition that changes
 
--- whether an item defines this name, as a routine or as a grouping
-abbrev pub defines : DefinitionKind → List ℕ → Plain → Bool
-defines kinds.Routine n (routine m c os) = bytes_eq n m
-defines kinds.Grouping n (grouping m a ts) = bytes_eq n m
-defines k n _ = false
+-- the item defines the routine with this name
+abbrev pub is_routine_named : List ℕ → Plain → Bool
+is_routine_named n (routine m c os) = bytes_eq n m
+is_routine_named n _ = false
+
+-- the item defines the grouping with this name
+abbrev pub is_grouping_named : List ℕ → Plain → Bool
+is_grouping_named n (grouping m a ts) = bytes_eq n m
+is_grouping_named n _ = false
 
 -- whether an edit may change this item; it changes the first such item, in either mode
 abbrev pub changes : ScriptEdit → Plain → Bool
-changes (body n) = defines kinds.Routine n
-changes (among n k) = defines kinds.Routine n
-changes (terms n) = defines kinds.Grouping n
+changes (body n) = is_routine_named n
+changes (among n k) = is_routine_named n
+changes (terms n) = is_grouping_named n
 
 -- the items in text order, without their modes
 abbrev pub plains_of : List Item → List Plain

@@ -16,11 +16,10 @@ use Rattle.sbl_ast.specs.View.{RowView}
 use Rattle.sbl_parser.specs.Reading.{IsReadAs}
 use Rattle.sbl_script.specs.declared.edit_fault.EditFault.{EditFault}
 use Rattle.sbl_script.specs.declared.edit_fault.EditFault.TheVariants as edits
-use Rattle.sbl_script.specs.declared.edits.DefinitionKind.TheVariants as kinds
 use Rattle.sbl_ast.specs.Source.{Source}
 use Rattle.sbl_resolver.specs.Checks.{WellDeclared}
 use Rattle.sbl_script.specs.Reading.{HasTokens, IsFaultIn, first_left_out, lexemes}
-use Rattle.sbl_script.specs.Edits.{ScriptEdit, body, among, terms, changes, defines, escapes_after, plains_with, items_with}
+use Rattle.sbl_script.specs.Edits.{ScriptEdit, body, among, terms, changes, is_routine_named, is_grouping_named, escapes_after, plains_with, items_with}
 
 -- ---- the definition that changes
 
@@ -84,18 +83,18 @@ home_at items p w item keeps = record { text = w; state = state_reached p items;
 
 -- a new body may hold any number of amongs
 abbrev pub home_of_body : List Item → List ℕ → Home
-home_of_body items n = home_at items (defines kinds.Routine n) texts.body (λ b. routine n b.0 b.1) (λ b. true)
+home_of_body items n = home_at items (is_routine_named n) texts.body (λ b. routine n b.0 b.1) (λ b. true)
 
 -- where the among is found in the tree: as deep as it is there, and with as many amongs
 abbrev pub home_of_among : List Item → List ℕ → RowView → ℕ → AmongContents → Home
 home_of_among items n b k h =
-    home_at items (defines kinds.Routine n) (texts.among h.0) (λ a. routine n (put_in_body b k a).0 (put_in_body b k a).1) (λ a. nat_eq (count_in_among a) (count_in_among (h.1, h.2)))
+    home_at items (is_routine_named n) (texts.among h.0) (λ a. routine n (put_in_body b k a).0 (put_in_body b k a).1) (λ a. nat_eq (count_in_among a) (count_in_among (h.1, h.2)))
 
 abbrev pub home_of_held : List Item → List ℕ → RowView → ℕ → Option AmongContents → Result Home EditFault
 home_of_held items n b k o = ok_or (option_map (home_of_among items n b k) o) edits.NoAmong
 
 abbrev pub home_of_terms : List Item → List ℕ → Home
-home_of_terms items n = home_at items (defines kinds.Grouping n) texts.terms (λ x. grouping n x.0 x.1) (λ x. true)
+home_of_terms items n = home_at items (is_grouping_named n) texts.terms (λ x. grouping n x.0 x.1) (λ x. true)
 
 abbrev pub home_in : List Item → Option Plain → ScriptEdit → Result Home EditFault
 home_in items (Some (routine m c os)) (body n) = Ok (home_of_body items n)

@@ -2,6 +2,7 @@
 pub mod ParsedScript
 pub mod Reading
 pub mod Edits
+pub mod Parts
 pub mod SpelledScript
 pub mod OneReading
 pub mod OneEdit

@@ -5,75 +5,80 @@ ghost use Rattle.std.specs.Prelude.{◌≡◌, MatchOption, None, Some, IfOk, If
 ghost use Rattle.std.specs.List.{list_any};
 ghost use Rattle.sbl_ast.specs.Tree as trees;
 ghost use Rattle.sbl_ast.specs.View.{view_argument, view_item, view_items, view_plain, view_row, view_term};
-ghost use Rattle.sbl_script.specs.declared.edits.DefinitionKind.TheVariants as kinds;
 ghost use Rattle.sbl_script.specs.Edits as spec;
 ghost use Rattle.sbl_script.specs.Homes as homes;
+ghost use Rattle.sbl_script.specs.Parts.{view_part};
 
+use crate::part::Part;
 use sbl_ast::{Argument, Base, Grouping, Plain, RowOfCommands, ScriptItem, Term, copy_plain};
 use sbl_text::{Coding, Escapes, ScriptFault, macro_value};
 use std::alloc::{AllocError, Global};
 
-/// The kind of a definition.
-#[derive(Clone, Copy)]
-pub enum DefinitionKind {
-    /// A routine or an external.
-    Routine,
-    /// A grouping.
-    Grouping,
-}
-
-/// Whether an item defines this name as this kind.
-fn defines(plain: &Plain, kind: DefinitionKind, name: &str) -> bool
-    ensures { result ≡ spec.defines kind name.now (view_plain plain.now) }
+/// Whether the item is a definition that the part may be in.
+fn defines(plain: &Plain, part: Part<'_>) -> bool
+    ensures { result ≡ spec.changes (view_part part.entry) (view_plain plain.now) }
 {
-    match kind {
-        DefinitionKind::Routine => match plain {
-            Plain::Routine {
-                name: defined,
-                body: _,
-            } => name == defined.as_str(),
-            _ => false,
-        },
-        DefinitionKind::Grouping => match plain {
-            Plain::Grouping(grouping) => name == grouping.name.as_str(),
-            _ => false,
-        },
+    match part {
+        Part::Routine(name) | Part::Among(name, _) => is_routine_named(plain, name),
+        Part::Grouping(name) => is_grouping_named(plain, name),
     }
 }
 
-fn plain_if<'a>(plain: &'a Plain, kind: DefinitionKind, name: &str) -> Option<&'a Plain>
-    ensures { MatchOption result (homes.plain_if (spec.defines kind name.now) (view_plain plain.now) ≡ None) (λ x. homes.plain_if (spec.defines kind name.now) (view_plain plain.now) ≡ Some (view_plain x.now)) }
+/// Whether the item defines the routine or external with this name.
+fn is_routine_named(plain: &Plain, name: &str) -> bool
+    ensures { result ≡ spec.is_routine_named name.now (view_plain plain.now) }
 {
-    if defines(plain, kind, name) {
+    match plain {
+        Plain::Routine {
+            name: defined,
+            body: _,
+        } => name == defined.as_str(),
+        _ => false,
+    }
+}
+
+/// Whether the item defines the grouping with this name.
+fn is_grouping_named(plain: &Plain, name: &str) -> bool
+    ensures { result ≡ spec.is_grouping_named name.now (view_plain plain.now) }
+{
+    match plain {
+        Plain::Grouping(grouping) => name == grouping.name.as_str(),
+        _ => false,
+    }
+}
+
+fn plain_if<'a>(plain: &'a Plain, part: Part<'_>) -> Option<&'a Plain>
+    ensures { MatchOption result (homes.plain_if (spec.changes (view_part part.entry)) (view_plain plain.now) ≡ None) (λ x. homes.plain_if (spec.changes (view_part part.entry)) (view_plain plain.now) ≡ Some (view_plain x.now)) }
+{
+    if defines(plain, part) {
         Some(plain)
     } else {
         None
     }
 }
 
-fn first_in<'a>(plains: &'a [Plain], kind: DefinitionKind, name: &str) -> Option<&'a Plain>
-    ensures { MatchOption result (homes.first_in (spec.defines kind name.now) (map view_plain plains.now) ≡ None) (λ x. homes.first_in (spec.defines kind name.now) (map view_plain plains.now) ≡ Some (view_plain x.now)) }
+fn first_in<'a>(plains: &'a [Plain], part: Part<'_>) -> Option<&'a Plain>
+    ensures { MatchOption result (homes.first_in (spec.changes (view_part part.entry)) (map view_plain plains.now) ≡ None) (λ x. homes.first_in (spec.changes (view_part part.entry)) (map view_plain plains.now) ≡ Some (view_plain x.now)) }
 {
     for plain in plains {
-        if let Some(found) = plain_if(plain, kind, name) {
+        if let Some(found) = plain_if(plain, part) {
             return Some(found);
         }
     }
     None
 }
 
-/// Returns the first definition of this kind and name, in text order; `None` if there is none.
+/// Returns the first definition that the part may be in, in text order; `None` if there is none.
 pub fn definition_of<'a>(
     items: &'a [ScriptItem],
-    kind: DefinitionKind,
-    name: &str,
+    part: Part<'_>,
 ) -> Option<&'a Plain>
-    ensures { MatchOption result (spec.first_of (spec.defines kind name.now) (view_items items.now) ≡ None) (λ x. spec.first_of (spec.defines kind name.now) (view_items items.now) ≡ Some (view_plain x.now)) }
+    ensures { MatchOption result (spec.first_of (spec.changes (view_part part.entry)) (view_items items.now) ≡ None) (λ x. spec.first_of (spec.changes (view_part part.entry)) (view_items items.now) ≡ Some (view_plain x.now)) }
 {
     for item in items {
         let found = match item {
-            ScriptItem::Plain(plain) => plain_if(plain, kind, name),
-            ScriptItem::BackwardMode(plains) => first_in(plains.as_slice(), kind, name),
+            ScriptItem::Plain(plain) => plain_if(plain, part),
+            ScriptItem::BackwardMode(plains) => first_in(plains.as_slice(), part),
         };
         if let Some(plain) = found {
             return Some(plain);
@@ -84,9 +89,9 @@ pub fn definition_of<'a>(
 
 /// Returns the body of the first routine or external with this name; `None` if there is none.
 pub fn routine_of<'a>(items: &'a [ScriptItem], name: &str) -> Option<&'a RowOfCommands>
-    ensures { MatchOption result (spec.first_of (spec.defines kinds.Routine name.now) (view_items items.now) ≡ None) (λ body. spec.first_of (spec.defines kinds.Routine name.now) (view_items items.now) ≡ Some (trees.routine name.now (view_row body.now).0 (view_row body.now).1)) }
+    ensures { MatchOption result (spec.first_of (spec.is_routine_named name.now) (view_items items.now) ≡ None) (λ body. spec.first_of (spec.is_routine_named name.now) (view_items items.now) ≡ Some (trees.routine name.now (view_row body.now).0 (view_row body.now).1)) }
 {
-    match definition_of(items, DefinitionKind::Routine, name)? {
+    match definition_of(items, Part::Routine(name))? {
         Plain::Routine { name: _, body } => Some(body),
         _ => None,
     }
@@ -94,9 +99,9 @@ pub fn routine_of<'a>(items: &'a [ScriptItem], name: &str) -> Option<&'a RowOfCo
 
 /// Returns the first grouping with this name; `None` if there is none.
 pub fn grouping_of<'a>(items: &'a [ScriptItem], name: &str) -> Option<&'a Grouping>
-    ensures { MatchOption result (spec.first_of (spec.defines kinds.Grouping name.now) (view_items items.now) ≡ None) (λ x. spec.first_of (spec.defines kinds.Grouping name.now) (view_items items.now) ≡ Some (trees.grouping name.now (view_argument x.now.first) (map view_term x.now.others.items))) }
+    ensures { MatchOption result (spec.first_of (spec.is_grouping_named name.now) (view_items items.now) ≡ None) (λ x. spec.first_of (spec.is_grouping_named name.now) (view_items items.now) ≡ Some (trees.grouping name.now (view_argument x.now.first) (map view_term x.now.others.items))) }
 {
-    match definition_of(items, DefinitionKind::Grouping, name)? {
+    match definition_of(items, Part::Grouping(name))? {
         Plain::Grouping(grouping) => Some(grouping),
         _ => None,
     }
@@ -141,15 +146,14 @@ fn set(alloc: Global, escapes: &mut Escapes, plain: &Plain) -> Result<(), Script
 fn reach_in(
     alloc: Global,
     plains: &[Plain],
-    kind: DefinitionKind,
-    name: &str,
+    part: Part<'_>,
     escapes: &mut Escapes,
 ) -> Result<bool, ScriptFault>
-    ensures reached { IfOk result (λ found. (escapes.new, found) ≡ homes.walk_in (spec.defines kind name.now) (map view_plain plains.now) escapes.old) }
+    ensures reached { IfOk result (λ found. (escapes.new, found) ≡ homes.walk_in (spec.changes (view_part part.entry)) (map view_plain plains.now) escapes.old) }
     ensures fault { IfErr result (λ f. f ≡ ScriptFault.OutOfMemory) }
 {
     for plain in plains {
-        if defines(plain, kind, name) {
+        if defines(plain, part) {
             return Ok(true);
         }
         set(alloc, escapes, plain)?;
@@ -160,23 +164,22 @@ fn reach_in(
 fn reach(
     alloc: Global,
     items: &[ScriptItem],
-    kind: DefinitionKind,
-    name: &str,
+    part: Part<'_>,
     escapes: &mut Escapes,
 ) -> Result<bool, ScriptFault>
-    ensures reached { IfOk result (λ found. (escapes.new, found) ≡ homes.walk_to (spec.defines kind name.now) (view_items items.now) escapes.old) }
+    ensures reached { IfOk result (λ found. (escapes.new, found) ≡ homes.walk_to (spec.changes (view_part part.entry)) (view_items items.now) escapes.old) }
     ensures fault { IfErr result (λ f. f ≡ ScriptFault.OutOfMemory) }
 {
     for item in items {
         match item {
             ScriptItem::Plain(plain) => {
-                if defines(plain, kind, name) {
+                if defines(plain, part) {
                     return Ok(true);
                 }
                 set(alloc, escapes, plain)?;
             }
             ScriptItem::BackwardMode(plains) => {
-                if reach_in(alloc, plains.as_slice(), kind, name, escapes)? {
+                if reach_in(alloc, plains.as_slice(), part, escapes)? {
                     return Ok(true);
                 }
             }
@@ -185,18 +188,17 @@ fn reach(
     Ok(false)
 }
 
-/// Returns what is in force where the first definition of this kind and name begins.
+/// Returns what is in force where the first definition that the part may be in begins.
 pub fn escapes_before(
     alloc: Global,
     items: &[ScriptItem],
-    kind: DefinitionKind,
-    name: &str,
+    part: Part<'_>,
 ) -> Result<Escapes, ScriptFault>
-    ensures escapes { IfOk result (λ e. e ≡ homes.escapes_before (spec.defines kind name.now) (view_items items.now)) }
+    ensures escapes { IfOk result (λ e. e ≡ homes.escapes_before (spec.changes (view_part part.entry)) (view_items items.now)) }
     ensures fault { IfErr result (λ f. f ≡ ScriptFault.OutOfMemory) }
 {
     let mut escapes = Escapes::new(alloc);
-    reach(alloc, items, kind, name, &mut escapes)?;
+    reach(alloc, items, part, &mut escapes)?;
     Ok(escapes)
 }
 
@@ -232,16 +234,15 @@ pub fn grouping(
 fn plains_with(
     alloc: Global,
     plains: &[Plain],
-    kind: DefinitionKind,
-    name: &str,
+    part: Part<'_>,
     new: &Plain,
 ) -> Result<Vec<Plain>, AllocError>
-    ensures { IfOk result (λ x. map view_plain x.items ≡ spec.plains_with (spec.defines kind name.now) (view_plain new.now) (map view_plain plains.now)) }
+    ensures { IfOk result (λ x. map view_plain x.items ≡ spec.plains_with (spec.changes (view_part part.entry)) (view_plain new.now) (map view_plain plains.now)) }
 {
     let mut copies = Vec::new(alloc);
     let mut is_put = false;
     for plain in plains {
-        let copy = if !is_put && defines(plain, kind, name) {
+        let copy = if !is_put && defines(plain, part) {
             is_put = true;
             copy_plain(alloc, new)?
         } else {
@@ -253,20 +254,20 @@ fn plains_with(
 }
 
 /// Whether the definition is this item, or inside it.
-fn holds(item: &ScriptItem, kind: DefinitionKind, name: &str) -> bool
-    ensures { result ≡ homes.holds (spec.defines kind name.now) (view_item item.now) }
+fn holds(item: &ScriptItem, part: Part<'_>) -> bool
+    ensures { result ≡ homes.holds (spec.changes (view_part part.entry)) (view_item item.now) }
 {
     match item {
-        ScriptItem::Plain(plain) => defines(plain, kind, name),
-        ScriptItem::BackwardMode(plains) => any_defines(plains.as_slice(), kind, name),
+        ScriptItem::Plain(plain) => defines(plain, part),
+        ScriptItem::BackwardMode(plains) => any_defines(plains.as_slice(), part),
     }
 }
 
-fn any_defines(plains: &[Plain], kind: DefinitionKind, name: &str) -> bool
-    ensures { result ≡ list_any (spec.defines kind name.now) (map view_plain plains.now) }
+fn any_defines(plains: &[Plain], part: Part<'_>) -> bool
+    ensures { result ≡ list_any (spec.changes (view_part part.entry)) (map view_plain plains.now) }
 {
     for plain in plains {
-        if defines(plain, kind, name) {
+        if defines(plain, part) {
             return true;
         }
     }
@@ -299,41 +300,38 @@ fn copy_plains(alloc: Global, plains: &[Plain]) -> Result<Vec<Plain>, AllocError
 fn item_with(
     alloc: Global,
     item: &ScriptItem,
-    kind: DefinitionKind,
-    name: &str,
+    part: Part<'_>,
     new: &Plain,
 ) -> Result<ScriptItem, AllocError>
-    ensures { IfOk result (λ x. view_item x ≡ homes.item_with (spec.defines kind name.now) (view_plain new.now) (view_item item.now)) }
+    ensures { IfOk result (λ x. view_item x ≡ homes.item_with (spec.changes (view_part part.entry)) (view_plain new.now) (view_item item.now)) }
 {
     match item {
         ScriptItem::Plain(_) => Ok(ScriptItem::Plain(copy_plain(alloc, new)?)),
         ScriptItem::BackwardMode(plains) => Ok(ScriptItem::BackwardMode(plains_with(
             alloc,
             plains.as_slice(),
-            kind,
-            name,
+            part,
             new,
         )?)),
     }
 }
 
-/// Returns a copy of the items with `new` in place of the first definition of this kind and name.
+/// Returns a copy of the items with `new` in place of the first definition that the part may be in.
 #[tactic(auto, using(crate::proofs::ItemSteps::items_step))]
 pub fn items_with(
     alloc: Global,
     items: &[ScriptItem],
-    kind: DefinitionKind,
-    name: &str,
+    part: Part<'_>,
     new: &Plain,
 ) -> Result<Vec<ScriptItem>, AllocError>
-    ensures { IfOk result (λ x. view_items x.items ≡ spec.items_with (spec.defines kind name.now) (view_plain new.now) (view_items items.now)) }
+    ensures { IfOk result (λ x. view_items x.items ≡ spec.items_with (spec.changes (view_part part.entry)) (view_plain new.now) (view_items items.now)) }
 {
     let mut copies = Vec::new(alloc);
     let mut is_put = false;
     for item in items {
-        let copy = if !is_put && holds(item, kind, name) {
+        let copy = if !is_put && holds(item, part) {
             is_put = true;
-            item_with(alloc, item, kind, name, new)?
+            item_with(alloc, item, part, new)?
         } else {
             copy_item(alloc, item)?
         };

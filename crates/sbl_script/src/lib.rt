@@ -4,10 +4,11 @@
 mod edit_fault;
 mod edits;
 pub mod laws;
-mod same;
+mod part;
 mod script;
 
 pub use edit_fault::EditFault;
+pub use part::Part;
 pub use sbl_ast as tree;
 pub use sbl_ast::{Among, Command, Grouping, Mode, Plain, RowOfCommands, ScriptItem, Term};
 pub use sbl_text::ScriptFault;

@@ -17,7 +17,8 @@ ghost use Rattle.sbl_script.specs.Reading as spec;
 
 use crate::edit_fault::EditFault;
 use crate::edits;
-use crate::edits::{DefinitionKind, escapes_before, items_with};
+use crate::edits::{escapes_before, items_with};
+use crate::part::Part;
 use sbl_ast::{Among, Argument, Plain, RowOfCommands, ScriptItem, Term};
 use sbl_parser::{is_left_out, parse, parse_among, parse_body, parse_terms};
 use sbl_print::canonical_text;
@@ -148,8 +149,9 @@ impl Script {
     ghost use Rattle.sbl_script.specs.ParsedScript.{body_of};
     ghost use Rattle.sbl_print.specs.Canonical.{canonical};
     ghost use Rattle.sbl_script.specs.Reading.{HasTokens};
-    ghost use Rattle.sbl_script.specs.Edits.{IsEditFault, IsEdited, among, body, defines, items_with, terms, text_for};
+    ghost use Rattle.sbl_script.specs.Edits.{IsEditFault, IsEdited, among, body, changes, items_with, terms, text_for};
     ghost use Rattle.sbl_script.specs.Homes.{state_reached};
+    ghost use Rattle.sbl_script.specs.Parts.{view_part};
 
     /// Checks a tree and returns its script, or the fault of the first check that fails.
     fn check_tree(
@@ -184,13 +186,63 @@ impl Script {
         Script::check_tree(alloc, items, external)
     }
 
-    /// Returns the script with `text` as the body of the routine `name`. The text is one row of the grammar. It is read
-    /// at depth 1, with what the items before the routine set in force. This script does not change.
+    /// Returns the script with `text` in place of a part. This script does not change.
     ///
-    /// Returns `NoRoutine` exactly if the script defines no routine with this name; this does not allocate. Returns
-    /// `Script` with the first fault of the text, with its position in the text, or with the fault of the check that
-    /// fails in the script with the text. Returns `OutOfMemory` if an allocation fails.
+    /// The text of a routine is one row of the grammar, that of an among one whole `among ( .. )`, and that of a grouping what
+    /// follows the name in its definition. It is read with what the items before the definition set in force, a routine at
+    /// depth 1 and an among at the depth of the one that it replaces.
+    ///
+    /// Returns the first of these errors: `NoRoutine` or `NoGrouping` if there is no such definition, and `NoAmong` if the
+    /// routine has no among with this number; these do not allocate. `Script` with the first fault of the text, with its
+    /// position in the text, or with the fault of the check that fails in the script with the text. `AmongCount` if the new
+    /// among and the old one hold different numbers of amongs, counting those inside them.
+    pub fn with(&self, alloc: Global, part: Part<'_>, text: &str) -> Result<Script, EditFault>
+        ensures script { IfOk result (λ s. IsEdited (source_of self.now) (view_part part.entry) text.now (source_of s)) }
+        ensures fault { IfErr result (λ f. (f ≡ EditFault.OutOfMemory) ⊎ IsEditFault (source_of self.now) (view_part part.entry) text.now f) }
+        ensures missing { (f : EditFault) → text_for (source_of self.now).items (view_part part.entry) ≡ Err f → result ≡ Err f }
+    {
+        match part {
+            Part::Routine(name) => self.with_body(alloc, name, text),
+            Part::Among(name, k) => self.with_nth_among(alloc, name, k, text),
+            Part::Grouping(name) => self.with_terms(alloc, name, text),
+        }
+    }
+
+    /// Returns the script with `text` as the body of the routine `name`, as `with` does.
     pub fn with_routine(&self, alloc: Global, name: &str, text: &str) -> Result<Script, EditFault>
+        ensures script { IfOk result (λ s. IsEdited (source_of self.now) (body name.now) text.now (source_of s)) }
+        ensures fault { IfErr result (λ f. (f ≡ EditFault.OutOfMemory) ⊎ IsEditFault (source_of self.now) (body name.now) text.now f) }
+        ensures missing { (f : EditFault) → text_for (source_of self.now).items (body name.now) ≡ Err f → result ≡ Err f }
+    {
+        self.with(alloc, Part::Routine(name), text)
+    }
+
+    /// Returns the script with `text` in place of the `k`-th among of a routine, as `with` does. Amongs are counted from 1 in
+    /// the order of the words `among`.
+    pub fn with_among(
+        &self,
+        alloc: Global,
+        routine: &str,
+        k: u64,
+        text: &str,
+    ) -> Result<Script, EditFault>
+        ensures script { IfOk result (λ s. IsEdited (source_of self.now) (among routine.now k) text.now (source_of s)) }
+        ensures fault { IfErr result (λ f. (f ≡ EditFault.OutOfMemory) ⊎ IsEditFault (source_of self.now) (among routine.now k) text.now f) }
+        ensures missing { (f : EditFault) → text_for (source_of self.now).items (among routine.now k) ≡ Err f → result ≡ Err f }
+    {
+        self.with(alloc, Part::Among(routine, k), text)
+    }
+
+    /// Returns the script with `text` as the terms of the grouping `name`, as `with` does.
+    pub fn with_grouping(&self, alloc: Global, name: &str, text: &str) -> Result<Script, EditFault>
+        ensures script { IfOk result (λ s. IsEdited (source_of self.now) (terms name.now) text.now (source_of s)) }
+        ensures fault { IfErr result (λ f. (f ≡ EditFault.OutOfMemory) ⊎ IsEditFault (source_of self.now) (terms name.now) text.now f) }
+        ensures missing { (f : EditFault) → text_for (source_of self.now).items (terms name.now) ≡ Err f → result ≡ Err f }
+    {
+        self.with(alloc, Part::Grouping(name), text)
+    }
+
+    fn with_body(&self, alloc: Global, name: &str, text: &str) -> Result<Script, EditFault>
         ensures script { IfOk result (λ s. IsEdited (source_of self.now) (body name.now) text.now (source_of s)) }
         ensures fault { IfErr result (λ f. (f ≡ EditFault.OutOfMemory) ⊎ IsEditFault (source_of self.now) (body name.now) text.now f) }
         ensures missing { (f : EditFault) → text_for (source_of self.now).items (body name.now) ≡ Err f → result ≡ Err f }
@@ -198,23 +250,14 @@ impl Script {
         let Some(_replaced) = edits::routine_of(&self.items, name) else {
             return Err(EditFault::NoRoutine);
         };
-        let found = self.tokens_in(alloc, DefinitionKind::Routine, name, text)?;
+        let found = self.tokens_in(alloc, Part::Routine(name), text)?;
         let body = body_of_tokens(alloc, &found, text.len())?;
         let new = edits::routine(alloc, name, body)?;
-        let script = self.with_definition(alloc, DefinitionKind::Routine, name, new)?;
+        let script = self.with_definition(alloc, Part::Routine(name), new)?;
         Ok(script)
     }
 
-    /// Returns the script with `text` in place of the `k`-th among of a routine, counted from 1 in the order of the
-    /// words `among`. The text is one whole `among ( .. )`. It is read at the depth of the among that it replaces, with
-    /// what the items before the routine set in force. This script does not change.
-    ///
-    /// Returns the first of these errors: `NoRoutine` exactly if the script defines no routine with this name, and
-    /// `NoAmong` exactly if this routine has no among with this number; these do not allocate. `Script` with the first
-    /// fault of the text, with its position in the text, or with the fault of the check that fails in the script with
-    /// the text. `AmongCount` if the new among and the old one hold different numbers of amongs, counting those inside
-    /// them. Returns `OutOfMemory` if an allocation fails.
-    pub fn with_among(
+    fn with_nth_among(
         &self,
         alloc: Global,
         routine: &str,
@@ -231,11 +274,11 @@ impl Script {
         let Some((depth, replaced)) = nth_among(body, k) else {
             return Err(EditFault::NoAmong);
         };
-        let found = self.tokens_in(alloc, DefinitionKind::Routine, routine, text)?;
+        let found = self.tokens_in(alloc, Part::Among(routine, k), text)?;
         let among = among_of_tokens(alloc, &found, text.len(), depth)?;
         let body = put_in_place(alloc, body, k, &among)?;
         let new = edits::routine(alloc, routine, body)?;
-        let script = self.with_definition(alloc, DefinitionKind::Routine, routine, new)?;
+        let script = self.with_definition(alloc, Part::Among(routine, k), new)?;
         if has_as_many_amongs(&among, replaced) {
             Ok(script)
         } else {
@@ -243,14 +286,7 @@ impl Script {
         }
     }
 
-    /// Returns the script with `text` as the terms of the grouping `name`. The text is what follows the name in the
-    /// definition of a grouping. It is read with what the items before the grouping set in force. This script does not
-    /// change.
-    ///
-    /// Returns `NoGrouping` exactly if the script defines no grouping with this name; this does not allocate. Returns
-    /// `Script` with the first fault of the text, with its position in the text, or with the fault of the check that
-    /// fails in the script with the text. Returns `OutOfMemory` if an allocation fails.
-    pub fn with_grouping(&self, alloc: Global, name: &str, text: &str) -> Result<Script, EditFault>
+    fn with_terms(&self, alloc: Global, name: &str, text: &str) -> Result<Script, EditFault>
         ensures script { IfOk result (λ s. IsEdited (source_of self.now) (terms name.now) text.now (source_of s)) }
         ensures fault { IfErr result (λ f. (f ≡ EditFault.OutOfMemory) ⊎ IsEditFault (source_of self.now) (terms name.now) text.now f) }
         ensures missing { (f : EditFault) → text_for (source_of self.now).items (terms name.now) ≡ Err f → result ≡ Err f }
@@ -258,68 +294,65 @@ impl Script {
         let Some(_replaced) = edits::grouping_of(&self.items, name) else {
             return Err(EditFault::NoGrouping);
         };
-        let found = self.tokens_in(alloc, DefinitionKind::Grouping, name, text)?;
+        let found = self.tokens_in(alloc, Part::Grouping(name), text)?;
         let terms = terms_of_tokens(alloc, &found, text.len())?;
         let new = edits::grouping(alloc, name, terms)?;
-        let script = self.with_definition(alloc, DefinitionKind::Grouping, name, new)?;
+        let script = self.with_definition(alloc, Part::Grouping(name), new)?;
         Ok(script)
     }
 
-    /// Returns the tokens of a text, read where the definition of this kind and name begins.
+    /// Returns the tokens of a text, read where the definition that the part is in begins.
     fn tokens_in<'a>(
         &self,
         alloc: Global,
-        kind: DefinitionKind,
-        name: &str,
+        part: Part<'_>,
         text: &'a str,
     ) -> Result<Vec<Token<'a>>, ScriptFault>
-        ensures tokens { IfOk result (λ ts. HasTokens (state_reached (defines kind name.now) (source_of self.now).items) text.now (map placed_of ts.items)) }
-        ensures fault { IfErr result (λ f. (f ≡ ScriptFault.OutOfMemory) ⊎ spec.IsTextFault (state_reached (defines kind name.now) (source_of self.now).items) text.now f) }
+        ensures tokens { IfOk result (λ ts. HasTokens (state_reached (changes (view_part part.entry)) (source_of self.now).items) text.now (map placed_of ts.items)) }
+        ensures fault { IfErr result (λ f. (f ≡ ScriptFault.OutOfMemory) ⊎ spec.IsTextFault (state_reached (changes (view_part part.entry)) (source_of self.now).items) text.now f) }
     {
         let text = text_of(text.as_bytes())?;
-        let escapes = escapes_before(alloc, &self.items, kind, name)?;
+        let escapes = escapes_before(alloc, &self.items, part)?;
         tokens_under(alloc, text, escapes)
     }
 
-    /// Returns the script with `new` in place of the first definition of this kind and name, and drops `new`: by a call, since
+    /// Returns the script with `new` in place of the first definition that the part may be in, and drops `new`: by a call, since
     /// the prover takes a tree apart on each path that drops it without one.
     fn with_definition(
         &self,
         alloc: Global,
-        kind: DefinitionKind,
-        name: &str,
+        part: Part<'_>,
         new: Plain,
     ) -> Result<Script, ScriptFault>
-        requires same { defines kind name.now (view_plain new) ≡ true }
+        requires same { changes (view_part part.entry) (view_plain new) ≡ true }
         requires shallow { AreShallow (placed_plain (view_plain new) []) }
-        requires spelled { IsSpelled (state_reached (defines kind name.now) (source_of self.now).items) (view_plain new) }
-        ensures items { IfOk result (λ s. (source_of s).items ≡ items_with (defines kind name.now) (view_plain new) (source_of self.now).items) }
+        requires spelled { IsSpelled (state_reached (changes (view_part part.entry)) (source_of self.now).items) (view_plain new) }
+        ensures items { IfOk result (λ s. (source_of s).items ≡ items_with (changes (view_part part.entry)) (view_plain new) (source_of self.now).items) }
         ensures external { IfOk result (λ s. (source_of s).external ≡ (source_of self.now).external) }
         ensures well_declared { IfOk result (λ s. WellDeclared (source_of s).items (source_of s).external) }
-        ensures fault { IfErr result (λ f. (f ≡ ScriptFault.OutOfMemory) ⊎ (fault_of (items_with (defines kind name.now) (view_plain new) (source_of self.now).items) (source_of self.now).external ≡ Some f)) }
+        ensures fault { IfErr result (λ f. (f ≡ ScriptFault.OutOfMemory) ⊎ (fault_of (items_with (changes (view_part part.entry)) (view_plain new) (source_of self.now).items) (source_of self.now).external ≡ Some f)) }
     {
-        let script = self.with_plain(alloc, kind, name, &new);
+        let script = self.with_plain(alloc, part, &new);
         drop(new);
         script
     }
 
-    /// Returns the script with `new` in place of the first definition of this kind and name.
+    /// Returns the script with `new` in place of the first definition that the part may be in.
     fn with_plain(
         &self,
         alloc: Global,
-        kind: DefinitionKind,
-        name: &str,
+        part: Part<'_>,
         new: &Plain,
     ) -> Result<Script, ScriptFault>
-        requires same { defines kind name.now (view_plain new.now) ≡ true }
+        requires same { changes (view_part part.entry) (view_plain new.now) ≡ true }
         requires shallow { AreShallow (placed_plain (view_plain new.now) []) }
-        requires spelled { IsSpelled (state_reached (defines kind name.now) (source_of self.now).items) (view_plain new.now) }
-        ensures items { IfOk result (λ s. (source_of s).items ≡ items_with (defines kind name.now) (view_plain new.now) (source_of self.now).items) }
+        requires spelled { IsSpelled (state_reached (changes (view_part part.entry)) (source_of self.now).items) (view_plain new.now) }
+        ensures items { IfOk result (λ s. (source_of s).items ≡ items_with (changes (view_part part.entry)) (view_plain new.now) (source_of self.now).items) }
         ensures external { IfOk result (λ s. (source_of s).external ≡ (source_of self.now).external) }
         ensures well_declared { IfOk result (λ s. WellDeclared (source_of s).items (source_of s).external) }
-        ensures fault { IfErr result (λ f. (f ≡ ScriptFault.OutOfMemory) ⊎ (fault_of (items_with (defines kind name.now) (view_plain new.now) (source_of self.now).items) (source_of self.now).external ≡ Some f)) }
+        ensures fault { IfErr result (λ f. (f ≡ ScriptFault.OutOfMemory) ⊎ (fault_of (items_with (changes (view_part part.entry)) (view_plain new.now) (source_of self.now).items) (source_of self.now).external ≡ Some f)) }
     {
-        let items = items_with(alloc, &self.items, kind, name, new)?;
+        let items = items_with(alloc, &self.items, part, new)?;
         Script::check_tree(alloc, items, self.external())
     }
 

@@ -6,7 +6,8 @@ use Rattle.sbl_semantics.specs.declared.limits.Limits.{Limits}
 use Rattle.sbl_semantics.specs.declared.touch.Touch.TheVariants.{Entered}
 use Rattle.sbl_semantics.specs.Moves.{hop}
 use Rattle.sbl_semantics.specs.Numbers.{natural}
-use Rattle.sbl_semantics.specs.State.{State, Ending, Signals, Stops, Doing, after, then_on, pay, at_place, to_limit, saved_cursor, put_back, note_event}
+use Rattle.sbl_semantics.specs.State.{State, Ending, Signals, Stops, Doing, after, then_on, pay}
+use Rattle.sbl_semantics.specs.State.{at_place, to_limit, saved_cursor, put_back, note_event}
 use Rattle.sbl_semantics.specs.Events.{Enters, Leaves}
 use Rattle.sbl_semantics.specs.Touches.{with_touch}
 use Rattle.sbl_ast.specs.declared.mode.Mode.{Mode}

@@ -12,9 +12,9 @@ use Rattle.sbl_ast.specs.declared.mode.Mode.{Mode}
 -- ---- names
 
 -- the names contain this one
-abbrev pub is_among : List (List ℕ) → List ℕ → Bool
-is_among [] n = false
-is_among (x ∷ xs) n = if bytes_eq x n then true else is_among xs n
+abbrev pub is_member : List (List ℕ) → List ℕ → Bool
+is_member [] n = false
+is_member (x ∷ xs) n = if bytes_eq x n then true else is_member xs n
 
 -- the index of a name in a list
 abbrev pub place_of : List (List ℕ) → List ℕ → ℕ
@@ -46,14 +46,14 @@ pub record Grouping : Type 0 where
   pub has : ℕ → Bool
 
 -- the first grouping with this name contains the character
-abbrev pub class_of : List Grouping → List ℕ → ℕ → Bool
-class_of [] n c = false
-class_of (g ∷ gs) n c = if bytes_eq g.name n then g.has c else class_of gs n c
+abbrev pub char_class_of : List Grouping → List ℕ → ℕ → Bool
+char_class_of [] n c = false
+char_class_of (g ∷ gs) n c = if bytes_eq g.name n then g.has c else char_class_of gs n c
 
 -- a term contains the character, given the groupings before it
 abbrev pub term_has : List Grouping → Argument → ℕ → Bool
 term_has gs (written_out q) c = list_any (λ x. nat_eq x c) q.value
-term_has gs (by_name n) c = class_of gs n c
+term_has gs (by_name n) c = char_class_of gs n c
 
 -- the terms from left to right, each added or removed
 abbrev pub terms_have : List Grouping → List Term → Bool → ℕ → Bool

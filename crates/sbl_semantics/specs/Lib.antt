@@ -16,6 +16,7 @@ pub mod Meaning
 pub mod Outcome
 pub mod TouchedItems
 pub mod Differs
--- what proofs and the functions inside sbl_diff use; no public contract depends on these
+-- what proofs and the functions inside sbl_tree_diff use; no public contract depends on these
 pub mod Same
 pub mod DiffersByParts
+pub mod inside

@@ -1,6 +1,7 @@
 -- What a run of a script does. Each command of its trees is defined by what its parts do. A command takes the mode m
 -- and the state s. It ends with the signal t or f and a new state, or it stops the run.
-use Rattle.std.specs.Prelude.{ℕ, ℤ, pos, negsuc, zero, suc, ◌+◌, ◌+ℤ◌, ◌-ℤ◌, ◌*ℤ◌, neg_ℤ, ◌-◌, Bool, true, false, not, List, [], ◌∷◌, ◌++◌, length, map, take, replicate, nat_eq, int_lt, if◌then◌else◌, Option, Some, None, Ok, slice_index_or, slice_set}
+use Rattle.std.specs.Prelude.{ℕ, ℤ, pos, negsuc, zero, suc, ◌+◌, ◌+ℤ◌, ◌-ℤ◌, ◌*ℤ◌, neg_ℤ, ◌-◌, Bool, true, false, not, List, [], ◌∷◌, ◌++◌, length}
+use Rattle.std.specs.Prelude.{map, take, replicate, nat_eq, int_lt, if◌then◌else◌, Option, Some, None, Ok, slice_index_or, slice_set}
 use Rattle.std.specs.List.{find}
 use Rattle.std.specs.Option.{option_map_or, unwrap_or}
 use Rattle.std.specs.Ordering.{int_eq}
@@ -18,7 +19,7 @@ use Rattle.sbl_ast.specs.declared.tree.Move.TheVariants as moves
 use Rattle.sbl_ast.specs.declared.tree.Naming.{Naming}
 use Rattle.sbl_ast.specs.declared.tree.Naming.TheVariants as namings
 use Rattle.sbl_ast.specs.declared.tree.Splice.{Splice}
-use Rattle.sbl_ast.specs.declared.tree.Splice.TheVariants as edits
+use Rattle.sbl_ast.specs.declared.tree.Splice.TheVariants as splices
 use Rattle.sbl_ast.specs.declared.tree.Additive.{Additive}
 use Rattle.sbl_ast.specs.declared.tree.Additive.TheVariants as additives
 use Rattle.sbl_ast.specs.declared.tree.Multiplicative.{Multiplicative}
@@ -30,21 +31,25 @@ use Rattle.sbl_ast.specs.declared.tree.Assignment.TheVariants as assignments
 use Rattle.sbl_ast.specs.declared.tree.Comparison.{Comparison}
 use Rattle.sbl_ast.specs.declared.tree.Comparison.TheVariants as comparisons
 use Rattle.sbl_ast.specs.Tree as trees
-use Rattle.sbl_ast.specs.Tree.{bracket, simple_, literal_, name_, non_, prefixed, counted, move_, named, splice_, setlimit_, assign_, compare_, compare_values_, among_, no_rows, row, no_others, joined, no_starter, starter, bare, group}
+use Rattle.sbl_ast.specs.Tree.{bracket, simple_, literal_, name_, non_, prefixed, counted, move_, named, splice_, setlimit_, assign_}
+use Rattle.sbl_ast.specs.Tree.{compare_, compare_values_, among_, no_rows, row, no_others, joined, no_starter, starter, bare, group}
 use Rattle.std.specs.Cmp.Lexicographic.{pointwise}
 use Rattle.sbl_ast.specs.declared.tree.DeclarationKind.TheVariants as kinds
 use Rattle.sbl_semantics.specs.Fitting.{read_as, ahead_at}
-use Rattle.sbl_semantics.specs.Items.{DeclaredNames, Body, is_among, place_of, body_named, class_of, classes_after, known_in}
+use Rattle.sbl_semantics.specs.Items.{DeclaredNames, Body, is_member, place_of, body_named, char_class_of, classes_after, known_in}
 use Rattle.sbl_semantics.specs.Moves.{match, one_of, hop, at_mark, to_mark}
-use Rattle.sbl_semantics.specs.Numbers.{Value, natural, continue_with, value_in_range, rounded_quotient, with_value, with_both, limit_value, integer_at}
-use Rattle.sbl_semantics.specs.Regions.{Among, number_after, number_after_rows, number_after_others, number_after_starter, first, first_rows, first_others, mode_under, waits, waits_others}
+use Rattle.sbl_semantics.specs.Numbers.{Value, natural, continue_with, value_in_range}
+use Rattle.sbl_semantics.specs.Numbers.{rounded_quotient, with_value, with_both, limit_value, integer_at}
+use Rattle.sbl_semantics.specs.Regions.{Among, number_after, number_after_rows, number_after_others}
+use Rattle.sbl_semantics.specs.Regions.{number_after_starter, first, first_rows, first_others, mode_under, waits, waits_others}
 use Rattle.sbl_semantics.specs.Control.{turns, times, seeks, set_limit, at_end, pay_first, enter, back_in}
 use Rattle.sbl_semantics.specs.Choices.{touch_among, conclude_search}
 use Rattle.sbl_semantics.specs.Slices.{is_forward, set_end, replace, keep, put_in}
 use Rattle.sbl_semantics.specs.Touches.{with_touch}
 use Rattle.sbl_semantics.specs.declared.touch.Touch.TheVariants.{Tested}
 use Rattle.sbl_semantics.specs.Limit.{max_levels}
-use Rattle.sbl_semantics.specs.State.{State, Ending, Signals, Stops, Doing, bound_of, room, after, then_on, saved_cursor, place_after, put_back, at_place, to_limit}
+use Rattle.sbl_semantics.specs.State.{State, Ending, Signals, Stops, Doing, bound_of, room, after, then_on}
+use Rattle.sbl_semantics.specs.State.{saved_cursor, place_after, put_back, at_place, to_limit}
 use Rattle.sbl_semantics.specs.declared.fault.RunFault.TheVariants.{Depth}
 use Rattle.sbl_ast.specs.Source.{Source}
 use Rattle.sbl_ast.specs.declared.mode.Mode.{Mode}
@@ -133,10 +138,10 @@ named_does ns namings.Arrow n m s = keep (place_of (ns kinds.Strings) n) s
 
 -- `<-`; `insert` and its sign `<+` leave the cursor right of S forwards, and left of S backwards; `attach` on the other side
 abbrev pub edited_does : Splice → List ℕ → Doing
-edited_does edits.Replace cs m s = replace cs s
-edited_does edits.InsertSign cs m s = put_in (is_forward m) cs s
-edited_does edits.Insert cs m s = put_in (is_forward m) cs s
-edited_does edits.Attach cs m s = put_in (not (is_forward m)) cs s
+edited_does splices.Replace cs m s = replace cs s
+edited_does splices.InsertSign cs m s = put_in (is_forward m) cs s
+edited_does splices.Insert cs m s = put_in (is_forward m) cs s
+edited_does splices.Attach cs m s = put_in (not (is_forward m)) cs s
 
 -- ---- strings and numbers, given the names of the variables
 
@@ -145,6 +150,7 @@ module _ (ns : DeclaredNames) where
   text (trees.written_out q) s = q.value
   text (trees.by_name n) s = slice_index_or s.strings (place_of (ns kinds.Strings) n) []
 
+  -- `negsuc n` is -(n + 1), so `minint` is -2147483648
   abbrev pub constant_worth : Constant → Mode → State → Value
   constant_worth constants.MaxInt m s = Ok (pos 2147483647)
   constant_worth constants.MinInt m s = Ok (negsuc 2147483647)
@@ -212,7 +218,8 @@ module _ (call : List ℕ → Doing) where
   takes k (Some o) m from s next =
       then_on (place_after m (saved_cursor from) (length o.string) s) (λ a.
       after (option_map_or (λ n. pay_first (call n) m a) o.condition (Signals true a))
-      (λ b. then_on (place_after m (saved_cursor from) (length o.string) b) (λ c. Signals true (conclude_search k (Some (length o.string)) (Some o.group) c)))
+      (λ b. then_on (place_after m (saved_cursor from) (length o.string) b)
+      (λ c. Signals true (conclude_search k (Some (length o.string)) (Some o.group) c)))
       next)
 
   -- Tries the entries whose strings are a prefix of x, longest first, and of each length the first entry only. The last
@@ -242,9 +249,9 @@ module _ (ns : DeclaredNames) (class : List ℕ → ℕ → Bool) (call : List �
   -- a name alone: a string variable, a boolean, a grouping, or else a routine to call
   abbrev pub name_does : List ℕ → Doing
   name_does n m s =
-      if is_among (ns kinds.Strings) n then match (slice_index_or s.strings (place_of (ns kinds.Strings) n) []) m s else
-      if is_among (ns kinds.Booleans) n then Signals (slice_index_or s.booleans (place_of (ns kinds.Booleans) n) false) s else
-      if is_among (ns kinds.Groupings) n then tests ns class true n m s else
+      if is_member (ns kinds.Strings) n then match (slice_index_or s.strings (place_of (ns kinds.Strings) n) []) m s else
+      if is_member (ns kinds.Booleans) n then Signals (slice_index_or s.booleans (place_of (ns kinds.Booleans) n) false) s else
+      if is_member (ns kinds.Groupings) n then tests ns class true n m s else
       call n m s
 
   abbrev mutual
@@ -288,7 +295,8 @@ module _ (ns : DeclaredNames) (class : List ℕ → ℕ → Bool) (call : List �
     pub others_do : Mode → ℕ → Bool → Option Among → trees.Others → Doing → Doing
     others_do r k w n no_others d m s = d m s
     others_do r k w n (joined j c os) d m s =
-        others_do r (number_after c k) (waits c w) n os (joined_does j (pay_first d) (pay_first (act r k w (first_others r os (number_after c k) n) c))) m s
+        others_do r (number_after c k) (waits c w) n os
+        (joined_does j (pay_first d) (pay_first (act r k w (first_others r os (number_after c k) n) c))) m s
 
     pub starter_does : Mode → ℕ → trees.Starter → Doing
     starter_does r k no_starter m s = Signals true s
@@ -339,37 +347,12 @@ start ns word steps = record {
 unfoldable pub ending : Source → List ℕ → ℕ → Ending
 ending script word limit =
     let items = in_order script.items in
-    calls (known_in items) (class_of (classes_after items [])) (body_named items) max_levels script.external Forward
+    calls (known_in items) (char_class_of (classes_after items [])) (body_named items) max_levels script.external Forward
     (start (known_in items) word limit)
 
 -- the same run, with its events recorded
 unfoldable pub ending_with_events : Source → List ℕ → ℕ → Ending
 ending_with_events script word limit =
     let items = in_order script.items in
-    calls (known_in items) (class_of (classes_after items [])) (body_named items) max_levels script.external Forward
+    calls (known_in items) (char_class_of (classes_after items [])) (body_named items) max_levels script.external Forward
     (record (start (known_in items) word limit) { events = Some [] })
-
--- ---- names for parts of these definitions, which only proofs use
-
-abbrev pub begins : Bool → Doing → Doing → Doing
-begins w search begun m s = if w then Signals true s else after (pay_first search m s) (begun m) (Signals false)
-
-abbrev pub offering : Mode → List ℕ → List Offer → Option Offer
-offering r w os = find (λ o. pointwise nat_eq w (read_as r o.string)) os
-
-module _ (call : List ℕ → Doing) where
-  abbrev pub condition_does : Option (List ℕ) → Doing
-  condition_does c m s = option_map_or (λ n. pay_first (call n) m s) c (Signals true s)
-
-  abbrev pub search_among : Among → Doing
-  search_among a m s =
-      let x = ahead_at a.mode s.text s.cursor (bound_of m s) in
-      try_each call a.number (offers 0 a.groups) a.mode m s x (suc (length x)) s
-
-module _ (ns : DeclaredNames) (class : List ℕ → ℕ → Bool) (call : List ℕ → Doing) where
-  abbrev pub search_ahead : Option Among → Doing
-  search_ahead n m s = option_map_or (λ a. search call a m s) n (Signals false s)
-
-  abbrev pub row_does : Mode → trees.Command → trees.Others → Doing
-  row_does r c os =
-      others_do ns class call r (number_after c 0) (waits c false) None os (act ns class call r 0 false (first_others r os (number_after c 0) None) c)

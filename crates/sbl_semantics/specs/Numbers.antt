@@ -1,5 +1,6 @@
 -- Numbers: their range, division, and what is done with a value.
-use Rattle.std.specs.Prelude.{ℕ, ℤ, pos, negsuc, ◌-ℤ◌, ◌^◌, length, nat_lt, int_div, if◌then◌else◌, Result, Ok, Err, Option, Some, None, slice_index_or}
+use Rattle.std.specs.Prelude.{ℕ, ℤ, pos, negsuc, ◌-ℤ◌, ◌^◌, length, nat_lt, int_div}
+use Rattle.std.specs.Prelude.{if◌then◌else◌, Result, Ok, Err, Option, Some, None, slice_index_or}
 use Rattle.std.specs.Ordering.{int_eq}
 use Rattle.sbl_semantics.specs.declared.fault.RunFault.{RunFault}
 use Rattle.sbl_semantics.specs.declared.fault.RunFault.TheVariants as faults

@@ -5,7 +5,8 @@ use Rattle.sbl_ast.specs.declared.tree.Prefix.{Prefix}
 use Rattle.sbl_ast.specs.declared.tree.Prefix.TheVariants as prefixes
 use Rattle.sbl_ast.specs.declared.tree.Simple.TheVariants as simples
 use Rattle.sbl_ast.specs.Tree as trees
-use Rattle.sbl_ast.specs.Tree.{bracket, simple_, prefixed, counted, setlimit_, among_, no_rows, row, no_others, joined, no_starter, starter, bare, group}
+use Rattle.sbl_ast.specs.Tree.{bracket, simple_, prefixed, counted, setlimit_, among_, no_rows}
+use Rattle.sbl_ast.specs.Tree.{row, no_others, joined, no_starter, starter, bare, group}
 use Rattle.sbl_ast.specs.declared.mode.Mode.{Mode}
 use Rattle.sbl_ast.specs.declared.mode.Mode.TheVariants.{Backward}
 

@@ -5,7 +5,9 @@ ghost use Rattle.sbl_bench.specs.Edits as edits;
 ghost use Rattle.sbl_sessions.specs.Commands as spec;
 ghost use Rattle.sbl_sessions.specs.Requests as requests;
 ghost use Rattle.sbl_sessions.specs.Words as words;
-ghost use Rattle.sbl_sessions.specs.CommandViews.{FindsTarget, view_asked, view_command, view_found, view_word};
+ghost use Rattle.sbl_sessions.specs.CommandViews.{FindsTarget, view_asked, view_found, view_word};
+ghost use Rattle.sbl_sessions.specs.inside.Names as names;
+ghost use Rattle.sbl_sessions.specs.inside.Views.{view_command};
 ghost use Rattle.sbl_sessions.specs.Numbers as numbers;
 
 use std::alloc::{AllocError, Global};
@@ -45,7 +47,7 @@ pub(crate) fn command_of(line: &[u8]) -> Command<'_>
 
 /// Returns the command of a line that is UTF-8.
 fn text_command(text: &str) -> Command<'_>
-    ensures { view_command result ≡ spec.text_command text.now }
+    ensures { view_command result ≡ names.tested_command text.now }
 {
     let (word, argument) = match text.split_once(' ') {
         Some((word, argument)) => (word, argument),

@@ -4,7 +4,6 @@ pub mod FaultPlaces
 pub mod BlockPlaces
 pub mod Positions
 pub mod ItemWords
-pub mod Parts
 pub mod PartTokens
 pub mod Definitions
 pub mod Heads

@@ -5,16 +5,15 @@ ghost use Rattle.sbl_print.specs.Canonical.{plain_text};
 ghost use Rattle.sbl_script.specs.Edits as edits;
 ghost use Rattle.sbl_script.specs.Homes as homes;
 ghost use Rattle.sbl_script.specs.ParsedScript.{source_of};
+ghost use Rattle.sbl_script.specs.Parts.{view_part};
 ghost use Rattle.sbl_ast.specs.View.{view_items, view_plain};
 ghost use Rattle.sbl_source_map.specs.Definitions as spec;
 ghost use Rattle.sbl_source_map.specs.HeadReader.{IsAfterWord, IsEndOf, head_words};
 ghost use Rattle.sbl_source_map.specs.Heads as heads;
-ghost use Rattle.sbl_source_map.specs.Parts.{view_part};
 
-use crate::parts::Part;
 use sbl_ast::copy_plain;
 use sbl_print::canonical_text;
-use sbl_script::{Plain, Script, ScriptItem};
+use sbl_script::{Part, Plain, Script, ScriptItem};
 use sbl_text::{Lexer, ScriptFault, Token};
 use std::alloc::{AllocError, Global};
 use std::slice::from_ref;
@@ -24,8 +23,8 @@ fn head_of(part: Part<'_>) -> Option<(&str, bool)>
     ensures { MatchOption result (heads.head_of (view_part part.entry) ≡ None) (λ x. heads.head_of (view_part part.entry) ≡ Some (head_words x.0.now x.1)) }
 {
     match part {
-        Part::Body(name) => Some((name, true)),
-        Part::Terms(name) => Some((name, false)),
+        Part::Routine(name) => Some((name, true)),
+        Part::Grouping(name) => Some((name, false)),
         Part::Among(_, _) => None,
     }
 }

@@ -2,29 +2,19 @@
 
 ghost use Rattle.std.specs.Prelude.{◌≡◌, ◌≤◌, ◌<◌, ◌+◌, ◌^◌, ◌++◌, ℕ, IfOk, IfSome, MatchOption, None, Some, length, map};
 ghost use Rattle.std.specs.Option.{option_map};
+ghost use Rattle.sbl_script.specs.Parts.{view_part};
 ghost use Rattle.sbl_token.specs.Lexemes.{lexeme_of};
 ghost use Rattle.sbl_text.specs.Tokens.{placed_of};
 ghost use Rattle.sbl_source_map.specs.ItemWords as spec;
 ghost use Rattle.sbl_source_map.specs.PartTokens as parts;
 ghost use Rattle.sbl_source_map.specs.PartTokens.{IsCutAt, IsCutAtPart, IsCutAtRange};
-ghost use Rattle.sbl_source_map.specs.Parts.{view_part};
 ghost use Rattle.sbl_source_map.specs.Walks.{InOrder};
 
 use crate::fault_places::tokens_of;
 use crate::subject_tokens::is_among;
+use sbl_script::Part;
 use sbl_text::{Kind, Sign, Token, Word};
 use std::alloc::{AllocError, Global};
-
-/// What a block replaces.
-#[derive(Clone, Copy, Debug, PartialEq, Eq)]
-pub enum Part<'a> {
-    /// The body of the routine or external of this name.
-    Body(&'a str),
-    /// The among of this number in the routine or external of this name, counted from 1 in the order of the words `among`.
-    Among(&'a str, u64),
-    /// The terms of the grouping of this name.
-    Terms(&'a str),
-}
 
 /// A text that is cut at a part.
 #[derive(Clone, Copy, Debug, PartialEq, Eq)]
@@ -196,9 +186,9 @@ fn part_tokens<'t, 'a>(tokens: &'t [Token<'a>], part: Part<'_>) -> Option<&'t [T
     ensures { option_map (λ ts. map placed_of ts.now) result ≡ parts.part_tokens (view_part part.entry) (map placed_of tokens.now) }
 {
     match part {
-        Part::Body(name) => definition_tokens(tokens, name, true),
+        Part::Routine(name) => definition_tokens(tokens, name, true),
         Part::Among(name, k) => among_tokens(definition_tokens(tokens, name, true)?, k),
-        Part::Terms(name) => definition_tokens(tokens, name, false),
+        Part::Grouping(name) => definition_tokens(tokens, name, false),
     }
 }
 

@@ -1,5 +1,6 @@
 -- Characters written as numbers.
-use Rattle.std.specs.Prelude.{ℕ, ◌+◌, ◌*◌, Bool, true, false, ◌&&◌, ◌||◌, nat_le, nat_lt, if◌then◌else◌, List, [], ◌∷◌, length, filter, fold, Option, Some, None, option_map, option_and_then}
+use Rattle.std.specs.Prelude.{ℕ, ◌+◌, ◌*◌, Bool, true, false, ◌&&◌, ◌||◌, nat_le, nat_lt, if◌then◌else◌, List, []}
+use Rattle.std.specs.Prelude.{◌∷◌, length, filter, fold, Option, Some, None, option_map, option_and_then}
 use Rattle.std.specs.List.{list_all, slice_split}
 use Rattle.std.specs.Char.{digit_value}
 use Rattle.sbl_text.specs.Classes.{is_white}
@@ -15,7 +16,9 @@ is_scalar c = nat_lt c 0xD800 || (nat_le 0xE000 c && nat_le c 0x10FFFF)
 -- the character whose code point is written by at least one and at most `most` digits of the base
 abbrev pub code_of : ℕ → ℕ → List ℕ → Option ℕ
 code_of base most ds =
-    if (nat_lt 0 (length ds) && nat_le (length ds) most) && (list_all (λ d. nat_lt (digit_value d) base) ds && is_scalar (value_in base 0 ds)) then Some (value_in base 0 ds) else None
+    if (nat_lt 0 (length ds) && nat_le (length ds) most) && (list_all (λ d. nat_lt (digit_value d) base) ds && is_scalar (value_in base 0 ds))
+    then Some (value_in base 0 ds)
+    else None
 
 -- ---- numbers separated by white space
 

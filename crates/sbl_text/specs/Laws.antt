@@ -34,7 +34,8 @@ TokensOrFault = (s : Directives) (text : List ℕ) (ls : List Lexeme) (f : Scrip
 -- after a fault the next call returns the same fault, unless the fault was `OutOfMemory`
 abbrev pub SameFaultAgain : Type 0
 SameFaultAgain =
-    (r s t : Reading) (f : ScriptFault) (next : Result (Option Token) ScriptFault) → IsNext r s (Err f) → IsNext s t next → (f ≡ fault.OutOfMemory) ⊎ ((next ≡ Err f) × (t ≡ s))
+    (r s t : Reading) (f : ScriptFault) (next : Result (Option Token) ScriptFault) →
+    IsNext r s (Err f) → IsNext s t next → (f ≡ fault.OutOfMemory) ⊎ ((next ≡ Err f) × (t ≡ s))
 
 -- a word is read from its own text
 abbrev pub WordsAreRead : Type 0
@@ -47,11 +48,13 @@ SignsDiffer = (s t : Sign) → sign_text s ≡ sign_text t → s ≡ t
 -- lexemes that can be written, each followed by a white space character, are the tokens of that text
 abbrev pub SpacedAreRead : Type 0
 SpacedAreRead =
-    (s : Directives) (ps : List SpacedToken) → are_white ps ≡ true → AreSaid s (lexemes_of ps) → MayEnd (after_all s (lexemes_of ps)) → AreTokensFrom s (chars (spaced_text ps)) (lexemes_of ps)
+    (s : Directives) (ps : List SpacedToken) →
+    are_white ps ≡ true → AreSaid s (lexemes_of ps) → MayEnd (after_all s (lexemes_of ps)) → AreTokensFrom s (chars (spaced_text ps)) (lexemes_of ps)
 
 -- the tokens of a text can be written
 abbrev pub TokensAreSaid : Type 0
-TokensAreSaid = (s : Directives) (text : List ℕ) (ls : List Lexeme) → IsUtf8 text → AreTokensFrom s (chars text) ls → AreSaid s ls × MayEnd (after_all s ls)
+TokensAreSaid =
+    (s : Directives) (text : List ℕ) (ls : List Lexeme) → IsUtf8 text → AreTokensFrom s (chars text) ls → AreSaid s ls × MayEnd (after_all s ls)
 
 -- the spelling of a literal has at most one result: a value or a fault
 abbrev pub LiteralIsOne : Type 0
@@ -60,7 +63,8 @@ LiteralIsOne = (e : InForce) (spelling : List ℕ) (a b : Result (List ℕ) Scri
 -- the next token, followed by the tokens of the text after it, are the tokens of the text
 abbrev pub NextIsFirst : Type 0
 NextIsFirst =
-    (r t : Reading) (token : Token) (ls : List Lexeme) → IsNext r t (Ok (Some token)) → AreTokensFrom t.state t.rest ls → AreTokensFrom r.state r.rest (lexeme_of token ∷ ls)
+    (r t : Reading) (token : Token) (ls : List Lexeme) →
+    IsNext r t (Ok (Some token)) → AreTokensFrom t.state t.rest ls → AreTokensFrom r.state r.rest (lexeme_of token ∷ ls)
 
 -- if there is no next token, the text has no tokens
 abbrev pub NoneIsLast : Type 0

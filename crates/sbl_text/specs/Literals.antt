@@ -1,5 +1,6 @@
 -- The characters that the spelling of a literal means.
-use Rattle.std.specs.Prelude.{◌≡◌, ◌⊎◌, ℕ, ◌+◌, Bool, true, false, not, ◌&&◌, ◌||◌, ◌==◌, if◌then◌else◌, List, [], ◌∷◌, ◌++◌, length, encode_utf8_all, flat_map, Option, ok_or, Result, Ok, Err}
+use Rattle.std.specs.Prelude.{◌≡◌, ◌⊎◌, ℕ, ◌+◌, Bool, true, false, not, ◌&&◌, ◌||◌, ◌==◌, if◌then◌else◌, List, []}
+use Rattle.std.specs.Prelude.{◌∷◌, ◌++◌, length, encode_utf8_all, flat_map, Option, ok_or, Result, Ok, Err}
 use Rattle.std.specs.List.{list_all}
 use Rattle.std.specs.Option.{option_map_or}
 use Rattle.std.specs.Result.{result_map_both}
@@ -33,7 +34,8 @@ insertion_value e name =
 -- an opening character, a name without a closing character, and a closing character
 abbrev pub IsInsertion : InForce → List ℕ → List ℕ → Type 0
 IsInsertion e x name =
-    (a : ℕ) × (b : ℕ) × (x ≡ a ∷ (name ++ b ∷ [])) × (a == quote ≡ false) × (opens e.inserts a ≡ true) × (closes e.inserts b ≡ true) × (list_all (λ c. not (closes e.inserts c)) name ≡ true)
+    (a : ℕ) × (b : ℕ) × (x ≡ a ∷ (name ++ b ∷ []))
+    × (a == quote ≡ false) × (opens e.inserts a ≡ true) × (closes e.inserts b ≡ true) × (list_all (λ c. not (closes e.inserts c)) name ≡ true)
 
 -- a character that means itself
 abbrev pub IsPlain : InForce → List ℕ → List ℕ → Type 0
@@ -59,12 +61,14 @@ Means e spelling v = (ps : List Part) × AreParts e spelling ps [] × (v ≡ fla
 abbrev pub IsWrong : InForce → List ℕ → ℕ → ScriptFault → Type 0
 IsWrong e text place f =
     ((more : List ℕ) × (text ≡ quote ∷ more) × (f ≡ fault.BadCharacter place))
-    ⊎ ((x : List ℕ) × (name : List ℕ) × (more : List ℕ) × (text ≡ x ++ more) × IsInsertion e x name × (g : ℕ → ScriptFault) × (insertion_value e name ≡ Err g) × (f ≡ g place))
+    ⊎ ((x : List ℕ) × (name : List ℕ) × (more : List ℕ) × (text ≡ x ++ more) × IsInsertion e x name
+    × (g : ℕ → ScriptFault) × (insertion_value e name ≡ Err g) × (f ≡ g place))
 
 -- the first fault of a spelling that begins at this byte offset
 abbrev pub FirstWrong : InForce → List ℕ → ℕ → ScriptFault → Type 0
 FirstWrong e spelling place f =
-    (before : List ℕ) × (rest : List ℕ) × (ps : List Part) × (spelling ≡ before ++ rest) × AreParts e spelling ps rest × IsWrong e rest (place + byte_length before) f
+    (before : List ℕ) × (rest : List ℕ) × (ps : List Part) × (spelling ≡ before ++ rest)
+    × AreParts e spelling ps rest × IsWrong e rest (place + byte_length before) f
 
 -- each insertion has an end, and there is no line feed outside of insertions
 abbrev pub is_closed : Option Inserts → Bool → List ℕ → Bool
@@ -76,7 +80,8 @@ is_closed e false (c ∷ cs) = if c == quote then is_closed e false cs else (if 
 abbrev pub IsLiteral : InForce → List ℕ → Result (List ℕ) ScriptFault → Type 0
 IsLiteral e spelling (Ok v) = (is_closed e.inserts false spelling ≡ true) × Means e spelling v
 IsLiteral e spelling (Err f) =
-    ((is_closed e.inserts false spelling ≡ false) × (f ≡ fault.UnclosedString 0)) ⊎ ((is_closed e.inserts false spelling ≡ true) × FirstWrong e spelling 0 f)
+    ((is_closed e.inserts false spelling ≡ false) × (f ≡ fault.UnclosedString 0))
+    ⊎ ((is_closed e.inserts false spelling ≡ true) × FirstWrong e spelling 0 f)
 
 -- ---- names for parts of these definitions, which only proofs use
 

@@ -27,7 +27,8 @@ is_one_of ks k = list_any (sameb shapes.the_type k) ks
 abbrev pub Has : Option Inserts → Shape → List ℕ → Type 0
 Has e shape.Blank x = (c : ℕ) × (x ≡ c ∷ []) × (is_white c ≡ true)
 Has e shape.LineComment x = (inner : List ℕ) × (x ≡ slash ∷ slash ∷ inner) × (list_all (λ c. not (c == line_feed)) inner ≡ true)
-Has e shape.BlockComment x = (inner : List ℕ) × (x ≡ slash ∷ star ∷ (inner ++ star ∷ slash ∷ [])) × ((a b : List ℕ) → inner ≡ a ++ star ∷ slash ∷ b → ⊥)
+Has e shape.BlockComment x =
+    (inner : List ℕ) × (x ≡ slash ∷ star ∷ (inner ++ star ∷ slash ∷ [])) × ((a b : List ℕ) → inner ≡ a ++ star ∷ slash ∷ b → ⊥)
 Has e shape.Word x = (c : ℕ) × (cs : List ℕ) × (x ≡ c ∷ cs) × (is_letter c ≡ true) × (list_all is_word cs ≡ true)
 Has e shape.Number x = (c : ℕ) × (cs : List ℕ) × (x ≡ c ∷ cs) × (is_digit c ≡ true) × (list_all is_digit cs ≡ true)
 Has e shape.Sign x = (s : Sign) × (x ≡ sign_text s)
@@ -78,7 +79,8 @@ pub record Gap : Type 0 where
 -- only these pieces of white space and comments are before the rest
 abbrev pub AreGaps : Setting → List ℕ → List Gap → List ℕ → Type 0
 AreGaps e text [] rest = text ≡ rest
-AreGaps e text (g ∷ gs) rest = (following : List ℕ) × (text ≡ g.text ++ following) × IsPiece e g.shape g.text following × (is_gap g.shape ≡ true) × AreGaps e following gs rest
+AreGaps e text (g ∷ gs) rest =
+    (following : List ℕ) × (text ≡ g.text ++ following) × IsPiece e g.shape g.text following × (is_gap g.shape ≡ true) × AreGaps e following gs rest
 
 abbrev pub AfterGaps : Setting → List ℕ → List ℕ → Type 0
 AfterGaps e text rest = (gs : List Gap) × AreGaps e text gs rest

@@ -1,5 +1,6 @@
 -- The tokens of a text, and its first fault.
-use Rattle.std.specs.Prelude.{◌≡◌, ◌⊎◌, ℕ, ◌<◌, ◌≤◌, ◌+◌, ◌-◌, ◌*◌, Bool, true, ◌&&◌, ◌==◌, if◌then◌else◌, List, [], ◌∷◌, ◌++◌, encode_utf8_all, filter_map, fold, drop, Option, Some, None, MatchOption, option_map, Result, Ok, Err}
+use Rattle.std.specs.Prelude.{◌≡◌, ◌⊎◌, ℕ, ◌<◌, ◌≤◌, ◌+◌, ◌-◌, ◌*◌, Bool, true, ◌&&◌, ◌==◌, if◌then◌else◌, List, [], ◌∷◌, ◌++◌}
+use Rattle.std.specs.Prelude.{encode_utf8_all, filter_map, fold, drop, Option, Some, None, MatchOption, option_map, Result, Ok, Err}
 use Rattle.std.specs.List.{cons_option}
 use Rattle.std.specs.Option.{option_map_or}
 use Rattle.sbl_token.specs.declared.signs.Sign.{Sign}
@@ -28,7 +29,8 @@ abbrev pub IsLexeme : Directives → Shape → List ℕ → Lexeme → Type 0
 IsLexeme s shape.Word x l = l ≡ option_map_or word (word_of (encode_utf8_all x)) (name (encode_utf8_all x))
 IsLexeme s shape.Number x l = (number_of x ≤ 2147483647) × (l ≡ number (number_of x))
 IsLexeme s shape.Sign x l = (g : Sign) × (x ≡ sign_text g) × (l ≡ sign g)
-IsLexeme s shape.Literal x l = (inner : List ℕ) × (v : List ℕ) × (x ≡ quote ∷ (inner ++ quote ∷ [])) × Means s.escapes inner v × (l ≡ literal (encode_utf8_all inner) v)
+IsLexeme s shape.Literal x l =
+    (inner : List ℕ) × (v : List ℕ) × (x ≡ quote ∷ (inner ++ quote ∷ [])) × Means s.escapes inner v × (l ≡ literal (encode_utf8_all inner) v)
 IsLexeme s shape.Inserts x l = (a : ℕ) × (b : ℕ) × (x ≡ a ∷ b ∷ []) × (l ≡ inserts a b)
 IsLexeme s shape.MacroName x l = l ≡ macro_name (encode_utf8_all x)
 IsLexeme s _ x l = ⊥
@@ -118,7 +120,8 @@ abbrev pub IsRefused : Directives → Shape → List ℕ → ℕ → ScriptFault
 IsRefused s shape.Number x place f = (2147483647 < number_of x) × (f ≡ fault.NumberTooLarge place)
 IsRefused s shape.Literal x place f =
     (inner : List ℕ) × (x ≡ quote ∷ (inner ++ quote ∷ []))
-    × (FirstWrong s.escapes inner (place + 1) f ⊎ ((v : List ℕ) × Means s.escapes inner v × (value_for s.defining v ≡ None) × (f ≡ fault.BadCode place)))
+    × (FirstWrong s.escapes inner (place + 1) f
+    ⊎ ((v : List ℕ) × Means s.escapes inner v × (value_for s.defining v ≡ None) × (f ≡ fault.BadCode place)))
 IsRefused s _ x place f = ⊥
 
 -- the text does not begin with a piece, and it is not empty or insert characters are expected; or the piece is refused
@@ -130,7 +133,8 @@ IsFault s text place f =
 -- the first fault of a text: the pieces before it have no fault, and its position is the number of bytes before it
 abbrev pub IsFirstFaultFrom : Directives → List ℕ → ScriptFault → Type 0
 IsFirstFaultFrom s text f =
-    (before : List ℕ) × (rest : List ℕ) × (ps : List Piece) × (t : Directives) × (text ≡ before ++ rest) × AreCut s text ps t rest × IsFault t rest (byte_length before) f
+    (before : List ℕ) × (rest : List ℕ) × (ps : List Piece) × (t : Directives) × (text ≡ before ++ rest)
+    × AreCut s text ps t rest × IsFault t rest (byte_length before) f
 
 abbrev pub IsFirstFault : List ℕ → ScriptFault → Type 0
 IsFirstFault text f = IsFirstFaultFrom start text f

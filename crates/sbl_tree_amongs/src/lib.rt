@@ -3,10 +3,9 @@
 
 mod counting;
 mod finding;
-mod laws;
+pub mod laws;
 mod replacing;
 
 pub use counting::{among_count, has_as_many_amongs};
 pub use finding::nth_among;
-pub use laws::one_is_replaced;
 pub use replacing::put_in_place;

@@ -5,7 +5,7 @@ use Rattle.sbl_bench.specs.Contents.{Contents}
 use Rattle.sbl_io.specs.HeldInput.{AllFit, Took}
 use Rattle.sbl_io.specs.declared.faults.ServeFault.{ServeFault}
 use Rattle.sbl_formats.specs.Block.{BlockLines, Breaks, NoPoint}
-use Rattle.sbl_sessions.specs.Requests.{block_lines}
+use Rattle.sbl_sessions.specs.inside.Names.{block_lines}
 use Rattle.sbl_sessions.specs.declared.replies.Reply.{Reply}
 use Rattle.sbl_work.specs.Commands.{asks_work_block, by_work_block}
 use Rattle.sbl_history.specs.Desks.{State}

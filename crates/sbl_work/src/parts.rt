@@ -9,7 +9,7 @@ ghost use Rattle.sbl_sessions.specs.Commands.{target_of, text_of_block};
 ghost use Rattle.sbl_work.specs.Commands as spec;
 ghost use Rattle.sbl_history.specs.Desks.{State, state_of};
 ghost use Rattle.sbl_history.specs.Editing.{Replaces};
-ghost use Rattle.sbl_source_map.specs.Parts.{view_part};
+ghost use Rattle.sbl_script.specs.Parts.{view_part};
 ghost use Rattle.sbl_work.specs.ReplyViews.{FindsBlock, IsFamiliesAnswer, IsPartResult, IsWorkAnswer, NamesText};
 
 use crate::replies::{NOT_TEXT, edit_reply};
@@ -18,9 +18,9 @@ use sbl_bench::{Bench, EditFault};
 use sbl_formats::{BlockFault, BlockText};
 use sbl_history::Desk;
 use sbl_reports::families_text;
-use sbl_script::ScriptFault;
+use sbl_script::{Part, ScriptFault};
 use sbl_sessions::{BAD_COMMAND, Reply, Target, report};
-use sbl_source_map::{Part, without_head};
+use sbl_source_map::without_head;
 use std::alloc::{AllocError, Global};
 
 /// Returns the text of a block, or the fault of an edit by it.
@@ -49,9 +49,9 @@ pub fn part_of(target: &Target) -> Part<'_>
     ensures { view_part result ≡ view_target target.now }
 {
     match target {
-        Target::Body(name) => Part::Body(name.as_str()),
+        Target::Body(name) => Part::Routine(name.as_str()),
         Target::Among(name, k) => Part::Among(name.as_str(), *k),
-        Target::Terms(name) => Part::Terms(name.as_str()),
+        Target::Terms(name) => Part::Grouping(name.as_str()),
     }
 }
 

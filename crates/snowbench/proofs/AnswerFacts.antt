@@ -58,7 +58,7 @@ pub session_refused : {B : Type 0} (a b : Option (List ℕ)) (external : List �
 session_refused a b external h state f is = inl (f, refl, no_bench a b external state f is, Appends-nil h)
 
 pub session_served : {B : Type 0} (a b c : Option (List ℕ)) (external : List ℕ) (h i : Option (List ℕ)) (state : B → Contents) (bench : B) (t : Contents)
-    (served : Result (Unit {0}) ServeFault) → IsLoaded a b external state (Ok bench) → IsSession b c h i (state bench) t served
+    (served : Result (Unit {0}) ServeFault) → IsLoaded a b external state (Ok bench) → IsSession (record { input = b; held = h; bench = state bench }) (record { input = c; held = i; bench = t }) served
     → IsWholeSession a c external h i (as_load served)
 session_served a b c external h i state bench t served loaded session = inr (b, state bench, t, served, refl, loaded, session)
 

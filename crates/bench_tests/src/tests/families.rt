@@ -2,7 +2,7 @@
 
 use crate::tests::changes::{Asked, are_shown};
 use crate::tests::row_lists::{lists_in, rows_in, shown_families, view, view_lists};
-use sbl_changes::families;
+use sbl_rows::families;
 use std::alloc::{AllocError, Global};
 use std::test::Fail;
 

@@ -1,7 +1,7 @@
 //! Figures about rows.
 
 use crate::tests::row_lists::{rows_in, view};
-use sbl_changes::{RowStats, stats};
+use sbl_rows::{RowStats, stats};
 use std::test::Fail;
 
 /// Rows, and their figures.

@@ -2,7 +2,7 @@
 
 ghost use Rattle.sbl_semantics.specs.Moves.{match, test_boolean, next as move_next};
 ghost use Rattle.sbl_program.specs.AmongStrings.{Listing};
-ghost use Rattle.sbl_char_class.specs.Terms.{class_at};
+ghost use Rattle.sbl_program.specs.Terms.{class_at};
 ghost use Rattle.std.specs.Prelude.{ℕ, [], true, ◌∷◌, IfOk};
 ghost use Rattle.sbl_code.specs.Performs.{PerformsWithExits};
 ghost use Rattle.sbl_code.specs.Flow.{bracket_of};

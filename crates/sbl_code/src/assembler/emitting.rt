@@ -1,7 +1,7 @@
 //! Instructions of all kinds but the commonest, and their exits.
 
 ghost use Rattle.std.specs.Prelude.{◌≡◌, ℕ, List, true, false, IfOk};
-ghost use Rattle.sbl_char_class.specs.Terms.{class_at};
+ghost use Rattle.sbl_program.specs.Terms.{class_at};
 ghost use Rattle.sbl_code.specs.Performs.{PerformsWithExits, Ends, Restores, Saves, ArePerformed};
 ghost use Rattle.sbl_program.specs.AmongStrings.{Listing};
 ghost use Rattle.sbl_code.specs.Flow.{flow, alone, seek_of};

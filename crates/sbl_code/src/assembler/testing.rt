@@ -2,7 +2,7 @@
 //! was, so it need not be put back.
 
 ghost use Rattle.std.specs.Prelude.{◌≡◌, ◌<◌, ◌≤◌, ℕ, length, drop, IfOk, IfSome};
-ghost use Rattle.sbl_char_class.specs.Terms.{class_at};
+ghost use Rattle.sbl_program.specs.Terms.{class_at};
 ghost use Rattle.sbl_program.specs.Actions.{acts, test_grouping};
 ghost use Rattle.sbl_program.specs.Run.{runs, all_run};
 ghost use Rattle.sbl_program.specs.AmongStrings.{Listing};

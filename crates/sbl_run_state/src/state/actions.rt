@@ -1,20 +1,20 @@
 //! Commands that contain no command.
 
-ghost use Rattle.std.specs.Prelude.{◌≡◌, ◌<◌, map, IfOk};
-ghost use Rattle.sbl_char_class.specs.CharacterClasses.{members};
+ghost use Rattle.std.specs.Prelude.{◌≡◌, ℕ, ◌<◌, map, IfOk};
+ghost use Rattle.sbl_program.specs.CharacterClasses.{members};
 ghost use Rattle.sbl_program.specs.Actions.{acts};
 ghost use Rattle.sbl_semantics.specs.Numbers.{continue_with, natural};
 ghost use Rattle.sbl_program.specs.Arithmetic.{value};
 ghost use Rattle.sbl_semantics.specs.Moves.{hop, at_mark, to_mark};
 ghost use Rattle.sbl_program.specs.ProgramOf.{view_action, view_number};
-ghost use Rattle.sbl_run_state.specs.Endings.{Follows};
+ghost use Rattle.sbl_semantics.specs.State.{State, Ending};
+ghost use Rattle.sbl_run_state.specs.Endings.{Follows, Leads};
 
 use crate::halt::Halt;
 use crate::state::State;
 use crate::state::numbers::natural;
 use sbl_ast::Mode;
-use sbl_char_class::CharacterClass;
-use sbl_program::{Action, Arithmetic};
+use sbl_program::{Action, Arithmetic, CharacterClass};
 
 impl State {
     /// Does a command without a command inside, after its step is paid, and returns its signal. `groupings` has the
@@ -38,25 +38,13 @@ impl State {
             Action::NonGrouping(number) => self.take_grouping(mode, groupings, *number, false),
             Action::Next => Ok(self.take_next(mode)),
             Action::Hop(expression) => self.hop_by(mode, expression),
-            Action::ToLimit => {
-                self.to_limit(mode)?;
-                Ok(true)
-            }
+            Action::ToLimit => then_t(self.to_limit(mode)),
             Action::AtLimit => Ok(self.is_at_limit(mode)),
-            Action::SetMark(number) => {
-                self.set_mark(*number)?;
-                Ok(true)
-            }
+            Action::SetMark(number) => then_t(self.set_mark(*number)),
             Action::AtMark(expression) => self.is_at_value(mode, expression),
             Action::ToMark(expression) => self.to_value(mode, expression),
-            Action::Set(number) => {
-                self.set_boolean(*number, true)?;
-                Ok(true)
-            }
-            Action::Unset(number) => {
-                self.set_boolean(*number, false)?;
-                Ok(true)
-            }
+            Action::Set(number) => then_t(self.set_boolean(*number, true)),
+            Action::Unset(number) => then_t(self.set_boolean(*number, false)),
             Action::Boolean(number) => Ok(self.test_boolean(*number)),
             Action::LeftBracket => {
                 self.left_bracket(mode);
@@ -66,29 +54,13 @@ impl State {
                 self.right_bracket(mode);
                 Ok(true)
             }
-            Action::Replace(term) => {
-                self.replace(term)?;
-                Ok(true)
-            }
-            Action::Delete => {
-                self.delete()?;
-                Ok(true)
-            }
-            Action::Keep(number) => {
-                self.keep(*number)?;
-                Ok(true)
-            }
-            Action::Insert(term) => {
-                self.insert(mode, term)?;
-                Ok(true)
-            }
-            Action::Attach(term) => {
-                self.attach(mode, term)?;
-                Ok(true)
-            }
+            Action::Replace(term) => then_t(self.replace(term)),
+            Action::Delete => then_t(self.delete()),
+            Action::Keep(number) => then_t(self.keep(*number)),
+            Action::Insert(term) => then_t(self.insert(mode, term)),
+            Action::Attach(term) => then_t(self.attach(mode, term)),
             Action::Assign(number, change, expression) => {
-                self.assign(mode, *number, *change, expression)?;
-                Ok(true)
+                then_t(self.assign(mode, *number, *change, expression))
             }
             Action::Compare(left, relation, right) => self.compare(mode, left, *relation, right),
             Action::True => Ok(true),
@@ -125,4 +97,14 @@ impl State {
         let place = self.value_here(mode, expression)?;
         Ok(self.to_mark(mode, natural(place)))
     }
+}
+
+// The signal t of a command that has no signal of its own.
+#[inline(always)]
+fn then_t(done: Result<(), Halt>) -> Result<bool, Halt>
+    ensures follows { (new : State) (ending : Ending) → Leads done new ending → Follows result new ending }
+    ensures same_steps { (before after : ℕ) → IfOk done (λ _. after ≡ before) → IfOk result (λ _. after ≡ before) }
+{
+    done?;
+    Ok(true)
 }

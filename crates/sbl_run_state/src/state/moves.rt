@@ -1,21 +1,21 @@
 //! Moving and testing.
 
-ghost use Rattle.std.specs.Prelude.{◌≡◌, ℕ, List, [], ◌∷◌, false, ◌≤◌, ◌<◌, length, map, nat_eq, IfOk, IsTrue, slice_get};
+ghost use Rattle.std.specs.Prelude.{◌≡◌, ℕ, List, [], ◌∷◌, true, false, ◌≤◌, ◌<◌, length, map, nat_eq, IfOk, IsTrue, slice_get};
 ghost use Rattle.std.specs.List.{starts_with};
-ghost use Rattle.sbl_char_class.specs.CharacterClasses.{members};
-ghost use Rattle.sbl_char_class.specs.Terms.{class_at};
+ghost use Rattle.sbl_program.specs.CharacterClasses.{members};
+ghost use Rattle.sbl_program.specs.Terms.{class_at};
 ghost use Rattle.sbl_semantics.specs.Fitting.{read_as};
 ghost use Rattle.sbl_semantics.specs.State.{Signals, ahead, room, move_cursor};
 ghost use Rattle.sbl_program.specs.ProgramOf.{view_text};
 ghost use Rattle.sbl_program.specs.Arithmetic.{characters};
+ghost use Rattle.sbl_run_state.specs.Endings.{Leads};
 ghost use Rattle.sbl_semantics.specs.Moves.{match, next_is, one_of, next, hop, at_limit, set_mark, at_mark, to_mark, set_boolean, test_boolean};
 
+use crate::halt::Halt;
 use crate::state::State;
 use crate::state::variables::{boolean_of, set_boolean, set_integer};
 use sbl_ast::Mode;
-use sbl_char_class::{CharacterClass, is_in_class};
-use sbl_program::StringTerm;
-use std::alloc::AllocError;
+use sbl_program::{CharacterClass, StringTerm, is_in_class};
 
 impl State {
     // Returns the number of characters ahead.
@@ -168,11 +168,13 @@ impl State {
         self.room(mode) == 0
     }
 
-    /// `setmark`: stores the cursor in an integer. Returns `AllocError` if an allocation fails.
-    pub fn set_mark(&mut self, number: usize) -> Result<(), AllocError>
-        ensures { IfOk result (λ _. self.new ≡ set_mark number self.old) }
+    /// `setmark`: stores the cursor in an integer.
+    pub fn set_mark(&mut self, number: usize) -> Result<(), Halt>
+        ensures leads { Leads result self.new (Signals true (set_mark number self.old)) }
+        ensures same_steps { IfOk result (λ _. self.new.steps ≡ self.old.steps) }
     {
-        set_integer(&mut self.integers, number, self.cursor as i32)
+        set_integer(&mut self.integers, number, self.cursor as i32)?;
+        Ok(())
     }
 
     /// `atmark`: returns whether the cursor is at this offset.
@@ -206,11 +208,13 @@ impl State {
         found
     }
 
-    /// Sets a boolean. Returns `AllocError` if an allocation fails.
-    pub fn set_boolean(&mut self, number: usize, value: bool) -> Result<(), AllocError>
-        ensures { IfOk result (λ _. self.new ≡ set_boolean number value self.old) }
+    /// Sets a boolean.
+    pub fn set_boolean(&mut self, number: usize, value: bool) -> Result<(), Halt>
+        ensures leads { Leads result self.new (Signals true (set_boolean number value self.old)) }
+        ensures same_steps { IfOk result (λ _. self.new.steps ≡ self.old.steps) }
     {
-        set_boolean(&mut self.booleans, number, value)
+        set_boolean(&mut self.booleans, number, value)?;
+        Ok(())
     }
 
     /// Returns the value of a boolean.

@@ -2,8 +2,8 @@
 
 ghost use Rattle.std.specs.Prelude.{◌≡◌, ◌<◌, ◌≤◌, map, suc, IfOk, Some};
 ghost use Rattle.std.specs.List.{position};
-ghost use Rattle.sbl_char_class.specs.CharacterClasses.{members};
-ghost use Rattle.sbl_char_class.specs.Terms.{class_at};
+ghost use Rattle.sbl_program.specs.CharacterClasses.{members};
+ghost use Rattle.sbl_program.specs.Terms.{class_at};
 ghost use Rattle.sbl_semantics.specs.Control.{pay_first, seeks};
 ghost use Rattle.sbl_run_state.specs.Endings.{Follows};
 ghost use Rattle.sbl_program.specs.Actions.{test_grouping};
@@ -17,7 +17,7 @@ ghost use Rattle.sbl_semantics.specs.State.{Signals, ahead, move_cursor, room};
 use crate::halt::Halt;
 use crate::state::State;
 use sbl_ast::Mode;
-use sbl_char_class::CharacterClass;
+use sbl_program::CharacterClass;
 
 impl State {
     /// Tests the grouping with this number, after its step is paid: records the touch, and moves over one character that is

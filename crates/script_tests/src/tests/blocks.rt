@@ -1,6 +1,7 @@
 //! The place of a fault in a block. Offsets were counted by hand.
 
-use sbl_source_map::{Part, ScriptFault, cut_at_part, offset_in_block};
+use sbl_script::Part;
+use sbl_source_map::{ScriptFault, cut_at_part, offset_in_block};
 use std::alloc::{AllocError, Global};
 use std::process::Abort;
 use std::test::Fail;
@@ -76,7 +77,7 @@ const TEXT: &str =
 
 const PARTS: &[(Part, Option<&str>)] = &[
     (
-        Part::Body("r"),
+        Part::Routine("r"),
         Some("( among ( 'a' ( among ( 'b' ( ) ) ) ) or true )"),
     ),
     (
@@ -87,10 +88,10 @@ const PARTS: &[(Part, Option<&str>)] = &[
     (Part::Among("r", 3), None),
     (Part::Among("r", 0), None),
     (Part::Among("stem", 1), Some("among ( 'define r as' ( ) )")),
-    (Part::Terms("v"), Some("'a' + 'e'")),
-    (Part::Terms("r"), None),
-    (Part::Body("v"), None),
-    (Part::Body("none"), None),
+    (Part::Grouping("v"), Some("'a' + 'e'")),
+    (Part::Grouping("r"), None),
+    (Part::Routine("v"), None),
+    (Part::Routine("none"), None),
 ];
 
 #[test]
@@ -118,9 +119,9 @@ const ITEMS: &[&str] = &[
 /// Asserts that a body and terms end before this item.
 fn ends_before(rt: &impl Abort, alloc: Global, item: &str) -> Result<(), Fail> {
     let text = format!(in alloc; "define r as ( next or true ) {item} define v 'a' + 'e' {item}")?;
-    let body = part_in(alloc, text.as_str(), Part::Body("r"))?;
+    let body = part_in(alloc, text.as_str(), Part::Routine("r"))?;
     assert!(rt; body == Some(b"( next or true )".as_slice()), "{item}");
-    let terms = part_in(alloc, text.as_str(), Part::Terms("v"))?;
+    let terms = part_in(alloc, text.as_str(), Part::Grouping("v"))?;
     assert!(rt; terms == Some(b"'a' + 'e'".as_slice()), "{item}");
     Ok(())
 }

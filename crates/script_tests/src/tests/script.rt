@@ -11,7 +11,7 @@ use std::alloc::{AllocError, Global};
 use std::fmt::Display;
 use std::process::Abort;
 use std::test::Fail;
-use test_scripts::{PORTER, SCRIPT_PREFIX, field};
+use test_support::{PORTER, SCRIPT_PREFIX, field};
 
 /// Returns the fault as text, which is empty for a script. The script is discarded.
 pub(crate) fn fault_in<E: Display + Drop>(
@@ -120,18 +120,6 @@ fn a_script_keeps_what_was_read(rt: HostRuntime) {
     script.discard();
 }
 
-#[test]
-fn a_script_under_another_external_is_another(rt: HostRuntime) {
-    let alloc = rt.alloc();
-    let text = "externals ( stem other ) define stem as next define other as next";
-    let script = script_of(&rt, alloc, text);
-    for (external, want) in [("stem", true), ("other", false)] {
-        let again = Script::parse(alloc, text.as_bytes(), external).expect(&rt, "a script");
-        assert_eq!(rt; script.is_same(alloc, &again).expect(&rt, "memory"), want);
-        again.discard();
-    }
-    script.discard();
-}
 
 #[test]
 fn the_laws_of_trees_and_scripts_are_called(_rt: HostRuntime) {

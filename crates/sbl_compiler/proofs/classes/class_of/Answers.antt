@@ -4,8 +4,8 @@ use Rattle.std.specs.Prelude.{slice_index_or}
 use Rattle.std.proofs.lemmas.List.{length-drop, take_all}
 use Rattle.sbl_ast.specs.View.{view_argument, view_term}
 use Rattle.sbl_ast.specs.declared.tree.Term.{Term}
-use Rattle.sbl_char_class.specs.CharacterClasses.{members}
-use Rattle.sbl_char_class.specs.declared.character_class.CharacterClass.{CharacterClass}
+use Rattle.sbl_program.specs.CharacterClasses.{members}
+use Rattle.sbl_program.specs.declared.character_class.CharacterClass.{CharacterClass}
 use Rattle.sbl_compiler.specs.NamedAgain.{is_named_again}
 use Rattle.sbl_compiler.specs.NumberedClasses.{with_terms}
 use Rattle.sbl_compiler.specs.NumberedView.{view_names}

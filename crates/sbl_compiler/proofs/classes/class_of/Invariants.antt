@@ -1,6 +1,6 @@
 use Rattle.std.proofs.Common.{◌≡◌, drop, map}
 use Rattle.sbl_ast.specs.View.{view_term}
-use Rattle.sbl_char_class.specs.CharacterClasses.{members}
+use Rattle.sbl_program.specs.CharacterClasses.{members}
 use Rattle.sbl_compiler.specs.NumberedClasses.{with_terms}
 use Rattle.sbl_compiler.specs.NumberedView.{view_names}
 use Rattle.sbl_compiler.proofs.classes.class_of.Given as goal

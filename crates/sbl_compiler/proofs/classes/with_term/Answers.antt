@@ -2,8 +2,8 @@ use Rattle.std.proofs.Common.{rules, ◌≡◌, map, length, Some, refl, sym}
 use Rattle.std.specs.Prelude.{slice_get}
 use Rattle.std.proofs.lemmas.Bool.{ltb-true}
 use Rattle.std.proofs.lemmas.Option.{slice_get_read}
-use Rattle.sbl_char_class.specs.CharacterClasses.{members}
-use Rattle.sbl_char_class.specs.Terms.{class_at}
+use Rattle.sbl_program.specs.CharacterClasses.{members}
+use Rattle.sbl_program.specs.Terms.{class_at}
 use Rattle.sbl_compiler.proofs.ClassAt.{class_there}
 use Rattle.sbl_compiler.proofs.classes.with_term.Goals as goal
 

@@ -1,5 +1,5 @@
 use Rattle.std.proofs.Common.{◌≡◌, take}
-use Rattle.sbl_changes.specs.Families.{view_words}
+use Rattle.sbl_rows.specs.Families.{view_words}
 use Rattle.sbl_reports.specs.FamilyReader.{families_read}
 use Rattle.sbl_reports.proofs.families.lists_of.Given as goal
 

@@ -1,7 +1,6 @@
 use Rattle.std.proofs.Common.{rules, ◌≡◌, ◌∙◌, ◌++◌, ◌∷◌, [], List, ℕ, true, false, append-nil, append_assoc, map, ap, sym, subst}
 use Rattle.std.specs.Str.{bytes_eq}
-use Rattle.sbl_rows.specs.Classes.{words_of}
-use Rattle.sbl_rows.specs.Grouping.{words_paired}
+use Rattle.sbl_rows.specs.Classes.{members_of, words_of}
 use Rattle.sbl_rows.specs.Pairs.{Key, plain}
 use Rattle.sbl_rows.proofs.Ranging.{AreFrom, from_later, none_later, one_paired, range_from, words_from}
 use Rattle.sbl_rows.proofs.class.words_among.Goals as goal
@@ -16,7 +15,7 @@ loop-pair-init c =
     record {
       words =
           rw c.new-words.ensures.items
-          (ap (λ (ks : List Key). words_paired stem (map plain ks)) rest ∙ words_from stem first is c.new-none.ensures.items keys);
+          (ap (λ (ks : List Key). members_of stem (map plain ks)) rest ∙ words_from stem first is c.new-none.ensures.items keys);
       from = subst (AreFrom stem) (sym rest) (range_from stem first is keys c.range-pair-items.ensures.ordered);
     }
 
@@ -29,7 +28,7 @@ loop-pair-preserved c =
     let split : ks ≡ pair ∷ rest = search (rules, c.in-Some.ensures.steps) in
     let same : bytes_eq stem pair.0.items ≡ true = sym (c.eq.ensures ∙ ap (bytes_eq stem) c.as_slice.ensures.value) ∙ c.if-eq.true in
     let old = words_of c.loop-pair.words.items in
-    let later = words_paired stem (map plain rest) in
+    let later = members_of stem (map plain rest) in
     let word : List ℕ = c.in_ok-from_slice.field-0.items in
     record {
       words =

@@ -2,7 +2,8 @@ use Rattle.std.proofs.Common.{◌≡◌, drop, map}
 use Rattle.std.specs.List.{list_any}
 use Rattle.sbl_ast.specs.View.{view_plain}
 use Rattle.sbl_script.specs.Edits as spec
+use Rattle.sbl_script.specs.Parts.{view_part}
 use Rattle.sbl_script.proofs.edits.any_defines.Given as goal
 
 abbrev pub invariant-loop-plain : goal.invariant-loop-plain
-invariant-loop-plain l = list_any (spec.defines l.kind l.name) (map view_plain (drop l.plain-index l.plains)) ≡ list_any (spec.defines l.kind l.name) (map view_plain l.plains)
+invariant-loop-plain l = list_any (spec.changes (view_part l.part)) (map view_plain (drop l.plain-index l.plains)) ≡ list_any (spec.changes (view_part l.part)) (map view_plain l.plains)

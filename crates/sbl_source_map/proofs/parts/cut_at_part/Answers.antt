@@ -3,7 +3,7 @@ use Rattle.std.specs.Str.{chars}
 use Rattle.sbl_token.specs.declared.token.Token.{Token}
 use Rattle.sbl_text.specs.Tokens.{ArePlaced, placed_of}
 use Rattle.sbl_source_map.specs.PartTokens.{IsCutAtRange, part_tokens, range_of}
-use Rattle.sbl_source_map.specs.Parts.{view_part}
+use Rattle.sbl_script.specs.Parts.{view_part}
 use Rattle.sbl_source_map.specs.Walks.{InOrder}
 use Rattle.sbl_source_map.proofs.PartFacts.{cut_at_found, not_cut, part_found_in_order}
 use Rattle.sbl_source_map.proofs.parts.cut_at_part.Goals as goal

@@ -2,7 +2,7 @@ use Rattle.std.proofs.Common.{inl, inr, refl, Err}
 use Rattle.sbl_bench.specs.KeptRuns.{contents_of}
 use Rattle.sbl_bench.specs.declared.fault.EditFault.TheVariants as fault
 use Rattle.sbl_history.specs.Desks.{state_of}
-use Rattle.sbl_source_map.specs.Parts.{view_part}
+use Rattle.sbl_script.specs.Parts.{view_part}
 use Rattle.sbl_work.proofs.ReplyFacts.{part_bytes, part_utf8}
 use Rattle.sbl_work.proofs.parts.replace_part_by.Goals as goal
 

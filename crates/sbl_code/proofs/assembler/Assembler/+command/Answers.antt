@@ -4,7 +4,7 @@ use Rattle.std.proofs.Common.{◌≡◌, ℕ, ◌+◌, ◌-◌, ◌<◌, true, f
 use Rattle.std.proofs.lemmas.List.{take_more, take_all, nil_from_length}
 use Rattle.std.proofs.lemmas.Bool.Decides.{nat_tests}
 use Rattle.std.proofs.lemmas.Result.{IfOk-weaker}
-use Rattle.sbl_char_class.specs.Terms.{class_at}
+use Rattle.sbl_program.specs.Terms.{class_at}
 use Rattle.sbl_program.specs.Program as programs
 use Rattle.sbl_program.specs.ProgramOf.{view_action, view_number, view_node, view_nodes, view_next_command}
 use Rattle.sbl_program.specs.declared.node.Node.TheVariants.{Act, Sequence}

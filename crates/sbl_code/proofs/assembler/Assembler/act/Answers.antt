@@ -1,6 +1,6 @@
 use Rattle.std.proofs.Common.{true, false, sym, ap, ◌∙◌}
 use Rattle.std.proofs.lemmas.Result.{IfOk-weaker}
-use Rattle.sbl_char_class.specs.Terms.{class_at}
+use Rattle.sbl_program.specs.Terms.{class_at}
 use Rattle.sbl_program.specs.ProgramOf.{view_action}
 use Rattle.sbl_program.specs.declared.action.Action.TheVariants.{Match}
 use Rattle.sbl_program.specs.Actions.{acts, test_grouping}

@@ -1,6 +1,6 @@
 use Rattle.std.proofs.Common.{false, ap, ◌∙◌}
 use Rattle.std.proofs.lemmas.Result.{IfOk-weaker}
-use Rattle.sbl_char_class.specs.Terms.{class_at}
+use Rattle.sbl_program.specs.Terms.{class_at}
 use Rattle.sbl_program.specs.Actions.{test_grouping}
 use Rattle.sbl_code.specs.Flow.{flow}
 use Rattle.sbl_code.proofs.Instructions.{flow_grouping}

@@ -1,6 +1,6 @@
 use Rattle.std.proofs.Common.{ap, ◌∙◌}
 use Rattle.std.proofs.lemmas.Result.{IfOk-weaker}
-use Rattle.sbl_char_class.specs.Terms.{class_at}
+use Rattle.sbl_program.specs.Terms.{class_at}
 use Rattle.sbl_program.specs.Actions.{test_grouping}
 use Rattle.sbl_semantics.specs.Control.{pay_first}
 use Rattle.sbl_code.specs.Flow.{flow, seek_of}

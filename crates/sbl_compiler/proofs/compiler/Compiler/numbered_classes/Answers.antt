@@ -1,7 +1,7 @@
 use Rattle.std.proofs.Common.{◌∙◌, ◌+◌, List, ap, drop, map, refl, sym}
 use Rattle.sbl_ast.specs.Order.{view_in_mode}
 use Rattle.sbl_ast.specs.declared.order.ItemInMode.{ItemInMode}
-use Rattle.sbl_char_class.specs.CharacterClasses.{members}
+use Rattle.sbl_program.specs.CharacterClasses.{members}
 use Rattle.sbl_compiler.specs.NumberedClasses as spec
 use Rattle.sbl_compiler.specs.NumberedView.{names_in}
 use Rattle.sbl_compiler.proofs.Loops.{at_rest}

@@ -1,6 +1,6 @@
 use Rattle.std.proofs.Common.{◌≡◌, drop, map, []}
 use Rattle.sbl_ast.specs.Order.{view_in_mode}
-use Rattle.sbl_char_class.specs.CharacterClasses.{members}
+use Rattle.sbl_program.specs.CharacterClasses.{members}
 use Rattle.sbl_compiler.specs.NumberedClasses as spec
 use Rattle.sbl_compiler.specs.NumberedView.{names_in}
 use Rattle.sbl_compiler.proofs.compiler.Compiler.numbered_classes.Given as goal

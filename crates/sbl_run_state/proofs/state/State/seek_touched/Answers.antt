@@ -1,6 +1,6 @@
 use Rattle.std.proofs.Common.{◌≡◌, ◌≤◌, length, map, sym, ap, ◌∙◌, arith}
-use Rattle.sbl_char_class.specs.CharacterClasses.{members}
-use Rattle.sbl_char_class.specs.Terms.{class_at}
+use Rattle.sbl_program.specs.CharacterClasses.{members}
+use Rattle.sbl_program.specs.Terms.{class_at}
 use Rattle.sbl_semantics.specs.declared.fault.RunFault.TheVariants.{Steps}
 use Rattle.sbl_semantics.specs.State.{State, Stops, ahead, move_cursor, room}
 use Rattle.sbl_run_state.specs.Seeking.{count_before, seek_ending}

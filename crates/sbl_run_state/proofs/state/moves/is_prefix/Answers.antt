@@ -1,5 +1,5 @@
 use Rattle.std.proofs.Common.{◌∙◌}
-use Rattle.sbl_among_search.proofs.Mirror.{ends_with-mirror}
+use Rattle.sbl_program.proofs.Mirror.{ends_with-mirror}
 use Rattle.sbl_run_state.proofs.state.moves.is_prefix.Goals as goal
 
 pub returns-in-Backward-clause-value : goal.returns-in-Backward-clause-value

@@ -2,8 +2,8 @@ use Rattle.std.proofs.Common.{rules, arith, ◌≡◌, ◌<◌, ◌≤◌, Some,
 use Rattle.std.specs.Prelude.{slice_get}
 use Rattle.std.specs.Option.{unwrap_or}
 use Rattle.std.proofs.lemmas.Option.{slice_get_read, slice_get_past}
-use Rattle.sbl_char_class.specs.CharacterClasses.{members}
-use Rattle.sbl_char_class.specs.Terms.{class_at, no_character}
+use Rattle.sbl_program.specs.CharacterClasses.{members}
+use Rattle.sbl_program.specs.Terms.{class_at, no_character}
 use Rattle.sbl_semantics.specs.Fitting.{read_as}
 use Rattle.sbl_run_state.specs.Seeking.{count_before}
 use Rattle.sbl_run_state.proofs.Seeking.{class_of, no_class, none_met, first_met, place_or_length, read_length}

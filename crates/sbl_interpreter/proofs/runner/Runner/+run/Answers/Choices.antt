@@ -1,7 +1,7 @@
 -- What the loop over instructions owes at the choice of a group and at a grouping.
 use Rattle.std.proofs.Common.{◌≡◌, ℕ, Bool, List, map, Some, ◌≤◌, ◌<◌, true, false, sym, ap, ◌∙◌, arith, length, get_or, Vec, Global}
-use Rattle.sbl_char_class.specs.CharacterClasses.{members}
-use Rattle.sbl_char_class.specs.Terms.{class_at}
+use Rattle.sbl_program.specs.CharacterClasses.{members}
+use Rattle.sbl_program.specs.Terms.{class_at}
 use Rattle.sbl_program.specs.ProgramOf.{program_of}
 use Rattle.sbl_program.specs.declared.node.Program.{Program}
 use Rattle.sbl_program.specs.Actions.{test_grouping}

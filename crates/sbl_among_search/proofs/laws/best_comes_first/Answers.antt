@@ -1,5 +1,0 @@
-use Rattle.sbl_among_search.proofs.Fits.{best_is_first}
-use Rattle.sbl_among_search.proofs.laws.best_comes_first.Goals as goal
-
-pub returns : goal.returns
-returns c = best_is_first

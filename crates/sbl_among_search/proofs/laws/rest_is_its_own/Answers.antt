@@ -1,5 +1,0 @@
-use Rattle.sbl_among_search.proofs.Fits.{rest_after}
-use Rattle.sbl_among_search.proofs.laws.rest_is_its_own.Goals as goal
-
-pub returns : goal.returns
-returns c = rest_after

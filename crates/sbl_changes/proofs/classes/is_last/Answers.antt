@@ -1,7 +1,0 @@
-use Rattle.std.proofs.Common.{◌∙◌, ◌-◌, sym, refl, length}
-use Rattle.sbl_changes.proofs.LastFacts.{last_stem}
-use Rattle.sbl_changes.proofs.classes.is_last.Goals as goal
-
-pub returns-in-Some : goal.returns-in-Some
-returns-in-Some c =
-    c.eq.ensures ∙ sym (last_stem c.args.stem.now c.args.classes.now (length c.args.classes.now - 1) c.in-Some.class.now refl (sym c.in-Some.ensures.value))

@@ -1,8 +1,0 @@
-use Rattle.std.proofs.Common.{◌≡◌, ◌++◌, map}
-use Rattle.sbl_changes.specs.Grouping.{view_classes}
-use Rattle.sbl_changes.specs.Ranking.{view_entry}
-use Rattle.sbl_changes.proofs.largest.in_rank.Given as goal
-
--- the classes so far, and those still to come
-abbrev pub invariant-loop-stem : goal.invariant-loop-stem
-invariant-loop-stem l = view_classes l.classes.items ++ map view_entry l.stem-iterator ≡ map view_entry l.initial.stem-iterator

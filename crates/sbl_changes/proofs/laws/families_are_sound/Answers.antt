@@ -1,5 +1,0 @@
-use Rattle.sbl_changes.proofs.FamilyLaws.{none_apart, none_joined, pairs_add_up, words_have_their_stems}
-use Rattle.sbl_changes.proofs.laws.families_are_sound.Goals as goal
-
-pub returns : goal.returns
-returns c = record { apart = none_apart; joined = none_joined; sum = pairs_add_up; stems = words_have_their_stems }

@@ -1,9 +1,0 @@
-use Rattle.std.proofs.Common.{◌≡◌, ℕ, List}
-use Rattle.std.specs.Option.{option_or}
-use Rattle.sbl_changes.specs.KnownOutcomes.{known_outcome}
-use Rattle.sbl_changes.specs.Rows.{outcome_in, view_rows}
-use Rattle.sbl_changes.proofs.rows.outcomes_of.Given as goal
-
--- what the rows still to come say of a word counts first, then the map
-abbrev pub invariant-loop-row : goal.invariant-loop-row
-invariant-loop-row l = (word : List ℕ) → option_or (outcome_in (view_rows l.row-iterator.iter.rest.now) word) (known_outcome l.outcomes word) ≡ outcome_in (view_rows l.rows) word

@@ -1,9 +1,0 @@
--- A part of a script, without memory addresses.
-use Rattle.sbl_source_map.specs.declared.parts.Part.{Part}
-use Rattle.sbl_source_map.specs.declared.parts.Part.TheVariants as parts
-use Rattle.sbl_script.specs.Edits.{ScriptEdit, among, body, terms}
-
-abbrev pub view_part : Part → ScriptEdit
-view_part (parts.Body name) = body name.now
-view_part (parts.Among name k) = among name.now k
-view_part (parts.Terms name) = terms name.now
