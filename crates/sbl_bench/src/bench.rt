@@ -5,7 +5,7 @@ ghost use Rattle.std.specs.Prelude.{◌≡◌, ◌≤◌, ◌+◌, ◌^◌, ◌�
 use crate::change::Change;
 use crate::fault::EditFault;
 use crate::traces::Traces;
-use sbl_machine::{Item, Machine, Meter, Table, Why};
+use sbl_machine::{Item, ItemRef, Machine, Meter, Table, Why};
 use sbl_rows::{Pairs, Row};
 use sbl_run_state::MAX_WORD_LENGTH;
 use sbl_script::Script;
@@ -43,8 +43,8 @@ impl Model for Bench {
     ghost use Rattle.sbl_script.specs.ParsedScript.{source_of};
     ghost use Rattle.sbl_machine.specs.MachineOf.{IsLinkedMachineOf};
     ghost use Rattle.sbl_bench.specs.KeptRuns.{KeptRuns, words_in, IsKept};
-    ghost use Rattle.sbl_bench.specs.Last.{last_changes};
-    ghost use Rattle.sbl_bench.specs.Pairs.{IsIndexed};
+    ghost use Rattle.sbl_bench.specs.inside.Last.{last_changes};
+    ghost use Rattle.sbl_bench.specs.inside.Pairs.{IsIndexed};
     ghost use Rattle.sbl_rows.specs.Setting.{under};
 
     ghost Value = { KeptRuns };
@@ -62,6 +62,7 @@ impl Bench {
     ghost use Rattle.std.specs.Str.{bytes_eq};
     ghost use Rattle.sbl_bench.specs.KeptRuns.{setting_of};
     ghost use Rattle.sbl_semantics.specs.TouchedItems.{items_in};
+    ghost use Rattle.sbl_machine.specs.ItemRefs.{items_of_refs};
     ghost use Rattle.sbl_bench.specs.Vocabulary.{is_word};
     ghost use Rattle.sbl_rows.specs.Rows.{rows_of, view_row};
     ghost use Rattle.sbl_bench.specs.Traces.{trace_of};
@@ -135,6 +136,20 @@ impl Bench {
                 Ok(Some(items))
             }
             None => Ok(None),
+        }
+    }
+
+    /// The same as `touched`, but the items borrow their names from the bench.
+    pub fn touched_refs(&self, word: &[char]) -> Result<Option<BTreeSet<ItemRef<'_>>>, AllocError>
+        ensures touched { IfOk result (λ items. option_map items_of_refs items ≡ trace_of (setting_of self.now) self.now.words word.now) }
+        ensures absent { is_word word.now self.now.words ≡ false → result ≡ Ok None }
+    {
+        let Some(last) = self.traces.get(word) else {
+            return Ok(None);
+        };
+        match self.machine.item_refs(self.alloc, last.touches()) {
+            Ok(items) => Ok(Some(items)),
+            Err(refused) => Err(refused),
         }
     }
 

@@ -16,4 +16,4 @@ row_fields row = encode_utf8_all row.word ∷ outcome_fields row.outcome
 
 -- the fields of a class: its stem, and then its words
 unfoldable pub class_fields : Class → List (List ℕ)
-class_fields c = map encode_utf8_all (c.stem ∷ c.words)
+class_fields c = map encode_utf8_all (c.stem ∷ c.members)

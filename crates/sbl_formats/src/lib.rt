@@ -2,7 +2,9 @@
 #![tactic(auto)]
 
 mod block_text;
+mod item_records;
 mod records;
 
 pub use block_text::{BlockFault, BlockText, read_block};
+pub use item_records::items_text;
 pub use records::{Record, RecordWriter, outcome_fields, records_text};

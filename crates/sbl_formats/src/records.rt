@@ -1,20 +1,18 @@
-//! The text of rows, classes and items as records, written with `csv`.
+//! The text of rows and classes as records, written with `csv`.
 ghost use Rattle.sbl_rows.specs.Rows.{view_row};
 ghost use Rattle.std.specs.Prelude.{◌≡◌, ◌++◌, ◌∷◌, [], ℕ, List, IfOk, OnOk, map};
 ghost use Rattle.std.specs.Str.{encode_utf8_all};
-ghost use Rattle.sbl_formats.specs.ItemRecords.{item_fields};
 ghost use Rattle.sbl_formats.specs.RowRecords as spec;
 ghost use Rattle.csv.specs.Records.{fields_of, partial_of};
 ghost use Rattle.sbl_rows.specs.Classes.{view_class, words_of};
 ghost use Rattle.sbl_io.specs.Records as texts;
-ghost use Rattle.sbl_semantics.specs.TouchedItems.{item_of};
 ghost use Rattle.sbl_formats.specs.RowWriter.{HasWritten, Writes};
 ghost use Rattle.sbl_semantics.specs.Outcome.{outcome_of};
 
 use csv::{ByteRecord, Writer, WriterBuilder};
 use sbl_io::TextBuffer;
 use sbl_rows::{Class, Row};
-use sbl_semantics::{Item, Outcome};
+use sbl_semantics::Outcome;
 use std::alloc::{AllocError, Global};
 
 /// A writer of records, and the buffers in which one after another is made.
@@ -85,30 +83,6 @@ impl Record for Class {
         push_word(&mut records.stem, csv_record, &self.stem)?;
         push_words(&mut records.word, csv_record, &self.words)?;
         write_record(&mut records.writer, csv_record)
-    }
-}
-
-impl Record for Item {
-    ghost fields = { λ item. item_fields (item_of item) };
-
-    fn write(&self, records: &mut RecordWriter) -> Result<(), AllocError> {
-        match self {
-            Item::Routine(name) => write_fields(
-                &mut records.writer,
-                &[b"routine".as_slice(), name.as_bytes()],
-            ),
-            Item::Among(name, number) => {
-                let number = format!(in records.alloc; "{number}")?;
-                write_fields(
-                    &mut records.writer,
-                    &[b"among".as_slice(), name.as_bytes(), number.as_bytes()],
-                )
-            }
-            Item::Grouping(name) => write_fields(
-                &mut records.writer,
-                &[b"grouping".as_slice(), name.as_bytes()],
-            ),
-        }
     }
 }
 

@@ -13,6 +13,7 @@ pub mod Searches
 pub mod NamesStand
 pub mod Groupings
 pub mod DifferLaws
+pub mod ItemRefs
 -- what the functions inside the crate promise each other: nothing in these need be believed
 pub mod AmongList
 pub mod Marking

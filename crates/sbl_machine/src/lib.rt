@@ -3,6 +3,7 @@
 
 mod among_list;
 mod groupings_built;
+mod item_ref;
 pub mod laws;
 mod limit;
 mod machine;
@@ -12,6 +13,7 @@ mod naming;
 mod outcome;
 mod run_stop;
 
+pub use item_ref::ItemRef;
 pub use limit::DEFAULT_LIMIT;
 pub use machine::Machine;
 pub use meter::Meter;

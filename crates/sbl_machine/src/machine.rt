@@ -13,14 +13,16 @@ ghost use Rattle.sbl_program.specs.Run.{calls};
 ghost use Rattle.sbl_program.specs.Start.{start};
 ghost use Rattle.sbl_semantics.specs.Outcome.{integers_at, integers_of, outcome_at, outcome_of, run_of, touched_at, touches_of, used_at, used_of, events_at, events_in, events_of};
 ghost use Rattle.sbl_semantics.specs.TouchedItems.{item_of, items_in, items_of, item_of_touch, names_of, same_item, touched_items};
+ghost use Rattle.sbl_machine.specs.ItemRefs.{items_of_refs};
 ghost use Rattle.sbl_ast.specs.Source.{Source};
 ghost use Rattle.sbl_script.specs.ParsedScript.{source_of};
 ghost use Rattle.sbl_semantics.specs.State.{Ending};
 ghost use Rattle.sbl_semantics.specs.Events.{event_of, view_events};
 
+use crate::item_ref::ItemRef;
 use crate::marks::marks_of;
 use crate::meter::Meter;
-use crate::naming::{Names, is_touched, items_touched, routine_at};
+use crate::naming::{Names, is_touched, item_refs, items_touched, routine_at};
 use crate::outcome::{Ran, RunTrace, Why};
 use crate::run_stop::RunStop;
 use sbl_program::AmongSearch;
@@ -159,6 +161,17 @@ impl<S: AmongSearch> Machine<S> {
         ensures { (script : Source) → IsMachineOf S S.entries S.mode self.now script → IfOk result (λ set. items_in set ≡ items_of (names_of script) touches.now) }
     {
         items_touched(alloc, &self.names, touches)
+    }
+
+    /// The same as `items`, but the items borrow their names from the machine.
+    pub fn item_refs(
+        &self,
+        alloc: Global,
+        touches: &[Touch],
+    ) -> Result<BTreeSet<ItemRef<'_>>, AllocError>
+        ensures { (script : Source) → IsMachineOf S S.entries S.mode self.now script → IfOk result (λ set. items_of_refs set ≡ items_of (names_of script) touches.now) }
+    {
+        item_refs(alloc, &self.names, touches)
     }
 
     /// Whether an item is one of those that were touched. Does not allocate.

@@ -4,7 +4,9 @@ ghost use Rattle.std.specs.Prelude.{◌≡◌, ◌<◌, IfOk, OnOk, map, string_
 ghost use Rattle.std.specs.BTreeSet.{insert_key};
 ghost use Rattle.std.specs.List.{list_any};
 ghost use Rattle.sbl_semantics.specs.TouchedItems.{item_cmp, item_of, items_in, items_of, item_of_touch, same_item};
+ghost use Rattle.sbl_machine.specs.ItemRefs.{item_of_ref, items_of_refs};
 
+use crate::item_ref::ItemRef;
 use sbl_run_state::Touch;
 use sbl_semantics::Item;
 use std::alloc::{AllocError, Global};
@@ -88,6 +90,48 @@ pub fn items_touched(
     while 0 < left {
         left -= 1;
         add_item(&mut items, item_named(alloc, names, touches[left])?)?;
+    }
+    Ok(items)
+}
+
+// Returns the item of a touch, with its name borrowed.
+fn item_ref<'n>(names: &'n Names, touch: Touch) -> ItemRef<'n>
+    ensures { item_of_ref result ≡ item_of_touch names.now touch }
+{
+    match touch {
+        Touch::Entered(routine) => ItemRef::Routine(name_at(&names.routines, routine as usize)),
+        Touch::Searched(routine, among) => {
+            ItemRef::Among(name_at(&names.routines, routine as usize), u64::from(among) + 1)
+        }
+        Touch::Tested(grouping) => {
+            ItemRef::Grouping(name_at(&names.groupings, grouping as usize))
+        }
+    }
+}
+
+fn add_ref<'n>(items: &mut BTreeSet<ItemRef<'n>>, item: ItemRef<'n>) -> Result<(), AllocError>
+    ensures { OnOk result (items_of_refs items.new ≡ insert_key item_cmp (items_of_refs items.old) (item_of_ref item)) }
+{
+    match items.insert(item) {
+        Ok(_) => Ok(()),
+        Err(_) => Err(AllocError),
+    }
+}
+
+/// Returns the items that are touched, each once, in order, with their names borrowed. Returns `AllocError` if an allocation
+/// fails.
+pub fn item_refs<'n>(
+    alloc: Global,
+    names: &'n Names,
+    touches: &[Touch],
+) -> Result<BTreeSet<ItemRef<'n>>, AllocError>
+    ensures { IfOk result (λ set. items_of_refs set ≡ items_of names.now touches.now) }
+{
+    let mut items = BTreeSet::new(alloc);
+    let mut left = touches.len();
+    while 0 < left {
+        left -= 1;
+        add_ref(&mut items, item_ref(names, touches[left]))?;
     }
     Ok(items)
 }

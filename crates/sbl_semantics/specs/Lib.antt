@@ -19,5 +19,4 @@ pub mod Differs
 -- what proofs and the functions inside sbl_tree_diff use; no public contract depends on these
 pub mod Same
 pub mod DiffersByParts
--- what the functions inside sbl_machine and sbl_why use: nothing in these need be believed
 pub mod inside

@@ -5,7 +5,7 @@ ghost use Rattle.std.specs.Option.{option_map};
 ghost use Rattle.std.specs.Str.{bytes_eq, chars};
 ghost use Rattle.sbl_bench.specs.{Contents.rows_now, KeptRuns.contents_of};
 ghost use Rattle.sbl_rows.specs.Rows.{view_row};
-ghost use Rattle.sbl_semantics.specs.TouchedItems.{items_in};
+ghost use Rattle.sbl_machine.specs.ItemRefs.{items_of_refs};
 ghost use Rattle.sbl_print.specs.Canonical.{canonical};
 ghost use Rattle.sbl_sessions.specs.{Answers.with_line_feed, CommandViews.IsAnswer};
 ghost use Rattle.sbl_sessions.specs.inside.Names.{Class, Trace};
@@ -18,7 +18,7 @@ use sbl_bench::laws::words_fit;
 use sbl_bench::{Bench, EditFault, Row};
 use sbl_formats::records_text;
 use sbl_listings::rows_text;
-use sbl_machine::Item;
+use sbl_machine::ItemRef;
 use std::alloc::{AllocError, Global};
 use std::collections::BTreeSet;
 
@@ -100,11 +100,11 @@ pub(crate) fn class_reply(alloc: Global, bench: &Bench, word: &str) -> Reply
 }
 
 /// Returns the text of some items: a row for each, in their order. Returns `AllocError` if an allocation fails.
-fn items_text(alloc: Global, items: BTreeSet<Item>) -> Result<Vec<u8>, AllocError>
-    ensures { IfOk result (λ text. text.items ≡ items_text (items_in items)) }
+fn items_text(alloc: Global, items: BTreeSet<ItemRef<'_>>) -> Result<Vec<u8>, AllocError>
+    ensures { IfOk result (λ text. text.items ≡ items_text (items_of_refs items)) }
 {
-    let items: Vec<Item> = items.into_iter().collect(alloc)?;
-    records_text(alloc, &items)
+    let items: Vec<ItemRef<'_>> = items.into_iter().collect(alloc)?;
+    sbl_formats::items_text(alloc, &items)
 }
 
 /// Returns the reply with the items that the run of a word touches, or `no 41 Absent` if the word is not in the vocabulary; the
@@ -115,7 +115,7 @@ pub(crate) fn trace_reply(alloc: Global, bench: &Bench, word: &str) -> Reply
     words_fit(bench);
     let mut room = ['\0'; MAX_LOOKED_AT];
     let count = first_characters(word, &mut room);
-    match bench.touched(&room[..count]) {
+    match bench.touched_refs(&room[..count]) {
         Ok(Some(items)) => report(items_text(alloc, items)),
         Ok(None) => Reply::Fixed(edit_text(Err(EditFault::Absent))),
         Err(refused) => report(Err(refused)),

@@ -7,7 +7,7 @@ use sbl_script::Script;
 use std::alloc::{AllocError, Global};
 use std::process::Abort;
 use std::test::Fail;
-use test_scripts::{field, with_line_feeds};
+use test_support::{field, with_line_feeds};
 
 const WORDS: &str = "xyb,ab,xb,q,ad";
 

@@ -4,7 +4,7 @@ use Rattle.std.specs.Str.{chars}
 use Rattle.sbl_bench.specs.KeptRuns.{contents_of}
 use Rattle.sbl_bench.specs.Traces.{trace_of}
 use Rattle.sbl_bench.specs.Vocabulary.{is_word}
-use Rattle.sbl_semantics.specs.TouchedItems.{items_in}
+use Rattle.sbl_machine.specs.ItemRefs.{items_of_refs}
 use Rattle.sbl_sessions.proofs.FirstFacts.{looks, there_first, trace_first}
 use Rattle.sbl_sessions.proofs.ReportFacts.{trace_absent, trace_answer, trace_refused}
 use Rattle.sbl_sessions.proofs.reports.trace_reply.Goals as goal
@@ -17,10 +17,10 @@ returns-in-Ok-Some c =
     let first : take c.first_characters-count.result c.first_characters-count.new.room ≡ take 256 word =
     subst (λ (n : ℕ). take c.first_characters-count.result c.first_characters-count.new.room ≡ take n word) room c.first_characters-count.ensures.first in
     let given : c.in-Ok-Some.field-0 ≡ Some c.in-Ok-Some.items = search rules in
-    let is : Some (items_in c.in-Ok-Some.items) ≡ trace_of s.setting s.words word =
-    sym (ap (option_map items_in) given) ∙ c.in-Ok-Some.ensures.touched ∙ ap (trace_of s.setting s.words) first
+    let is : Some (items_of_refs c.in-Ok-Some.items) ≡ trace_of s.setting s.words word =
+    sym (ap (option_map items_of_refs) given) ∙ c.in-Ok-Some.ensures.touched ∙ ap (trace_of s.setting s.words) first
     ∙ trace_first s.setting s.words word (looks s.words c.words_fit.ensures word) in
-    trace_answer s word (items_in c.in-Ok-Some.items) c.items_text.result c.report.result is c.items_text.ensures c.report.ensures.made c.report.ensures.refused
+    trace_answer s word (items_of_refs c.in-Ok-Some.items) c.items_text.result c.report.result is c.items_text.ensures c.report.ensures.made c.report.ensures.refused
 
 pub returns-in-Ok-None : goal.returns-in-Ok-None
 returns-in-Ok-None c =
@@ -31,7 +31,7 @@ returns-in-Ok-None c =
     subst (λ (n : ℕ). take c.first_characters-count.result c.first_characters-count.new.room ≡ take n word) room c.first_characters-count.ensures.first in
     let given : c.in-Ok-None.field-0 ≡ None = search rules in
     let is : None ≡ trace_of s.setting s.words word =
-    sym (ap (option_map items_in) given) ∙ c.in-Ok-None.ensures.touched ∙ ap (trace_of s.setting s.words) first
+    sym (ap (option_map items_of_refs) given) ∙ c.in-Ok-None.ensures.touched ∙ ap (trace_of s.setting s.words) first
     ∙ trace_first s.setting s.words word (looks s.words c.words_fit.ensures word) in
     trace_absent s word c.edit_text.result.now is c.edit_text.ensures
 
