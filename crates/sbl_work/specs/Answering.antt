@@ -10,7 +10,8 @@ use Rattle.sbl_io.specs.declared.lines.Lines.{Lines}
 use Rattle.sbl_formats.specs.Block.{BlockLines, Breaks, NoPoint}
 use Rattle.sbl_sessions.specs.inside.Names.{block_lines}
 use Rattle.sbl_sessions.specs.declared.replies.Reply.{Reply}
-use Rattle.sbl_work.specs.Commands.{asks_work_block, by_work_block}
+use Rattle.sbl_sessions.specs.Commands.{target_of, text_of_block}
+use Rattle.sbl_work.specs.Commands.{WorkCommand, asks_work_block, by_work_block, part_command}
 use Rattle.sbl_history.specs.Desks.{State, state_of}
 use Rattle.sbl_history.specs.declared.desk.Desk.{Desk}
 use Rattle.sbl_sessions.specs.Session.{Ends}
@@ -41,6 +42,10 @@ abbrev pub BreaksLine : {R : Type 0} → (R → Option (List ℕ)) → Lines R �
 BreaksLine left lines new_lines bench desk new_bench new_desk f =
     BreaksWork (input_of left lines) (input_of left new_lines) (line_of lines) f
     × (contents_of new_bench ≡ contents_of bench) × (state_of new_desk ≡ state_of desk)
+
+-- the edit of a part of the script that a line asks for with its block
+abbrev pub part_edit : List ℕ → List (List ℕ) → WorkCommand
+part_edit line lines = part_command (target_of line) (text_of_block lines)
 
 -- work over lines, a writer, a bench and a desk
 abbrev pub Works : {R W : Type 0} → (R → Option (List ℕ)) → (W → Option (List ℕ)) → List ℕ → Lines R → Lines R → W → W

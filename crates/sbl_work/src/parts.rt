@@ -4,7 +4,8 @@ ghost use Rattle.std.specs.Str.{bytes_eq};
 ghost use Rattle.sbl_bench.specs.KeptRuns.{contents_of};
 ghost use Rattle.sbl_formats.specs.Block.{HoldsText, made_text};
 ghost use Rattle.sbl_sessions.specs.CommandViews.{FindsTarget, view_target};
-ghost use Rattle.sbl_sessions.specs.Commands.{target_of, text_of_block};
+ghost use Rattle.sbl_sessions.specs.Commands.{text_of_block};
+ghost use Rattle.sbl_work.specs.Answering.{part_edit};
 ghost use Rattle.sbl_work.specs.Commands as spec;
 ghost use Rattle.sbl_history.specs.Desks.{State, state_of};
 ghost use Rattle.sbl_work.specs.Replies.{ReplacesWhole};
@@ -97,7 +98,7 @@ fn edit_part(
     target: Result<Option<Target>, AllocError>,
     block: BlockText,
 ) -> Reply
-    ensures { (line : List ℕ) (lines : List (List ℕ)) → FindsTarget target line → HoldsText block lines → Answers bench.old desk.old (spec.part_command (target_of line) (text_of_block lines)) result bench.new desk.new }
+    ensures { (line : List ℕ) (lines : List (List ℕ)) → FindsTarget target line → HoldsText block lines → Answers bench.old desk.old (part_edit line lines) result bench.new desk.new }
 {
     match target {
         Ok(Some(target)) => edit_target(alloc, desk, bench, &target, block),

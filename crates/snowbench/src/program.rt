@@ -54,7 +54,7 @@ pub fn run<R: Source + Drop, W: Sink, E: Sink>(
     writer: &mut W,
     errors: &mut E,
 ) -> u8
-    ensures runs { RunsOver R.left R.tally W.held W.tally E.held E.tally wanted.now.verb (string_bytes wanted.now.external) reader writer.old writer.new errors.old errors.new result }
+    ensures runs { RunsOver R.left R.tally W.held W.tally E.held E.tally wanted.now reader writer.old writer.new errors.old errors.new result }
     ensures status { result ≤ 1 }
     ensures writes_in_time { WritesInTime W.tally writer.old writer.new }
     ensures errors_in_time { WritesInTime E.tally errors.old errors.new }
@@ -78,7 +78,7 @@ pub fn run_with<R: Source + Drop, W: Sink, E: Sink>(
     writer: &mut W,
     errors: &mut E,
 ) -> u8
-    ensures runs { fault_of lines.old ≡ None → Runs R.left R.tally W.held W.tally E.held E.tally wanted.now.verb (string_bytes wanted.now.external) lines.old lines.new writer.old writer.new errors.old errors.new result }
+    ensures runs { fault_of lines.old ≡ None → Runs R.left R.tally W.held W.tally E.held E.tally wanted.now lines.old lines.new writer.old writer.new errors.old errors.new result }
     ensures status { result ≤ 1 }
     ensures bound { reads_bound R.tally lines.new ≡ reads_bound R.tally lines.old }
     ensures reads_in_time { KeepsTime R.tally lines.old lines.new }
