@@ -78,10 +78,13 @@ TellsMemory s d text t e = TellsAlone (edit_text (Some edit.OutOfMemory)) s d te
 abbrev pub TellsReport : List ℕ → Contents → State → List ℕ → Contents → State → Type 0
 TellsReport report s d text t e = TellsAlone report s d text t e ⊎ TellsMemory s d text t e
 
--- the whole script is replaced by these bytes, which become its text
+-- these bytes replace the whole script, and become its text
+abbrev pub ReplacesWhole : Result (Unit {0}) EditFault → List ℕ → Contents → State → Contents → State → Type 0
+ReplacesWhole result bytes s d t e = Replaces result (Whole bytes) (Some bytes) s d t e
+
 abbrev pub IsWholeReply : List ℕ → Contents → State → List ℕ → Contents → State → Type 0
 IsWholeReply bytes s d text t e =
-    (result : Result (Unit {0}) EditFault) × Replaces result (Whole bytes) (Some bytes) s d t e × (text ≡ edit_text (fault_in result))
+    (result : Result (Unit {0}) EditFault) × ReplacesWhole result bytes s d t e × (text ≡ edit_text (fault_in result))
 
 -- a part of the script is replaced by this text, without the beginning of a definition
 abbrev pub IsPartReply : ScriptEdit → List ℕ → Contents → State → List ℕ → Contents → State → Type 0
