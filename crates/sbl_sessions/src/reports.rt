@@ -100,7 +100,7 @@ pub(crate) fn class_reply(alloc: Global, bench: &Bench, word: &str) -> Reply
 
 /// Returns the text of some items: a row for each, in their order. Returns `AllocError` if an allocation fails.
 fn items_text(alloc: Global, items: BTreeSet<ItemRef<'_>>) -> Result<Vec<u8>, AllocError>
-    ensures { IfOk result (λ text. text.items ≡ items_text (items_of_refs items)) }
+    ensures { IfOk result (λ text. text.items ≡ items_text (items_of_refs items.entry)) }
 {
     let items: Vec<ItemRef<'_>> = items.into_iter().collect(alloc)?;
     sbl_formats::items_text(alloc, &items)
