@@ -17,12 +17,12 @@ use crate::replies::{
 use crate::requests::{Request, count_in, request_of};
 use crate::whys::{integers_reply, why_reply};
 use sbl_bench::{Bench, EditFault};
+use sbl_explain::unused_text;
 use sbl_history::Desk;
 use sbl_io::first_line;
 use sbl_reports::{changes_text, largest_text, stats_text};
 use sbl_sessions::{Reply, report};
 use sbl_source_map::definition_text;
-use sbl_unused::unused_text;
 use std::alloc::{AllocError, Global};
 
 /// Returns the reply to `reload`.

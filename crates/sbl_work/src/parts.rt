@@ -1,16 +1,16 @@
 //! The replies to lines with a block.
 ghost use Rattle.std.specs.Prelude.{◌≡◌, ℕ, List, Some, codes};
 ghost use Rattle.std.specs.Str.{bytes_eq};
-ghost use Rattle.sbl_bench.specs.Edits.{Whole};
 ghost use Rattle.sbl_bench.specs.KeptRuns.{contents_of};
 ghost use Rattle.sbl_formats.specs.Block.{HoldsText, made_text};
 ghost use Rattle.sbl_sessions.specs.CommandViews.{FindsTarget, view_target};
-ghost use Rattle.sbl_sessions.specs.Commands.{target_of, text_of_block};
+ghost use Rattle.sbl_sessions.specs.Commands.{text_of_block};
+ghost use Rattle.sbl_work.specs.Answering.{part_edit};
 ghost use Rattle.sbl_work.specs.Commands as spec;
 ghost use Rattle.sbl_history.specs.Desks.{State, state_of};
-ghost use Rattle.sbl_history.specs.Editing.{Replaces};
+ghost use Rattle.sbl_work.specs.Replies.{ReplacesWhole};
 ghost use Rattle.sbl_script.specs.Parts.{view_part};
-ghost use Rattle.sbl_work.specs.ReplyViews.{FindsBlock, IsFamiliesAnswer, IsPartResult, IsWorkAnswer, NamesText};
+ghost use Rattle.sbl_work.specs.ReplyViews.{Answers, FindsBlock, IsFamiliesAnswer, IsPartResult, IsWorkAnswer, NamesText};
 
 use crate::replies::{NOT_TEXT, edit_reply};
 use crate::requests::BlockRequest;
@@ -36,7 +36,7 @@ fn text_of(block: BlockText) -> Result<Vec<u8>, EditFault>
 
 /// Replaces the whole script by the text of a block.
 fn replace_by(desk: &mut Desk, bench: &mut Bench, block: BlockText) -> Result<(), EditFault>
-    ensures { (lines : List (List ℕ)) → HoldsText block lines → Replaces result (Whole (made_text lines)) (Some (made_text lines)) (contents_of bench.old) (state_of desk.old) (contents_of bench.new) (state_of desk.new) }
+    ensures { (lines : List (List ℕ)) → HoldsText block lines → ReplacesWhole result (made_text lines) (contents_of bench.old) (state_of desk.old) (contents_of bench.new) (state_of desk.new) }
 {
     match text_of(block) {
         Ok(text) => desk.replace(bench, &text),
@@ -71,7 +71,7 @@ fn edit_target(
     target: &Target,
     block: BlockText,
 ) -> Reply
-    ensures { (lines : List (List ℕ)) → HoldsText block lines → IsWorkAnswer (contents_of bench.old) (state_of desk.old) (spec.part_command (Some (view_target target.now)) (text_of_block lines)) result (contents_of bench.new) (state_of desk.new) }
+    ensures { (lines : List (List ℕ)) → HoldsText block lines → Answers bench.old desk.old (spec.part_command (Some (view_target target.now)) (text_of_block lines)) result bench.new desk.new }
 {
     match text_of(block) {
         Ok(text) => edit_reply(replace_part_by(alloc, desk, bench, part_of(target), &text)),
@@ -87,7 +87,7 @@ fn edit_part(
     target: Result<Option<Target>, AllocError>,
     block: BlockText,
 ) -> Reply
-    ensures { (line : List ℕ) (lines : List (List ℕ)) → FindsTarget target line → HoldsText block lines → IsWorkAnswer (contents_of bench.old) (state_of desk.old) (spec.part_command (target_of line) (text_of_block lines)) result (contents_of bench.new) (state_of desk.new) }
+    ensures { (line : List ℕ) (lines : List (List ℕ)) → FindsTarget target line → HoldsText block lines → Answers bench.old desk.old (part_edit line lines) result bench.new desk.new }
 {
     match target {
         Ok(Some(target)) => edit_target(alloc, desk, bench, &target, block),
@@ -98,7 +98,7 @@ fn edit_part(
 
 /// Makes the edit of `replace`, and returns the reply. A line with an argument is refused, whatever its block is.
 fn replace_reply(desk: &mut Desk, bench: &mut Bench, is_good: bool, block: BlockText) -> Reply
-    ensures { (line : List ℕ) (lines : List (List ℕ)) → is_good ≡ bytes_eq line (codes "replace") → HoldsText block lines → IsWorkAnswer (contents_of bench.old) (state_of desk.old) (spec.replace_command line lines) result (contents_of bench.new) (state_of desk.new) }
+    ensures { (line : List ℕ) (lines : List (List ℕ)) → is_good ≡ bytes_eq line (codes "replace") → HoldsText block lines → Answers bench.old desk.old (spec.replace_command line lines) result bench.new desk.new }
 {
     if is_good {
         edit_reply(replace_by(desk, bench, block))
@@ -143,7 +143,7 @@ pub(crate) fn answer_block(
     request: BlockRequest,
     block: BlockText,
 ) -> Reply
-    ensures { (line : List ℕ) (lines : List (List ℕ)) → FindsBlock request line → HoldsText block lines → IsWorkAnswer (contents_of bench.old) (state_of desk.old) (spec.block_command line lines) result (contents_of bench.new) (state_of desk.new) }
+    ensures { (line : List ℕ) (lines : List (List ℕ)) → FindsBlock request line → HoldsText block lines → Answers bench.old desk.old (spec.block_command line lines) result bench.new desk.new }
 {
     match request {
         BlockRequest::Part(target) => edit_part(alloc, desk, bench, target, block),
