@@ -1,7 +1,7 @@
 //! Laws of the rows that a filter writes.
 ghost use Rattle.sbl_batch.specs.Laws as spec;
 
-use sbl_input::loading_is_one;
+use sbl_input::laws::loading_is_one;
 use sbl_script::laws::one_reading;
 
 /// The rows of a list of words are the rows of its parts, one after another.

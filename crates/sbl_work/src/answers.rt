@@ -203,7 +203,7 @@ fn session(alloc: Global, desk: &mut Desk, bench: &mut Bench, line: &[u8]) -> Re
 /// the file's end; it is `None` if the file was not written. Other commands do not look at it.
 ///
 /// If an allocation fails, the reply is `no 49 OutOfMemory`.
-pub fn answer_line(
+pub(crate) fn answer_line(
     alloc: Global,
     desk: &mut Desk,
     bench: &mut Bench,

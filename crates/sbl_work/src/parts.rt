@@ -19,7 +19,7 @@ use sbl_formats::{BlockFault, BlockText};
 use sbl_history::Desk;
 use sbl_reports::families_text;
 use sbl_script::{Part, ScriptFault};
-use sbl_sessions::{BAD_COMMAND, Reply, Target, report};
+use sbl_sessions::{BAD_COMMAND, Reply, Target, part_of, report};
 use sbl_source_map::without_head;
 use std::alloc::{AllocError, Global};
 
@@ -41,17 +41,6 @@ fn replace_by(desk: &mut Desk, bench: &mut Bench, block: BlockText) -> Result<()
     match text_of(block) {
         Ok(text) => desk.replace(bench, &text),
         Err(fault) => Err(fault),
-    }
-}
-
-/// Returns the part of a script that a target is.
-pub fn part_of(target: &Target) -> Part<'_>
-    ensures { view_part result ≡ view_target target.now }
-{
-    match target {
-        Target::Body(name) => Part::Routine(name.as_str()),
-        Target::Among(name, k) => Part::Among(name.as_str(), *k),
-        Target::Terms(name) => Part::Grouping(name.as_str()),
     }
 }
 
@@ -147,7 +136,7 @@ fn families_of(alloc: Global, bench: &Bench, block: BlockText) -> Reply
 
 /// Makes the edit or the report that a line asks for with its block, and returns the reply. `request` is what `block_request`
 /// returns for the line.
-pub fn answer_block(
+pub(crate) fn answer_block(
     alloc: Global,
     desk: &mut Desk,
     bench: &mut Bench,
