@@ -120,6 +120,7 @@ session_open a b c d h i s t line f so gives fits asks whole breaks = input_stop
   where
     other : f ≢ fault.Write
     other is = subst (Breaks BlockLines c d) is breaks
+
     opened : (f : ServeFault) → Breaks BlockLines c d f → Breaks (IsBegun f) b d f
     opened fault.Read breaks = (line ∷ breaks.0, breaks.1, breaks.2, inr (asks, fits, breaks.3), took-trans b c breaks.1 (line ∷ []) breaks.0 gives breaks.4, breaks.5)
     opened fault.LineTooLong breaks = (line ∷ breaks.0, breaks.1, inr (asks, fits, breaks.2), took-trans b c breaks.1 (line ∷ []) breaks.0 gives breaks.3, breaks.4)

@@ -8,6 +8,5 @@ pub mod CommandViews
 pub mod Faults
 pub mod Session
 pub mod OneAnswer
-
 -- what the functions inside the crate promise each other: nothing in these need be believed
 pub mod inside
