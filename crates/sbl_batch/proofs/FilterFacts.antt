@@ -18,9 +18,9 @@ use Rattle.sbl_io.specs.declared.faults.ServeFault.TheVariants as fault
 use Rattle.sbl_semantics.specs.Limit.{default_limit}
 use Rattle.sbl_io.specs.Records.{record_line}
 use Rattle.sbl_ast.specs.Source.{Source}
-use Rattle.sbl_formats.proofs.BlockFacts.{all_fit-push, no_point-push}
+use Rattle.sbl_reports.proofs.BlockFacts.{all_fit-push, no_point-push}
 use Rattle.sbl_input.proofs.LoadFacts.{all_text-push, script_unread}
-use Rattle.sbl_formats.specs.Block.{point}
+use Rattle.sbl_reports.specs.Block.{point}
 use Rattle.sbl_input.specs.Faults.{left_by_load}
 use Rattle.sbl_input.specs.Loading.{HasReason, ReadsScript, TookSource}
 use Rattle.sbl_input.specs.declared.faults.LoadFault.{LoadFault}
@@ -29,7 +29,7 @@ use Rattle.sbl_bench.specs.Contents.{Contents}
 use Rattle.sbl_rows.specs.Rows.{row_of}
 use Rattle.sbl_rows.specs.Setting.{under}
 use Rattle.sbl_bench.specs.declared.fault.EditFault.TheVariants as edit
-use Rattle.sbl_formats.specs.RowRecords.{row_fields}
+use Rattle.sbl_reports.specs.RowRecords.{row_fields}
 
 pub all_short-push : (lines : List (List ℕ)) (l : List ℕ) → AllShort lines → length (chars l) ≤ 255 → AllShort (lines ++ l ∷ [])
 all_short-push [] l h short = (short, tt)

@@ -17,7 +17,7 @@ use Rattle.sbl_script.specs.OneReading.{FaultIsOne, ScriptIsOne, ScriptOrFault}
 use Rattle.sbl_ast.specs.Source.{Source}
 use Rattle.sbl_script.specs.Reading.{IsFaultOf, IsScriptOf}
 use Rattle.sbl_input.proofs.InputFacts.{AtEnd, AtLong, AtNoText, AtPoint, LinesEnd, end-end, end-long, end-point, lines_end}
-use Rattle.sbl_formats.specs.Block.{BlockLines, Breaks, made_text, max_script, point}
+use Rattle.sbl_reports.specs.Block.{BlockLines, Breaks, made_text, max_script, point}
 use Rattle.sbl_input.specs.Loading.{TookFault, TookSource, WordLines}
 use Rattle.sbl_input.specs.declared.faults.LoadFault.{LoadFault}
 use Rattle.sbl_input.specs.declared.faults.LoadFault.TheVariants.{Input, Open, Script}

@@ -12,8 +12,8 @@ use Rattle.sbl_batch.specs.ToEnd.{FiltersToEnd, StopsAt, TookNext, WordRows, lin
 use Rattle.sbl_batch.specs.declared.word_fault.WordFault.{WordFault}
 use Rattle.sbl_batch.proofs.FilterFacts.{all_short-push}
 use Rattle.sbl_batch.proofs.RowFacts.{filtered-append, filtered-none}
-use Rattle.sbl_formats.proofs.BlockFacts.{all_fit-push}
-use Rattle.sbl_formats.specs.Block.{NoPoint, point}
+use Rattle.sbl_reports.proofs.BlockFacts.{all_fit-push}
+use Rattle.sbl_reports.specs.Block.{NoPoint, point}
 use Rattle.sbl_input.proofs.LoadFacts.{all_text-push}
 use Rattle.sbl_input.specs.declared.faults.LoadFault.{LoadFault}
 use Rattle.sbl_input.specs.declared.faults.LoadFault.TheVariants.{Input, Open, Script}

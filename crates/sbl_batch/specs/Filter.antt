@@ -12,9 +12,9 @@ use Rattle.sbl_io.specs.declared.faults.ServeFault.TheVariants as fault
 use Rattle.sbl_semantics.specs.Limit.{default_limit, max_word_length}
 use Rattle.sbl_io.specs.Records.{records_text}
 use Rattle.sbl_ast.specs.Source.{Source}
-use Rattle.sbl_formats.specs.Block.{point}
+use Rattle.sbl_reports.specs.Block.{point}
 use Rattle.sbl_input.specs.Loading.{IsInput, ReadsScript, TookFault, TookSource, TookWords, WordLines}
-use Rattle.sbl_formats.specs.RowRecords.{row_fields}
+use Rattle.sbl_reports.specs.RowRecords.{row_fields}
 use Rattle.sbl_input.specs.declared.faults.LoadFault.{LoadFault}
 use Rattle.sbl_input.specs.declared.faults.LoadFault.TheVariants.{Input, Script, Open}
 

@@ -5,12 +5,12 @@ use Rattle.sbl_bench.specs.Vocabulary.{is_word, vocabulary}
 use Rattle.sbl_batch.specs.Filter.{Filters, IsFiltered, filter_output, is_filled}
 use Rattle.sbl_batch.specs.ToEnd.{FiltersToEnd, without_line}
 use Rattle.sbl_batch.specs.declared.word_fault.WordFault.{WordFault}
-use Rattle.sbl_formats.specs.Block.{NoPoint}
+use Rattle.sbl_reports.specs.Block.{NoPoint}
 use Rattle.sbl_io.specs.LinesOf.{lines_of}
 use Rattle.sbl_io.specs.declared.faults.ServeFault.TheVariants as fault
 use Rattle.sbl_ast.specs.Source.{Source}
 use Rattle.sbl_input.specs.Loading.{IsLoaded}
-use Rattle.sbl_listings.specs.Listings.{stems_text}
+use Rattle.sbl_reports.specs.Listings.{stems_text}
 use Rattle.sbl_input.specs.declared.faults.LoadFault.{LoadFault}
 use Rattle.sbl_input.specs.declared.faults.LoadFault.TheVariants.{Input, Script}
 use Rattle.sbl_text.specs.declared.fault.ScriptFault.TheVariants as script

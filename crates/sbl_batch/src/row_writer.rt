@@ -8,13 +8,13 @@ ghost use Rattle.sbl_machine.specs.MachineOf.{IsLinkedMachineOf};
 ghost use Rattle.sbl_io.specs.Records as texts;
 ghost use Rattle.sbl_ast.specs.Source.{Source};
 ghost use Rattle.sbl_batch.specs.LineWriter.{IsBetweenLines};
-ghost use Rattle.sbl_formats.specs.RowRecords.{row_fields};
+ghost use Rattle.sbl_reports.specs.RowRecords.{row_fields};
 
 use crate::lines::{line_writer, next_line};
 use csv::Writer;
-use sbl_formats::outcome_fields;
 use sbl_io::TextBuffer;
 use sbl_machine::{DEFAULT_LIMIT, Machine, Meter, Table};
+use sbl_reports::outcome_fields;
 use std::alloc::{AllocError, Global};
 
 /// What makes the text of one row after another. It keeps its buffers from row to row. The run of a word and the text of its row

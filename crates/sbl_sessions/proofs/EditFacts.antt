@@ -12,7 +12,7 @@ use Rattle.sbl_script.specs.Edits.{ScriptEdit}
 use Rattle.sbl_text.specs.declared.fault.ScriptFault.{ScriptFault}
 use Rattle.sbl_text.specs.declared.fault.ScriptFault.TheVariants as script
 use Rattle.sbl_sessions.specs.Answers.{BlockRefused, Enough, RefusedAfter, edit_text, with_line_feed}
-use Rattle.sbl_formats.specs.Block.{HasText, made_text, max_script}
+use Rattle.sbl_reports.specs.Block.{HasText, made_text, max_script}
 use Rattle.sbl_sessions.specs.CommandViews.{IsEditAnswer, IsTextAnswer}
 use Rattle.sbl_sessions.specs.Commands.{Bad, Command, block_command, target_of, text_of_block, with_text}
 use Rattle.sbl_sessions.specs.Faults.{fault_in}

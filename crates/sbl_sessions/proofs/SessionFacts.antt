@@ -8,7 +8,7 @@ use Rattle.std.specs.Option.{is_some}
 use Rattle.std.proofs.KnownBytes.{Appends-nil, Appends-trans}
 use Rattle.sbl_bench.specs.Contents.{Contents}
 use Rattle.sbl_sessions.specs.Answers.{Answers, IsReplyTo, Memory}
-use Rattle.sbl_formats.specs.Block.{BlockLines, Breaks, HoldsText, ReadsBlock, point}
+use Rattle.sbl_reports.specs.Block.{BlockLines, Breaks, HoldsText, ReadsBlock, point}
 use Rattle.sbl_sessions.specs.CommandViews.{IsAnswer, IsReply, IsTextAnswer}
 use Rattle.sbl_sessions.specs.inside.Views.{IsAnswered}
 use Rattle.sbl_sessions.specs.Commands.{block_command, command_of, line_command}
@@ -18,14 +18,14 @@ use Rattle.sbl_sessions.specs.Words.{command_word}
 use Rattle.sbl_sessions.specs.Requests.{Request, TookRequests, asks_block, block_word, lines_in_all}
 use Rattle.sbl_sessions.specs.inside.Names.{IsBegun, IsRequest, block_lines, lines_in}
 use Rattle.sbl_sessions.specs.Session.{CutsReply, CutsRequest, IsSession, Moment, Replies}
-use Rattle.sbl_formats.specs.declared.block_text.BlockText.{BlockText}
+use Rattle.sbl_reports.specs.declared.block_text.BlockText.{BlockText}
 use Rattle.sbl_io.specs.Faults.{serve_fault_of}
 use Rattle.sbl_io.specs.declared.faults.LineFault.{LineFault}
 use Rattle.sbl_io.specs.declared.faults.LineFault.TheVariants as read
 use Rattle.sbl_io.specs.declared.faults.ServeFault.{ServeFault}
 use Rattle.sbl_io.specs.declared.faults.ServeFault.TheVariants as fault
 use Rattle.sbl_sessions.specs.declared.replies.Reply.{Reply}
-use Rattle.sbl_formats.proofs.BlockFacts.{all_fit-append, all_fit-push, broken_block}
+use Rattle.sbl_reports.proofs.BlockFacts.{all_fit-append, all_fit-push, broken_block}
 use Rattle.sbl_io.proofs.Bytes.{took-kept, took-none, took-trans}
 
 -- ---- answers

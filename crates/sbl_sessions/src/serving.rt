@@ -18,8 +18,8 @@ use crate::reports::{
 use crate::session_commands::{Command, block_word, command_of, target_of};
 use crate::session_edits::{add_word, edit_script, remove_word};
 use sbl_bench::{Bench, EditFault};
-use sbl_formats::read_block;
 use sbl_io::{Lines, ServeFault, Sink, Source};
+use sbl_reports::read_block;
 use std::alloc::Global;
 
 /// Makes the edit or the report that a line without a block asks for, and returns the reply.

@@ -4,7 +4,7 @@ ghost use Rattle.std.specs.Str.{chars, is_utf8};
 ghost use Rattle.sbl_bench.specs.KeptRuns.{contents_of};
 ghost use Rattle.sbl_bench.specs.Edits as edits;
 ghost use Rattle.sbl_sessions.specs.Answers as spec;
-ghost use Rattle.sbl_formats.specs.Block.{HoldsText};
+ghost use Rattle.sbl_reports.specs.Block.{HoldsText};
 ghost use Rattle.sbl_sessions.specs.CommandViews.{FindsTarget, IsEditAnswer, IsTextAnswer, view_target};
 ghost use Rattle.sbl_sessions.specs.Commands.{block_command};
 
@@ -12,7 +12,7 @@ use crate::replies::{BAD_COMMAND, edit_text};
 use crate::session_commands::{Target, part_of};
 use sbl_bench::laws::words_fit;
 use sbl_bench::{Bench, EditFault, MAX_WORD_LENGTH};
-use sbl_formats::{BlockFault, BlockText};
+use sbl_reports::{BlockFault, BlockText};
 use sbl_script::ScriptFault;
 use std::alloc::AllocError;
 

@@ -3,7 +3,7 @@ ghost use Rattle.std.specs.Prelude.{◌≡◌, IfOk};
 ghost use Rattle.std.specs.Str.{chars};
 ghost use Rattle.sbl_bench.specs.KeptRuns.{contents_of};
 ghost use Rattle.sbl_io.specs.LinesOf.{lines_of};
-ghost use Rattle.sbl_formats.specs.Block.{made_text};
+ghost use Rattle.sbl_reports.specs.Block.{made_text};
 ghost use Rattle.sbl_sessions.specs.{Answers.with_line_feed, Commands.line_command};
 ghost use Rattle.sbl_work.specs.Commands as spec;
 ghost use Rattle.sbl_history.specs.Desks.{State, state_of};

@@ -8,7 +8,7 @@ use Rattle.sbl_batch.specs.Differences.{IsChecked, ending, line_fault, pair_faul
 use Rattle.sbl_ast.specs.Source.{Source}
 use Rattle.sbl_input.specs.Loading as load
 use Rattle.sbl_input.specs.Loading.{AfterSource, IsLoaded, ReadsScript, WordLines}
-use Rattle.sbl_formats.specs.Block.{BlockLines, Breaks}
+use Rattle.sbl_reports.specs.Block.{BlockLines, Breaks}
 use Rattle.sbl_sessions.specs.Session.{Ends}
 use Rattle.sbl_input.specs.declared.faults.LoadFault.{LoadFault}
 use Rattle.sbl_input.specs.declared.faults.LoadFault.TheVariants.{Input}

@@ -7,7 +7,7 @@ use Rattle.sbl_rows.specs.Rows.{row_of}
 use Rattle.sbl_rows.specs.Setting.{under}
 use Rattle.sbl_semantics.specs.Limit.{default_limit}
 use Rattle.sbl_io.specs.Records.{record_line}
-use Rattle.sbl_formats.specs.RowRecords.{row_fields}
+use Rattle.sbl_reports.specs.RowRecords.{row_fields}
 use Rattle.sbl_batch.proofs.FilterFacts.{is_none, is_some, line-cut, line-empty, line-long, line-row}
 use Rattle.sbl_batch.proofs.filtering.filter_line.Goals as goal
 

@@ -4,7 +4,7 @@ use Rattle.sbl_batch.proofs.FilterFacts.{filters-broken, filters-end, filters-fa
 use Rattle.sbl_batch.specs.Filter.{WritesLine}
 use Rattle.sbl_io.specs.HeldInput.{GivesLine, fault_of, input_of, line_of}
 use Rattle.sbl_script.specs.ParsedScript.{source_of}
-use Rattle.sbl_formats.specs.Block.{point}
+use Rattle.sbl_reports.specs.Block.{point}
 use Rattle.sbl_batch.proofs.filtering.filter_words.Goals as goal
 
 pub returns-in_err-machine-clause-filters : goal.returns-in_err-machine-clause-filters
