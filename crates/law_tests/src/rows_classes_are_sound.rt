@@ -13,8 +13,8 @@ use sbl_rows::laws::classes_are_sound;
 
 /// Needs the whole of the law `classes_are_sound`.
 pub fn needs_classes_are_sound()
-    ensures rise { (rows : List Row) → IsStrictlySortedBy (slice_cmp nat_cmp) (map (λ c. c.stem) (classes_of rows)) × All (λ c. IsStrictlySortedBy (slice_cmp nat_cmp) c.words × (0 < length c.words)) (classes_of rows) }
-    ensures of_rows { (rows : List Row) (stem word : List ℕ) → list_any (λ c. bytes_eq stem c.stem && list_any (bytes_eq word) c.words) (classes_of rows) ≡ list_any (λ r. is_stem stem r.outcome && bytes_eq word r.word) rows }
+    ensures rise { (rows : List Row) → IsStrictlySortedBy (slice_cmp nat_cmp) (map (λ c. c.stem) (classes_of rows)) × All (λ c. IsStrictlySortedBy (slice_cmp nat_cmp) c.members × (0 < length c.members)) (classes_of rows) }
+    ensures of_rows { (rows : List Row) (stem word : List ℕ) → list_any (λ c. bytes_eq stem c.stem && list_any (bytes_eq word) c.members) (classes_of rows) ≡ list_any (λ r. is_stem stem r.outcome && bytes_eq word r.word) rows }
 {
     classes_are_sound();
 }

@@ -5,8 +5,7 @@ use std::alloc::{AllocError, Global};
 use std::hash::RandomState;
 use std::process::Abort;
 use std::test::Fail;
-use test_devices::{Pieces, SameBytes, bytes_of, in_pieces};
-use test_scripts::{field, number, with_scripts};
+use test_support::{Pieces, SameBytes, bytes_of, field, in_pieces, number, with_scripts};
 
 /// Returns a writer in memory that takes four bytes at each write and fails at write `fails_at` (0 for never).
 fn writer(alloc: Global, fails_at: u64) -> Device<Pieces<Vec<u8>>> {

@@ -8,8 +8,7 @@ use std::hash::RandomState;
 use std::process::Abort;
 use std::rt::Files;
 use std::test::Fail;
-use test_devices::{SameBytes, bytes_of, in_pieces};
-use test_scripts::{field, number};
+use test_support::{SameBytes, bytes_of, field, in_pieces, number};
 
 /// A script that deletes a first `un`.
 const SCRIPT: &[u8] = b"externals ( stem )\ndefine stem as ( [ 'un' ] delete )\n";

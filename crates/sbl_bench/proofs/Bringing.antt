@@ -19,10 +19,11 @@ use Rattle.sbl_machine.specs.Marks.{AreMarksOf, EditedAreThere, has_item}
 use Rattle.sbl_semantics.specs.Outcome.{touches_of, used_of}
 use Rattle.sbl_semantics.specs.TouchedItems.{Item', item_of_touch, names_of}
 use Rattle.sbl_machine.specs.EditedItem.{edited_item}
-use Rattle.sbl_bench.specs.AffectedWords.{AffectedWords, AreMet, Touching, Above, smaller}
-use Rattle.sbl_bench.specs.Changes.{Brings, IsExchange, IsTaken}
+use Rattle.sbl_bench.specs.inside.AffectedWords.{AffectedWords, AreMet, Touching, Above, smaller}
+use Rattle.sbl_bench.specs.inside.Changes.{Brings, IsExchange, IsTaken}
 use Rattle.sbl_bench.specs.Contents.{Contents}
-use Rattle.sbl_bench.specs.Edits.{Edit, Install, Replace, Limit, Whole, is_limit, meets_listed}
+use Rattle.sbl_bench.specs.Edits.{Edit, Replace, Limit, Whole, is_limit}
+use Rattle.sbl_bench.specs.inside.ProofNames.{meets_listed}
 use Rattle.sbl_rows.specs.Setting.{RunsSame, under}
 
 -- ---- items
@@ -89,9 +90,6 @@ exchange_brings law s e t is well a met =
 
 pub whole_exchange : (s : Contents) (bytes : List ℕ) (t : Source) → IsScriptOf bytes s.setting.script.external t → IsExchange s (Whole bytes) t
 whole_exchange s bytes t read = record { after = (read, refl); passes = λ f refused. inr (refused.0, refused.2); wants = λ word same. cc same; words = refl; met_is = λ w. refl }
-
-pub install_exchange : (s : Contents) (t : Source) → IsExchange s (Install t) t
-install_exchange s t = record { after = (refl, refl); passes = λ f refused. absurd refused; wants = λ word same. cc same; words = refl; met_is = λ w. refl }
 
 -- ---- limits
 

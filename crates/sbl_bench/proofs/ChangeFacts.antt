@@ -8,9 +8,9 @@ use Rattle.std.proofs.lemmas.List.{get_or_default, get_or-set_other, get_or-set_
 use Rattle.std.proofs.lemmas.List.Elements.{All-head, All-tail}
 use Rattle.std.proofs.lemmas.List.Folds.{list_any_at}
 use Rattle.sbl_bench.specs.KeptRuns.{KeptWord, AreFresh, IsFresh, words_in}
-use Rattle.sbl_bench.specs.Last.{AreApart, AreThere, word_found, word_run}
-use Rattle.sbl_bench.specs.Pairs.{Text, find}
-use Rattle.sbl_bench.specs.Changes.{AreAllFresh, AreAnew, is_changed}
+use Rattle.sbl_bench.specs.inside.Last.{AreApart, AreThere, word_found, word_run}
+use Rattle.sbl_bench.specs.inside.Pairs.{Text, find}
+use Rattle.sbl_bench.specs.inside.Changes.{AreAllFresh, AreAnew, is_changed}
 use Rattle.sbl_rows.specs.Setting.{Setting}
 use Rattle.sbl_machine.specs.declared.outcome.RunTrace.{RunTrace}
 use Rattle.sbl_bench.specs.declared.change.Change.{Change}

@@ -19,13 +19,13 @@ use Rattle.sbl_semantics.specs.Outcome.{Outcome', Stem, Refused, outcome_of}
 use Rattle.sbl_semantics.specs.declared.outcome.Outcome.{Outcome}
 use Rattle.sbl_machine.specs.declared.outcome.RunTrace.{RunTrace}
 use Rattle.sbl_semantics.specs.declared.outcome.Outcome.TheVariants as code
-use Rattle.sbl_rows.specs.Classes.{class_of, class_with, in_order, is_stem, stem_of, words_with}
-use Rattle.sbl_rows.specs.Grouping.{Pair, pair_cmp, pairs_in_order, stem_pairs, with_pair, words_paired}
+use Rattle.sbl_rows.specs.Classes.{Pair, class_of, class_with, in_order, is_stem, members_of, stem_of, stem_pairs, words_with}
+use Rattle.sbl_rows.specs.Grouping.{pair_cmp, pairs_in_order, with_pair}
 use Rattle.sbl_bench.specs.KeptRuns.{KeptWord, AreFresh, words_in}
-use Rattle.sbl_bench.specs.Pairs.{ArePaired, Key, Text, find, has, has_stem, key_cmp, plain}
+use Rattle.sbl_bench.specs.inside.Pairs.{ArePaired, Key, Text, find, has, has_stem, key_cmp, plain}
 use Rattle.sbl_rows.specs.Rows.{Row, rows_of}
 use Rattle.sbl_rows.proofs.PairFacts.{then_eq}
-use Rattle.sbl_rows.proofs.OrderFacts.{exact, sorted-sorted, total, words-rows}
+use Rattle.sbl_rows.proofs.OrderFacts.{exact, members-in_order, sorted-sorted, total}
 use Rattle.sbl_rows.proofs.Sorting.{mem, mem-inserted, mem-stays, from_mem, one_list}
 use Rattle.sbl_bench.proofs.MapEntries.{is_key, key_found, row_shown, rows_shown}
 
@@ -183,6 +183,6 @@ class_found script es word fresh o is =
 -- the words with a stem among the pairs that are kept are those of its class
 pub words_kept : (script : Setting) (es : List KeptWord) (set : BTreeSet Key) (stem : List ℕ) → AreFresh script es → IsDistinct (λ (x y : Text). bytes_eq x.items y.items) (keys_of es)
     → ArePaired es set → IsStrictlySortedBy key_cmp set.keys → All (λ k. has set k ≡ true) set.keys
-    → words_paired stem (map plain set.keys) ≡ in_order (words_with stem (rows_of script (words_in es)))
+    → members_of stem (map plain set.keys) ≡ in_order (words_with stem (rows_of script (words_in es)))
 words_kept script es set stem fresh unique paired ordered found =
-    ap (words_paired stem) (kept_sorted script es set fresh unique paired ordered found) ∙ words-rows stem (rows_of script (words_in es))
+    ap (members_of stem) (kept_sorted script es set fresh unique paired ordered found) ∙ members-in_order stem (stem_pairs (rows_of script (words_in es)))

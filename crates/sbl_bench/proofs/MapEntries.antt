@@ -13,7 +13,7 @@ use Rattle.sbl_machine.specs.declared.outcome.RunTrace.{RunTrace}
 use Rattle.sbl_semantics.specs.Outcome.{outcome_of}
 use Rattle.sbl_bench.specs.declared.fault.EditFault.{EditFault}
 use Rattle.sbl_bench.specs.KeptRuns.{KeptWord, words_in, AreFresh, IsFresh, IsWord, IsKept}
-use Rattle.sbl_bench.specs.Pairs.{IsOneMore, Text, find}
+use Rattle.sbl_bench.specs.inside.Pairs.{IsOneMore, Text, find}
 use Rattle.sbl_rows.specs.Rows.{Row, rows_of}
 use Rattle.sbl_bench.specs.Vocabulary.{is_word, without}
 

@@ -9,12 +9,12 @@ use Rattle.std.proofs.Math.Path.{fun_ext}
 use Rattle.std.specs.Prelude.{if◌then◌else◌}
 use Rattle.sbl_semantics.specs.Outcome.{run_of, touches_of, used_of}
 use Rattle.sbl_machine.specs.declared.outcome.RunTrace.{RunTrace}
-use Rattle.sbl_bench.specs.AffectedWords.{AffectedWords, is_affected, is_affected_run}
-use Rattle.sbl_bench.specs.Changes.{AreAnew, AreRun, AreStill, Brings, Rerun, is_changed, is_met, met_words, rerun_of, reruns, view_change}
+use Rattle.sbl_bench.specs.inside.AffectedWords.{AffectedWords, is_affected, is_affected_run}
+use Rattle.sbl_bench.specs.inside.Changes.{AreAnew, AreRun, AreStill, Brings, Rerun, is_changed, is_met, met_words, rerun_of, reruns, view_change}
 use Rattle.sbl_bench.specs.Contents.{Contents}
 use Rattle.sbl_bench.specs.Edits.{Edit, needs_run, runs_needed}
 use Rattle.sbl_bench.specs.KeptRuns.{KeptWord, AreFresh, IsFresh, IsWord, words_in}
-use Rattle.sbl_bench.specs.Pairs.{Text, find}
+use Rattle.sbl_bench.specs.inside.Pairs.{Text, find}
 use Rattle.sbl_rows.specs.Setting.{Setting, RunsSame}
 use Rattle.sbl_bench.specs.declared.change.Change.{Change}
 

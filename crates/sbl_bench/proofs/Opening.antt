@@ -2,7 +2,8 @@
 use Rattle.std.proofs.Common.{◌≡◌, ℕ, List, [], length}
 use Rattle.sbl_bench.specs.KeptRuns.{KeptWord, words_in}
 use Rattle.sbl_bench.specs.Contents.{opening_fault}
-use Rattle.sbl_bench.specs.Vocabulary.{with_all, vocabulary}
+use Rattle.sbl_bench.specs.Vocabulary.{vocabulary}
+use Rattle.sbl_bench.specs.inside.ProofNames.{with_all}
 
 -- what is left to do to those that are kept is what was to be done to none.
 pub record IsOpening (all rest : List (List ℕ)) (entries : List KeptWord) (count : ℕ) : Type 0 where

@@ -9,7 +9,7 @@ use Rattle.std.proofs.lemmas.Slice.Eq.{bytes_eq-Decides}
 use Rattle.sbl_semantics.specs.Outcome.{outcome_of}
 use Rattle.sbl_bench.specs.KeptRuns.{KeptWord}
 use Rattle.sbl_rows.specs.Classes.{is_stem}
-use Rattle.sbl_bench.specs.Pairs.{Key, Text, ArePaired, find, has, has_stem, is_pair_of, key_cmp}
+use Rattle.sbl_bench.specs.inside.Pairs.{Key, Text, ArePaired, find, has, has_stem, is_pair_of, key_cmp}
 
 -- the pairs of the entries that are still to come, and those that the set has, are the pairs of all
 abbrev pub ArePairedSoFar : List KeptWord → List KeptWord → BTreeSet Key → Type 0

@@ -13,8 +13,9 @@ use Rattle.sbl_bench.specs.KeptRuns.{KeptWord, words_in}
 use Rattle.sbl_bench.specs.declared.fault.EditFault.{EditFault}
 use Rattle.sbl_bench.specs.declared.fault.EditFault.TheVariants as fault
 use Rattle.sbl_bench.specs.Contents.{Contents, max_runs}
-use Rattle.sbl_bench.specs.Edits.{Edit, Edits, Add, Remove, IsSettingAfter, contents_after, lacks_counts, refusal_of_add, runs_needed, words_after}
-use Rattle.sbl_bench.specs.Stops.{IsStop}
+use Rattle.sbl_bench.specs.Edits.{Edit, Edits, Add, Remove, BeforeEdit, During, IsSettingAfter, refusal_of_add, runs_needed, words_after}
+use Rattle.sbl_bench.specs.inside.ProofNames.{contents_after, lacks_counts}
+use Rattle.sbl_bench.specs.inside.Stops.{IsStop}
 use Rattle.sbl_bench.specs.Vocabulary.{is_word, without}
 
 -- after all the tests a word is not refused
@@ -57,7 +58,7 @@ no_run s word = ap length (filter_off (without word s.words))
 
 -- where memory was refused before anything was run
 pub edits_nothing : (s : Contents) (word : List ℕ) → refusal_of_add s word ≡ None → Edits (Err fault.OutOfMemory) s (Add word) s
-edits_nothing s word free = record { wanted = λ w same. cc same; is = inl (λ f refused. absurd (none-some f (sym free ∙ refused)), refl) }
+edits_nothing s word free = BeforeEdit (λ w same. cc same) (λ f refused. absurd (none-some f (sym free ∙ refused))) refl
 
 -- where no run can be counted any more
 pub counts_no_more : (s : Contents) (word : List ℕ) → refusal_of_add s word ≡ None → is_word word s.words ≡ false → s.count ≡ max_runs
@@ -80,16 +81,9 @@ adds (Ok u) s word words count free new small last counts _ _ = record {
   counts = one_left s word new small;
   is = λ i. record { setting = s.setting; words = last i; count = (counts ∙ ap (λ (n : ℕ). s.count + n) (sym (one_run s word new))) i };
 }
-adds (Err fault.OutOfMemory) s word words count free new small _ _ same stop = record {
-  wanted = λ w same. cc same;
-  is = inr (
-    contents_after s (Add word) s.setting,
-    record { setting = s.setting; after = (free, refl); counts = one_left s word new small; is = refl },
-    stop.0,
-    rw (one_run s word new) stop.1,
-    λ i. record s { words = same i; count = stop.2 i },
-  );
-}
+adds (Err fault.OutOfMemory) s word words count free new small _ _ same stop =
+    During (λ w same. cc same) (contents_after s (Add word) s.setting) (record { setting = s.setting; after = (free, refl); counts = one_left s word new small; is = refl })
+    stop.0 (rw (one_run s word new) stop.1) (λ i. record s { words = same i; count = stop.2 i })
 adds (Err fault.MeterFull) s word words count free new small _ _ same stop = (
   inr (s.setting, (free, refl), rw (one_run s word new, stop.0) refl, refl),
   λ i. record s { words = same i; count = stop.1 i },
@@ -141,16 +135,9 @@ pub replaces_nothing : (s : Contents) (e : Edit) (p : Setting) (words : List (Li
     → before ≡ s.count → needed ≡ runs_needed s e p → needed ≤ max_runs - before → words ≡ s.words
     → ((n : ℕ) × (n ≤ runs_needed s e p) × (count ≡ s.count + n))
     → Edits (Err fault.OutOfMemory) s e (record s { words = words; count = count })
-replaces_nothing s e p words before needed count wanted after so many room same ran = record {
-  wanted = wanted;
-  is = inr (
-    contents_after s e p,
-    record { setting = p; after = after; counts = enough s e p before needed so many room; is = refl },
-    ran.0,
-    ran.1,
-    λ i. record { setting = s.setting; words = same i; count = ran.2 i },
-  );
-}
+replaces_nothing s e p words before needed count wanted after so many room same ran =
+    During wanted (contents_after s e p) (record { setting = p; after = after; counts = enough s e p before needed so many room; is = refl })
+    ran.0 ran.1 (λ i. record { setting = s.setting; words = same i; count = ran.2 i })
 
 pub replaces : (s : Contents) (e : Edit) (p : Setting) (words : List (List ℕ)) (before needed count : ℕ) → IsSettingAfter s e p
     → before ≡ s.count → needed ≡ runs_needed s e p → needed ≤ max_runs - before

@@ -9,8 +9,8 @@ use Rattle.sbl_bench.specs.Contents.{Contents}
 use Rattle.sbl_script.specs.Reading.{IsFaultOf}
 use Rattle.sbl_text.specs.declared.fault.ScriptFault.{ScriptFault}
 use Rattle.sbl_text.specs.declared.fault.ScriptFault.TheVariants as texts
-use Rattle.sbl_bench.specs.Stops.{IsFaultOfText}
-use Rattle.sbl_bench.specs.Edits.{Edits, PassesTests, Replace, Whole, fault_of_script}
+use Rattle.sbl_bench.specs.inside.Stops.{IsFaultOfText}
+use Rattle.sbl_bench.specs.Edits.{Edits, BeforeEdit, PassesTests, Replace, Whole, fault_of_script}
 
 -- the edit is refused for its text
 abbrev IsOfText : EditFault → Type 0
@@ -63,10 +63,10 @@ module _ {A : Type 0} (s : Contents) (what : ScriptEdit) (text : List ℕ) (r : 
 
   -- if memory was refused after that
   pub nothing_made : (a : A) → r ≡ Ok a → Edits (Err fault.OutOfMemory) s (Replace what text) s
-  nothing_made a made = record { wanted = λ w same. cc same; is = inl (passes a made, refl) }
+  nothing_made a made = BeforeEdit (λ w same. cc same) (passes a made) refl
 
   out_of_memory : r ≡ Err script.OutOfMemory → Edits (Err fault.OutOfMemory) s (Replace what text) s
-  out_of_memory out = record { wanted = λ w same. cc same; is = inl (λ f refusal_edits. for_its_text refusal_edits.0 f out refusal_edits.1 refusal_edits.2, refl) }
+  out_of_memory out = BeforeEdit (λ w same. cc same) (λ f refusal_edits. for_its_text refusal_edits.0 f out refusal_edits.1 refusal_edits.2) refl
 
   pub refusal_edits : (g : declared.EditFault) → r ≡ Err g → (g ≡ script.OutOfMemory) ⊎ IsEditFault s.setting.script what text g → Edits (Err (fault_of_script g)) s (Replace what text) s
   refusal_edits g is (inl out) = rw out (out_of_memory (rw (sym out) is))
@@ -75,6 +75,6 @@ module _ {A : Type 0} (s : Contents) (what : ScriptEdit) (text : List ℕ) (r : 
 -- ---- a whole script
 
 pub unread : (s : Contents) (bytes : List ℕ) (g : ScriptFault) (f : EditFault) → IsFaultOfText g f → (g ≡ texts.OutOfMemory) ⊎ IsFaultOf bytes s.setting.script.external g → Edits (Err f) s (Whole bytes) s
-unread s bytes g f (inl out) is = rw out.1 (record { wanted = λ w same. cc same; is = inl (λ h refusal_edits. inr (refusal_edits.0, refusal_edits.2), refl) })
+unread s bytes g f (inl out) is = rw out.1 (BeforeEdit (λ w same. cc same) (λ h refusal_edits. inr (refusal_edits.0, refusal_edits.2)) refl)
 unread s bytes g f (inr fault_of_edit) (inl out) = absurd (fault_of_edit.0 out)
 unread s bytes g f (inr fault_of_edit) (inr is) = rw fault_of_edit.1 (inl (g, is, refl), refl)

@@ -2,13 +2,13 @@
 use Rattle.std.proofs.Common.{◌≡◌, ◌∙◌, ◌≤◌, ◌+◌, ◌-◌, ℕ, List, Ok, Err, inl, inr, length, ap, sym, refl, subst}
 use Rattle.sbl_bench.specs.declared.fault.EditFault.{EditFault}
 use Rattle.sbl_bench.specs.declared.fault.EditFault.TheVariants as fault
-use Rattle.sbl_bench.specs.AffectedWords.{AffectedWords}
-use Rattle.sbl_bench.specs.Changes.{Brings, met_words}
+use Rattle.sbl_bench.specs.inside.AffectedWords.{AffectedWords}
+use Rattle.sbl_bench.specs.inside.Changes.{Brings, met_words}
 use Rattle.sbl_bench.specs.Contents.{Contents, max_runs}
-use Rattle.sbl_bench.specs.Edits.{Edit, Edits, runs_needed}
+use Rattle.sbl_bench.specs.Edits.{Edit, Edits, BeforeEdit, runs_needed}
 use Rattle.sbl_bench.specs.KeptRuns.{AreFresh, KeptWord, words_in}
 use Rattle.sbl_rows.specs.Setting.{Setting}
-use Rattle.sbl_bench.specs.Stops.{IsStopOf}
+use Rattle.sbl_bench.specs.inside.Stops.{IsStopOf}
 use Rattle.sbl_bench.proofs.Meeting.{needed_is}
 use Rattle.sbl_bench.proofs.Refusals.{replaces, replaces_never, replaces_nothing}
 
@@ -21,10 +21,10 @@ module _ (s : Contents) (e : Edit) (t : Setting) (a : AffectedWords) (es : List 
 
   -- where memory was refused before any run
   pub out_of_memory : Edits (Err fault.OutOfMemory) s e s
-  out_of_memory = record { wanted = b.wants; is = inl (b.passes, refl) }
+  out_of_memory = BeforeEdit b.wants b.passes refl
 
   pub stop_edits : (f : EditFault) (count : ℕ) → IsStopOf need f s.count count → Edits (Err f) s e (record s { count = count })
-  stop_edits fault.OutOfMemory count (inl none) = record { wanted = b.wants; is = inl (b.passes, λ i. record s { count = none i }) }
+  stop_edits fault.OutOfMemory count (inl none) = BeforeEdit b.wants b.passes (λ i. record s { count = none i })
   stop_edits fault.OutOfMemory count (inr some) =
       replaces_nothing s e t s.words s.count need count b.wants b.after refl same some.2 refl (some.0, subst (λ (n : ℕ). some.0 ≤ n) same some.1, some.3)
   stop_edits fault.MeterFull count full =

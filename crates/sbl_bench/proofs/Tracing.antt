@@ -6,7 +6,7 @@ use Rattle.sbl_semantics.specs.TouchedItems.{Item', items_of, names_of, touched_
 use Rattle.sbl_machine.specs.declared.outcome.RunTrace.{RunTrace}
 use Rattle.sbl_rows.specs.Setting.{Setting}
 use Rattle.sbl_bench.specs.KeptRuns.{KeptWord, AreFresh, IsFresh, words_in}
-use Rattle.sbl_bench.specs.Pairs.{find}
+use Rattle.sbl_bench.specs.inside.Pairs.{find}
 use Rattle.sbl_bench.specs.Traces.{trace_of}
 use Rattle.sbl_bench.specs.Vocabulary.{is_word}
 use Rattle.sbl_bench.proofs.MapEntries.{found_word}

@@ -1,4 +1,4 @@
--- Taking an edit back, and installing the script in force.
+-- Taking an edit back, and a whole script that is the one in force.
 use Rattle.std.proofs.Common.{◌≡◌, ◌∙◌, ℕ, Bool, true, false, List, [], ◌∷◌, ◌+◌, map, length, Option, arith, refl, sym, ap}
 use Rattle.std.specs.List.{filter, list_any}
 use Rattle.std.proofs.Math.Path.{fun_ext}
@@ -11,8 +11,9 @@ use Rattle.sbl_semantics.specs.Outcome.{touches_of}
 use Rattle.sbl_semantics.specs.TouchedItems.{Item', item_of_touch, names_of}
 use Rattle.sbl_rows.specs.Classes.{classes_of}
 use Rattle.sbl_bench.specs.Contents.{Contents}
-use Rattle.sbl_bench.specs.Edits.{Edit, Add, Remove, Replace, Whole, Install, Limit, IsSettingAfter, is_of_script, meets_listed, runs_needed}
-use Rattle.sbl_bench.specs.EqualScripts.{EqualScriptRunsNothing, InstalledAgainRunsNothing}
+use Rattle.sbl_bench.specs.Edits.{Edit, Add, Remove, Replace, Whole, Limit, IsSettingAfter, is_of_script, runs_needed}
+use Rattle.sbl_bench.specs.inside.ProofNames.{meets_listed}
+use Rattle.sbl_bench.specs.EqualScripts.{EqualScriptRunsNothing}
 use Rattle.sbl_rows.specs.Rows.{rows_of}
 use Rattle.sbl_rows.specs.Setting.{Setting}
 use Rattle.sbl_bench.specs.Traces.{trace_of}
@@ -36,13 +37,13 @@ limit_stays s (Add word) t is h = absurd (true≢false (sym is))
 limit_stays s (Remove word) t is h = absurd (true≢false (sym is))
 limit_stays s (Replace what text) t is h = h.1
 limit_stays s (Whole bytes) t is h = h.1
-limit_stays s (Install script) t is h = h.1
 limit_stays s (Limit n) t is h = absurd (true≢false (sym is))
 
 pub script_undone : UndoOfScript
-script_undone s t u v e is h same j =
+script_undone s t u v e bytes is h same j script =
     let limit : j.setting.limit ≡ s.setting.limit = j.after.1 ∙ ap (λ (x : Setting). x.limit) (same ∙ ap (λ (x : Contents). x.setting) h.is) ∙ limit_stays s e h.setting is h.after in
-    shows v s.setting u.words (ap (λ (x : Contents). x.setting) j.is ∙ both j.after.0 limit) (ap (λ (x : Contents). x.words) j.is)
+    let read : j.setting.script ≡ s.setting.script = sym (ap (λ (x : Contents). x.setting.script) j.is) ∙ script in
+    shows v s.setting u.words (ap (λ (x : Contents). x.setting) j.is ∙ both read limit) (ap (λ (x : Contents). x.words) j.is)
 
 pub limit_undone : UndoOfLimit
 limit_undone s t u v n h same j =
@@ -79,8 +80,3 @@ equal_read law s t bytes h same =
     let script : h.setting.script ≡ s.setting.script = sym (ap (λ (x : Contents). x.setting.script) h.is) ∙ same in
     same_contents s t h.setting (runs_needed s (Whole bytes) h.setting) (both script h.after.1)
     (none_filtered _ s.words (nothing_met law s.setting.script h.setting.script s.setting.limit script)) h.is
-
-pub equal_installed : AlikeDifferNowhere → InstalledAgainRunsNothing
-equal_installed law s t h =
-    same_contents s t h.setting (runs_needed s (Install s.setting.script) h.setting) (both h.after.0 h.after.1)
-    (none_filtered _ s.words (nothing_met law s.setting.script h.setting.script s.setting.limit h.after.0)) h.is

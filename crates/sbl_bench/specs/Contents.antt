@@ -1,5 +1,5 @@
 -- The contents of a bench, and what opening it does.
-use Rattle.std.specs.Prelude.{◌≡◌, ℕ, ◌-◌, ◌^◌, Bool, List, [], ◌∷◌, length, Option, Some, None, Result, Ok, Err, nat_lt, nat_le, if◌then◌else◌}
+use Rattle.std.specs.Prelude.{◌≡◌, ℕ, ◌-◌, ◌^◌, nat_lt, nat_le, if◌then◌else◌, List, [], ◌∷◌, length, Option, Some, None, Result, Ok, Err}
 use Rattle.std.specs.Option.{option_or}
 use Rattle.sbl_ast.specs.Source.{Source}
 use Rattle.sbl_semantics.specs.Limit.{max_word_length, default_limit}
@@ -32,8 +32,7 @@ max_runs = 2 ^ 64 - 1
 abbrev pub word_fault : List (List ℕ) → List ℕ → Option EditFault
 word_fault words w =
     if nat_lt max_word_length (length w) then Some fault.WordTooLong
-    else (if is_skipped w words then None
-    else (if nat_le max_words (length words) then Some fault.Full else None))
+    else (if is_skipped w words then None else (if nat_le max_words (length words) then Some fault.Full else None))
 
 -- the first fault of a list of words, taken in turn
 abbrev pub opening_fault : List (List ℕ) → List (List ℕ) → Option EditFault
@@ -42,7 +41,7 @@ opening_fault words (w ∷ ws) = option_or (word_fault words w) (opening_fault (
 
 -- the bench of a script and a list of words: each word of the vocabulary is run once
 abbrev pub opening_contents : Source → List (List ℕ) → Contents
-opening_contents script words = record { setting = record { script = script; limit = default_limit }; words = vocabulary words; count = length (vocabulary words) }
+opening_contents p ws = record { setting = record { script = p; limit = default_limit }; words = vocabulary ws; count = length (vocabulary ws) }
 
 -- the fault is this one, or an allocation failed
 abbrev pub IsFaultOrMemory : Option EditFault → EditFault → Type 0
@@ -53,8 +52,3 @@ IsFaultOrMemory verdict f = verdict ≡ Some f
 abbrev pub Opens : {B : Type 0} → Source → List (List ℕ) → (B → Contents) → Result B EditFault → Type 0
 Opens script words state (Ok bench) = (opening_fault [] words ≡ None) × (state bench ≡ opening_contents script words)
 Opens script words state (Err f) = IsFaultOrMemory (opening_fault [] words) f
-
--- ---- names for proofs
-
-abbrev pub is_full : List (List ℕ) → Bool
-is_full words = nat_le max_words (length words)

@@ -1,5 +1,6 @@
 -- The edits of a bench: when each is refused, which words it runs, and the bench after it.
-use Rattle.std.specs.Prelude.{◌≡◌, ◌≢◌, ◌≤◌, ◌⊎◌, ◌&&◌, ℕ, ◌+◌, ◌-◌, min, Bool, true, false, List, [], ◌∷◌, ◌++◌, length, Option, Some, None, Result, Ok, Err, nat_le, nat_lt, if◌then◌else◌}
+use Rattle.std.specs.Prelude.{◌≡◌, ◌≢◌, ◌≤◌, ◌⊎◌, ◌&&◌, ℕ, ◌+◌, ◌-◌, min, nat_le, nat_lt, Bool, true, false, if◌then◌else◌}
+use Rattle.std.specs.Prelude.{List, [], ◌∷◌, ◌++◌, length, Option, Some, None, Result, Ok, Err}
 use Rattle.std.specs.List.{filter}
 use Rattle.std.specs.Option.{option_map_or}
 use Rattle.std.specs.Str.{bytes_eq}
@@ -21,14 +22,13 @@ use Rattle.sbl_machine.specs.EditedItem.{edited_item}
 use Rattle.sbl_bench.specs.declared.fault.EditFault.{EditFault}
 use Rattle.sbl_bench.specs.declared.fault.EditFault.TheVariants as fault
 
--- A word is added or removed; a text replaces something in the script; these bytes replace the whole script; a script that
--- was checked before comes into force; the limit of steps is set.
+-- A word is added or removed; a text replaces a part of the script; these bytes replace the whole script; the limit of steps is
+-- set.
 pub data Edit : Type 0 where
   Add : List ℕ → Edit
   Remove : List ℕ → Edit
   Replace : ScriptEdit → List ℕ → Edit
   Whole : List ℕ → Edit
-  Install : Source → Edit
   Limit : ℕ → Edit
 
 -- the body of the routine of this name is replaced
@@ -49,8 +49,7 @@ abbrev pub refusal_of_add : Contents → List ℕ → Option EditFault
 refusal_of_add s [] = Some fault.EmptyWord
 refusal_of_add s word =
     if nat_lt max_word_length (length word) then Some fault.WordTooLong
-    else (if is_word word s.words then Some fault.Present
-    else (if nat_le max_words (length s.words) then Some fault.Full else None))
+    else (if is_word word s.words then Some fault.Present else (if nat_le max_words (length s.words) then Some fault.Full else None))
 
 -- the fault of an edit of a script, as a fault of the bench
 abbrev pub fault_of_script : declared.EditFault → EditFault
@@ -61,9 +60,13 @@ fault_of_script script.AmongCount = fault.AmongCount
 fault_of_script (script.Script f) = fault.Script f
 fault_of_script script.OutOfMemory = fault.OutOfMemory
 
--- the limits that may be set
+-- the highest limit that may be set
+abbrev pub max_limit : ℕ
+max_limit = 10000000
+
+-- whether the limit may be set
 abbrev pub is_limit : ℕ → Bool
-is_limit n = nat_le 1 n && nat_le n 10000000
+is_limit n = nat_le 1 n && nat_le n max_limit
 
 -- the edit is refused with this fault, whatever the count of runs is
 abbrev pub IsRefused : Contents → Edit → EditFault → Type 0
@@ -71,7 +74,6 @@ IsRefused s (Add word) f = refusal_of_add s word ≡ Some f
 IsRefused s (Remove word) f = (is_word word s.words ≡ false) × (f ≡ fault.Absent)
 IsRefused s (Replace what text) f = (g : declared.EditFault) × IsEditFault s.setting.script what text g × (f ≡ fault_of_script g)
 IsRefused s (Whole bytes) f = (g : ScriptFault) × IsFaultOf bytes s.setting.script.external g × (f ≡ fault.Script g)
-IsRefused s (Install script) f = ⊥
 IsRefused s (Limit n) f = (is_limit n ≡ false) × (f ≡ fault.BadLimit)
 
 -- the edit is not refused in this way, and this is the setting after it
@@ -80,7 +82,6 @@ IsSettingAfter s (Add word) t = (refusal_of_add s word ≡ None) × (t ≡ s.set
 IsSettingAfter s (Remove word) t = (is_word word s.words ≡ true) × (t ≡ s.setting)
 IsSettingAfter s (Replace what text) t = IsEdited s.setting.script what text t.script × (t.limit ≡ s.setting.limit)
 IsSettingAfter s (Whole bytes) t = IsScriptOf bytes s.setting.script.external t.script × (t.limit ≡ s.setting.limit)
-IsSettingAfter s (Install script) t = (t.script ≡ script) × (t.limit ≡ s.setting.limit)
 IsSettingAfter s (Limit n) t = (is_limit n ≡ true) × (t.script ≡ s.setting.script) × (t.limit ≡ n)
 
 -- whether it is an edit of the script
@@ -100,9 +101,9 @@ words_after s _ = s.words
 
 -- Whether an edit has to run this word; t is the setting after the edit. An added word: only that word. A replacement: each
 -- word whose run before the edit touches the replaced item or, if that is a grouping, one that is built from it in the script
--- before the edit. A whole script, read or installed: each word whose run before the edit touches an item in which the two
--- scripts differ or, for a grouping, one that is built from it; all words if the scripts differ in more than such items. A
--- limit: each word whose run used more steps than the smaller of the old limit and the new one.
+-- before the edit. A whole script: each word whose run before the edit touches an item in which the two scripts differ or, for a
+-- grouping, one that is built from it; all words if the scripts differ in more than such items. A limit: each word whose run used
+-- more steps than the smaller of the old limit and the new one.
 abbrev pub needs_run : Contents → Edit → Setting → List ℕ → Bool
 needs_run s (Add word) t w = bytes_eq word w
 needs_run s (Remove word) t w = false
@@ -124,22 +125,27 @@ pub record IsAccepted (s : Contents) (e : Edit) (t : Contents) : Type 0 where
   pub counts : nat_lt (max_runs - s.count) (runs_needed s e setting) ≡ false
   pub is : t ≡ record { setting = setting; words = words_after s e; count = s.count + runs_needed s e setting }
 
--- The verdict on the edit, none if it is accepted, and the bench after it. An edit that is not refused otherwise is refused if too
--- few counts are left for the runs that it needs. A refused edit changes nothing.
+-- the edit is refused with this fault since too few counts are left for the words that it has to run
+abbrev pub IsMeterFull : Contents → Edit → EditFault → Type 0
+IsMeterFull s e f = (t : Setting) × IsSettingAfter s e t × (nat_lt (max_runs - s.count) (runs_needed s e t) ≡ true) × (f ≡ fault.MeterFull)
+
+-- The verdict on the edit, none if it is accepted, and the bench after it. A refused edit changes nothing.
 abbrev pub IsVerdict : Contents → Edit → Option EditFault → Contents → Type 0
 IsVerdict s e None t = IsAccepted s e t
-IsVerdict s e (Some f) t =
-    (IsRefused s e f ⊎ ((next : Setting) × IsSettingAfter s e next × (nat_lt (max_runs - s.count) (runs_needed s e next) ≡ true) × (f ≡ fault.MeterFull))) × (t ≡ s)
+IsVerdict s e (Some f) t = (IsRefused s e f ⊎ IsMeterFull s e f) × (t ≡ s)
 
 -- ---- memory
 
--- An allocation failed. Only an edit that would be accepted, refused for its text, or refused for too few counts allocates; the
--- other refusals and a removal need no memory. Nothing is changed, except that some of the runs that the edit needs may have been
--- counted if it would have been accepted.
-pub record IsOutOfMemory (s : Contents) (e : Edit) (t : Contents) : Type 0 where
-  pub wanted : (word : List ℕ) → e ≢ Remove word
-  pub is : (((f : EditFault) → IsRefused s e f → (f ≡ fault.AmongCount) ⊎ ((g : ScriptFault) × (f ≡ fault.Script g))) × (t ≡ s))
-      ⊎ ((made : Contents) × (accepted : IsAccepted s e made) × (n : ℕ) × (n ≤ runs_needed s e accepted.setting) × (t ≡ record s { count = s.count + n }))
+-- If the edit is refused otherwise than for too few counts, it is refused for its text. The other refusals need no memory.
+abbrev pub PassesTests : Contents → Edit → Type 0
+PassesTests s e = (f : EditFault) → IsRefused s e f → (f ≡ fault.AmongCount) ⊎ ((g : ScriptFault) × (f ≡ fault.Script g))
+
+-- An allocation failed, and the edit is no removal, which needs no memory. Before the edit: nothing is changed. During it: it would
+-- be accepted, and at most the runs that it needs were counted; nothing else is changed.
+pub data IsOutOfMemory (s : Contents) (e : Edit) (t : Contents) : Type 0 where
+  BeforeEdit : ((word : List ℕ) → e ≢ Remove word) → PassesTests s e → t ≡ s → IsOutOfMemory s e t
+  During : ((word : List ℕ) → e ≢ Remove word) → (made : Contents) (is : IsAccepted s e made) (n : ℕ)
+    → n ≤ runs_needed s e is.setting → t ≡ record s { count = s.count + n } → IsOutOfMemory s e t
 
 -- ---- the result of an edit, and the bench after it
 
@@ -147,37 +153,3 @@ abbrev pub Edits : Result (Unit {0}) EditFault → Contents → Edit → Content
 Edits (Ok u) s e t = IsVerdict s e None t
 Edits (Err fault.OutOfMemory) s e t = IsOutOfMemory s e t
 Edits (Err f) s e t = IsVerdict s e (Some f) t
-
--- ---- names for proofs
-
--- the highest limit
-abbrev pub max_limit : ℕ
-max_limit = 10000000
-
--- whether fewer counts are left than the edit has words to run
-abbrev pub lacks_counts : Contents → Edit → Setting → Bool
-lacks_counts s e t = nat_lt (max_runs - s.count) (runs_needed s e t)
-
--- the bench with n more runs counted
-abbrev pub count_runs : ℕ → Contents → Contents
-count_runs n s = record s { count = s.count + n }
-
--- if the edit is refused, it is refused for its text; every other refusal is found without an allocation
-abbrev pub PassesTests : Contents → Edit → Type 0
-PassesTests s e = (f : EditFault) → IsRefused s e f → (f ≡ fault.AmongCount) ⊎ ((g : ScriptFault) × (f ≡ fault.Script g))
-
--- whether the run of a word meets one of the listed items, by what each of them affects; true if there is no list
-abbrev pub meets_listed : Option (List Item') → Source → List ℕ → ℕ → Bool
-meets_listed listed script word limit = option_map_or (λ items. meets_one items script word limit) listed true
-
--- the bench after an accepted edit with this setting after it
-abbrev pub contents_after : Contents → Edit → Setting → Contents
-contents_after s e t = record { setting = t; words = words_after s e; count = s.count + runs_needed s e t }
-
--- only the number of counts that are left is too low for the edit
-abbrev pub IsMeterFull : Contents → Edit → EditFault → Type 0
-IsMeterFull s e f = (setting : Setting) × IsSettingAfter s e setting × (lacks_counts s e setting ≡ true) × (f ≡ fault.MeterFull)
-
--- the edit is accepted, but only some of the runs that it needs were made
-abbrev pub IsBrokenOff : Contents → Edit → Contents → Type 0
-IsBrokenOff s e t = (made : Contents) × (accepted : IsAccepted s e made) × (n : ℕ) × (n ≤ runs_needed s e accepted.setting) × (t ≡ count_runs n s)

@@ -11,9 +11,5 @@ pub mod KeptRuns
 pub mod LeavesChanges
 pub mod Whys
 pub mod WordHash
--- what the functions inside the crate promise each other: nothing in these need be believed
-pub mod Pairs
-pub mod Stops
-pub mod AffectedWords
-pub mod Changes
-pub mod Last
+-- what the functions inside the crate promise each other, and names for proofs: nothing in these need be believed
+pub mod inside

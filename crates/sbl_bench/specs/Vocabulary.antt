@@ -24,9 +24,3 @@ vocabulary words = fold with_word [] words
 abbrev pub without : List ℕ → List (List ℕ) → List (List ℕ)
 without word [] = []
 without word (w ∷ words) = if bytes_eq word w then words else w ∷ without word words
-
--- ---- names for proofs
-
--- the words with some more, taken in turn
-abbrev pub with_all : List (List ℕ) → List (List ℕ) → List (List ℕ)
-with_all words ws = fold with_word words ws

@@ -1,9 +1,9 @@
 //! The words that a change of the script or of the limit affects.
 
 ghost use Rattle.std.specs.Prelude.{◌≡◌, IfOk};
-ghost use Rattle.sbl_bench.specs.AffectedWords as spec;
-ghost use Rattle.sbl_bench.specs.AffectedWords.{AreMet, IsLinkedMachineOf, differs, source_of};
-ghost use Rattle.sbl_bench.specs.Changes.{affected_of};
+ghost use Rattle.sbl_bench.specs.inside.AffectedWords as spec;
+ghost use Rattle.sbl_bench.specs.inside.AffectedWords.{AreMet, IsLinkedMachineOf, differs, source_of};
+ghost use Rattle.sbl_bench.specs.inside.Changes.{affected_of};
 
 use crate::last_run::LastRun;
 use crate::script_diff::differences;

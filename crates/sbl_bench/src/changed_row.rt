@@ -3,7 +3,7 @@
 ghost use Rattle.std.specs.Prelude.{◌≡◌, ◌++◌, map, OnOk, IfOk};
 ghost use Rattle.std.specs.Option.{option_map, option_to_list};
 ghost use Rattle.sbl_rows.specs.ChangedRows.{view_changed_row};
-ghost use Rattle.sbl_bench.specs.Last.{changed_since, last_changes};
+ghost use Rattle.sbl_bench.specs.inside.Last.{changed_since, last_changes};
 
 use crate::bench::Bench;
 use crate::change::Change;

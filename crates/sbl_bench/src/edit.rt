@@ -1,7 +1,10 @@
 //! Edits of a bench.
 
-ghost use Rattle.std.specs.Prelude.{◌≡◌, ◌≤◌, ◌<◌, ◌+◌, ◌^◌, ℕ, List, MatchOption, OnOk, OnErr, true, false};
+ghost use Rattle.std.specs.Prelude.{◌≡◌, ◌≤◌, ◌<◌, ◌+◌, ◌^◌, ℕ, List, MatchOption, IfOk, true, false};
 ghost use Rattle.sbl_bench.specs.Edits.{is_limit};
+ghost use Rattle.sbl_machine.specs.EditedItem.{edited_item};
+ghost use Rattle.sbl_script.specs.Parts.{view_part};
+ghost use Rattle.sbl_semantics.specs.TouchedItems.{item_of};
 
 use crate::affected_words::{
     AffectedWords, above_smaller, affected_by_exchange, affected_by_items,
@@ -16,20 +19,22 @@ use sbl_machine::laws::{
 };
 use sbl_machine::{Item, Machine};
 use sbl_run_state::MAX_WORD_LENGTH;
-use sbl_script::Script;
 use sbl_script::laws::is_well_declared;
+use sbl_script::{Part, Script};
+use std::alloc::{AllocError, Global};
 use std::mem::swap;
 use std::slice::from_ref;
 
 impl Bench {
     ghost use Rattle.sbl_bench.specs.KeptRuns.{contents_of};
-    ghost use Rattle.sbl_bench.specs.Changes.{Brings, IsExchange, IsTaken, affected_of};
-    ghost use Rattle.sbl_bench.specs.Edits.{Edit, Edits, Add, Grouping, Install, Limit, Remove, Replace, Routine, Among, Whole};
+    ghost use Rattle.sbl_bench.specs.inside.Changes.{Brings, IsExchange, IsTaken, affected_of};
+    ghost use Rattle.sbl_bench.specs.Edits.{Edit, Edits, Add, Grouping, Limit, Remove, Replace, Routine, Among, Whole};
     ghost use Rattle.sbl_bench.specs.LeavesChanges.{LeavesChanges};
     ghost use Rattle.sbl_rows.specs.Setting.{under};
     ghost use Rattle.sbl_semantics.specs.TouchedItems.{item_of};
     ghost use Rattle.sbl_script.specs.Edits.{ScriptEdit};
     ghost use Rattle.sbl_script.specs.ParsedScript.{source_of};
+    ghost use Rattle.sbl_script.specs.Parts.{view_part};
 
     /// Appends a word to the vocabulary and runs it once.
     ///
@@ -87,63 +92,52 @@ impl Bench {
         Ok(())
     }
 
-    /// Replaces the body of the routine or external of this name by the text, and runs each word once whose run entered the
-    /// body before. The text is one row of the grammar. It is read in the mode and with the escapes that are in force at the
-    /// routine.
+    /// Replaces a part of the script by the text, and runs each word once whose run before used the part: entered the routine,
+    /// searched the among, or tested the grouping or one that is built from it, directly or through others. The text is as for
+    /// `Script::with`: one row of the grammar, one whole `among ( .. )`, or what follows the name in the definition of a
+    /// grouping. It is read in the mode, with the escapes and at the depth of the part that it replaces.
     ///
-    /// Returns `NoRoutine` if the script defines no routine of this name, without an allocation. Then returns `Script` with the
-    /// fault of the text or of the script with it, and then `MeterFull` if fewer counts of runs are left than there are words
-    /// to run. If an allocation fails, may return `OutOfMemory` instead of any result but `NoRoutine`. After an error, the
-    /// script, vocabulary, rows and classes are unchanged. The count of runs is unchanged too, except that after `OutOfMemory`
-    /// it may be higher by at most the number of words to run, if the edit would have been accepted. (Our own choice.)
+    /// # Errors
+    ///
+    /// Returns `NoRoutine` or `NoGrouping` if the script has no such definition, and `NoAmong` if the routine has no among of
+    /// this number, counted from 1; these do not allocate. Then returns `Script` with the fault of the text or of the script
+    /// with it, `AmongCount` if the text and the among that it replaces have different numbers of amongs, including those
+    /// inside, and `MeterFull` if fewer counts of runs are left than there are words to run. If an allocation fails, may return
+    /// `OutOfMemory` instead of any result but the first three. After an error, the script, limit, vocabulary, rows and classes
+    /// are unchanged. The count of runs is unchanged too, except that after `OutOfMemory` it may be higher by at most the number
+    /// of words to run, if the edit would have been accepted. (Our own choice.)
+    pub fn replace(&mut self, part: Part<'_>, text: &str) -> Result<(), EditFault>
+        ensures edits { Edits result (contents_of self.old) (Replace (view_part part.entry) text.now) (contents_of self.new) }
+        ensures changes { LeavesChanges result self.old self.new }
+    {
+        let script = self.script.with(self.alloc, part, text)?;
+        let item = item_at(self.alloc, part)?;
+        self.take_edited(script, &item)
+    }
+
+    /// Replaces the body of the routine or external of this name, as `replace` does.
     pub fn replace_routine(&mut self, name: &str, text: &str) -> Result<(), EditFault>
         ensures edits { Edits result (contents_of self.old) (Routine name.now text.now) (contents_of self.new) }
         ensures changes { LeavesChanges result self.old self.new }
     {
-        let script = self.script.with_routine(self.alloc, name, text)?;
-        let item = Item::Routine(String::from_str(self.alloc, name)?);
-        self.take_edited(script, &item)
+        self.replace(Part::Routine(name), text)
     }
 
-    /// Replaces the `k`-th among of the routine or external of this name by the text, and runs each word once whose run
-    /// searched that among before. Amongs are counted from 1 in the order of the words `among`. The text is one whole `among (
-    /// .. )`. It is read in the mode, with the escapes and at the depth of the among that it replaces.
-    ///
-    /// Returns `NoRoutine` if the script defines no routine of this name, and `NoAmong` if `k` is 0 or above the number of
-    /// amongs in it, both without an allocation. Then returns `Script` with the fault of the text or of the script with it,
-    /// `AmongCount` if the text and the among that it replaces have different numbers of amongs, including those inside, and
-    /// `MeterFull` if fewer counts of runs are left than there are words to run. If an allocation fails, may return
-    /// `OutOfMemory` instead of any result but `NoRoutine` and `NoAmong`. After an error, the script, vocabulary, rows and
-    /// classes are unchanged. The count of runs is unchanged too, except that after `OutOfMemory` it may be higher by at most
-    /// the number of words to run, if the edit would have been accepted. (Our own choice.)
+    /// Replaces the `k`-th among of the routine or external of this name, as `replace` does. Amongs are counted from 1 in the
+    /// order of the words `among`.
     pub fn replace_among(&mut self, name: &str, k: u64, text: &str) -> Result<(), EditFault>
         ensures edits { Edits result (contents_of self.old) (Among name.now k text.now) (contents_of self.new) }
         ensures changes { LeavesChanges result self.old self.new }
     {
-        let script = self.script.with_among(self.alloc, name, k, text)?;
-        let item = Item::Among(String::from_str(self.alloc, name)?, k);
-        self.take_edited(script, &item)
+        self.replace(Part::Among(name, k), text)
     }
 
-    /// Replaces the terms of a grouping by a text, and runs each word once whose run before tested this grouping or one that is
-    /// built from it, directly or through others. The text is what follows the name in the definition of a grouping. It is read
-    /// with the escapes and macros of the items before it.
-    ///
-    /// # Errors
-    ///
-    /// Returns `NoGrouping` if the script defines no grouping of this name, without an allocation. Then returns `Script` with
-    /// the fault of the text or of the script with it, and then `MeterFull` if fewer counts of runs are left than there are
-    /// words to run. If an allocation fails, may return `OutOfMemory` instead of any result but `NoGrouping`. After an error,
-    /// the script, limit, vocabulary, rows and classes are unchanged. The count of runs is unchanged too, except that after
-    /// `OutOfMemory` it may be higher by at most the number of words to run, if the edit would have been accepted. (Our own
-    /// choice.)
+    /// Replaces the terms of the grouping of this name, as `replace` does.
     pub fn replace_grouping(&mut self, name: &str, text: &str) -> Result<(), EditFault>
         ensures edits { Edits result (contents_of self.old) (Grouping name.now text.now) (contents_of self.new) }
         ensures changes { LeavesChanges result self.old self.new }
     {
-        let script = self.script.with_grouping(self.alloc, name, text)?;
-        let item = Item::Grouping(String::from_str(self.alloc, name)?);
-        self.take_edited(script, &item)
+        self.replace(Part::Grouping(name), text)
     }
 
     /// Sets the maximum number of steps of a run, and runs each word once whose run used more steps than the smaller of the old
@@ -203,24 +197,6 @@ impl Bench {
         self.exchange(&mut script)
     }
 
-    /// Puts a script into force, and runs the words that `replace_script` would run for it. Then `script` is the one that was
-    /// in force before, so that the same call takes the edit back.
-    ///
-    /// # Errors
-    ///
-    /// Returns `MeterFull` if fewer counts of runs are left than there are words to run. If an allocation fails, may return
-    /// `OutOfMemory` instead of any result. After an error, `script` is unchanged, and so are the script in force, limit,
-    /// vocabulary, rows and classes. The count of runs is unchanged too, except that after `OutOfMemory` it may be higher by at
-    /// most the number of words to run. (Our own choice.)
-    pub fn install(&mut self, script: &mut Script) -> Result<(), EditFault>
-        ensures edits { Edits result (contents_of self.old) (Install (source_of script.old)) (contents_of self.new) }
-        ensures changes { LeavesChanges result self.old self.new }
-        ensures exchanged { OnOk result (script.new ≡ self.old.script) }
-        ensures kept { OnErr result (script.new ≡ script.old) }
-    {
-        self.exchange(script)
-    }
-
     // Takes the script that was made by replacing an item.
     fn take_edited(&mut self, script: Script, item: &Item) -> Result<(), EditFault>
         requires { (e : ScriptEdit) × (text : List ℕ) × IsTaken (contents_of self.old) e text (source_of script) (item_of item.now) }
@@ -242,8 +218,6 @@ impl Bench {
         requires { (e : Edit) × IsExchange (contents_of self.old) e (source_of script.old) }
         ensures edits { (e : Edit) → IsExchange (contents_of self.old) e (source_of script.old) → Edits result (contents_of self.old) e (contents_of self.new) }
         ensures changes { LeavesChanges result self.old self.new }
-        ensures exchanged { OnOk result (script.new ≡ self.old.script) }
-        ensures kept { OnErr result (script.new ≡ script.old) }
     {
         differing_stay();
         is_well_declared(&self.script);
@@ -266,8 +240,6 @@ impl Bench {
         requires { (e : Edit) × Brings (contents_of self.old) e (under (source_of script.old) self.old.limit) (affected_of affected.now) }
         ensures edits { (e : Edit) → Brings (contents_of self.old) e (under (source_of script.old) self.old.limit) (affected_of affected.now) → Edits result (contents_of self.old) e (contents_of self.new) }
         ensures changes { LeavesChanges result self.old self.new }
-        ensures exchanged { OnOk result (script.new ≡ self.old.script) }
-        ensures kept { OnErr result (script.new ≡ script.old) }
     {
         let after = Machine::new(self.alloc, script)?;
         let changes = rerun(
@@ -295,4 +267,15 @@ fn limit_of(number: u64) -> Option<u32>
         return None;
     }
     u32::try_from(number).ok()
+}
+
+/// Returns the item that a part is. Returns `AllocError` if an allocation fails.
+fn item_at(alloc: Global, part: Part<'_>) -> Result<Item, AllocError>
+    ensures { IfOk result (λ item. item_of item ≡ edited_item (view_part part.entry)) }
+{
+    match part {
+        Part::Routine(name) => Ok(Item::Routine(String::from_str(alloc, name)?)),
+        Part::Among(name, k) => Ok(Item::Among(String::from_str(alloc, name)?, k)),
+        Part::Grouping(name) => Ok(Item::Grouping(String::from_str(alloc, name)?)),
+    }
 }

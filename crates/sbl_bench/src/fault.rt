@@ -122,7 +122,7 @@ impl From<sbl_script::EditFault> for EditFault {
 }
 
 impl From<ScriptFault> for EditFault {
-    ghost use Rattle.sbl_bench.specs.Stops.{IsFaultOfText};
+    ghost use Rattle.sbl_bench.specs.inside.Stops.{IsFaultOfText};
 
     ghost from_gives = { λ fault result. IsFaultOfText fault result };
 
@@ -132,7 +132,7 @@ impl From<ScriptFault> for EditFault {
 }
 
 impl From<RunStop> for EditFault {
-    ghost use Rattle.sbl_bench.specs.Stops.{fault_of_stop};
+    ghost use Rattle.sbl_bench.specs.inside.Stops.{fault_of_stop};
 
     ghost from_gives = { λ stop fault. fault ≡ fault_of_stop stop };
 

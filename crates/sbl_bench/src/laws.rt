@@ -2,7 +2,7 @@
 
 ghost use Rattle.std.specs.Prelude.{All};
 ghost use Rattle.sbl_bench.specs.KeptRuns.{IsWord};
-ghost use Rattle.sbl_bench.specs.EqualScripts.{EqualScriptRunsNothing, InstalledAgainRunsNothing};
+ghost use Rattle.sbl_bench.specs.EqualScripts.{EqualScriptRunsNothing};
 ghost use Rattle.sbl_bench.specs.OneVerdict.{VerdictIsOne};
 ghost use Rattle.sbl_bench.specs.Undo.{UndoOfLimit, UndoOfScript};
 
@@ -21,13 +21,12 @@ pub fn one_verdict()
 
 /// If a whole script is the one in force, whatever its layout and comments, it runs no word and changes nothing.
 pub fn equal_scripts_run_nothing()
-    ensures read { EqualScriptRunsNothing }
-    ensures installed { InstalledAgainRunsNothing }
+    ensures { EqualScriptRunsNothing }
 {
     only_items_differ();
 }
 
-/// If the script before an edit is installed again, or the limit before is set again, the rows, classes and traces are those of
+/// If bytes that are read as the script before an edit replace the whole script, or the limit before is set again, the rows, classes and traces are those of
 /// that script and limit over the current words, however many words were added and removed in between.
 pub fn undo_restores()
     ensures script { UndoOfScript }

@@ -4,8 +4,8 @@
 
 ghost use Rattle.std.specs.Prelude.{◌≡◌, List, Some, IfOk, OnOk};
 ghost use Rattle.sbl_bench.specs.KeptRuns.{KeptWord};
-ghost use Rattle.sbl_bench.specs.Pairs.{ArePaired, IsIndexed, IsOneMore, find};
-ghost use Rattle.sbl_bench.specs.Last.{Follows};
+ghost use Rattle.sbl_bench.specs.inside.Pairs.{ArePaired, IsIndexed, IsOneMore, find};
+ghost use Rattle.sbl_bench.specs.inside.Last.{Follows};
 
 use crate::change::Change;
 use crate::last_run::LastRun;

@@ -77,6 +77,13 @@ value_in id words = option_and_then (λ p. first_of id p.1) (subcommand_of progr
 abbrev pub flag_in : Text → List Text → Option Text
 flag_in id words = option_and_then (λ p. one_of id p.1) (subcommand_of program words)
 
+-- the option is given; it is not, though the subcommand has it
+abbrev pub IsGiven : Text → List Text → Type 0
+IsGiven id words = flag_in id words ≡ Some (codes "true")
+
+abbrev pub IsMissing : Text → List Text → Type 0
+IsMissing id words = flag_in id words ≡ Some (codes "false")
+
 -- whether this is the truth of an option without a value: it is false if the subcommand has no such option
 pub record IsFlag (text : Option Text) (is : Bool) : Type 0 where
   pub given : text ≡ Some (codes "true") → is ≡ true

@@ -3,7 +3,7 @@ ghost use Rattle.std.specs.Prelude.{◌≡◌, IfOk, None, Some, codes, false, m
 ghost use Rattle.std.specs.String.{string_bytes};
 ghost use Rattle.clap.specs.Walk.{rule_of};
 ghost use Rattle.clap.specs.Words.{Text, app_of, first_value, found_of, new_rule, one_text};
-ghost use Rattle.sbl_command_line.specs.CommandLine.{IsFlag, IsVerb, check_app, flag, flag_in, program, required_rule, run_app, session_app, stem_app, filter_app, value_in, verb_app, verb_and_external, work_app};
+ghost use Rattle.sbl_command_line.specs.CommandLine.{IsFlag, IsGiven, IsMissing, IsVerb, check_app, flag, flag_in, program, required_rule, run_app, session_app, stem_app, filter_app, value_in, verb_app, verb_and_external, work_app};
 
 use clap::error::ErrorKind;
 use clap::{Arg, ArgAction, ArgMatches, Command, Error};
@@ -379,9 +379,9 @@ pub fn read_words<'a>(alloc: Global, words: &'a [String]) -> Result<Wanted, Erro
     ensures stems { IfOk result (λ wanted. option_map string_bytes wanted.options.stems ≡ value_in (codes "STEMS") (map string_bytes words.now)) }
     ensures strict { IfOk result (λ wanted. IsFlag (flag_in (codes "strict") (map string_bytes words.now)) wanted.options.is_strict) }
     ensures places { IfOk result (λ wanted. IsFlag (flag_in (codes "places") (map string_bytes words.now)) wanted.options.shows_places) }
-    ensures rows { IfOk result (λ wanted. flag_in (codes "rows") (map string_bytes words.now) ≡ Some (codes "true") → wanted.options.face ≡ Some Face.Rows) }
-    ensures text { IfOk result (λ wanted. flag_in (codes "rows") (map string_bytes words.now) ≡ Some (codes "false") → flag_in (codes "text") (map string_bytes words.now) ≡ Some (codes "true") → wanted.options.face ≡ Some Face.Text) }
-    ensures neither { IfOk result (λ wanted. flag_in (codes "rows") (map string_bytes words.now) ≡ Some (codes "false") → flag_in (codes "text") (map string_bytes words.now) ≡ Some (codes "false") → wanted.options.face ≡ None) }
+    ensures rows { IfOk result (λ wanted. IsGiven (codes "rows") (map string_bytes words.now) → wanted.options.face ≡ Some Face.Rows) }
+    ensures text { IfOk result (λ wanted. IsMissing (codes "rows") (map string_bytes words.now) → IsGiven (codes "text") (map string_bytes words.now) → wanted.options.face ≡ Some Face.Text) }
+    ensures neither { IfOk result (λ wanted. IsMissing (codes "rows") (map string_bytes words.now) → IsMissing (codes "text") (map string_bytes words.now) → wanted.options.face ≡ None) }
 {
     let matches = make_program(alloc)?.try_get_matches_from(words)?;
     let Some((name, options)) = matches.subcommand() else {

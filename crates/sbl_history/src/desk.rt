@@ -127,13 +127,13 @@ impl Desk {
         Ok(())
     }
 
-    /// Replaces a part of the script by a text, as `Bench::replace_routine`, `Bench::replace_among` and `Bench::replace_grouping`
-    /// do, and remembers the edit if it changed the script. The text in force is the text before with this part put into it, if
-    /// that is a text of the script after the edit; otherwise the canonical text.
+    /// Replaces a part of the script by a text, as `Bench::replace` does, and remembers the edit if it changed the script. The text
+    /// in force is the text before with this part put into it, if that is a text of the script after the edit; otherwise the
+    /// canonical text.
     ///
     /// # Errors
     ///
-    /// Returns the faults of these three. Returns `OutOfMemory` also if an allocation fails before the edit is tried. Then the
+    /// Returns the faults of `Bench::replace`. Returns `OutOfMemory` also if an allocation fails before the edit is tried. Then the
     /// desk is unchanged.
     pub fn replace_part(
         &mut self,
@@ -146,7 +146,7 @@ impl Desk {
         let before = self.before(bench)?;
         let external = bench.script().external();
         let found = splice(self.alloc, &before.text, external, target, text)?;
-        edit_part(bench, target, text)?;
+        bench.replace(target, text)?;
         let kept = text_in_force(self.alloc, bench, found);
         self.note(bench, before, kept);
         Ok(())
@@ -190,17 +190,6 @@ impl Desk {
         ensures { IfOk result (λ t. t.items ≡ text_in (contents_of bench.now) (state_of self.now).text) }
     {
         text_of(self.alloc, bench, &self.text)
-    }
-}
-
-/// Replaces a part of the script of a bench by a text. Returns the fault of the bench.
-fn edit_part(bench: &mut Bench, target: Part<'_>, text: &str) -> Result<(), EditFault>
-    ensures { Edits result (contents_of bench.old) (Replace (view_part target.entry) text.now) (contents_of bench.new) }
-{
-    match target {
-        Part::Routine(name) => bench.replace_routine(name, text),
-        Part::Among(name, k) => bench.replace_among(name, k, text),
-        Part::Grouping(name) => bench.replace_grouping(name, text),
     }
 }
 

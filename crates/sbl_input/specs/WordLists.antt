@@ -4,10 +4,10 @@ use Rattle.std.specs.Option.{option_map}
 use Rattle.std.specs.Str.{chars}
 use Rattle.std.specs.declared.vec.Vec.{Vec}
 use Rattle.std.specs.declared.alloc.Global.{Global}
-use Rattle.sbl_bench.specs.Contents.{opening_fault}
+use Rattle.sbl_bench.specs.Contents.{opening_fault, word_fault}
 use Rattle.sbl_bench.specs.Vocabulary.{vocabulary}
 use Rattle.sbl_io.specs.declared.faults.ServeFault.TheVariants as fault
-use Rattle.sbl_formats.specs.Block.{Breaks}
+use Rattle.sbl_reports.specs.Block.{Breaks}
 use Rattle.sbl_input.specs.Loading.{TookNoText, TookSome, TookWords, WordLines}
 use Rattle.sbl_input.specs.declared.faults.LoadFault.{LoadFault}
 use Rattle.sbl_input.specs.declared.faults.LoadFault.TheVariants.{Input, Script, Open}
@@ -43,6 +43,12 @@ HasRoom (Distinct words) = vocabulary (texts_of words.keys) ≡ texts_of words.k
 abbrev pub AreKept : List (List ℕ) → Option (List ℕ) → List (List ℕ) → Type 0
 AreKept words None all = (opening_fault [] all ≡ None) × (opening_fault [] words ≡ None) × (vocabulary words ≡ vocabulary all)
 AreKept words (Some refused) all = (is_some (opening_fault [] all) ≡ true) × (opening_fault [] (words ++ refused ∷ []) ≡ opening_fault [] all)
+
+-- a word that a bench does not refuse is kept after all words so far
+abbrev pub KeepsWord : KeptWords → List ℕ → KeptWords → Type 0
+KeepsWord old word new =
+    (all : List (List ℕ)) → HasRoom old → AreKept (texts_in old) None all → word_fault (vocabulary (texts_in old)) word ≡ None →
+    AreKept (texts_in new) None (all ++ word ∷ [])
 
 abbrev pub HoldsWords : WordList → List (List ℕ) → Type 0
 HoldsWords list all = AreKept (texts_in list.words) (option_map (λ w. w.items) list.refused) all × AreDistinct list.words

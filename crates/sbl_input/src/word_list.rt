@@ -2,7 +2,7 @@
 ghost use Rattle.std.specs.Prelude.{◌≡◌, ◌∷◌, ◌++◌, [], ℕ, List, None, map, is_some, OnOk, IfOk};
 ghost use Rattle.sbl_bench.specs.Contents.{word_fault};
 ghost use Rattle.sbl_bench.specs.Vocabulary.{vocabulary, with_word};
-ghost use Rattle.sbl_input.specs.WordLists.{AreDistinct, AreKept, HasRoom, HoldsWords, OpensAs, texts_in, texts_of};
+ghost use Rattle.sbl_input.specs.WordLists.{AreDistinct, AreKept, HasRoom, HoldsWords, KeepsWord, OpensAs, texts_in, texts_of};
 
 use indexmap::IndexSet;
 use sbl_bench::{MAX_WORD_LENGTH, MAX_WORDS, WordKeys};
@@ -104,7 +104,7 @@ impl KeptWords {
 
     /// Appends a word that a bench does not refuse. Returns `AllocError` if an allocation fails.
     fn push(&mut self, word: Vec<char>) -> Result<(), AllocError>
-        ensures kept { OnOk result ((all : List (List ℕ)) → HasRoom self.old → AreKept (texts_in self.old) None all → word_fault (vocabulary (texts_in self.old)) word.items ≡ None → AreKept (texts_in self.new) None (all ++ word.items ∷ [])) }
+        ensures kept { OnOk result (KeepsWord self.old word.items self.new) }
         ensures distinct { OnOk result (AreDistinct self.old → AreDistinct self.new) }
     {
         match self {

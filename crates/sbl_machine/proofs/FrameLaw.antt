@@ -17,7 +17,8 @@ use Rattle.sbl_semantics.specs.declared.touch.Touch.TheVariants.{Entered, Tested
 use Rattle.sbl_machine.specs.BuiltFrom.{IsClosed, IsClosedAt}
 use Rattle.sbl_machine.specs.Frame.{AgreeOutside, RunsAlike, Frame}
 use Rattle.sbl_machine.specs.Holes.{with_holes, others_with_holes, holed_script}
-use Rattle.sbl_semantics.specs.Meaning.{row_does, body_does, calls, start, ending}
+use Rattle.sbl_semantics.specs.Meaning.{body_does, calls, start, ending}
+use Rattle.sbl_semantics.specs.inside.MeaningParts.{row_does}
 use Rattle.sbl_semantics.specs.Outcome.{outcome_at, used_at, touched_at, run_of, used_of, touches_of}
 use Rattle.sbl_semantics.specs.Control.{pay_first, enter, leave}
 use Rattle.sbl_semantics.specs.State.{State, Ending, Signals, Stops, Doing, pay}

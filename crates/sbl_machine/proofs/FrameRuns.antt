@@ -11,6 +11,7 @@ use Rattle.sbl_semantics.specs.declared.touch.Touch.{Touch}
 use Rattle.sbl_semantics.specs.declared.touch.Touch.TheVariants.{Searched, Tested}
 use Rattle.sbl_machine.specs.Holes.{blank, blanks, blanks_rows, blanks_others, blanks_starter, blanks_groups, nothing, hole, with_holes, rows_with_holes, others_with_holes, starter_with_holes, groups_with_holes}
 use Rattle.sbl_semantics.specs.Meaning as meaning
+use Rattle.sbl_semantics.specs.inside.MeaningParts as parts
 use Rattle.sbl_semantics.specs.Meaning.{offers, search, tests, worth, text}
 use Rattle.sbl_semantics.specs.Moves.{match, one_of}
 use Rattle.sbl_semantics.specs.Numbers.{integer_at}
@@ -96,7 +97,7 @@ module _ (picked : Touch → Bool) (ns : DeclaredNames) (class class' : List ℕ
     (call call' : List ℕ → Doing) (i : ℕ) (calls_alike : (n : List ℕ) → Alike picked i (call n) (call' n)) (holes : ℕ → Bool) (spot : (k : ℕ) → picked (Searched i k) ≡ holes (suc k)) where
   -- what a `substring` finds ahead is alike
   pub record Like (n n' : Option Among) : Type 0 where
-    pub search : Alike picked i (meaning.search_ahead ns class call n) (meaning.search_ahead ns class' call' n')
+    pub search : Alike picked i (parts.search_ahead ns class call n) (parts.search_ahead ns class' call' n')
 
   pub none_like : Like None None
   none_like = record { search = record { in_mode = λ m. signals_pair picked i false } }
@@ -205,7 +206,7 @@ module _ (picked : Touch → Bool) (ns : DeclaredNames) (class class' : List ℕ
     pub act_alike : (t : trees.Command) (r : Mode) (k k' : ℕ) (w w' : Bool) (n n' : Option Among) → k' ≡ k → w' ≡ w → Like n n' → Alike picked i (does r k w n t) (does' r k' w' n' (with_holes holes k t))
     act_alike (bracket rs) r k k' w w' n n' p q h = rows_alike rs r k k' w w' n n' p q h
     act_alike (simple_ x) r k k' w w' n n' p q h =
-        record { in_mode = λ m. simple_pair picked i x (meaning.search_ahead ns class call n) (meaning.search_ahead ns class' call' n') h.search m }
+        record { in_mode = λ m. simple_pair picked i x (parts.search_ahead ns class call n) (parts.search_ahead ns class' call' n') h.search m }
     act_alike (literal_ x) r k k' w w' n n' p q h = record { in_mode = λ m. same_pair picked i _ (match_same x.value m) }
     act_alike (name_ x) r k k' w w' n n' p q h = record { in_mode = λ m. name_pair x m }
     act_alike (non_ b x) r k k' w w' n n' p q h = record { in_mode = λ m. tests_pair false x m }
@@ -269,7 +270,7 @@ module _ (picked : Touch → Bool) (ns : DeclaredNames) (class class' : List ℕ
     groups_alike (group e es rs gs) (suc g) r k k' p = groups_alike gs g r (number_after_rows rs k) _ (after_rows_same holes rs k k' p)
 
   -- a routine's row
-  pub row_alike : (r : Mode) (c : trees.Command) (os : trees.Others) → Alike picked i (meaning.row_does ns class call r c os) (meaning.row_does ns class' call' r (with_holes holes 0 c) (others_with_holes holes (number_after c 0) os))
+  pub row_alike : (r : Mode) (c : trees.Command) (os : trees.Others) → Alike picked i (parts.row_does ns class call r c os) (parts.row_does ns class' call' r (with_holes holes 0 c) (others_with_holes holes (number_after c 0) os))
   row_alike r c os =
       let p1 = after_same holes c 0 0 refl in
       let h1 = first_others_like os r (number_after c 0) _ None None p1 none_like in

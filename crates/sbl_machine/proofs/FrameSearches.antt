@@ -7,7 +7,8 @@ use Rattle.sbl_semantics.specs.Fitting.{ahead_at}
 use Rattle.sbl_ast.specs.declared.mode.Mode.{Mode}
 use Rattle.sbl_semantics.specs.declared.touch.Touch.{Touch}
 use Rattle.sbl_semantics.specs.declared.touch.Touch.TheVariants.{Searched}
-use Rattle.sbl_semantics.specs.Meaning.{Offer, offering, condition_does, takes, try_each, begins}
+use Rattle.sbl_semantics.specs.Meaning.{Offer, takes, try_each}
+use Rattle.sbl_semantics.specs.inside.MeaningParts.{offering, condition_does, begins}
 use Rattle.sbl_semantics.specs.Control.{with_group, pay_first}
 use Rattle.sbl_semantics.specs.Choices.{choose, choice, touch_among}
 use Rattle.sbl_semantics.specs.Events.{Event', Finds}

@@ -43,7 +43,9 @@ use Rattle.sbl_semantics.specs.Choices.{choice, choose, take_none, take_string, 
 use Rattle.sbl_semantics.specs.Slices.{is_slice, replace_slice, replace, keep, insert_string, put_in}
 use Rattle.sbl_semantics.specs.State.{State, Ending, Signals, Stops, Doing, bound_of, ahead, room, after, then_on, pay, at_place, at_difference, to_limit, saved_cursor, put_back, step_over, place_after, note_event}
 use Rattle.sbl_semantics.specs.Meaning as meaning
-use Rattle.sbl_semantics.specs.Meaning.{Offer, prefixed_does, counted_does, joined_does, limited_does, simple_does, moved_does, assigned_does, compared_does, named_does, edited_does, begins, takes, try_each, search}
+use Rattle.sbl_semantics.specs.inside.MeaningParts as parts
+use Rattle.sbl_semantics.specs.Meaning.{Offer, prefixed_does, counted_does, joined_does, limited_does, simple_does, moved_does, assigned_does, compared_does, named_does, edited_does, takes, try_each, search}
+use Rattle.sbl_semantics.specs.inside.MeaningParts.{begins}
 use Rattle.sbl_semantics.specs.Outcome.{Stem, outcome_at, touched_at, run_of, events_at, events_in, events_of}
 use Rattle.sbl_machine.specs.Why.{text_after, text_after_one, PutsGiveTheStem, touches_after, touches_after_one, is_no_test, EventsTouch}
 use Rattle.sbl_machine.proofs.WhyLaw.{events_change_nothing}
@@ -315,7 +317,7 @@ module _ (word : List ℕ) where
   -- ---- searches
 
   module _ (call : List ℕ → Doing) (calls_keep : (x : List ℕ) → KeepsIn (call x)) where
-    condition_keeps : (o : Option (List ℕ)) → KeepsIn (meaning.condition_does call o)
+    condition_keeps : (o : Option (List ℕ)) → KeepsIn (parts.condition_does call o)
     condition_keeps None m s h = h
     condition_keeps (Some x) m s h = paid_keeps (call x) (calls_keep x) m s h
 
@@ -326,13 +328,13 @@ module _ (word : List ℕ) where
         let to_keeps = place_after_keeps m (saved_cursor from) (length o.string) in
         let end : State → Ending = λ c. Signals true (take_string k (length o.string) o.group c) in
         let taken : State → Ending = λ b. then_on (to b) end in
-        then_keeps (to s) (λ a. after (meaning.condition_does call o.condition m a) taken go) (to_keeps s h)
-        (λ a j. after_keeps (meaning.condition_does call o.condition m a) taken go (condition_keeps o.condition m a j)
+        then_keeps (to s) (λ a. after (parts.condition_does call o.condition m a) taken go) (to_keeps s h)
+        (λ a j. after_keeps (parts.condition_does call o.condition m a) taken go (condition_keeps o.condition m a j)
         (λ b k'. then_keeps (to b) end (to_keeps b k') (λ c l. tell_keeps (Finds k (Some (length o.string))) (choose k (Some o.group) c) (λ t. refl) (λ t. refl) l)) i)
 
     tried_keeps : (k : ℕ) (os : List Offer) (r m : Mode) (from : State) (x : List ℕ) (l : ℕ) → Keeps (try_each call k os r m from x l)
     tried_keeps k os r m from x zero s h = tell_keeps (Finds k None) (choose k None s) (λ t. refl) (λ t. refl) h
-    tried_keeps k os r m from x (suc l) s h = take_keeps k (meaning.offering r (take l x) os) m from (try_each call k os r m from x l) (tried_keeps k os r m from x l) s h
+    tried_keeps k os r m from x (suc l) s h = take_keeps k (parts.offering r (take l x) os) m from (try_each call k os r m from x l) (tried_keeps k os r m from x l) s h
 
     search_keeps : (a : Among) → KeepsIn (search call a)
     search_keeps a m s h =
@@ -343,7 +345,7 @@ module _ (word : List ℕ) where
   -- ---- the commands of a script
 
   module _ (ns : DeclaredNames) (class : List ℕ → ℕ → Bool) (call : List ℕ → Doing) (go : (x : List ℕ) → KeepsIn (call x)) where
-    ahead_keeps : (n : Option Among) → KeepsIn (meaning.search_ahead ns class call n)
+    ahead_keeps : (n : Option Among) → KeepsIn (parts.search_ahead ns class call n)
     ahead_keeps None m s h = h
     ahead_keeps (Some a) m s h = search_keeps call go a m s h
 
@@ -359,7 +361,7 @@ module _ (word : List ℕ) where
     mutual
       act_keeps : (t : trees.Command) (r : Mode) (i : ℕ) (w : Bool) (x : Option Among) → KeepsIn (does r i w x t)
       act_keeps (bracket rs) r i w x m s h = rows_keep rs r i w x m s h
-      act_keeps (simple_ y) r i w x m s h = simple_keeps (meaning.search_ahead ns class call x) (ahead_keeps x) y m s h
+      act_keeps (simple_ y) r i w x m s h = simple_keeps (parts.search_ahead ns class call x) (ahead_keeps x) y m s h
       act_keeps (literal_ q) r i w x m s h = match_keeps q.value m s h
       act_keeps (name_ y) r i w x m s h = name_keeps y m s h
       act_keeps (non_ b y) r i w x m s h = class_keeps false (class y) m (touch_grouping (place_of (ns kinds.Groupings) y) s) (test_keeps (place_of (ns kinds.Groupings) y) s h)
@@ -410,7 +412,7 @@ module _ (word : List ℕ) where
     body_keeps : (x : List ℕ) (b : Option Body) → KeepsIn (meaning.body_does ns class call x b)
     body_keeps x None m s h = h
     body_keeps x (Some b) m s h =
-        let d = meaning.row_does ns class call b.mode b.first b.others in
+        let d = parts.row_does ns class call b.mode b.first b.others in
         let i = place_of (ns kinds.Routines) x in
         let begun = enter i (number_after_others b.others (number_after b.first 0)) s in
         let row = others_keep b.others b.mode (number_after b.first 0) (waits b.first false) None (does b.mode 0 false (first_others b.mode b.others (number_after b.first 0) None) b.first) (act_keeps b.first b.mode 0 false (first_others b.mode b.others (number_after b.first 0) None)) in

@@ -23,8 +23,10 @@ use Rattle.sbl_ast.specs.Tree as trees
 use Rattle.sbl_ast.specs.Tree.{bracket, simple_, literal_, name_, non_, prefixed, counted, move_, named, splice_, setlimit_, assign_, compare_, compare_values_, among_, no_rows, row, no_others, joined, no_starter, starter, bare, group}
 use Rattle.sbl_compiler.specs.Ahead.{search_next, search_of, found_as, search_then, simple_by, made_command, made_rows, made_others, made_starter, made_groups}
 use Rattle.sbl_semantics.specs.Items.{DeclaredNames, place_of, is_member}
-use Rattle.sbl_semantics.specs.Meaning.{prefixed_does, counted_does, joined_does, limited_does, simple_does, moved_does, named_does, edited_does, assigned_does, compared_does, begins, worth}
+use Rattle.sbl_semantics.specs.Meaning.{prefixed_does, counted_does, joined_does, limited_does, simple_does, moved_does, named_does, edited_does, assigned_does, compared_does, worth}
+use Rattle.sbl_semantics.specs.inside.MeaningParts.{begins}
 use Rattle.sbl_semantics.specs.Meaning as meaning
+use Rattle.sbl_semantics.specs.inside.MeaningParts as parts
 use Rattle.sbl_program.specs.Arithmetic.{characters, value, changed_value, holds}
 use Rattle.sbl_semantics.specs.Moves.{one_of, touch_grouping, match, set_mark, set_boolean, test_boolean}
 use Rattle.sbl_compiler.specs.NumberedItems.{name_alone, after_prefix, after_count, move, change_named, edit, change_of, relation_of}
@@ -99,11 +101,11 @@ module _ (ns : Names) (known : DeclaredNames) (agree : Agree ns known) (classes 
   search_is : (a : Among) → does_as (search_of (found_as ns a)) (meaning.search call' a)
   search_is a m s = search_same ns known agree call call' same_call a m s
 
-  ahead_same : (n : Option Among) → does_as (search_next ns n) (meaning.search_ahead known class call' n)
+  ahead_same : (n : Option Among) → does_as (search_next ns n) (parts.search_ahead known class call' n)
   ahead_same None m s = refl
   ahead_same (Some a) m s = search_is a m s
 
-  simple_same : (x : Simple) (n : Option Among) → does_as (simple_by ns x n) (simple_does (meaning.search_ahead known class call' n) x)
+  simple_same : (x : Simple) (n : Option Among) → does_as (simple_by ns x n) (simple_does (parts.search_ahead known class call' n) x)
   simple_same simples.Substring n m s = ahead_same n m s
   simple_same simples.LeftBracket n m s = refl
   simple_same simples.RightBracket n m s = refl
@@ -235,7 +237,7 @@ module _ (ns : Names) (known : DeclaredNames) (agree : Agree ns known) (classes 
     groups_sound (group e es rs gs) r k (suc g) m s = groups_sound gs r (number_after_rows rs k) g m s
 
   -- a routine's body
-  pub row_sound : (r : Mode) (c : trees.Command) (os : trees.Others) → run.act classes call (made_others ns r (number_after c 0) (waits c false) None os (made_command ns r 0 false (first_others r os (number_after c 0) None) c)) ≡ meaning.row_does known class call' r c os
+  pub row_sound : (r : Mode) (c : trees.Command) (os : trees.Others) → run.act classes call (made_others ns r (number_after c 0) (waits c false) None os (made_command ns r 0 false (first_others r os (number_after c 0) None) c)) ≡ parts.row_does known class call' r c os
   row_sound r c os =
       let n1 = first_others r os (number_after c 0) None in
       others_sound os r (number_after c 0) (waits c false) None (made_command ns r 0 false n1 c) (does r 0 false n1 c) (fun_ext (λ m. fun_ext (λ s. sound c r 0 false n1 m s)))

@@ -28,6 +28,7 @@ use Rattle.sbl_compiler.specs.Ahead.{found_as}
 use Rattle.sbl_semantics.specs.Fitting.{below, fitting, onto, read_as, read_all, ahead_at}
 use Rattle.sbl_semantics.specs.Items.{DeclaredNames}
 use Rattle.sbl_semantics.specs.Meaning as meaning
+use Rattle.sbl_semantics.specs.inside.MeaningParts as parts
 use Rattle.sbl_semantics.specs.Meaning.{Offer, offer, offers}
 use Rattle.sbl_program.specs.Arithmetic.{characters, value, changed_value, holds}
 use Rattle.sbl_compiler.specs.NumberedItems.{change_of, relation_of}
@@ -190,7 +191,7 @@ module _ (ns : Names) (known : DeclaredNames) (agree : Agree ns known) where
   offer_step true o os n x h = refl
   offer_step false o os n x h = h
 
-  offer_at : (r : Mode) (w : List ℕ) (os : List Offer) → slice_get os (first_place (pointwise nat_eq w) (as_read r os)) ≡ meaning.offering r w os
+  offer_at : (r : Mode) (w : List ℕ) (os : List Offer) → slice_get os (first_place (pointwise nat_eq w) (as_read r os)) ≡ parts.offering r w os
   unfolding first_place
   offer_at r w [] = refl
   offer_at r w (o ∷ os) = offer_step (pointwise nat_eq w (read_as r o.string)) o os _ _ (offer_at r w os)
@@ -199,13 +200,13 @@ module _ (ns : Names) (known : DeclaredNames) (agree : Agree ns known) where
   there_step true o n l x h = lt-ltb 0 (suc l) (omega arith)
   there_step false o n l x h = less_suc n l (there x) h
 
-  offer_there : (r : Mode) (w : List ℕ) (os : List Offer) → nat_lt (first_place (pointwise nat_eq w) (as_read r os)) (length (as_read r os)) ≡ there (meaning.offering r w os)
+  offer_there : (r : Mode) (w : List ℕ) (os : List Offer) → nat_lt (first_place (pointwise nat_eq w) (as_read r os)) (length (as_read r os)) ≡ there (parts.offering r w os)
   unfolding first_place
   offer_there r w [] = refl
   offer_there r w (o ∷ os) = there_step (pointwise nat_eq w (read_as r o.string)) o _ (length (as_read r os)) _ (offer_there r w os)
 
   module _ (call : ℕ → Doing) (call' : List ℕ → Doing) (same : (n : List ℕ) → call (number_of ns.routines n) ≡ call' n) where
-    condition_same : (c : Option (List ℕ)) → condition_does call (condition_of ns c) ≡ meaning.condition_does call' c
+    condition_same : (c : Option (List ℕ)) → condition_does call (condition_of ns c) ≡ parts.condition_does call' c
     condition_same None = refl
     condition_same (Some n) = ap (λ d m s. then_on (pay s.steps s) (d m)) (same n)
 
@@ -229,12 +230,12 @@ module _ (ns : Names) (known : DeclaredNames) (agree : Agree ns known) where
         let w = take l x in
         let p = pointwise nat_eq w in
         let e = first_is p (as_read r os) in
-        onto_same (nat_lt (position_or_len p (as_read r os)) (length (as_read r os))) (position_or_len p (as_read r os)) (meaning.offering r w os) (below (as_read r os) x l) k os m from s _
+        onto_same (nat_lt (position_or_len p (as_read r os)) (length (as_read r os))) (position_or_len p (as_read r os)) (parts.offering r w os) (below (as_read r os) x l) k os m from s _
         (ap (slice_get os) (sym e) ∙ offer_at r w os)
         (ap (λ i. nat_lt i (length (as_read r os))) (sym e) ∙ offer_there r w os)
         (fun_ext (tries_same k os r m from x l))
 
-    searched_same : (a : Among) (m : Mode) (s : State) → search_strings call (found_as ns a).number (found_as ns a).entries (found_as ns a).strings m s ≡ meaning.search_among call' a m s
+    searched_same : (a : Among) (m : Mode) (s : State) → search_strings call (found_as ns a).number (found_as ns a).entries (found_as ns a).strings m s ≡ parts.search_among call' a m s
     unfolding fitting
     searched_same a m s =
         let os = offers 0 a.groups in

@@ -5,6 +5,7 @@ use Rattle.sbl_ast.specs.Order.{ItemInMode, in_order}
 use Rattle.sbl_ast.specs.declared.tree.DeclarationKind.TheVariants as kinds
 use Rattle.sbl_semantics.specs.Items.{DeclaredNames, Body, known_in, char_class_of, classes_after, body_named}
 use Rattle.sbl_semantics.specs.Meaning as meaning
+use Rattle.sbl_semantics.specs.inside.MeaningParts as parts
 use Rattle.sbl_machine.specs.NumberedScript.{numbered_script}
 use Rattle.sbl_compiler.specs.NumberedItems.{numbered_items, plan_with}
 use Rattle.sbl_compiler.specs.NumberedNames.{Names, names_after, no_names, number_of}
@@ -61,7 +62,7 @@ module _ (items : List ItemInMode) (external : List ℕ) where
       let i = number_of ns.routines n in
       let amongs = number_after_others b.others (number_after b.first 0) in
       ap (λ d. leave s.routine s.choices (pay_first d m (enter i amongs s))) (row_sound ns names_known agree program.groupings class call call' (class_same items external) h b.mode b.first b.others)
-      ∙ ap (λ i. leave s.routine s.choices (pay_first (meaning.row_does names_known class call' b.mode b.first b.others) m (enter i amongs s))) (placed_by _ _ n agree.routines)
+      ∙ ap (λ i. leave s.routine s.choices (pay_first (parts.row_does names_known class call' b.mode b.first b.others) m (enter i amongs s))) (placed_by _ _ n agree.routines)
 
   calls_same : (l : ℕ) (n : List ℕ) (m : Mode) (s : State) → run.calls program l (number_of ns.routines n) m s ≡ meaning.calls names_known class (body_named items) l n m s
   calls_same zero n m s = refl

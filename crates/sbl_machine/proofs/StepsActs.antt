@@ -27,7 +27,9 @@ use Rattle.sbl_semantics.specs.Regions.{Among}
 use Rattle.sbl_semantics.specs.declared.fault.RunFault.TheVariants as faults
 use Rattle.sbl_semantics.specs.declared.limits.Limits.{Limits}
 use Rattle.sbl_semantics.specs.Meaning as meaning
-use Rattle.sbl_semantics.specs.Meaning.{Offer, prefixed_does, counted_does, joined_does, limited_does, simple_does, moved_does, assigned_does, compared_does, named_does, edited_does, begins, takes, try_each, search}
+use Rattle.sbl_semantics.specs.inside.MeaningParts as parts
+use Rattle.sbl_semantics.specs.Meaning.{Offer, prefixed_does, counted_does, joined_does, limited_does, simple_does, moved_does, assigned_does, compared_does, named_does, edited_does, takes, try_each, search}
+use Rattle.sbl_semantics.specs.inside.MeaningParts.{begins}
 use Rattle.sbl_semantics.specs.Moves.{match, next_is, one_of, hop, at_mark, to_mark}
 use Rattle.sbl_semantics.specs.Numbers.{Value, value_in_range, natural, with_value, integer_at}
 use Rattle.sbl_semantics.specs.Control.{turns, times, count_of, limits, restore_limit, limit_here, limit_back, backwards_from, backwards_end, with_group, pay_first}
@@ -217,7 +219,7 @@ chosen_goes k n (Some g) s go go' l h = h g
 -- ---- searches
 
 module _ (call : List ℕ → Doing) (go : (x : List ℕ) (m : Mode) → Steady (call x m)) where
-  condition_go : (o : Option (List ℕ)) (m : Mode) → Steady (meaning.condition_does call o m)
+  condition_go : (o : Option (List ℕ)) (m : Mode) → Steady (parts.condition_does call o m)
   condition_go None m k n s l = (l, refl)
   condition_go (Some x) m k n s l = paid_go (call x) (go x) m k n s l
 
@@ -227,14 +229,14 @@ module _ (call : List ℕ → Doing) (go : (x : List ℕ) (m : Mode) → Steady 
       let to = place_after m (saved_cursor from) (length o.string) in
       let to_go = place_after_go m (saved_cursor from) (length o.string) in
       let taken : State → Ending = λ b. then_on (to b) (λ c. Signals true (take_string i (length o.string) o.group c)) in
-      then_goes k n (to s) (to (more k s)) (λ a. after (meaning.condition_does call o.condition m a) taken next) (to_go k n s l)
-      (λ k n a j. steady_goes k n (meaning.condition_does call o.condition m a) (meaning.condition_does call o.condition m (more k a)) taken next (condition_go o.condition m k n a j)
+      then_goes k n (to s) (to (more k s)) (λ a. after (parts.condition_does call o.condition m a) taken next) (to_go k n s l)
+      (λ k n a j. steady_goes k n (parts.condition_does call o.condition m a) (parts.condition_does call o.condition m (more k a)) taken next (condition_go o.condition m k n a j)
       (λ k n b p. then_goes k n (to b) (to (more k b)) (λ c. Signals true (take_string i (length o.string) o.group c)) (to_go k n b p) (λ k n c q. (q, refl)))
       h)
 
   tried_go : (i : ℕ) (os : List Offer) (r m : Mode) (from : State) (x : List ℕ) (l : ℕ) → Steady (try_each call i os r m from x l)
   tried_go i os r m from x zero k n s j = (j, refl)
-  tried_go i os r m from x (suc l) k n s j = take_go i (meaning.offering r (take l x) os) m from (try_each call i os r m from x l) (tried_go i os r m from x l) k n s j
+  tried_go i os r m from x (suc l) k n s j = take_go i (parts.offering r (take l x) os) m from (try_each call i os r m from x l) (tried_go i os r m from x l) k n s j
 
   -- of the state in which a search began only its cursor counts
   take_same : (i : ℕ) (o : Option Offer) (m : Mode) (from : State) (k : ℕ) (next next' : State → Ending) (s : State) → next ≡ next' → takes call i o m (more k from) s next ≡ takes call i o m from s next'
@@ -243,7 +245,7 @@ module _ (call : List ℕ → Doing) (go : (x : List ℕ) (m : Mode) → Steady 
 
   tried_same : (i : ℕ) (os : List Offer) (r m : Mode) (from : State) (k : ℕ) (x : List ℕ) (l : ℕ) (s : State) → try_each call i os r m (more k from) x l s ≡ try_each call i os r m from x l s
   tried_same i os r m from k x zero s = refl
-  tried_same i os r m from k x (suc l) s = take_same i (meaning.offering r (take l x) os) m from k _ _ s (fun_ext (tried_same i os r m from k x l))
+  tried_same i os r m from k x (suc l) s = take_same i (parts.offering r (take l x) os) m from k _ _ s (fun_ext (tried_same i os r m from k x l))
 
   search_goes : (a : Among) (m : Mode) (x : List ℕ) (k n : ℕ) (s : State) → s.steps < n → Goes k n (try_each call a.number (meaning.offers 0 a.groups) a.mode m s x (suc (length x)) s) (try_each call a.number (meaning.offers 0 a.groups) a.mode m (more k s) x (suc (length x)) (more k s))
   search_goes a m x k n s l =

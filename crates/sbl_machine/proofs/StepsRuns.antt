@@ -7,7 +7,9 @@ use Rattle.sbl_ast.specs.Tree.{bracket, simple_, literal_, name_, non_, prefixed
 use Rattle.sbl_semantics.specs.Items.{DeclaredNames, Body, place_of, is_member}
 use Rattle.sbl_semantics.specs.Regions.{Among, among_at, number_after, number_after_rows, number_after_others, number_after_starter, first, first_rows, first_others, mode_under, waits, waits_others}
 use Rattle.sbl_semantics.specs.Meaning as meaning
-use Rattle.sbl_semantics.specs.Meaning.{begins, joined_does, search}
+use Rattle.sbl_semantics.specs.inside.MeaningParts as parts
+use Rattle.sbl_semantics.specs.Meaning.{joined_does, search}
+use Rattle.sbl_semantics.specs.inside.MeaningParts.{begins}
 use Rattle.sbl_semantics.specs.Moves.{touch_grouping}
 use Rattle.sbl_semantics.specs.Numbers.{integer_at}
 use Rattle.sbl_semantics.specs.Control.{with_group, back_in, enter, pay_first}
@@ -18,7 +20,7 @@ use Rattle.sbl_machine.proofs.StepsActs.{edited_go, named_go, match_go, class_go
 use Rattle.sbl_ast.specs.declared.mode.Mode.{Mode}
 
 module _ (ns : DeclaredNames) (class : List ℕ → ℕ → Bool) (call : List ℕ → Doing) (go : (x : List ℕ) (m : Mode) → Steady (call x m)) where
-  ahead_go : (n : Option Among) (m : Mode) → Steady (meaning.search_ahead ns class call n m)
+  ahead_go : (n : Option Among) (m : Mode) → Steady (parts.search_ahead ns class call n m)
   ahead_go None m = signals_go false
   ahead_go (Some a) m = search_go call go a m
 
@@ -40,7 +42,7 @@ module _ (ns : DeclaredNames) (class : List ℕ → ℕ → Bool) (call : List �
   mutual
     act_go : (t : trees.Command) (r : Mode) (i : ℕ) (w : Bool) (x : Option Among) (m : Mode) → Steady (does r i w x t m)
     act_go (bracket rs) r i w x m k n s l = rows_go rs r i w x m k n s l
-    act_go (simple_ y) r i w x m k n s l = simple_go (meaning.search_ahead ns class call x) (ahead_go x) y m k n s l
+    act_go (simple_ y) r i w x m k n s l = simple_go (parts.search_ahead ns class call x) (ahead_go x) y m k n s l
     act_go (literal_ q) r i w x m k n s l = match_go q.value m k n s l
     act_go (name_ y) r i w x m k n s l = name_go y m k n s l
     act_go (non_ b y) r i w x m k n s l = tests_go false y m k n s l
@@ -87,16 +89,16 @@ module _ (ns : DeclaredNames) (class : List ℕ → ℕ → Bool) (call : List �
     groups_go (group e es rs gs) r i zero m k n s l = pays_go (pay_first (meaning.rows_do ns class call r i false None rs)) (paid_pays (meaning.rows_do ns class call r i false None rs) (rows_go rs r i false None)) m k n s l
     groups_go (group e es rs gs) r i (suc g) m k n s l = groups_go gs r (number_after_rows rs i) g m k n s l
 
-  row_go : (r : Mode) (c : trees.Command) (os : trees.Others) (m : Mode) → Steady (meaning.row_does ns class call r c os m)
+  row_go : (r : Mode) (c : trees.Command) (os : trees.Others) (m : Mode) → Steady (parts.row_does ns class call r c os m)
   row_go r c os = others_go os r (number_after c 0) (waits c false) None (does r 0 false (first_others r os (number_after c 0) None) c) (act_go c r 0 false (first_others r os (number_after c 0) None))
 
   body_go : (x : List ℕ) (b : Option Body) (m : Mode) → Steady (meaning.body_does ns class call x b m)
   body_go x None m k n s l = (l, refl)
   body_go x (Some b) m k n s l =
-      let d = pay_first (meaning.row_does ns class call b.mode b.first b.others) m in
+      let d = pay_first (parts.row_does ns class call b.mode b.first b.others) m in
       let begun = enter (place_of (ns kinds.Routines) x) (number_after_others b.others (number_after b.first 0)) s in
       steady_goes k n (d begun) (d (more k begun)) (λ t. Signals true (back_in s.routine s.choices true t)) (λ t. Signals false (back_in s.routine s.choices false t))
-      (pays_go (pay_first (meaning.row_does ns class call b.mode b.first b.others)) (paid_pays (meaning.row_does ns class call b.mode b.first b.others) (row_go b.mode b.first b.others)) m k n begun l)
+      (pays_go (pay_first (parts.row_does ns class call b.mode b.first b.others)) (paid_pays (parts.row_does ns class call b.mode b.first b.others) (row_go b.mode b.first b.others)) m k n begun l)
       (λ k n t j. (j, refl)) (λ k n t j. (j, refl))
 
 pub calls_go : (ns : DeclaredNames) (class : List ℕ → ℕ → Bool) (bodies : List ℕ → Option Body) (levels : ℕ) (x : List ℕ) (m : Mode) → Steady (meaning.calls ns class bodies levels x m)

@@ -4,7 +4,7 @@ use Rattle.std.specs.List.{filter, slice_split}
 use Rattle.sbl_bench.specs.Contents.{Contents, rows_now}
 use Rattle.sbl_rows.specs.Families.{FamilyResult, Under, Over, Pairs, family_results}
 use Rattle.sbl_io.specs.Records.{records_text}
-use Rattle.sbl_reports.specs.Reports.{named_rows, stem_fields}
+use Rattle.sbl_reports.specs.Reports.{stem_fields}
 
 abbrev pub number_field : ℕ → List (List ℕ)
 number_field n = decimal n ∷ []
@@ -16,7 +16,7 @@ result_fields (Pairs within apart across joined) = codes "pairs" ∷ decimal wit
 
 -- a row for each result
 abbrev pub families_text : Contents → List (List (List ℕ)) → List ℕ
-families_text s lists = records_text (map result_fields (family_results (named_rows (rows_now s)) lists))
+families_text s lists = records_text (map result_fields (family_results (rows_now s) lists))
 
 -- ---- the families of a text
 

@@ -2,32 +2,21 @@
 use Rattle.std.specs.Prelude.{ℕ, List, [], ◌∷◌, ◌++◌, codes, decimal, map}
 use Rattle.std.specs.Str.{encode_utf8_all}
 use Rattle.sbl_bench.specs.Contents.{Contents, rows_now}
-use Rattle.sbl_rows.specs.Rows as bench
 use Rattle.sbl_rows.specs.Changes.{Added, Change, Changed, Merged, Removed, Renamed, Split, changes_of}
-use Rattle.sbl_rows.specs.StemClasses.{Class}
+use Rattle.sbl_rows.specs.Classes.{Class}
 use Rattle.sbl_rows.specs.Largest.{largest_of}
-use Rattle.sbl_rows.specs.WordRows.{Outcome, Row, Stem, Refused}
+use Rattle.sbl_rows.specs.Rows.{Row}
 use Rattle.sbl_rows.specs.Stats.{Stats, stats_of}
-use Rattle.sbl_semantics.specs.Outcome as machine
+use Rattle.sbl_semantics.specs.Outcome.{Outcome', Stem, Refused}
 use Rattle.sbl_io.specs.Records.{records_text}
 use Rattle.sbl_semantics.specs.Names.{name_of}
 
--- a row of a bench, with the name of a refusal for the refusal
-abbrev pub named_outcome : machine.Outcome' → Outcome
-named_outcome (machine.Stem text) = Stem text
-named_outcome (machine.Refused f) = Refused (name_of f)
-
-abbrev pub named_row : bench.Row → Row
-named_row r = record { word = r.word; outcome = named_outcome r.outcome }
-
-abbrev pub named_rows : List bench.Row → List Row
-named_rows rows = map named_row rows
-
 -- ---- changes
 
-abbrev pub outcome_fields : Outcome → List (List ℕ)
+-- a stem, or the name of a refusal
+abbrev pub outcome_fields : Outcome' → List (List ℕ)
 outcome_fields (Stem text) = codes "stem" ∷ encode_utf8_all text ∷ []
-outcome_fields (Refused name) = codes "refused" ∷ name ∷ []
+outcome_fields (Refused f) = codes "refused" ∷ name_of f ∷ []
 
 -- a stem, and then others
 abbrev pub stem_fields : List ℕ → List (List ℕ) → List (List ℕ)
@@ -42,8 +31,8 @@ change_fields (Merged stem from) = codes "merged" ∷ stem_fields stem from
 change_fields (Renamed before after) = codes "renamed" ∷ stem_fields before (after ∷ [])
 
 -- a row for each change between some rows and those of the bench
-abbrev pub changes_text : List bench.Row → Contents → List ℕ
-changes_text before s = records_text (map change_fields (changes_of (named_rows before) (named_rows (rows_now s))))
+abbrev pub changes_text : List Row → Contents → List ℕ
+changes_text before s = records_text (map change_fields (changes_of before (rows_now s)))
 
 -- ---- figures
 
@@ -57,7 +46,7 @@ stats_fields s runs =
     ∷ figure_fields (codes "runs") runs ∷ []
 
 abbrev pub stats_text : Contents → List ℕ
-stats_text s = records_text (stats_fields (stats_of (named_rows (rows_now s))) s.count)
+stats_text s = records_text (stats_fields (stats_of (rows_now s)) s.count)
 
 -- ---- the largest classes
 
@@ -67,4 +56,4 @@ class_fields c = stem_fields c.stem c.members
 
 -- a row for each of the n largest classes
 abbrev pub largest_text : ℕ → Contents → List ℕ
-largest_text n s = records_text (map class_fields (largest_of n (named_rows (rows_now s))))
+largest_text n s = records_text (map class_fields (largest_of n (rows_now s)))

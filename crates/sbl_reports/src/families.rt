@@ -3,12 +3,11 @@ ghost use Rattle.std.specs.Prelude.{◌≡◌, ◌++◌, ◌∷◌, [], ℕ, IfO
 ghost use Rattle.csv.specs.Records.{fields_of, partial_of};
 ghost use Rattle.sbl_bench.specs.KeptRuns.{contents_of};
 ghost use Rattle.sbl_rows.specs.Families.{view_result, view_words};
-ghost use Rattle.sbl_rows.specs.WordRows.{texts_of};
+ghost use Rattle.sbl_rows.specs.Classes.{texts_of};
 ghost use Rattle.sbl_reports.specs.Families as spec;
 ghost use Rattle.sbl_reports.specs.FamilyReader.{families_read, read_by, read_on, with_word, words_read};
 
 use crate::records::{Record, lines_of, push_named};
-use crate::reports::named_rows;
 use csv::ByteRecord;
 use sbl_bench::Bench;
 use sbl_rows::{FamilyRow, families};
@@ -151,8 +150,7 @@ fn lists_text(alloc: Global, bench: &Bench, lists: &[Vec<&[char]>]) -> Result<Ve
     ensures { IfOk result (λ text. text.items ≡ spec.families_text (contents_of bench.now) (view_words lists.now)) }
 {
     let rows = bench.rows()?;
-    let named = named_rows(alloc, &rows)?;
-    let found = families(alloc, &named, lists)?;
+    let found = families(alloc, &rows, lists)?;
     lines_of(alloc, &found)
 }
 

@@ -1,7 +1,7 @@
 //! The lines of values that are written as one record each.
 ghost use Rattle.std.specs.Prelude.{◌≡◌, ◌++◌, ◌∷◌, [], ℕ, IfOk, List, OnOk, encode_utf8_all, map};
 ghost use Rattle.csv.specs.Records.{fields_of, partial_of};
-ghost use Rattle.sbl_rows.specs.WordRows.{texts_of};
+ghost use Rattle.sbl_rows.specs.Classes.{texts_of};
 ghost use Rattle.sbl_io.specs.Records as spec;
 ghost use Rattle.sbl_io.specs.Reports.{TakesMore};
 ghost use Rattle.sbl_reports.specs.Blank.{IsBlank};

@@ -2,10 +2,9 @@
 ghost use Rattle.std.specs.Prelude.{◌≡◌, ◌++◌, ◌∷◌, [], IfOk, OnOk, codes, map};
 ghost use Rattle.csv.specs.Records.{fields_of, partial_of};
 ghost use Rattle.sbl_bench.specs.KeptRuns.{contents_of};
+ghost use Rattle.sbl_rows.specs.Classes.{view_stem_class};
 ghost use Rattle.sbl_rows.specs.Rows.{view_row};
 ghost use Rattle.sbl_rows.specs.Changes.{view_change};
-ghost use Rattle.sbl_rows.specs.StemClasses.{view_class as view_stem_class};
-ghost use Rattle.sbl_rows.specs.WordRows.{view_outcome, view_rows};
 ghost use Rattle.sbl_semantics.specs.Outcome.{outcome_of};
 ghost use Rattle.sbl_io.specs.Records.{record_line, records_text};
 ghost use Rattle.sbl_reports.specs.Reports as spec;
@@ -13,58 +12,29 @@ ghost use Rattle.sbl_reports.specs.Reports as spec;
 use crate::records::{Record, lines_of, push_named, push_stem};
 use csv::ByteRecord;
 use sbl_bench::{Bench, Row};
-use sbl_rows::{
-    ChangeRow, RowStats, StemClass, WordOutcome, WordRow, changes, largest_classes, stats,
-};
 use sbl_io::{push_line, push_text};
 use sbl_machine::Outcome;
+use sbl_rows::{ChangeRow, RowStats, StemClass, changes, largest_classes, stats};
 use std::alloc::{AllocError, Global};
-
-/// Returns the outcome of a row, with the name of a refusal.
-fn named_outcome(outcome: &Outcome) -> WordOutcome<'_>
-    ensures { view_outcome result ≡ spec.named_outcome (outcome_of outcome.now) }
-{
-    match outcome {
-        Outcome::Stem(stem) => WordOutcome::Stem(stem.as_slice()),
-        Outcome::Refused(fault) => WordOutcome::Refused(fault.name()),
-    }
-}
-
-/// Returns rows with the names of refusals. Returns `AllocError` if an allocation fails.
-pub(crate) fn named_rows<'a>(
-    alloc: Global,
-    rows: &[Row<'a>],
-) -> Result<Vec<WordRow<'a>>, AllocError>
-    ensures { IfOk result (λ named. view_rows named.items ≡ spec.named_rows (map view_row rows.now)) }
-{
-    let mut named = Vec::with_capacity(alloc, rows.len())?;
-    for row in rows {
-        named.push(WordRow {
-            word: row.word,
-            outcome: named_outcome(row.outcome),
-        })?;
-    }
-    Ok(named)
-}
 
 /// Appends an outcome to a record, as two fields. Returns `AllocError` if an allocation fails.
 fn push_outcome(
     text: &mut String,
     csv_record: &mut ByteRecord,
-    outcome: WordOutcome<'_>,
+    outcome: &Outcome,
 ) -> Result<(), AllocError>
     requires { partial_of csv_record.old ≡ [] }
-    ensures fields { OnOk result (fields_of csv_record.new ≡ fields_of csv_record.old ++ spec.outcome_fields (view_outcome outcome.entry)) }
+    ensures fields { OnOk result (fields_of csv_record.new ≡ fields_of csv_record.old ++ spec.outcome_fields (outcome_of outcome.now)) }
     ensures partial { OnOk result (partial_of csv_record.new ≡ []) }
 {
     match outcome {
-        WordOutcome::Stem(stem) => {
+        Outcome::Stem(stem) => {
             csv_record.push_field(b"stem")?;
-            push_text(text, csv_record, stem)
+            push_text(text, csv_record, stem.as_slice())
         }
-        WordOutcome::Refused(name) => {
+        Outcome::Refused(fault) => {
             csv_record.push_field(b"refused")?;
-            csv_record.push_field(name.as_bytes())
+            csv_record.push_field(fault.name().as_bytes())
         }
     }
 }
@@ -115,9 +85,7 @@ pub fn changes_text(alloc: Global, before: &[Row<'_>], bench: &Bench) -> Result<
     ensures { IfOk result (λ text. text.items ≡ spec.changes_text (map view_row before.now) (contents_of bench.now)) }
 {
     let rows = bench.rows()?;
-    let before = named_rows(alloc, before)?;
-    let after = named_rows(alloc, &rows)?;
-    let found = changes(alloc, &before, &after)?;
+    let found = changes(alloc, before, &rows)?;
     lines_of(alloc, &found)
 }
 
@@ -162,8 +130,7 @@ pub fn stats_text(alloc: Global, bench: &Bench) -> Result<Vec<u8>, AllocError>
     ensures { IfOk result (λ text. text.items ≡ spec.stats_text (contents_of bench.now)) }
 {
     let rows = bench.rows()?;
-    let named = named_rows(alloc, &rows)?;
-    let figures = stats(alloc, &named)?;
+    let figures = stats(alloc, &rows)?;
     let mut out = Vec::new(alloc);
     push_word_figures(alloc, &mut out, &figures)?;
     push_class_figures(alloc, &mut out, &figures)?;
@@ -181,7 +148,6 @@ pub fn largest_text(alloc: Global, bench: &Bench, number: usize) -> Result<Vec<u
     ensures { IfOk result (λ text. text.items ≡ spec.largest_text number (contents_of bench.now)) }
 {
     let rows = bench.rows()?;
-    let named = named_rows(alloc, &rows)?;
-    let classes = largest_classes(alloc, &named, number)?;
+    let classes = largest_classes(alloc, &rows, number)?;
     lines_of(alloc, &classes)
 }

@@ -107,7 +107,8 @@ pairs_across test (f ∷ families) = pairs_between test f (all_of families) + pa
 
 -- the pairs of one family, those of them with different stems, the pairs of two families, those of them that share a stem
 abbrev pub pairs_row : List (List Pair) → FamilyResult
-pairs_row families = Pairs (pairs_within any_two families) (pairs_within other_stem families) (pairs_across any_two families) (pairs_across same_stem families)
+pairs_row families =
+    Pairs (pairs_within any_two families) (pairs_within other_stem families) (pairs_across any_two families) (pairs_across same_stem families)
 
 -- ---- all together
 

@@ -20,9 +20,11 @@ NoneJoinedIfNoOver = (families : List (List Pair)) → (pairs_across same_stem f
 abbrev pub PairsAddUp : Type 0
 PairsAddUp =
     (families : List (List Pair))
-    → (2 * (pairs_within any_two families + pairs_across any_two families) + length (all_of families) ≡ length (all_of families) * length (all_of families))
+    → (2 * (pairs_within any_two families + pairs_across any_two families) + length (all_of families)
+    ≡ length (all_of families) * length (all_of families))
     × (pairs_within same_stem families + pairs_within other_stem families ≡ pairs_within any_two families)
 
 -- each word that counts has a row, and the stem of the row
 abbrev pub WordsHaveTheirStems : Type 0
-WordsHaveTheirStems = (rows : List Row) (lists : List (List (List ℕ))) → All (λ p. outcome_in rows p.1 ≡ Some (Stem p.0)) (all_of (families_of rows [] lists))
+WordsHaveTheirStems =
+    (rows : List Row) (lists : List (List (List ℕ))) → All (λ p. outcome_in rows p.1 ≡ Some (Stem p.0)) (all_of (families_of rows [] lists))

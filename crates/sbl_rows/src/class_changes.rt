@@ -40,7 +40,7 @@ fn class_renaming<'a>(
     from_one: &BTreeSet<&'a [char]>,
     class: &StemClass<'a>,
 ) -> Option<ChangeRow<'a>>
-    ensures { (now : List Class) → ((stem : List ℕ) → has_text from_one.now stem ≡ spec.is_from_one now stem) → option_map view_change result ≡ spec.class_renaming now (view_stem_class class.now) (view_stem_class class.now).members }
+    ensures { (now : List Class) → ((stem : List ℕ) → has_text from_one.now stem ≡ spec.is_from_one now stem) → option_map view_change result ≡ sides.renaming now (view_stem_class class.now) }
 {
     match class.members.as_slice() {
         [new] if class.stem != *new && from_one.contains(*new) => {

@@ -51,7 +51,7 @@ pub(crate) fn word_classes<'a>(
     alloc: Global,
     rows: &[Row<'a>],
 ) -> Result<Vec<StemClass<'a>>, AllocError>
-    ensures { IfOk result (λ classes. view_stem_classes classes.items ≡ classes.classes_of (view_rows rows.now)) }
+    ensures { IfOk result (λ found. view_stem_classes found.items ≡ classes.classes_of (view_rows rows.now)) }
 {
     classes_of(alloc, &word_pairs(alloc, rows)?)
 }

@@ -19,3 +19,4 @@ pub mod Differs
 -- what proofs and the functions inside sbl_tree_diff use; no public contract depends on these
 pub mod Same
 pub mod DiffersByParts
+pub mod inside

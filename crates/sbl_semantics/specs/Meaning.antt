@@ -356,28 +356,3 @@ ending_with_events script word limit =
     let items = in_order script.items in
     calls (known_in items) (char_class_of (classes_after items [])) (body_named items) max_levels script.external Forward
     (record (start (known_in items) word limit) { events = Some [] })
-
--- ---- names for parts of these definitions, which only proofs use
-
-abbrev pub begins : Bool → Doing → Doing → Doing
-begins w search begun m s = if w then Signals true s else after (pay_first search m s) (begun m) (Signals false)
-
-abbrev pub offering : Mode → List ℕ → List Offer → Option Offer
-offering r w os = find (λ o. pointwise nat_eq w (read_as r o.string)) os
-
-module _ (call : List ℕ → Doing) where
-  abbrev pub condition_does : Option (List ℕ) → Doing
-  condition_does c m s = option_map_or (λ n. pay_first (call n) m s) c (Signals true s)
-
-  abbrev pub search_among : Among → Doing
-  search_among a m s =
-      let x = ahead_at a.mode s.text s.cursor (bound_of m s) in
-      try_each call a.number (offers 0 a.groups) a.mode m s x (suc (length x)) s
-
-module _ (ns : DeclaredNames) (class : List ℕ → ℕ → Bool) (call : List ℕ → Doing) where
-  abbrev pub search_ahead : Option Among → Doing
-  search_ahead n m s = option_map_or (λ a. search call a m s) n (Signals false s)
-
-  abbrev pub row_does : Mode → trees.Command → trees.Others → Doing
-  row_does r c os =
-      others_do ns class call r (number_after c 0) (waits c false) None os (act ns class call r 0 false (first_others r os (number_after c 0) None) c)

@@ -3,14 +3,16 @@ use Rattle.std.proofs.Common.{◌≡◌, ◌⊎◌, inl, inr, ◌∙◌, ◌<◌
 use Rattle.std.proofs.lemmas.Bool.{cases_lt}
 use Rattle.std.proofs.lemmas.List.Sums.{position_or_len_is}
 use Rattle.std.proofs.lemmas.Str.{IsUtf8-from_is_utf8}
-use Rattle.std.specs.Option.{is_some, option_and_then}
-use Rattle.std.specs.Str.{IsUtf8, is_utf8}
+use Rattle.std.specs.Prelude.{codes}
+use Rattle.std.specs.Option.{is_some, option_and_then, option_map_or}
+use Rattle.std.specs.Str.{IsUtf8, bytes_eq, is_utf8}
 use Rattle.std.specs.declared.alloc.AllocError.{AllocError}
 use Rattle.sbl_script.specs.Edits.{ScriptEdit}
 use Rattle.sbl_sessions.specs.CommandViews.{FindsTarget, view_found}
-use Rattle.sbl_sessions.specs.Commands.{target_of}
+use Rattle.sbl_sessions.specs.Commands.{Command, target_of, text_command}
 use Rattle.sbl_sessions.specs.Requests.{block_word}
-use Rattle.sbl_sessions.specs.Words.{argument, command_word, is_space}
+use Rattle.sbl_sessions.specs.Words.{argument, command_word}
+use Rattle.sbl_sessions.specs.inside.Names.{is_space, tested_command}
 use Rattle.sbl_sessions.specs.declared.session_commands.Target.{Target}
 
 -- no space stands before this place
@@ -26,6 +28,27 @@ no_space-more line i none here k within = by (cases_lt k i)
 
 pub word_before : (line : List ℕ) (i : ℕ) → i ≤ length line → NoSpace line i → (i < length line → is_space (get_or line i 0) ≡ true) → take i line ≡ command_word line
 word_before line i within none here = ap (λ (n : ℕ). take n line) (sym (position_or_len_is is_space line i 0 within none here))
+
+-- ---- the tables of commands
+
+-- an entry of a table is a test
+tested : {X : Type 0} (f : X → Command) (b : Bool) (x : X) (rest : Option X) (d e : Command) → option_map_or f rest d ≡ e
+    → option_map_or f (if b then Some x else rest) d ≡ (if b then f x else e)
+tested f true x rest d e same = refl
+tested f false x rest d e same = same
+
+pub by_tables : (line : List ℕ) → text_command line ≡ tested_command line
+by_tables line =
+    let word = command_word line in
+    tested _ (bytes_eq word (codes "add")) _ _ _ _
+    (tested _ (bytes_eq word (codes "remove")) _ _ _ _
+    (tested _ (bytes_eq word (codes "class")) _ _ _ _
+    (tested _ (bytes_eq word (codes "trace")) _ _ _ _
+    (tested _ (bytes_eq word (codes "limit")) _ _ _ _
+    (tested _ (bytes_eq line (codes "stems")) _ _ _ _
+    (tested _ (bytes_eq line (codes "classes")) _ _ _ _
+    (tested _ (bytes_eq line (codes "script")) _ _ _ _
+    (tested _ (bytes_eq line (codes "runs")) _ _ _ _ refl))))))))
 
 -- ---- what a line with a block wants replaced
 

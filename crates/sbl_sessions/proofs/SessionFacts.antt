@@ -1,5 +1,5 @@
 -- A session goes on request by request.
-use Rattle.std.proofs.Common.{◌⊎◌, inl, inr, true, false, ◌≡◌, ◌∙◌, ◌++◌, ◌≤◌, ℕ, List, [], ◌∷◌, Option, Some, None, Ok, Err, refl, take, sym, ap, subst, append_assoc, arith, length}
+use Rattle.std.proofs.Common.{◌⊎◌, inl, inr, true, false, ◌≡◌, ◌≢◌, ◌∙◌, ◌++◌, ◌≤◌, ℕ, List, [], ◌∷◌, Option, Some, None, Result, Ok, Err, refl, take, sym, ap, subst, append_assoc, arith, length}
 use Rattle.std.proofs.lemmas.List.{append-nil}
 use Rattle.std.proofs.lemmas.List.Elements.{All-append, All-cons, All-nil}
 use Rattle.std.proofs.lemmas.Grind.{flat_map-append}
@@ -8,22 +8,24 @@ use Rattle.std.specs.Option.{is_some}
 use Rattle.std.proofs.KnownBytes.{Appends-nil, Appends-trans}
 use Rattle.sbl_bench.specs.Contents.{Contents}
 use Rattle.sbl_sessions.specs.Answers.{Answers, IsReplyTo, Memory}
-use Rattle.sbl_formats.specs.Block.{BlockLines, Breaks, HoldsText, ReadsBlock, point}
-use Rattle.sbl_sessions.specs.CommandViews.{IsAnswer, IsAnswered, IsReply, IsTextAnswer}
+use Rattle.sbl_reports.specs.Block.{BlockLines, Breaks, HoldsText, ReadsBlock, point}
+use Rattle.sbl_sessions.specs.CommandViews.{IsAnswer, IsReply, IsTextAnswer}
+use Rattle.sbl_sessions.specs.inside.Views.{IsAnswered}
 use Rattle.sbl_sessions.specs.Commands.{block_command, command_of, line_command}
 use Rattle.sbl_io.specs.HeldInput.{AllFit, BeginsLong, BreaksOff, GivesLine, Took, TookWhole}
 use Rattle.sbl_script.specs.Edits.{ScriptEdit}
 use Rattle.sbl_sessions.specs.Words.{command_word}
-use Rattle.sbl_sessions.specs.Requests.{IsBegun, IsRequest, Request, TookRequests, asks_block, block_lines, block_word, lines_in, lines_in_all}
-use Rattle.sbl_sessions.specs.Session.{HasReplies, IsSession, RepliesToInput}
-use Rattle.sbl_formats.specs.declared.block_text.BlockText.{BlockText}
+use Rattle.sbl_sessions.specs.Requests.{Request, TookRequests, asks_block, block_word, lines_in_all}
+use Rattle.sbl_sessions.specs.inside.Names.{IsBegun, IsRequest, block_lines, lines_in}
+use Rattle.sbl_sessions.specs.Session.{CutsReply, CutsRequest, IsSession, Moment, Replies}
+use Rattle.sbl_reports.specs.declared.block_text.BlockText.{BlockText}
 use Rattle.sbl_io.specs.Faults.{serve_fault_of}
 use Rattle.sbl_io.specs.declared.faults.LineFault.{LineFault}
 use Rattle.sbl_io.specs.declared.faults.LineFault.TheVariants as read
 use Rattle.sbl_io.specs.declared.faults.ServeFault.{ServeFault}
 use Rattle.sbl_io.specs.declared.faults.ServeFault.TheVariants as fault
 use Rattle.sbl_sessions.specs.declared.replies.Reply.{Reply}
-use Rattle.sbl_formats.proofs.BlockFacts.{all_fit-append, all_fit-push, broken_block}
+use Rattle.sbl_reports.proofs.BlockFacts.{all_fit-append, all_fit-push, broken_block}
 use Rattle.sbl_io.proofs.Bytes.{took-kept, took-none, took-trans}
 
 -- ---- answers
@@ -36,19 +38,6 @@ more_answers s t u [] r (p ∷ m) q text reply so is = absurd so
 more_answers s t u (d ∷ done) r [] q text reply so is = absurd so
 more_answers s t u (d ∷ done) r (p ∷ m) q text reply so is =
     (so.0, so.1, so.2 ++ reply, so.3, more_answers so.1 t u done r m q so.2 reply so.4 is, ap (λ (x : List ℕ). x ++ reply) so.5 ∙ append_assoc so.0 so.2 reply)
-
-nothing_yet : (s : Contents) (h : Option (List ℕ)) → HasReplies s [] h h s
-nothing_yet s h = record { m = []; text = []; answers = (refl, refl); written = Appends-nil h }
-
--- one more request was answered
-answered-more : (s t u : Contents) (done : List Request) (r : Request) (h i j : Option (List ℕ)) (q : Memory) (reply : List ℕ)
-    → HasReplies s done h i t → Appends i j reply → IsReplyTo t (command_of r) q reply u → HasReplies s (done ++ r ∷ []) h j u
-answered-more s t u done r h i j q reply so writes is = record {
-  m = so.m ++ q ∷ [];
-  text = so.text ++ reply;
-  answers = more_answers s t u done r so.m q so.text reply so.answers is;
-  written = Appends-trans h i j so.text reply so.written writes;
-}
 
 -- ---- requests
 
@@ -69,60 +58,92 @@ one_more a b c d done line block so gives fits formed fit took =
 
 -- ---- the session
 
+-- a moment with this input, this that the writer holds, and this bench
+abbrev pub at : Option (List ℕ) → Option (List ℕ) → Contents → Moment
+at a h s = record { input = a; held = h; bench = s }
+
+abbrev pub RepliesToInput : Option (List ℕ) → Option (List ℕ) → Option (List ℕ) → Option (List ℕ) → Contents → Contents → Type 0
+RepliesToInput a b h i s t = Replies (at a h s) (at b i t)
+
 pub session_starts : (a h : Option (List ℕ)) (s : Contents) → RepliesToInput a a h h s s
-session_starts a h s = ([], none_taken a, nothing_yet s h)
+session_starts a h s = record { requests = []; taken = none_taken a; m = []; text = []; answers = (refl, refl); written = Appends-nil h }
 
 pub session_goes_on : (a b c d h i j : Option (List ℕ)) (s t u : Contents) (line : List ℕ) (reply : Reply)
     → RepliesToInput a b h i s t → GivesLine b c line → length line ≤ 65536 → IsAnswered c d line t reply u
     → ((text : List ℕ) → IsReply reply text → Appends i j text) → RepliesToInput a d h j s u
-session_goes_on a b c d h i j s t u line reply so gives fits is writes = (
-  so.0 ++ record { line = line; block = is.block } ∷ [],
-  one_more a b c d so.0 line is.block so.1 gives fits is.formed is.fit is.took,
-  answered-more s t u so.0 (record { line = line; block = is.block }) h i j is.answer.0 is.answer.1 so.2 (writes is.answer.1 is.answer.2) is.answer.3,
-)
+session_goes_on a b c d h i j s t u line reply so gives fits is writes =
+    let r : Request = record { line = line; block = is.block } in
+    let text = is.answer.1 in
+    record {
+      requests = so.requests ++ r ∷ [];
+      taken = one_more a b c d so.requests line is.block so.taken gives fits is.formed is.fit is.took;
+      m = so.m ++ is.answer.0 ∷ [];
+      text = so.text ++ text;
+      answers = more_answers s t u so.requests r so.m is.answer.0 so.text text so.answers is.answer.3;
+      written = Appends-trans h i j so.text text so.written (writes text is.answer.2);
+    }
 
-pub session_ends : (a b c h i : Option (List ℕ)) (s t : Contents) → RepliesToInput a b h i s t → Keeps b c → IsAtEnd c → IsSession a c h i s t (Ok tt)
+-- the result is this fault alone
+same_fault : (f g : ServeFault) → Err {A = Unit {0}} f ≡ Err g → f ≡ g
+same_fault f g is = ap fault_in is
+  where
+    fault_in : Result (Unit {0}) ServeFault → ServeFault
+    fault_in (Ok u) = f
+    fault_in (Err x) = x
+
+input_stopped : (old new : Moment) (f : ServeFault) → f ≢ fault.Write → CutsRequest old new f → IsSession old new (Err f)
+input_stopped old new f other cuts = record {
+  ends = λ is. cc is;
+  writer_stops = λ is. absurd (other (same_fault f fault.Write is));
+  input_stops = λ g is _. subst (CutsRequest old new) (same_fault f g is) cuts;
+}
+
+pub session_ends : (a b c h i : Option (List ℕ)) (s t : Contents) → RepliesToInput a b h i s t → Keeps b c → IsAtEnd c → IsSession (at a h s) (at c i t) (Ok tt)
 session_ends a b c h i s t so keeps end =
-    ((so.0, record { each = so.1.each; fit = so.1.fit; lines = took-kept a b c (lines_in_all so.0) so.1.lines keeps }, so.2), end)
+    let taken : TookRequests a c so.requests = record { each = so.taken.each; fit = so.taken.fit; lines = took-kept a b c (lines_in_all so.requests) so.taken.lines keeps } in
+    let replies : RepliesToInput a c h i s t = record { requests = so.requests; taken = taken; m = so.m; text = so.text; answers = so.answers; written = so.written } in
+    record { ends = λ _. (replies, end); writer_stops = λ is. cc is; input_stops = λ f is _. cc is }
 
 -- where the lines have no further one
 pub session_at_line : (a b c h i : Option (List ℕ)) (s t : Contents) (k : Option LineFault) (part : List ℕ) (f : LineFault) → RepliesToInput a b h i s t → k ≡ None
     → (f ≡ read.Read → TookWhole a b) → (f ≡ read.TooLong → BeginsLong b ⊎ (k ≡ Some f)) → (f ≡ read.Read → k ≡ None → BreaksOff b c part)
-    → IsSession a c h i s t (Err (serve_fault_of f))
-session_at_line a b c h i s t k part read.Read so none whole long cut = (b, λ _. whole refl, so, broken_block (IsBegun fault.Read) b b c k [] part read.Read (inl (refl, λ is. cc is)) (took-none b) none long cut)
-session_at_line a b c h i s t k part read.TooLong so none whole long cut = (b, λ is. cc is, so, broken_block (IsBegun fault.LineTooLong) b b c k [] part read.TooLong (inl (refl, λ is. cc is)) (took-none b) none long cut)
+    → IsSession (at a h s) (at c i t) (Err (serve_fault_of f))
+session_at_line a b c h i s t k part read.Read so none whole long cut =
+    input_stopped (at a h s) (at c i t) fault.Read (λ is. cc is) (record { rest = b; before = so; cut = broken_block (IsBegun fault.Read) b b c k [] part read.Read (inl (refl, λ is. cc is)) (took-none b) none long cut; whole = λ _. whole refl })
+session_at_line a b c h i s t k part read.TooLong so none whole long cut =
+    input_stopped (at a h s) (at c i t) fault.LineTooLong (λ is. cc is) (record { rest = b; before = so; cut = broken_block (IsBegun fault.LineTooLong) b b c k [] part read.TooLong (inl (refl, λ is. cc is)) (took-none b) none long cut; whole = λ is. cc is })
 
 -- where a block has no end
 pub session_open : (a b c d h i : Option (List ℕ)) (s t : Contents) (line : List ℕ) (f : ServeFault) → RepliesToInput a b h i s t → GivesLine b c line → length line ≤ 65536
-    → asks_block line ≡ true → (f ≡ fault.Read → TookWhole a b) → Breaks BlockLines c d f → IsSession a d h i s t (Err f)
-session_open a b c d h i s t line fault.Read so gives fits asks whole breaks =
-    (b, whole, so, (line ∷ breaks.0, breaks.1, breaks.2, inr (asks, fits, breaks.3), took-trans b c breaks.1 (line ∷ []) breaks.0 gives breaks.4, breaks.5))
-session_open a b c d h i s t line fault.LineTooLong so gives fits asks whole breaks =
-    (b, whole, so, (line ∷ breaks.0, breaks.1, inr (asks, fits, breaks.2), took-trans b c breaks.1 (line ∷ []) breaks.0 gives breaks.3, breaks.4))
-session_open a b c d h i s t line fault.Cut so gives fits asks whole breaks =
-    (b, whole, so, (line ∷ breaks.0, inr (asks, fits, breaks.1), took-trans b c d (line ∷ []) breaks.0 gives breaks.2, breaks.3))
-session_open a b c d h i s t line fault.Write so gives fits asks whole breaks = absurd breaks
-session_open a b c d h i s t line fault.NotText so gives fits asks whole breaks = absurd breaks
-session_open a b c d h i s t line fault.OutOfMemory so gives fits asks whole breaks = absurd breaks
-session_open a b c d h i s t line fault.LengthsDiffer so gives fits asks whole breaks = absurd breaks
+    → asks_block line ≡ true → (f ≡ fault.Read → TookWhole a b) → Breaks BlockLines c d f → IsSession (at a h s) (at d i t) (Err f)
+session_open a b c d h i s t line f so gives fits asks whole breaks = input_stopped (at a h s) (at d i t) f other (record { rest = b; before = so; cut = opened f breaks; whole = whole })
+  where
+    other : f ≢ fault.Write
+    other is = subst (Breaks BlockLines c d) is breaks
+
+    opened : (f : ServeFault) → Breaks BlockLines c d f → Breaks (IsBegun f) b d f
+    opened fault.Read breaks = (line ∷ breaks.0, breaks.1, breaks.2, inr (asks, fits, breaks.3), took-trans b c breaks.1 (line ∷ []) breaks.0 gives breaks.4, breaks.5)
+    opened fault.LineTooLong breaks = (line ∷ breaks.0, breaks.1, inr (asks, fits, breaks.2), took-trans b c breaks.1 (line ∷ []) breaks.0 gives breaks.3, breaks.4)
+    opened fault.Cut breaks = (line ∷ breaks.0, inr (asks, fits, breaks.1), took-trans b c d (line ∷ []) breaks.0 gives breaks.2, breaks.3)
+    opened fault.Write breaks = absurd breaks
+    opened fault.NotText breaks = absurd breaks
+    opened fault.OutOfMemory breaks = absurd breaks
+    opened fault.LengthsDiffer breaks = absurd breaks
 
 -- where an answer was broken off by the writer
 pub session_at_write : (a b c d h i j : Option (List ℕ)) (s t u : Contents) (line : List ℕ) (reply : Reply) (n : ℕ)
     → RepliesToInput a b h i s t → GivesLine b c line → length line ≤ 65536 → IsAnswered c d line t reply u
-    → ((text : List ℕ) → IsReply reply text → Appends i j (take n text)) → IsSession a d h j s u (Err fault.Write)
-session_at_write a b c d h i j s t u line reply n so gives fits is writes = (
-  so.0,
-  record { line = line; block = is.block },
-  one_more a b c d so.0 line is.block so.1 gives fits is.formed is.fit is.took,
-  t,
-  i,
-  so.2,
-  is.answer.0,
-  is.answer.1,
-  is.answer.3,
-  n,
-  writes is.answer.1 is.answer.2,
-)
+    → ((text : List ℕ) → IsReply reply text → Appends i j (take n text)) → IsSession (at a h s) (at d j u) (Err fault.Write)
+session_at_write a b c d h i j s t u line reply n so gives fits is writes =
+    let taken = one_more b b c d [] line is.block (none_taken b) gives fits is.formed is.fit is.took in
+    let cuts : CutsReply (at a h s) (at d j u) = record {
+      middle = at b i t;
+      before = so;
+      request = record { line = line; block = is.block };
+      taken = taken;
+      reply = (is.answer.0, is.answer.1, is.answer.3, n, writes is.answer.1 is.answer.2);
+    } in
+    record { ends = λ is. cc is; writer_stops = λ _. cuts; input_stops = λ f is other. absurd (other (sym (same_fault fault.Write f is))) }
 
 -- ---- the answer to a request
 

@@ -1,5 +1,5 @@
 -- The replies of a session to its requests.
-use Rattle.std.specs.Prelude.{◌≡◌, ◌+◌, ℕ, List, [], ◌∷◌, ◌++◌, codes, Option, Some, None}
+use Rattle.std.specs.Prelude.{◌≡◌, ◌+◌, ℕ, List, [], ◌∷◌, ◌++◌, codes, decimal, Option, Some, None}
 use Rattle.sbl_bench.specs.Contents.{Contents}
 use Rattle.sbl_bench.specs.Edits.{Edit, Replace, IsOutOfMemory, IsVerdict}
 use Rattle.sbl_bench.specs.Names.{script_name}
@@ -12,22 +12,26 @@ use Rattle.sbl_sessions.specs.Requests.{Request}
 abbrev pub with_line_feed : List ℕ → List ℕ
 with_line_feed text = text ++ 10 ∷ []
 
+-- the number and the name of a fault
+abbrev pub number_and_name : EditFault → ℕ × List ℕ
+number_and_name fault.Present = (40, codes "Present")
+number_and_name fault.Absent = (41, codes "Absent")
+number_and_name fault.EmptyWord = (42, codes "EmptyWord")
+number_and_name fault.WordTooLong = (43, codes "WordTooLong")
+number_and_name fault.Full = (44, codes "Full")
+number_and_name fault.NoRoutine = (45, codes "NoRoutine")
+number_and_name fault.NoAmong = (46, codes "NoAmong")
+number_and_name fault.AmongCount = (47, codes "AmongCount")
+number_and_name (fault.Script f) = (48, script_name f)
+number_and_name fault.OutOfMemory = (49, codes "OutOfMemory")
+number_and_name fault.MeterFull = (50, codes "MeterFull")
+number_and_name fault.BadLimit = (51, codes "BadLimit")
+number_and_name fault.NoGrouping = (53, codes "NoGrouping")
+
 -- the reply to an edit: `ok`, or `no` with the number and name of the fault
 abbrev pub edit_text : Option EditFault → List ℕ
 edit_text None = with_line_feed (codes "ok")
-edit_text (Some fault.Present) = with_line_feed (codes "no 40 Present")
-edit_text (Some fault.Absent) = with_line_feed (codes "no 41 Absent")
-edit_text (Some fault.EmptyWord) = with_line_feed (codes "no 42 EmptyWord")
-edit_text (Some fault.WordTooLong) = with_line_feed (codes "no 43 WordTooLong")
-edit_text (Some fault.Full) = with_line_feed (codes "no 44 Full")
-edit_text (Some fault.NoRoutine) = with_line_feed (codes "no 45 NoRoutine")
-edit_text (Some fault.NoAmong) = with_line_feed (codes "no 46 NoAmong")
-edit_text (Some fault.AmongCount) = with_line_feed (codes "no 47 AmongCount")
-edit_text (Some (fault.Script f)) = with_line_feed (codes "no 48 " ++ script_name f)
-edit_text (Some fault.OutOfMemory) = with_line_feed (codes "no 49 OutOfMemory")
-edit_text (Some fault.MeterFull) = with_line_feed (codes "no 50 MeterFull")
-edit_text (Some fault.BadLimit) = with_line_feed (codes "no 51 BadLimit")
-edit_text (Some fault.NoGrouping) = with_line_feed (codes "no 53 NoGrouping")
+edit_text (Some f) = with_line_feed (codes "no " ++ decimal (number_and_name f).0 ++ 32 ∷ (number_and_name f).1)
 
 -- The memory that a request gets: enough for all of it; too little for its name or its block; or too little for its edit or its
 -- report, after this many of the runs that the edit needs.

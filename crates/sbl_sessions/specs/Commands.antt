@@ -1,16 +1,16 @@
 -- The commands of requests.
 use Rattle.std.specs.Prelude.{ℕ, List, [], ◌∷◌, ◌++◌, codes, decimal, if◌then◌else◌, length, nat_lt, Option, Some, None, Result, Ok, Err}
+use Rattle.std.specs.List.{find}
 use Rattle.std.specs.Option.{option_and_then, option_map_or, unwrap_or}
 use Rattle.std.specs.Str.{bytes_eq, chars, is_utf8}
 use Rattle.sbl_bench.specs.Contents.{Contents}
 use Rattle.sbl_bench.specs.Edits as edits
-use Rattle.sbl_listings.specs.Listings.{class_text, classes_text, stems_text}
-use Rattle.sbl_listings.specs.Listings.{trace_text}
+use Rattle.sbl_reports.specs.Listings.{class_text, classes_text, stems_text, trace_text}
 use Rattle.sbl_print.specs.Canonical.{canonical}
 use Rattle.sbl_script.specs.Edits.{ScriptEdit}
 use Rattle.sbl_text.specs.declared.fault.ScriptFault.{ScriptFault}
 use Rattle.sbl_text.specs.declared.fault.ScriptFault.TheVariants as fault
-use Rattle.sbl_formats.specs.Block.{made_text, max_script}
+use Rattle.sbl_reports.specs.Block.{made_text, max_script}
 use Rattle.sbl_sessions.specs.Numbers.{number_in}
 use Rattle.sbl_sessions.specs.Requests.{Request, block_word}
 use Rattle.sbl_sessions.specs.Words.{argument, command_word}
@@ -27,18 +27,25 @@ Bad = Says (codes "no 52 BadCommand" ++ 10 ∷ [])
 
 -- ---- a line alone
 
--- the command of a line that is UTF-8; a limit that is not written in decimal digits is read as 0, which is refused
+-- the commands that have an argument; a limit that is not written in decimal digits is read as 0, which is refused
+abbrev pub with_argument : List (List ℕ × (List ℕ → Command))
+with_argument =
+    (codes "add", λ a. Makes (edits.Add (chars a))) ∷ (codes "remove", λ a. Makes (edits.Remove (chars a))) ∷
+    (codes "class", λ a. Reports (λ s. class_text s (chars a))) ∷ (codes "trace", λ a. Reports (λ s. trace_text s (chars a))) ∷
+    (codes "limit", λ a. Makes (edits.Limit (unwrap_or (number_in a) 0))) ∷ []
+
+-- the reports of the whole bench; each of these words is a line by itself
+abbrev pub of_bench : List (List ℕ × (Contents → List ℕ))
+of_bench =
+    (codes "stems", stems_text) ∷ (codes "classes", classes_text) ∷
+    (codes "script", λ s. canonical s.setting.script.items) ∷ (codes "runs", λ s. decimal s.count ++ 10 ∷ []) ∷ []
+
+-- the command of a line that is UTF-8
 abbrev pub text_command : List ℕ → Command
 text_command line =
-    if bytes_eq (command_word line) (codes "add") then Makes (edits.Add (chars (argument line)))
-    else (if bytes_eq (command_word line) (codes "remove") then Makes (edits.Remove (chars (argument line)))
-    else (if bytes_eq (command_word line) (codes "class") then Reports (λ s. class_text s (chars (argument line)))
-    else (if bytes_eq (command_word line) (codes "trace") then Reports (λ s. trace_text s (chars (argument line)))
-    else (if bytes_eq (command_word line) (codes "limit") then Makes (edits.Limit (unwrap_or (number_in (argument line)) 0))
-    else (if bytes_eq line (codes "stems") then Reports (λ s. Some (stems_text s))
-    else (if bytes_eq line (codes "classes") then Reports (λ s. Some (classes_text s))
-    else (if bytes_eq line (codes "script") then Reports (λ s. Some (canonical s.setting.script.items))
-    else (if bytes_eq line (codes "runs") then Reports (λ s. Some (decimal s.count ++ 10 ∷ [])) else Bad))))))))
+    option_map_or (λ c. c.1 (argument line))
+    (find (λ c. bytes_eq (command_word line) c.0) with_argument)
+    (option_map_or (λ c. Reports (λ s. Some (c.1 s))) (find (λ c. bytes_eq line c.0) of_bench) Bad)
 
 -- an empty line has no reply, and a line that is not UTF-8 is bad
 unfoldable pub line_command : List ℕ → Command
@@ -69,26 +76,3 @@ block_command line lines = option_map_or (λ what. with_text what (text_of_block
 
 abbrev pub command_of : Request → Command
 command_of r = option_map_or (block_command r.line) r.block (line_command r.line)
-
--- ---- names for proofs
-
-abbrev pub Nothing : Command
-Nothing = Says []
-
-abbrev pub Stems : Command
-Stems = Reports (λ s. Some (stems_text s))
-
-abbrev pub Classes : Command
-Classes = Reports (λ s. Some (classes_text s))
-
-abbrev pub Script : Command
-Script = Reports (λ s. Some (canonical s.setting.script.items))
-
-abbrev pub Runs : Command
-Runs = Reports (λ s. Some (decimal s.count ++ 10 ∷ []))
-
-abbrev pub Class : List ℕ → Command
-Class word = Reports (λ s. class_text s word)
-
-abbrev pub Trace : List ℕ → Command
-Trace word = Reports (λ s. trace_text s word)

@@ -5,8 +5,8 @@ pub mod Requests
 pub mod Commands
 pub mod Answers
 pub mod CommandViews
-pub mod Edits
+pub mod Faults
 pub mod Session
 pub mod OneAnswer
-
 -- what the functions inside the crate promise each other: nothing in these need be believed
+pub mod inside

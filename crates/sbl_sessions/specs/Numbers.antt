@@ -9,8 +9,3 @@ use Rattle.sbl_text.specs.Tokens.{number_of}
 abbrev pub number_in : List ℕ → Option ℕ
 number_in [] = None
 number_in text = if list_all is_digit text then Some (min (number_of text) (2 ^ 64 - 1)) else None
-
--- ---- names for proofs
-
-abbrev pub max_number : ℕ
-max_number = 2 ^ 64 - 1

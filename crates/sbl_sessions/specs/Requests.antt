@@ -1,13 +1,11 @@
 -- The requests of a session: a line, and the block after it if its command word asks for one.
-use Rattle.std.specs.Prelude.{◌≡◌, ◌≢◌, ◌⊎◌, ◌≤◌, ℕ, length, Bool, true, List, [], ◌∷◌, ◌++◌, Option, Some, None, codes, if◌then◌else◌}
+use Rattle.std.specs.Prelude.{◌≡◌, ◌⊎◌, ◌≤◌, ℕ, length, Bool, true, List, [], ◌∷◌, ◌++◌, Option, Some, None, codes, if◌then◌else◌}
 use Rattle.std.specs.List.{All, flat_map}
 use Rattle.std.specs.Option.{IfSome, is_some, option_map, option_map_or}
 use Rattle.std.specs.Str.{bytes_eq}
-use Rattle.sbl_formats.specs.Block.{BlockLines, NoPoint, point}
+use Rattle.sbl_reports.specs.Block.{BlockLines, NoPoint, point}
 use Rattle.sbl_io.specs.HeldInput.{AllFit, Took}
 use Rattle.sbl_io.specs.LinesOf.{max_line}
-use Rattle.sbl_io.specs.declared.faults.ServeFault.{ServeFault}
-use Rattle.sbl_io.specs.declared.faults.ServeFault.TheVariants as fault
 use Rattle.sbl_script.specs.Edits.{ScriptEdit, among, body, terms}
 use Rattle.sbl_sessions.specs.Numbers.{number_in}
 use Rattle.sbl_sessions.specs.Words.{argument, command_word}
@@ -43,19 +41,3 @@ pub record TookRequests (old new : Option (List ℕ)) (requests : List Request) 
 abbrev pub IsOpen : List (List ℕ) → Type 0
 IsOpen [] = ⊥
 IsOpen (line ∷ lines) = (asks_block line ≡ true) × (length line ≤ max_line) × BlockLines lines
-
--- ---- names for proofs
-
-abbrev pub IsRequest : Request → Type 0
-IsRequest r = (asks_block r.line ≡ is_some r.block) × IfSome r.block NoPoint
-
--- the lines of a block, and its line `.`
-abbrev pub block_lines : Option (List (List ℕ)) → List (List ℕ)
-block_lines block = option_map_or (λ lines. lines ++ point ∷ []) block []
-
-abbrev pub lines_in : Request → List (List ℕ)
-lines_in r = r.line ∷ block_lines r.block
-
--- the lines of a request that is not whole: none yet, unless the input is cut off, or these
-abbrev pub IsBegun : ServeFault → List (List ℕ) → Type 0
-IsBegun f lines = ((lines ≡ []) × (f ≢ fault.Cut)) ⊎ IsOpen lines

@@ -8,8 +8,3 @@ command_word line = before_first (λ b. b == 32) line
 
 abbrev pub argument : List ℕ → List ℕ
 argument line = after_first (λ b. b == 32) line
-
--- ---- names for proofs
-
-abbrev pub is_space : ℕ → Bool
-is_space b = b == 32

@@ -2,13 +2,14 @@
 ghost use Rattle.std.specs.Prelude.{◌≡◌, ◌≤◌, None, Some, Err, IfOk, IfErr, OnOk};
 ghost use Rattle.std.specs.Io.KnownBytes.{IsAtEnd, Keeps};
 ghost use Rattle.sbl_bench.specs.KeptRuns.{contents_of};
-ghost use Rattle.sbl_sessions.specs.CommandViews.{BreaksBlock, IsAnswer, IsAnswered};
+ghost use Rattle.sbl_sessions.specs.CommandViews.{IsAnswer};
+ghost use Rattle.sbl_sessions.specs.inside.Views.{BreaksBlock, IsAnswered};
 ghost use Rattle.sbl_sessions.specs.Commands.{line_command};
 ghost use Rattle.sbl_io.specs.Devices.{WritesInTime};
 ghost use Rattle.sbl_io.specs.Faults.{left_by, serve_fault_of};
 ghost use Rattle.sbl_io.specs.declared.faults.LineFault.{LineFault};
 ghost use Rattle.sbl_io.specs.HeldInput.{IsDrained, KeepsTime, Reading, fault_of, input_of, line_of, reads_bound};
-ghost use Rattle.sbl_sessions.specs.Session.{Ends, IsSession};
+ghost use Rattle.sbl_sessions.specs.Session.{Ends, IsSession, moment};
 
 use crate::replies::{BAD_COMMAND, Reply, edit_text, report, write_reply};
 use crate::reports::{
@@ -17,8 +18,8 @@ use crate::reports::{
 use crate::session_commands::{Command, block_word, command_of, target_of};
 use crate::session_edits::{add_word, edit_script, remove_word};
 use sbl_bench::{Bench, EditFault};
-use sbl_formats::read_block;
 use sbl_io::{Lines, ServeFault, Sink, Source};
+use sbl_reports::read_block;
 use std::alloc::Global;
 
 /// Makes the edit or the report that a line without a block asks for, and returns the reply.
@@ -95,7 +96,7 @@ pub fn serve<R: Source + Drop, W: Sink>(
     lines: &mut Lines<R>,
     writer: &mut W,
 ) -> Result<(), ServeFault>
-    ensures session { fault_of lines.old ≡ None → IsSession (input_of R.left lines.old) (input_of R.left lines.new) (W.held writer.old) (W.held writer.new) (contents_of bench.old) (contents_of bench.new) result }
+    ensures session { fault_of lines.old ≡ None → IsSession (moment R.left W.held lines.old writer.old bench.old) (moment R.left W.held lines.new writer.new bench.new) result }
     ensures ends { Ends R.tally W.tally lines.old lines.new writer.old writer.new result }
     ensures steady { OnOk result (((R.tally lines.new.reader).failures ≡ (R.tally lines.old.reader).failures) × ((W.tally writer.new).failures ≡ (W.tally writer.old).failures)) }
     ensures whole { OnOk result (IsAtEnd (input_of R.left lines.new)) }

@@ -2,12 +2,16 @@
 ghost use Rattle.std.specs.Prelude.{◌≡◌, IfOk, OnErr, Some, true};
 ghost use Rattle.std.specs.Option.{is_some, unwrap_or};
 ghost use Rattle.sbl_bench.specs.Edits as edits;
+ghost use Rattle.sbl_script.specs.Parts.{view_part};
 ghost use Rattle.sbl_sessions.specs.Commands as spec;
 ghost use Rattle.sbl_sessions.specs.Requests as requests;
 ghost use Rattle.sbl_sessions.specs.Words as words;
-ghost use Rattle.sbl_sessions.specs.CommandViews.{FindsTarget, view_asked, view_command, view_found, view_word};
+ghost use Rattle.sbl_sessions.specs.CommandViews.{FindsTarget, view_asked, view_found, view_target, view_word};
+ghost use Rattle.sbl_sessions.specs.inside.Names as names;
+ghost use Rattle.sbl_sessions.specs.inside.Views.{view_command};
 ghost use Rattle.sbl_sessions.specs.Numbers as numbers;
 
+use sbl_script::Part;
 use std::alloc::{AllocError, Global};
 
 /// The command on a line that no block follows, with the word or the number that it is about.
@@ -45,7 +49,7 @@ pub(crate) fn command_of(line: &[u8]) -> Command<'_>
 
 /// Returns the command of a line that is UTF-8.
 fn text_command(text: &str) -> Command<'_>
-    ensures { view_command result ≡ spec.text_command text.now }
+    ensures { view_command result ≡ names.tested_command text.now }
 {
     let (word, argument) = match text.split_once(' ') {
         Some((word, argument)) => (word, argument),
@@ -114,6 +118,17 @@ pub enum Target {
     Among(String, u64),
     /// The terms of the grouping of this name.
     Terms(String),
+}
+
+/// Returns the part of a script that a target is.
+pub fn part_of(target: &Target) -> Part<'_>
+    ensures { view_part result ≡ view_target target.now }
+{
+    match target {
+        Target::Body(name) => Part::Routine(name.as_str()),
+        Target::Among(name, k) => Part::Among(name.as_str(), *k),
+        Target::Terms(name) => Part::Grouping(name.as_str()),
+    }
 }
 
 /// Returns what a line with this block word replaces; `None` if the line is bad: it is not UTF-8, or the argument of `among` is

@@ -4,15 +4,15 @@ ghost use Rattle.std.specs.Str.{chars, is_utf8};
 ghost use Rattle.sbl_bench.specs.KeptRuns.{contents_of};
 ghost use Rattle.sbl_bench.specs.Edits as edits;
 ghost use Rattle.sbl_sessions.specs.Answers as spec;
-ghost use Rattle.sbl_formats.specs.Block.{HoldsText};
+ghost use Rattle.sbl_reports.specs.Block.{HoldsText};
 ghost use Rattle.sbl_sessions.specs.CommandViews.{FindsTarget, IsEditAnswer, IsTextAnswer, view_target};
 ghost use Rattle.sbl_sessions.specs.Commands.{block_command};
 
 use crate::replies::{BAD_COMMAND, edit_text};
-use crate::session_commands::Target;
+use crate::session_commands::{Target, part_of};
 use sbl_bench::laws::words_fit;
 use sbl_bench::{Bench, EditFault, MAX_WORD_LENGTH};
-use sbl_formats::{BlockFault, BlockText};
+use sbl_reports::{BlockFault, BlockText};
 use sbl_script::ScriptFault;
 use std::alloc::AllocError;
 
@@ -64,11 +64,7 @@ fn replace(bench: &mut Bench, target: &Target, text: &[u8]) -> &'static str
     let Ok(text) = str::from_utf8(text) else {
         return edit_text(Err(EditFault::Script(ScriptFault::NotUtf8)));
     };
-    match target {
-        Target::Body(name) => edit_text(bench.replace_routine(name.as_str(), text)),
-        Target::Among(name, k) => edit_text(bench.replace_among(name.as_str(), *k, text)),
-        Target::Terms(name) => edit_text(bench.replace_grouping(name.as_str(), text)),
-    }
+    edit_text(bench.replace(part_of(target), text))
 }
 
 /// Makes the edit of the script that a line and its block ask for, and returns the reply. A bad line is refused, whatever its

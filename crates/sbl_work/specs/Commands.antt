@@ -4,7 +4,7 @@ use Rattle.std.specs.Option.{option_and_then}
 use Rattle.std.specs.Str.{bytes_eq, chars, is_utf8}
 use Rattle.sbl_io.specs.LinesOf.{lines_of}
 use Rattle.sbl_script.specs.Edits.{ScriptEdit}
-use Rattle.sbl_formats.specs.Block.{made_text, max_script}
+use Rattle.sbl_reports.specs.Block.{made_text, max_script}
 use Rattle.sbl_sessions.specs.Commands as session
 use Rattle.sbl_sessions.specs.Numbers.{number_in}
 use Rattle.sbl_sessions.specs.Requests.{asks_block}
@@ -12,29 +12,44 @@ use Rattle.sbl_sessions.specs.Words.{argument, command_word}
 use Rattle.sbl_text.specs.declared.fault.ScriptFault.{ScriptFault}
 use Rattle.sbl_text.specs.declared.fault.ScriptFault.TheVariants as fault
 
--- Nothing, for a comment or `help`; a command of a session; a text for a part of the script; the bytes of a whole script; the
--- edit before or after; the mark; what differs from it; figures; so many of the largest classes, none if the number is bad; the
--- bytes of families; why a word has its stem; the integer variables after its run; what no word uses; a definition; a file that was written;
--- no words that were to be put into a file; a file that was not read or written; a text.
 pub data WorkCommand : Type 0 where
+  -- a comment, or `help`
   Nothing : WorkCommand
+  -- a command of a session
   Session : session.Command → WorkCommand
+  -- a text replaces a part of the script
   EditPart : ScriptEdit → List ℕ → WorkCommand
+  -- these bytes replace the whole script
   EditWhole : List ℕ → WorkCommand
+  -- takes the last edit of the script back
   Undo : WorkCommand
+  -- makes the edit again that was taken back last
   Redo : WorkCommand
+  -- sets the mark
   Mark : WorkCommand
+  -- what differs from the mark
   Changes : WorkCommand
+  -- figures of the bench
   Stats : WorkCommand
+  -- what no word uses
   Unused : WorkCommand
+  -- so many of the largest classes; none if the number is bad
   Largest : Option ℕ → WorkCommand
+  -- how the classes agree with the families in these bytes
   Families : List ℕ → WorkCommand
+  -- why a word has its stem
   Why : List ℕ → WorkCommand
+  -- the integer variables after the run of a word
   Integers : List ℕ → WorkCommand
+  -- the definition of this name
   Show : List ℕ → WorkCommand
+  -- a file was written
   Saved : WorkCommand
+  -- no words that were to be put into a file
   NoWords : WorkCommand
+  -- a file that could not be read or written
   NoFile : WorkCommand
+  -- a text to be written
   Echo : List ℕ → WorkCommand
 
 -- the line that ends the work

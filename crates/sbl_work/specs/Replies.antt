@@ -9,10 +9,10 @@ use Rattle.sbl_bench.specs.declared.fault.EditFault.TheVariants as edit
 use Rattle.sbl_script.specs.Edits.{ScriptEdit}
 use Rattle.sbl_sessions.specs.Answers.{edit_text, with_line_feed}
 use Rattle.sbl_sessions.specs.CommandViews.{IsTextAnswer}
-use Rattle.sbl_sessions.specs.Edits.{fault_in}
-use Rattle.sbl_unused.specs.Unused as unused
-use Rattle.sbl_why.specs.Integers as integers
-use Rattle.sbl_why.specs.WhyRows as rows
+use Rattle.sbl_sessions.specs.Faults.{fault_in}
+use Rattle.sbl_explain.specs.Unused as unused
+use Rattle.sbl_explain.specs.Integers as integers
+use Rattle.sbl_explain.specs.WhyRows as rows
 use Rattle.sbl_work.specs.Commands.{WorkCommand, Nothing, Session, EditPart, EditWhole, Undo, Redo, Mark, Changes, Stats, Unused, Largest, Families, Why, Integers, Show, Saved, NoWords, NoFile, Echo}
 use Rattle.sbl_source_map.specs.Definitions.{definition_text}
 use Rattle.sbl_history.specs.Desks.{Redoes, State, Undoes}
@@ -78,10 +78,13 @@ TellsMemory s d text t e = TellsAlone (edit_text (Some edit.OutOfMemory)) s d te
 abbrev pub TellsReport : List ℕ → Contents → State → List ℕ → Contents → State → Type 0
 TellsReport report s d text t e = TellsAlone report s d text t e ⊎ TellsMemory s d text t e
 
--- the whole script is replaced by these bytes, which become its text
+-- these bytes replace the whole script, and become its text
+abbrev pub ReplacesWhole : Result (Unit {0}) EditFault → List ℕ → Contents → State → Contents → State → Type 0
+ReplacesWhole result bytes s d t e = Replaces result (Whole bytes) (Some bytes) s d t e
+
 abbrev pub IsWholeReply : List ℕ → Contents → State → List ℕ → Contents → State → Type 0
 IsWholeReply bytes s d text t e =
-    (result : Result (Unit {0}) EditFault) × Replaces result (Whole bytes) (Some bytes) s d t e × (text ≡ edit_text (fault_in result))
+    (result : Result (Unit {0}) EditFault) × ReplacesWhole result bytes s d t e × (text ≡ edit_text (fault_in result))
 
 -- a part of the script is replaced by this text, without the beginning of a definition
 abbrev pub IsPartReply : ScriptEdit → List ℕ → Contents → State → List ℕ → Contents → State → Type 0

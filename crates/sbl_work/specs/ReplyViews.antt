@@ -6,10 +6,11 @@ use Rattle.std.specs.Borrow.{Bor}
 use Rattle.std.specs.declared.alloc.Global.{Global}
 use Rattle.std.specs.declared.vec.Vec.{Vec}
 use Rattle.sbl_bench.specs.Contents.{Contents}
+use Rattle.sbl_bench.specs.KeptRuns.{KeptRuns, contents_of}
 use Rattle.sbl_bench.specs.declared.fault.EditFault.{EditFault}
 use Rattle.sbl_bench.specs.declared.fault.EditFault.TheVariants as edit
 use Rattle.sbl_script.specs.Edits.{ScriptEdit}
-use Rattle.sbl_formats.specs.Block.{max_script}
+use Rattle.sbl_reports.specs.Block.{max_script}
 use Rattle.sbl_sessions.specs.CommandViews.{FindsTarget, IsReply}
 use Rattle.sbl_sessions.specs.Commands.{line_command}
 use Rattle.sbl_sessions.specs.Requests.{asks_block}
@@ -17,7 +18,8 @@ use Rattle.sbl_sessions.specs.declared.replies.Reply.{Reply}
 use Rattle.sbl_text.specs.declared.fault.ScriptFault.TheVariants as script
 use Rattle.sbl_work.specs.Commands as command
 use Rattle.sbl_work.specs.Commands.{WorkCommand, alone_command, append_command, count_in, families_in_file, is_replace, with_file}
-use Rattle.sbl_history.specs.Desks.{State}
+use Rattle.sbl_history.specs.Desks.{State, state_of}
+use Rattle.sbl_history.specs.declared.desk.Desk.{Desk}
 use Rattle.sbl_history.specs.Editing.{ReplacesPart}
 use Rattle.sbl_source_map.specs.Heads.{IsWithoutHead}
 use Rattle.sbl_reports.specs.Families.{families_in, families_text}
@@ -54,6 +56,10 @@ view_request file line variants.Session = command.Session (line_command line)
 -- the reply to a command, and the bench and the desk after it
 abbrev pub IsWorkAnswer : Contents → State → WorkCommand → Reply → Contents → State → Type 0
 IsWorkAnswer s d c r t e = (text : List ℕ) × IsReply r text × IsWorkReply s d c text t e
+
+-- the same over a bench and a desk
+abbrev pub Answers : KeptRuns → Desk → WorkCommand → Reply → KeptRuns → Desk → Type 0
+Answers bench desk c r new_bench new_desk = IsWorkAnswer (contents_of bench) (state_of desk) c r (contents_of new_bench) (state_of new_desk)
 
 -- the reply to a line without a block, for some bytes of its file, if it needs one
 abbrev pub IsFileAnswer : Contents → State → List ℕ → Reply → Contents → State → Type 0

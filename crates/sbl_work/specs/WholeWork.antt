@@ -1,8 +1,12 @@
 -- What the whole of work reads and writes: the two files are read, and then the lines of the input get their replies.
 use Rattle.std.specs.Prelude.{◌≡◌, ◌⊎◌, ℕ, List, [], Option, Some, None, Result, Ok, Err}
 use Rattle.sbl_bench.specs.Contents.{Contents, opening_contents, opening_fault, rows_now}
+use Rattle.sbl_io.specs.Devices.{Tally}
+use Rattle.sbl_io.specs.HeldInput.{input_of}
 use Rattle.sbl_io.specs.declared.faults.ServeFault.{ServeFault}
 use Rattle.sbl_io.specs.declared.faults.ServeFault.TheVariants as fault
+use Rattle.sbl_io.specs.declared.lines.Lines.{Lines}
+use Rattle.sbl_sessions.specs.Session.{Ends}
 use Rattle.sbl_ast.specs.Source.{Source}
 use Rattle.sbl_script.specs.Reading.{IsScriptOf}
 use Rattle.sbl_history.specs.Desks.{State}
@@ -31,19 +35,26 @@ IsUntouched input new_input held new_held = (new_input ≡ input) × (new_held �
 
 -- Work goes on from this bench and its desk at the start, and ends with this result, which has one of these reasons.
 abbrev pub WorksFrom : (Result (Unit {0}) ServeFault → Type 0) → List ℕ → List ℕ → Option (List ℕ) → Option (List ℕ) → Option (List ℕ) → Option (List ℕ) → Contents → Result (Unit {0}) ServeFault → Type 0
-WorksFrom Ends bytes prompt input new_input held new_held s result =
-    (t : Contents) × (e : State) × IsWork prompt input new_input held new_held s (first_desk s bytes) t e result × Ends result
+WorksFrom Reasons bytes prompt input new_input held new_held s result =
+    (t : Contents) × (e : State) × IsWork prompt input new_input held new_held s (first_desk s bytes) t e result × Reasons result
 
 -- the same; or an allocation for the desk fails
 abbrev pub WorksOrMemory : (Result (Unit {0}) ServeFault → Type 0) → List ℕ → List ℕ → Option (List ℕ) → Option (List ℕ) → Option (List ℕ) → Option (List ℕ) → Contents → Result (Unit {0}) ServeFault → Type 0
-WorksOrMemory Ends bytes prompt input new_input held new_held s result =
-    WorksFrom Ends bytes prompt input new_input held new_held s result
+WorksOrMemory Reasons bytes prompt input new_input held new_held s result =
+    WorksFrom Reasons bytes prompt input new_input held new_held s result
     ⊎ ((result ≡ Err fault.OutOfMemory) × IsUntouched input new_input held new_held)
 
 -- There is no bench or no desk: the status is 1, and nothing is read or written. Or a bench is opened, the lines of the input get
 -- their replies, and the status is that of their end.
 abbrev pub IsWholeWork : (Result (Unit {0}) ServeFault → Type 0) → List ℕ → List ℕ → Option (List ℕ) → Option (List ℕ) → Option (List ℕ) → Option (List ℕ) → ℕ → Type 0
-IsWholeWork Ends external prompt input new_input held new_held status =
+IsWholeWork Reasons external prompt input new_input held new_held status =
     ((status ≡ 1) × IsUntouched input new_input held new_held)
     ⊎ ((bytes : List ℕ) × (s : Contents) × (served : Result (Unit {0}) ServeFault) × IsOpened external bytes s
-    × WorksFrom Ends bytes prompt input new_input held new_held s served × (status ≡ status_of served))
+    × WorksFrom Reasons bytes prompt input new_input held new_held s served × (status ≡ status_of served))
+
+-- the same over lines and a writer
+abbrev pub WorksOver : {R W : Type 0} → (R → Option (List ℕ)) → (R → Tally) → (W → Option (List ℕ)) → (W → Tally)
+    → List ℕ → List ℕ → Lines R → Lines R → W → W → ℕ → Type 0
+WorksOver left reads held writes external prompt lines new_lines writer new_writer status =
+    IsWholeWork (Ends reads writes lines new_lines writer new_writer) external prompt
+    (input_of left lines) (input_of left new_lines) (held writer) (held new_writer) status

@@ -1,25 +1,24 @@
 //! The replies to lines with a block.
 ghost use Rattle.std.specs.Prelude.{◌≡◌, ℕ, List, Some, codes};
 ghost use Rattle.std.specs.Str.{bytes_eq};
-ghost use Rattle.sbl_bench.specs.Edits.{Whole};
 ghost use Rattle.sbl_bench.specs.KeptRuns.{contents_of};
-ghost use Rattle.sbl_formats.specs.Block.{HoldsText, made_text};
+ghost use Rattle.sbl_reports.specs.Block.{HoldsText, made_text};
 ghost use Rattle.sbl_sessions.specs.CommandViews.{FindsTarget, view_target};
-ghost use Rattle.sbl_sessions.specs.Commands.{target_of, text_of_block};
+ghost use Rattle.sbl_sessions.specs.Commands.{text_of_block};
+ghost use Rattle.sbl_work.specs.Answering.{part_edit};
 ghost use Rattle.sbl_work.specs.Commands as spec;
 ghost use Rattle.sbl_history.specs.Desks.{State, state_of};
-ghost use Rattle.sbl_history.specs.Editing.{Replaces};
+ghost use Rattle.sbl_work.specs.Replies.{ReplacesWhole};
 ghost use Rattle.sbl_script.specs.Parts.{view_part};
-ghost use Rattle.sbl_work.specs.ReplyViews.{FindsBlock, IsFamiliesAnswer, IsPartResult, IsWorkAnswer, NamesText};
+ghost use Rattle.sbl_work.specs.ReplyViews.{Answers, FindsBlock, IsFamiliesAnswer, IsPartResult, IsWorkAnswer, NamesText};
 
 use crate::replies::{NOT_TEXT, edit_reply};
 use crate::requests::BlockRequest;
 use sbl_bench::{Bench, EditFault};
-use sbl_formats::{BlockFault, BlockText};
 use sbl_history::Desk;
-use sbl_reports::families_text;
+use sbl_reports::{BlockFault, BlockText, families_text};
 use sbl_script::{Part, ScriptFault};
-use sbl_sessions::{BAD_COMMAND, Reply, Target, report};
+use sbl_sessions::{BAD_COMMAND, Reply, Target, part_of, report};
 use sbl_source_map::without_head;
 use std::alloc::{AllocError, Global};
 
@@ -36,22 +35,11 @@ fn text_of(block: BlockText) -> Result<Vec<u8>, EditFault>
 
 /// Replaces the whole script by the text of a block.
 fn replace_by(desk: &mut Desk, bench: &mut Bench, block: BlockText) -> Result<(), EditFault>
-    ensures { (lines : List (List ℕ)) → HoldsText block lines → Replaces result (Whole (made_text lines)) (Some (made_text lines)) (contents_of bench.old) (state_of desk.old) (contents_of bench.new) (state_of desk.new) }
+    ensures { (lines : List (List ℕ)) → HoldsText block lines → ReplacesWhole result (made_text lines) (contents_of bench.old) (state_of desk.old) (contents_of bench.new) (state_of desk.new) }
 {
     match text_of(block) {
         Ok(text) => desk.replace(bench, &text),
         Err(fault) => Err(fault),
-    }
-}
-
-/// Returns the part of a script that a target is.
-pub fn part_of(target: &Target) -> Part<'_>
-    ensures { view_part result ≡ view_target target.now }
-{
-    match target {
-        Target::Body(name) => Part::Routine(name.as_str()),
-        Target::Among(name, k) => Part::Among(name.as_str(), *k),
-        Target::Terms(name) => Part::Grouping(name.as_str()),
     }
 }
 
@@ -82,7 +70,7 @@ fn edit_target(
     target: &Target,
     block: BlockText,
 ) -> Reply
-    ensures { (lines : List (List ℕ)) → HoldsText block lines → IsWorkAnswer (contents_of bench.old) (state_of desk.old) (spec.part_command (Some (view_target target.now)) (text_of_block lines)) result (contents_of bench.new) (state_of desk.new) }
+    ensures { (lines : List (List ℕ)) → HoldsText block lines → Answers bench.old desk.old (spec.part_command (Some (view_target target.now)) (text_of_block lines)) result bench.new desk.new }
 {
     match text_of(block) {
         Ok(text) => edit_reply(replace_part_by(alloc, desk, bench, part_of(target), &text)),
@@ -98,7 +86,7 @@ fn edit_part(
     target: Result<Option<Target>, AllocError>,
     block: BlockText,
 ) -> Reply
-    ensures { (line : List ℕ) (lines : List (List ℕ)) → FindsTarget target line → HoldsText block lines → IsWorkAnswer (contents_of bench.old) (state_of desk.old) (spec.part_command (target_of line) (text_of_block lines)) result (contents_of bench.new) (state_of desk.new) }
+    ensures { (line : List ℕ) (lines : List (List ℕ)) → FindsTarget target line → HoldsText block lines → Answers bench.old desk.old (part_edit line lines) result bench.new desk.new }
 {
     match target {
         Ok(Some(target)) => edit_target(alloc, desk, bench, &target, block),
@@ -109,7 +97,7 @@ fn edit_part(
 
 /// Makes the edit of `replace`, and returns the reply. A line with an argument is refused, whatever its block is.
 fn replace_reply(desk: &mut Desk, bench: &mut Bench, is_good: bool, block: BlockText) -> Reply
-    ensures { (line : List ℕ) (lines : List (List ℕ)) → is_good ≡ bytes_eq line (codes "replace") → HoldsText block lines → IsWorkAnswer (contents_of bench.old) (state_of desk.old) (spec.replace_command line lines) result (contents_of bench.new) (state_of desk.new) }
+    ensures { (line : List ℕ) (lines : List (List ℕ)) → is_good ≡ bytes_eq line (codes "replace") → HoldsText block lines → Answers bench.old desk.old (spec.replace_command line lines) result bench.new desk.new }
 {
     if is_good {
         edit_reply(replace_by(desk, bench, block))
@@ -147,14 +135,14 @@ fn families_of(alloc: Global, bench: &Bench, block: BlockText) -> Reply
 
 /// Makes the edit or the report that a line asks for with its block, and returns the reply. `request` is what `block_request`
 /// returns for the line.
-pub fn answer_block(
+pub(crate) fn answer_block(
     alloc: Global,
     desk: &mut Desk,
     bench: &mut Bench,
     request: BlockRequest,
     block: BlockText,
 ) -> Reply
-    ensures { (line : List ℕ) (lines : List (List ℕ)) → FindsBlock request line → HoldsText block lines → IsWorkAnswer (contents_of bench.old) (state_of desk.old) (spec.block_command line lines) result (contents_of bench.new) (state_of desk.new) }
+    ensures { (line : List ℕ) (lines : List (List ℕ)) → FindsBlock request line → HoldsText block lines → Answers bench.old desk.old (spec.block_command line lines) result bench.new desk.new }
 {
     match request {
         BlockRequest::Part(target) => edit_part(alloc, desk, bench, target, block),

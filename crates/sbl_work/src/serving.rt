@@ -4,13 +4,14 @@ ghost use Rattle.std.specs.Io.KnownBytes.{Appends};
 ghost use Rattle.std.specs.Prelude.{◌≡◌, ◌≤◌, ℕ, List, IfErr, IfOk, None, OnOk, string_bytes, take};
 ghost use Rattle.sbl_bench.specs.KeptRuns.{contents_of};
 ghost use Rattle.sbl_io.specs.Devices.{HasStopped, WritesInTime};
-ghost use Rattle.sbl_io.specs.HeldInput.{KeepsTime, Reading, fault_of, input_of, line_of};
+ghost use Rattle.sbl_io.specs.HeldInput.{KeepsTime, Reading, fault_of};
 ghost use Rattle.sbl_sessions.specs.{CommandViews.IsReply, Session.Ends};
 ghost use Rattle.sbl_history.specs.Desks.{state_of};
-ghost use Rattle.sbl_work.specs.{Answering.BreaksWork, Answering.IsWorkAnswered, ReplyViews.IsFileAnswer};
+ghost use Rattle.sbl_work.specs.Answering.{AnswersLine, BreaksLine, Works, WorksOnBench};
+ghost use Rattle.sbl_work.specs.ReplyViews.{IsFileAnswer};
 ghost use Rattle.sbl_work.specs.Serving as serving;
-ghost use Rattle.sbl_work.specs.Serving.{IsWork, with_prompt};
-ghost use Rattle.sbl_work.specs.WholeWork.{IsWholeWork, WorksOrMemory, status_of};
+ghost use Rattle.sbl_work.specs.Serving.{with_prompt};
+ghost use Rattle.sbl_work.specs.WholeWork.{WorksOver, status_of};
 
 use crate::answers::answer_line;
 use crate::appending::Added;
@@ -19,10 +20,10 @@ use crate::parts::answer_block;
 use crate::replies::edit_reply;
 use crate::requests::{Request, block_request, is_quit, request_of};
 use sbl_bench::{Bench, EditFault};
-use sbl_formats::read_block;
 use sbl_history::Desk;
 use sbl_input::LoadFault;
 use sbl_io::{Lines, ServeFault, Sink, Source, write_all};
+use sbl_reports::read_block;
 use sbl_saving::{ReadFault, SaveFault, read_file};
 use sbl_sessions::{Reply, write_reply};
 use std::alloc::Global;
@@ -128,8 +129,8 @@ fn answer<F: Files + AllocGlobal, R: Source + Drop>(
     lines: &mut Lines<R>,
 ) -> Result<Reply, ServeFault>
     requires ready { fault_of lines.old ≡ None }
-    ensures answered { IfOk result (λ reply. IsWorkAnswered (input_of R.left lines.old) (input_of R.left lines.new) (line_of lines.old) (contents_of bench.old) (state_of desk.old) reply (contents_of bench.new) (state_of desk.new)) }
-    ensures broken { IfErr result (λ fault. BreaksWork (input_of R.left lines.old) (input_of R.left lines.new) (line_of lines.old) fault × (contents_of bench.new ≡ contents_of bench.old) × (state_of desk.new ≡ state_of desk.old)) }
+    ensures answered { IfOk result (λ reply. AnswersLine R.left lines.old lines.new bench.old desk.old reply bench.new desk.new) }
+    ensures broken { IfErr result (λ fault. BreaksLine R.left lines.old lines.new bench.old desk.old bench.new desk.new fault) }
     ensures reading { Reading R.left R.tally lines.old lines.new result }
 {
     match block_request(lines.alloc(), lines.line()) {
@@ -171,7 +172,7 @@ fn serve<F: Files + AllocGlobal, R: Source + Drop, W: Sink>(
     lines: &mut Lines<R>,
     writer: &mut W,
 ) -> Result<(), ServeFault>
-    ensures work { fault_of lines.old ≡ None → IsWork prompt.now (input_of R.left lines.old) (input_of R.left lines.new) (W.held writer.old) (W.held writer.new) (contents_of bench.old) (state_of desk.old) (contents_of bench.new) (state_of desk.new) result }
+    ensures work { fault_of lines.old ≡ None → Works R.left W.held prompt.now lines.old lines.new writer.old writer.new bench.old desk.old bench.new desk.new result }
     ensures ends { Ends R.tally W.tally lines.old lines.new writer.old writer.new result }
     ensures reads_in_time { KeepsTime R.tally lines.old lines.new }
     ensures writes_in_time { WritesInTime W.tally writer.old writer.new }
@@ -210,7 +211,7 @@ fn serve_bench<F: Files + AllocGlobal, R: Source + Drop, W: Sink>(
     lines: &mut Lines<R>,
     writer: &mut W,
 ) -> Result<(), ServeFault>
-    ensures works { fault_of lines.old ≡ None → WorksOrMemory (Ends R.tally W.tally lines.old lines.new writer.old writer.new) folder.old.seen.items prompt.now (input_of R.left lines.old) (input_of R.left lines.new) (W.held writer.old) (W.held writer.new) (contents_of bench.old) result }
+    ensures works { fault_of lines.old ≡ None → WorksOnBench R.left R.tally W.held W.tally folder.old.seen.items prompt.now lines.old lines.new writer.old writer.new bench.old result }
     ensures reads_in_time { KeepsTime R.tally lines.old lines.new }
     ensures writes_in_time { WritesInTime W.tally writer.old writer.new }
 {
@@ -235,7 +236,7 @@ fn work_on<F: Files + AllocGlobal, R: Source + Drop, W: Sink>(
     lines: &mut Lines<R>,
     writer: &mut W,
 ) -> Result<(), OpenFault>
-    ensures works { fault_of lines.old ≡ None → IsWholeWork (Ends R.tally W.tally lines.old lines.new writer.old writer.new) (string_bytes paths.now.external) prompt.now (input_of R.left lines.old) (input_of R.left lines.new) (W.held writer.old) (W.held writer.new) (status_of result) }
+    ensures works { fault_of lines.old ≡ None → WorksOver R.left R.tally W.held W.tally (string_bytes paths.now.external) prompt.now lines.old lines.new writer.old writer.new (status_of result) }
     ensures reads_in_time { KeepsTime R.tally lines.old lines.new }
     ensures writes_in_time { WritesInTime W.tally writer.old writer.new }
 {
@@ -270,7 +271,7 @@ pub fn work<F: Files + AllocGlobal, R: Source + Drop, W: Sink, E: Sink>(
     writer: &mut W,
     errors: &mut E,
 ) -> u8
-    ensures works { fault_of lines.old ≡ None → IsWholeWork (Ends R.tally W.tally lines.old lines.new writer.old writer.new) (string_bytes paths.now.external) (serving.prompt_of prompts) (input_of R.left lines.old) (input_of R.left lines.new) (W.held writer.old) (W.held writer.new) result }
+    ensures works { fault_of lines.old ≡ None → WorksOver R.left R.tally W.held W.tally (string_bytes paths.now.external) (serving.prompt_of prompts) lines.old lines.new writer.old writer.new result }
     ensures quiet { result ≡ 0 → E.held errors.new ≡ E.held errors.old }
     ensures status { result ≤ 1 }
     ensures reads_in_time { KeepsTime R.tally lines.old lines.new }

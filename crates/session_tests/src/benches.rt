@@ -8,8 +8,7 @@ use sbl_sessions::serve;
 use std::alloc::{AllocError, Global};
 use std::process::Abort;
 use std::test::Fail;
-use test_devices::{bytes_of, in_pieces};
-use test_scripts::{PLURALS, field, number, with_scripts};
+use test_support::{PLURALS, bytes_of, field, in_pieces, number, with_scripts};
 
 /// The input of a session, how many bytes a read returns, the read and the write that fails, both counted from 1 (0 for never), and the
 /// commands that are given to the bench after the session. Each write takes one byte.

@@ -1,12 +1,11 @@
 //! Tests of checks with writers in memory. tests/cases has more of them.
 
-use sbl_check::check;
+use sbl_batch::check;
 use sbl_io::Device;
 use sbl_script::Script;
 use std::alloc::Global;
 use std::test::Fail;
-use test_devices::{bytes_of, in_pieces};
-use test_scripts::{PREFIXES, field, number};
+use test_support::{PREFIXES, bytes_of, field, in_pieces, number};
 
 /// Words and expected stems, in the letters of `bytes_of`; the write that fails, counted from 1 (empty: none), and the interruptions before
 /// each write; what the check writes, and after `!` the number of differences or the fault. Empty lines and repeats are words like any

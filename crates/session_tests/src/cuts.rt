@@ -4,7 +4,7 @@ use crate::benches::{Session, leaves};
 use std::alloc::{AllocError, Global};
 use std::process::Abort;
 use std::test::Fail;
-use test_scripts::{PLURALS, PREFIXES};
+use test_support::{PLURALS, PREFIXES};
 
 /// Lines after a script block: a word or a command; the length from which on its beginning is no bad command; and the reply to it, after `!`
 /// the fault of an input that ends in it. Only the beginnings of reports and edits are bad commands.

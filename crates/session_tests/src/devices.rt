@@ -5,7 +5,7 @@ use sbl_io::{Device, Lines};
 use std::alloc::{AllocError, Global};
 use std::process::Abort;
 use std::test::Fail;
-use test_devices::{in_pieces, outputs_within};
+use test_support::{in_pieces, outputs_within};
 
 /// A verb, the beginning of its input, and the lines after it, each with its output.
 type Case = (

@@ -4,8 +4,7 @@ use sbl_io::{Device, LineFault, Lines};
 use std::alloc::Global;
 use std::process::Abort;
 use std::test::Fail;
-use test_devices::{Pieces, bytes_of, in_pieces};
-use test_scripts::{field, number};
+use test_support::{Pieces, bytes_of, field, in_pieces, number};
 
 /// An input in the letters of `bytes_of`; the bytes of a read, the read that fails, counted from 1 (empty: none), and the interruptions before
 /// each read; and the first four answers: a line and `;`, `.` at the end, `!` for a fault of the reader, `?` for a line that is too long. Lines

@@ -6,7 +6,7 @@ use sbl_input::LoadFault::{Input, Open, Script};
 use sbl_io::ServeFault::{Cut, LineTooLong, NotText, OutOfMemory, Read, Write};
 use sbl_script::ScriptFault::{ScriptTooLong, UnclosedString, WrongMode};
 use std::test::Fail;
-use test_scripts::print_values;
+use test_support::print_values;
 
 /// Rows as of `all_give`. The sixth read ends in the middle of the second edit, which is not made. The fourth write fails in the middle of the
 /// report. A writer may be interrupted a thousand times in a row. A line that is too long may be in the words, in the commands, in a block,

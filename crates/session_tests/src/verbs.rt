@@ -1,6 +1,6 @@
 //! A session or a filter over a reader and a writer in memory, from its script to its end.
 
-use sbl_filter::{WordFault, filter, filter_to_end};
+use sbl_batch::{WordFault, filter, filter_to_end};
 use sbl_input::{LoadFault, load, read_script};
 use sbl_io::{Device, Lines};
 use sbl_script::Script;
@@ -8,8 +8,7 @@ use sbl_sessions::serve;
 use std::alloc::Global;
 use std::process::Abort;
 use std::test::Fail;
-use test_devices::{Pieces, bytes_of, in_pieces};
-use test_scripts::{field, number, with_scripts};
+use test_support::{Pieces, bytes_of, field, in_pieces, number, with_scripts};
 
 /// A reader in memory.
 pub(crate) type Reader<'a> = Device<Pieces<&'a [u8]>>;

@@ -5,7 +5,7 @@ use Rattle.std.specs.declared.vec.Vec.{Vec}
 use Rattle.std.specs.declared.alloc.Global.{Global}
 use Rattle.sbl_bench.specs.Contents.{Contents}
 use Rattle.sbl_bench.specs.declared.fault.EditFault.TheVariants as edit
-use Rattle.sbl_check.specs.Differences.{IsChecked}
+use Rattle.sbl_batch.specs.Differences.{IsChecked}
 use Rattle.sbl_ast.specs.Source.{Source}
 use Rattle.sbl_input.specs.Loading.{IsLoaded, ReadsScript, TookSource}
 use Rattle.sbl_sessions.specs.Session.{IsSession}
@@ -16,10 +16,10 @@ use Rattle.sbl_io.specs.declared.faults.ServeFault.TheVariants as fault
 use Rattle.sbl_input.proofs.LoadFacts.{script_unread}
 use Rattle.snowbench.specs.WholeCheck.{ChecksLists, IsWholeCheck, LacksScript, ReadsExpected, ReadsWords, list_text}
 use Rattle.snowbench.specs.WholeFilter.{IsWholeFilter, line_of_fault}
-use Rattle.sbl_filter.specs.ToEnd.{FiltersToEnd, without_line}
-use Rattle.sbl_filter.specs.declared.word_fault.WordFault.{WordFault}
+use Rattle.sbl_batch.specs.ToEnd.{FiltersToEnd, without_line}
+use Rattle.sbl_batch.specs.declared.word_fault.WordFault.{WordFault}
 use Rattle.snowbench.specs.WholeSession.{IsWholeSession, as_load}
-use Rattle.sbl_filter.specs.Filter.{IsFiltered}
+use Rattle.sbl_batch.specs.Filter.{IsFiltered}
 use Rattle.snowbench.specs.StemmedRows.{IsStemmed}
 use Rattle.snowbench.specs.Program.{IsAnswer, IsReported, IsWritten, fault_line}
 use Rattle.sbl_command_line.specs.declared.command_line.Verb.{Verb}
@@ -58,7 +58,7 @@ pub session_refused : {B : Type 0} (a b : Option (List ℕ)) (external : List �
 session_refused a b external h state f is = inl (f, refl, no_bench a b external state f is, Appends-nil h)
 
 pub session_served : {B : Type 0} (a b c : Option (List ℕ)) (external : List ℕ) (h i : Option (List ℕ)) (state : B → Contents) (bench : B) (t : Contents)
-    (served : Result (Unit {0}) ServeFault) → IsLoaded a b external state (Ok bench) → IsSession b c h i (state bench) t served
+    (served : Result (Unit {0}) ServeFault) → IsLoaded a b external state (Ok bench) → IsSession (record { input = b; held = h; bench = state bench }) (record { input = c; held = i; bench = t }) served
     → IsWholeSession a c external h i (as_load served)
 session_served a b c external h i state bench t served loaded session = inr (b, state bench, t, served, refl, loaded, session)
 

@@ -2,8 +2,8 @@
 pub mod StemmedRows
 pub mod WholeSession
 pub mod WholeCheck
-pub mod WholeFilter
 pub mod Program
+pub mod WholeFilter
 -- what the functions inside the crate promise each other: nothing in these need be believed
 pub mod Answering
 pub mod Filtering

@@ -1,15 +1,16 @@
 -- What the program writes for its input, and its exit status.
-use Rattle.std.specs.Prelude.{◌≡◌, ◌⊎◌, ◌+◌, ◌++◌, ◌==◌, ℕ, List, [], ◌∷◌, Option, None, Result, Ok, Err, IfErr, codes, if◌then◌else◌, min, take}
+use Rattle.std.specs.Prelude.{◌≡◌, ◌⊎◌, ◌+◌, ◌++◌, ◌==◌, ℕ, List, [], ◌∷◌, Option, None, Result, Ok, Err, IfErr, codes, if◌then◌else◌, min, string_bytes, take}
 use Rattle.std.specs.Io.KnownBytes.{Appends, Keeps}
 use Rattle.sbl_command_line.specs.declared.command_line.Verb.{Verb}
 use Rattle.sbl_command_line.specs.declared.command_line.Verb.TheVariants.{Session, Stem, Filter, Check, Work}
+use Rattle.sbl_command_line.specs.declared.command_line.Wanted.{Wanted}
 use Rattle.sbl_input.specs.declared.faults.LoadFault.{LoadFault}
 use Rattle.sbl_input.specs.declared.faults.LoadFault.TheVariants.{Input}
 use Rattle.sbl_io.specs.Devices.{HasStopped, IsUnused, Tally, max_count}
 use Rattle.sbl_io.specs.HeldInput.{HasCause, InTime, KeepsTime, fault_of, input_of, max_reads, reads_bound}
 use Rattle.sbl_io.specs.declared.lines.Lines.{Lines}
 use Rattle.sbl_io.specs.declared.faults.ServeFault.TheVariants as fault
-use Rattle.sbl_filter.specs.Filter.{IsFiltered}
+use Rattle.sbl_batch.specs.Filter.{IsFiltered}
 use Rattle.snowbench.specs.StemmedRows.{IsStemmed}
 use Rattle.snowbench.specs.WholeCheck.{IsWholeCheck}
 use Rattle.snowbench.specs.WholeSession.{IsWholeSession}
@@ -55,7 +56,16 @@ IsReported held tally errors new_errors status (Ok n) =
 IsReported held tally errors new_errors status (Err f) =
     (status ≡ 1) × (text : List ℕ) × IsWritten held tally errors new_errors (fault_line text)
 
--- ---- a run over a reader
+-- ---- a run over lines, and over a reader
+
+-- The result of the lines' input is written and reported, and a fault of reading or writing has its cause.
+pub record Runs {R W E : Type 0} (left : R → Option (List ℕ)) (reads : R → Tally) (held : W → Option (List ℕ)) (writes : W → Tally)
+    (said : E → Option (List ℕ)) (says : E → Tally) (wanted : Wanted)
+    (lines last : Lines R) (writer new_writer : W) (errors new_errors : E) (status : ℕ) : Type 0 where
+  pub result : Result ℕ LoadFault
+  pub is_written : IsAnswer wanted.verb (string_bytes wanted.external) (input_of left lines) (input_of left last) (held writer) (held new_writer) result
+  pub has_cause : IfErr result (λ f. HasReasons reads writes lines last writer new_writer f)
+  pub is_reported : IsReported said says errors new_errors status result
 
 -- these lines were made of the reader, and nothing was read yet
 pub record AreLinesOf {R : Type 0} (left : R → Option (List ℕ)) (tally : R → Tally) (reader : R) (lines : Lines R) : Type 0 where
@@ -65,24 +75,21 @@ pub record AreLinesOf {R : Type 0} (left : R → Option (List ℕ)) (tally : R �
   pub bound : reads_bound tally lines ≡ min ((tally reader).reads + max_reads) max_count
   pub in_time : IsUnused (tally reader) → InTime tally lines
 
--- Lines were made of the reader, and `last` are these lines at the end. The answer to the bytes that were left in the reader is written and
--- reported, a fault of reading or writing has its cause, and no read is late.
-pub record RunsLines {R W E : Type 0} (left : R → Option (List ℕ)) (reads : R → Tally) (held : W → Option (List ℕ)) (writes : W → Tally) (said : E → Option (List ℕ)) (says : E → Tally)
-    (verb : Verb) (external : List ℕ) (reader : R) (writer new_writer : W) (errors new_errors : E) (status : ℕ) : Type 0 where
+-- Lines were made of the reader and run, `last` are these lines at the end, and no read is late.
+pub record RunsLines {R W E : Type 0} (left : R → Option (List ℕ)) (reads : R → Tally) (held : W → Option (List ℕ)) (writes : W → Tally)
+    (said : E → Option (List ℕ)) (says : E → Tally) (wanted : Wanted)
+    (reader : R) (writer new_writer : W) (errors new_errors : E) (status : ℕ) : Type 0 where
   pub lines : Lines R
   pub last : Lines R
-  pub answer : Result ℕ LoadFault
   pub made : AreLinesOf left reads reader lines
   pub in_time : KeepsTime reads lines last
   pub bound : reads_bound reads last ≡ reads_bound reads lines
-  pub answers : IsAnswer verb external (left reader) (input_of left last) (held writer) (held new_writer) answer
-  pub reasons : IfErr answer (λ f. HasReasons reads writes lines last writer new_writer f)
-  pub reported : IsReported said says errors new_errors status answer
+  pub runs : Runs left reads held writes said says wanted lines last writer new_writer errors new_errors status
 
 -- There is no memory for the buffers of lines: the status is 1, nothing is written, and `errors` gets the line of that fault. Or lines of
 -- the reader were run.
-abbrev pub RunsOver : {R W E : Type 0} → (R → Option (List ℕ)) → (R → Tally) → (W → Option (List ℕ)) → (W → Tally) → (E → Option (List ℕ)) → (E → Tally)
-    → Verb → List ℕ → R → W → W → E → E → ℕ → Type 0
-RunsOver left reads held writes said says verb external reader writer new_writer errors new_errors status =
+abbrev pub RunsOver : {R W E : Type 0} → (R → Option (List ℕ)) → (R → Tally) → (W → Option (List ℕ)) → (W → Tally)
+    → (E → Option (List ℕ)) → (E → Tally) → Wanted → R → W → W → E → E → ℕ → Type 0
+RunsOver left reads held writes said says wanted reader writer new_writer errors new_errors status =
     ((status ≡ 1) × Appends (held writer) (held new_writer) [] × IsWritten said says errors new_errors (fault_line (codes "49 OutOfMemory")))
-    ⊎ RunsLines left reads held writes said says verb external reader writer new_writer errors new_errors status
+    ⊎ RunsLines left reads held writes said says wanted reader writer new_writer errors new_errors status

@@ -1,11 +1,15 @@
 -- What a filter writes for an input that is a script block, and then words up to the end of input.
-use Rattle.std.specs.Prelude.{◌≡◌, ◌⊎◌, ℕ, List, [], Option, Some, None, Result, Ok, Err}
+use Rattle.std.specs.Prelude.{◌≡◌, ◌⊎◌, ℕ, List, [], Option, Some, None, Result, Ok, Err, IfErr}
 use Rattle.std.specs.Io.KnownBytes.{Appends}
 use Rattle.sbl_ast.specs.Source.{Source}
-use Rattle.sbl_filter.specs.ToEnd.{FiltersToEnd, without_line}
-use Rattle.sbl_filter.specs.declared.word_fault.WordFault.{WordFault}
+use Rattle.sbl_batch.specs.ToEnd.{FiltersToEnd, without_line}
+use Rattle.sbl_batch.specs.declared.word_fault.WordFault.{WordFault}
 use Rattle.sbl_input.specs.Loading.{TookSource}
 use Rattle.sbl_input.specs.declared.faults.LoadFault.{LoadFault}
+use Rattle.sbl_io.specs.Devices.{Tally}
+use Rattle.sbl_io.specs.HeldInput.{input_of}
+use Rattle.sbl_io.specs.declared.lines.Lines.{Lines}
+use Rattle.snowbench.specs.Program.{HasReasons, IsReported}
 use Rattle.snowbench.specs.WholeCheck.{LacksScript}
 
 -- the number of the line of a fault
@@ -25,3 +29,12 @@ IsWholeFilter input left external held new_held result line =
 abbrev pub as_count : Result (Unit {0}) LoadFault → Result ℕ LoadFault
 as_count (Ok u) = Ok 0
 as_count (Err f) = Err f
+
+-- The result of the lines' input is written and reported, and a fault of reading or writing has its cause.
+pub record RunsFilter {R W E : Type 0} (left : R → Option (List ℕ)) (reads : R → Tally) (held : W → Option (List ℕ)) (writes : W → Tally)
+    (said : E → Option (List ℕ)) (says : E → Tally) (external : List ℕ)
+    (lines last : Lines R) (writer new_writer : W) (errors new_errors : E) (status : ℕ) (line : Option ℕ) : Type 0 where
+  pub result : Result (Unit {0}) LoadFault
+  pub is_written : IsWholeFilter (input_of left lines) (input_of left last) external (held writer) (held new_writer) result line
+  pub has_cause : IfErr result (λ f. HasReasons reads writes lines last writer new_writer f)
+  pub is_reported : IsReported said says errors new_errors status (as_count result)

@@ -19,4 +19,5 @@ abbrev pub IsWholeSession : Option (List ℕ) → Option (List ℕ) → List ℕ
 IsWholeSession input left external held new_held result =
     ((f : LoadFault) × (result ≡ Err f) × IsLoaded input left external (λ (s : Contents). s) (Err f) × Appends held new_held [])
     ⊎ ((between : Option (List ℕ)) × (s : Contents) × (t : Contents) × (served : Result (Unit {0}) ServeFault) × (result ≡ as_load served)
-    × IsLoaded input between external (λ (s : Contents). s) (Ok s) × IsSession between left held new_held s t served)
+    × IsLoaded input between external (λ (s : Contents). s) (Ok s)
+    × IsSession (record { input = between; held = held; bench = s }) (record { input = left; held = new_held; bench = t }) served)

@@ -1,17 +1,16 @@
 //! `filter` of a script in a file: nothing ends the words but the end of input.
-ghost use Rattle.std.specs.Prelude.{◌≡◌, ◌≤◌, ℕ, None, Result, IfOk, IfErr, OnOk};
+ghost use Rattle.std.specs.Prelude.{◌≡◌, ◌≤◌, None, IfOk, IfErr, OnOk};
 ghost use Rattle.sbl_io.specs.Devices.{WritesInTime};
 ghost use Rattle.sbl_io.specs.HeldInput.{KeepsTime, fault_of, input_of, reads_bound};
 ghost use Rattle.sbl_input.specs.Loading.{HasReason, TookSource};
-ghost use Rattle.sbl_input.specs.declared.faults.LoadFault.{LoadFault as AnyFault};
 ghost use Rattle.sbl_script.specs.ParsedScript.{source_of};
-ghost use Rattle.snowbench.specs.Program.{HasReasons, IsReported};
+ghost use Rattle.snowbench.specs.Program.{HasReasons};
 ghost use Rattle.snowbench.specs.WholeCheck.{LacksScript};
 ghost use Rattle.snowbench.specs.Filtering.{faults_of, line_in};
-ghost use Rattle.snowbench.specs.WholeFilter.{IsWholeFilter, as_count};
+ghost use Rattle.snowbench.specs.WholeFilter.{IsWholeFilter, RunsFilter};
 
 use crate::program::push_fault;
-use sbl_filter::filter_to_end;
+use sbl_batch::filter_to_end;
 use sbl_input::{LoadFault, read_script};
 use sbl_io::{Lines, Sink, Source};
 use sbl_script::Script;
@@ -42,9 +41,7 @@ pub fn run_filter<R: Source + Drop, W: Sink, E: Sink>(
     writer: &mut W,
     errors: &mut E,
 ) -> FilterEnd
-    ensures runs { fault_of lines.old ≡ None → (filtered : Result (Unit {0}) AnyFault) × IsWholeFilter (input_of R.left lines.old) (input_of R.left lines.new) external.now (W.held writer.old) (W.held writer.new) filtered result.line
-        × IfErr filtered (λ fault. HasReasons R.tally W.tally lines.old lines.new writer.old writer.new fault)
-        × IsReported E.held E.tally errors.old errors.new result.status (as_count filtered) }
+    ensures runs { fault_of lines.old ≡ None → RunsFilter R.left R.tally W.held W.tally E.held E.tally external.now lines.old lines.new writer.old writer.new errors.old errors.new result.status result.line }
     ensures status { result.status ≤ 1 }
     ensures bound { reads_bound R.tally lines.new ≡ reads_bound R.tally lines.old }
     ensures reads_in_time { KeepsTime R.tally lines.old lines.new }

@@ -7,15 +7,14 @@ ghost use Rattle.sbl_io.specs.HeldInput.{KeepsTime, HasReason, fault_of, input_o
 ghost use Rattle.sbl_script.specs.ParsedScript.{source_of};
 ghost use Rattle.sbl_input.specs.declared.faults.LoadFault.{LoadFault};
 ghost use Rattle.snowbench.specs.Answering.{Answering};
-ghost use Rattle.snowbench.specs.Program.{HasReasons, IsAnswer, IsReported, RunsOver, fault_line};
+ghost use Rattle.snowbench.specs.Program.{HasReasons, IsAnswer, IsReported, Runs, RunsOver, fault_line};
 ghost use Rattle.snowbench.specs.StemmedRows.{IsStemmed};
 ghost use Rattle.snowbench.specs.WholeCheck.{ChecksLists, IsWholeCheck, ReadsExpected, ReadsWords};
 ghost use Rattle.snowbench.specs.WholeSession.{IsWholeSession};
 
+use sbl_batch::{check, filter};
 use sbl_bench::WordKeys;
-use sbl_check::check;
 use sbl_command_line::{Verb, Wanted};
-use sbl_filter::filter;
 use sbl_input::{LoadFault, load_rows, load_with_keys, read_script};
 use sbl_io::{Lines, ServeFault, Sink, Source, write_all};
 use sbl_script::Script;
@@ -54,7 +53,7 @@ pub fn run<R: Source + Drop, W: Sink, E: Sink>(
     writer: &mut W,
     errors: &mut E,
 ) -> u8
-    ensures runs { RunsOver R.left R.tally W.held W.tally E.held E.tally wanted.now.verb (string_bytes wanted.now.external) reader writer.old writer.new errors.old errors.new result }
+    ensures runs { RunsOver R.left R.tally W.held W.tally E.held E.tally wanted.now reader writer.old writer.new errors.old errors.new result }
     ensures status { result ≤ 1 }
     ensures writes_in_time { WritesInTime W.tally writer.old writer.new }
     ensures errors_in_time { WritesInTime E.tally errors.old errors.new }
@@ -78,9 +77,7 @@ pub fn run_with<R: Source + Drop, W: Sink, E: Sink>(
     writer: &mut W,
     errors: &mut E,
 ) -> u8
-    ensures runs { fault_of lines.old ≡ None → (answer : Result ℕ LoadFault) × IsAnswer wanted.now.verb (string_bytes wanted.now.external) (input_of R.left lines.old) (input_of R.left lines.new) (W.held writer.old) (W.held writer.new) answer
-        × IfErr answer (λ fault. HasReasons R.tally W.tally lines.old lines.new writer.old writer.new fault)
-        × IsReported E.held E.tally errors.old errors.new result answer }
+    ensures runs { fault_of lines.old ≡ None → Runs R.left R.tally W.held W.tally E.held E.tally wanted.now lines.old lines.new writer.old writer.new errors.old errors.new result }
     ensures status { result ≤ 1 }
     ensures bound { reads_bound R.tally lines.new ≡ reads_bound R.tally lines.old }
     ensures reads_in_time { KeepsTime R.tally lines.old lines.new }

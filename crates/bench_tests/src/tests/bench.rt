@@ -11,8 +11,7 @@ use std::alloc::{AllocError, Global};
 use std::hash::RandomState;
 use std::process::Abort;
 use std::test::Fail;
-use test_devices::SameBytes;
-use test_scripts::{PLURALS, PREFIXES, letters, print_values, text_of, with_line_feeds};
+use test_support::{PLURALS, PREFIXES, SameBytes, letters, print_values, text_of, with_line_feeds};
 
 /// The words of a text, which have commas between them.
 fn words_in(alloc: Global, text: &str) -> Result<Vec<Vec<char>>, AllocError> {

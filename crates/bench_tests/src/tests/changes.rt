@@ -6,7 +6,7 @@ use sbl_rows::changes;
 use std::alloc::{AllocError, Global};
 use std::process::Abort;
 use std::test::Fail;
-use test_scripts::field;
+use test_support::field;
 
 /// The changes between two lists as rows.
 fn changes_of(alloc: Global, before: &str, after: &str) -> Result<String, AllocError> {

@@ -7,7 +7,7 @@ use sbl_bench::{Bench, EditFault, Row};
 use std::alloc::Global;
 use std::process::Abort;
 use std::test::Fail;
-use test_scripts::{field, fits, letters, number, with_line_feeds};
+use test_support::{field, fits, letters, number, with_line_feeds};
 
 /// A case has the script, the words with commas between them, and edits one after another, each on a line: the edit, why it is refused
 /// (empty if it is accepted), the rows and the changes after it (`?`: not asked), and the count of runs (empty: not asked). A `¶` is

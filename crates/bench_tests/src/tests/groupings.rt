@@ -6,7 +6,7 @@ use sbl_machine::Item;
 use std::alloc::Global;
 use std::process::Abort;
 use std::test::Fail;
-use test_scripts::letters;
+use test_support::letters;
 
 /// The second grouping is built from the first, and the external tests the second after an `x` and else the first.
 const BUILT: &str =

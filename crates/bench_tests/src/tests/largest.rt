@@ -4,7 +4,7 @@ use crate::tests::row_lists::{rows_in, shown_classes, view};
 use sbl_rows::largest_classes;
 use std::alloc::{AllocError, Global};
 use std::test::Fail;
-use test_scripts::{field, number};
+use test_support::{field, number};
 
 /// The largest classes as rows.
 fn rows_of(alloc: Global, rows: &str, n: usize) -> Result<String, AllocError> {

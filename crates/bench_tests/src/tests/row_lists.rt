@@ -1,16 +1,24 @@
 //! Rows, and changes as text.
 
-use sbl_rows::{ChangeRow, FamilyRow, PairCounts, StemClass, WordOutcome, WordRow};
+use sbl_machine::{Outcome, RunFault};
+use sbl_rows::{ChangeRow, FamilyRow, PairCounts, Row, StemClass};
 use std::alloc::{AllocError, Global};
-use test_scripts::letters;
+use test_support::letters;
 
 /// A row with its own characters.
 #[derive(Drop)]
 pub(crate) struct OwnRow {
     word: Vec<char>,
-    stem: Vec<char>,
-    // Why the run of the word is refused; then there is no stem.
-    refusal: Option<String>,
+    outcome: Outcome,
+}
+
+/// The fault of a name: `Depth`, or otherwise `Steps`.
+fn fault_of(name: &str) -> RunFault {
+    if name == "Depth" {
+        RunFault::Depth
+    } else {
+        RunFault::Steps
+    }
 }
 
 /// The row of a text: `cats=cat` is a word and its stem, `cats!Steps` a word whose run is refused.
@@ -18,15 +26,13 @@ fn row_in(alloc: Global, text: &str) -> Result<OwnRow, AllocError> {
     if let Some((word, name)) = text.split_once('!') {
         return Ok(OwnRow {
             word: letters(alloc, word)?,
-            stem: Vec::new(alloc),
-            refusal: Some(String::from_str(alloc, name)?),
+            outcome: Outcome::Refused(fault_of(name)),
         });
     }
     let (word, stem) = text.split_once('=').unwrap_or((text, ""));
     Ok(OwnRow {
         word: letters(alloc, word)?,
-        stem: letters(alloc, stem)?,
-        refusal: None,
+        outcome: Outcome::Stem(letters(alloc, stem)?),
     })
 }
 
@@ -40,16 +46,12 @@ pub(crate) fn rows_in(alloc: Global, text: &str) -> Result<Vec<OwnRow>, AllocErr
 }
 
 /// The rows as the calls take them.
-pub(crate) fn view(alloc: Global, rows: &[OwnRow]) -> Result<Vec<WordRow<'_>>, AllocError> {
+pub(crate) fn view(alloc: Global, rows: &[OwnRow]) -> Result<Vec<Row<'_>>, AllocError> {
     let mut views = Vec::new(alloc);
     for row in rows {
-        let outcome = match &row.refusal {
-            None => WordOutcome::Stem(&row.stem),
-            Some(name) => WordOutcome::Refused(name.as_str()),
-        };
-        views.push(WordRow {
+        views.push(Row {
             word: &row.word,
-            outcome,
+            outcome: &row.outcome,
         })?;
     }
     Ok(views)
@@ -129,12 +131,12 @@ fn put_row(
 }
 
 /// Appends the outcome after a comma.
-fn put_outcome(text: &mut String, outcome: &WordOutcome<'_>) -> Result<(), AllocError> {
+fn put_outcome(text: &mut String, outcome: &Outcome) -> Result<(), AllocError> {
     match outcome {
-        WordOutcome::Stem(stem) => put_row(text, ",stem", stem, &[]),
-        WordOutcome::Refused(name) => {
+        Outcome::Stem(stem) => put_row(text, ",stem", stem, &[]),
+        Outcome::Refused(fault) => {
             text.push_str(",refused,")?;
-            text.push_str(name)
+            text.push_str(fault.name())
         }
     }
 }

@@ -13,7 +13,7 @@ use sbl_script::Script;
 use std::alloc::{AllocError, Global};
 use std::process::Abort;
 use std::test::Fail;
-use test_scripts::{PLURALS, field, letters, text_of, with_line_feeds, with_scripts};
+use test_support::{PLURALS, field, letters, text_of, with_line_feeds, with_scripts};
 
 /// The machine of a script, with a search.
 pub(crate) fn machine_of<S: AmongSearch>(

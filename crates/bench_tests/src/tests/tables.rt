@@ -6,7 +6,7 @@ use sbl_machine::{AmongSearch, LinkedTable, PlainTable, RunStop};
 use std::alloc::{AllocError, Global};
 use std::process::Abort;
 use std::test::Fail;
-use test_scripts::{letters, print_values};
+use test_support::{letters, print_values};
 
 /// The letters of each of these strings.
 fn letters_of(alloc: Global, strings: &[&str]) -> Result<Vec<Vec<char>>, AllocError> {

@@ -8,7 +8,7 @@ use sbl_machine::{AmongSearch, Machine, Meter, Table};
 use sbl_script::Script;
 use std::alloc::Global;
 use std::test::Fail;
-use test_scripts::print_values;
+use test_support::print_values;
 
 /// Returns what a run gives, the integers at its end or at its refusal, and its events; and whether the run without events is the same.
 pub(crate) fn does<S: AmongSearch>(

@@ -1,6 +1,6 @@
 //! Commands that contain no command.
 
-ghost use Rattle.std.specs.Prelude.{◌≡◌, ◌<◌, map, IfOk};
+ghost use Rattle.std.specs.Prelude.{◌≡◌, ℕ, ◌<◌, map, IfOk};
 ghost use Rattle.sbl_program.specs.CharacterClasses.{members};
 ghost use Rattle.sbl_program.specs.Actions.{acts};
 ghost use Rattle.sbl_semantics.specs.Numbers.{continue_with, natural};
@@ -103,7 +103,7 @@ impl State {
 #[inline(always)]
 fn then_t(done: Result<(), Halt>) -> Result<bool, Halt>
     ensures follows { (new : State) (ending : Ending) → Leads done new ending → Follows result new ending }
-    ensures is_ok { (claim : Type 0) → IfOk done (λ _. claim) → IfOk result (λ _. claim) }
+    ensures same_steps { (before after : ℕ) → IfOk done (λ _. after ≡ before) → IfOk result (λ _. after ≡ before) }
 {
     done?;
     Ok(true)

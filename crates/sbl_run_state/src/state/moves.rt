@@ -1,6 +1,6 @@
 //! Moving and testing.
 
-ghost use Rattle.std.specs.Prelude.{◌≡◌, ℕ, List, [], ◌∷◌, false, ◌≤◌, ◌<◌, length, map, nat_eq, IfOk, IsTrue, slice_get};
+ghost use Rattle.std.specs.Prelude.{◌≡◌, ℕ, List, [], ◌∷◌, true, false, ◌≤◌, ◌<◌, length, map, nat_eq, IfOk, IsTrue, slice_get};
 ghost use Rattle.std.specs.List.{starts_with};
 ghost use Rattle.sbl_program.specs.CharacterClasses.{members};
 ghost use Rattle.sbl_program.specs.Terms.{class_at};

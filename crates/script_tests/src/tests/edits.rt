@@ -8,7 +8,7 @@ use sbl_script::{EditFault, Part, Script, ScriptFault};
 use std::alloc::{AllocError, Global};
 use std::process::Abort;
 use std::test::Fail;
-use test_scripts::{
+use test_support::{
     PLURALS, PORTER, SCRIPT_PREFIX, field, print_values, with_line_feeds, with_scripts,
 };
 

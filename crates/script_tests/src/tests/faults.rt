@@ -3,7 +3,7 @@
 use sbl_source_map::{Position, place_of_fault, position_of};
 use std::alloc::{AllocError, Global};
 use std::test::Fail;
-use test_scripts::{field, with_line_feeds};
+use test_support::{field, with_line_feeds};
 
 /// The line and the column of a fault, its token and its text, each after `|`; nothing if it is at no token.
 fn shown_in(alloc: Global, text: &str) -> Result<String, AllocError> {

@@ -7,7 +7,7 @@ use sbl_text::{ScriptFault, tokens};
 use std::alloc::{AllocError, Global};
 use std::process::Abort;
 use std::test::Fail;
-use test_scripts::{PLURALS, PORTER, SCRIPT_PREFIX, discard, field};
+use test_support::{PLURALS, PORTER, SCRIPT_PREFIX, discard, field};
 
 fn read(alloc: Global, text: &str) -> Result<Vec<ScriptItem>, ScriptFault> {
     let tokens = tokens(alloc, text)?;

@@ -3,7 +3,7 @@
 use sbl_script::Script;
 use sbl_script::laws::canonical_is_read;
 use std::alloc::Global;
-use test_scripts::{PLURALS, PORTER, PREFIXES};
+use test_support::{PLURALS, PORTER, PREFIXES};
 
 /// Returns the canonical text of a script with the external `stem`.
 fn canonical_text(alloc: Global, text: &str) -> Option<String> {

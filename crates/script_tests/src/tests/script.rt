@@ -11,7 +11,7 @@ use std::alloc::{AllocError, Global};
 use std::fmt::Display;
 use std::process::Abort;
 use std::test::Fail;
-use test_scripts::{PORTER, SCRIPT_PREFIX, field};
+use test_support::{PORTER, SCRIPT_PREFIX, field};
 
 /// Returns the fault as text, which is empty for a script. The script is discarded.
 pub(crate) fn fault_in<E: Display + Drop>(

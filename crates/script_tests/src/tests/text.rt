@@ -7,7 +7,7 @@ use sbl_text::{
 use std::alloc::{AllocError, Global};
 use std::process::Abort;
 use std::test::Fail;
-use test_scripts::{letters, print_values, text_of};
+use test_support::{letters, print_values, text_of};
 
 /// A token as its kind, its first byte, the byte after it, and its value if it has one.
 fn token_text(alloc: Global, token: &Token<'_>) -> Result<String, AllocError> {

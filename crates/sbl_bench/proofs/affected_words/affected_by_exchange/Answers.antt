@@ -3,8 +3,8 @@ use Rattle.sbl_script.specs.ParsedScript.{source_of}
 use Rattle.sbl_semantics.specs.Differs.{differs}
 use Rattle.sbl_semantics.specs.TouchedItems.{Item', item_of}
 use Rattle.sbl_tree_diff.specs.ItemsIn.{items_in}
-use Rattle.sbl_bench.specs.AffectedWords.{AreMet, Every}
-use Rattle.sbl_bench.specs.Changes.{affected_of}
+use Rattle.sbl_bench.specs.inside.AffectedWords.{AreMet, Every}
+use Rattle.sbl_bench.specs.inside.Changes.{affected_of}
 use Rattle.sbl_bench.proofs.affected_words.affected_by_exchange.Goals as goal
 
 pub returns-in-Some : goal.returns-in-Some

@@ -1,5 +1,5 @@
 use Rattle.std.proofs.Common.{◌≡◌, drop}
-use Rattle.sbl_bench.specs.AffectedWords.{touches_one}
+use Rattle.sbl_bench.specs.inside.AffectedWords.{touches_one}
 use Rattle.sbl_bench.proofs.affected_words.has_one.Given as goal
 
 -- none so far

@@ -1,5 +1,5 @@
 use Rattle.std.proofs.Common.{◌≡◌, ◌++◌, map}
-use Rattle.sbl_bench.specs.Changes.{affected_of, met_words}
+use Rattle.sbl_bench.specs.inside.Changes.{affected_of, met_words}
 use Rattle.sbl_bench.proofs.change.met_words.Given as goal
 
 -- the words so far, and those among the entries still to come

@@ -1,6 +1,6 @@
 use Rattle.std.proofs.Common.{◌∙◌, ℕ, List, Bor, map, ap, sym, subst}
 use Rattle.std.specs.List.{All}
-use Rattle.sbl_bench.specs.Changes.{affected_of}
+use Rattle.sbl_bench.specs.inside.Changes.{affected_of}
 use Rattle.sbl_bench.specs.KeptRuns.{IsWord}
 use Rattle.sbl_bench.proofs.Meeting.{met_sound}
 use Rattle.sbl_bench.proofs.change.rerun.Goals as goal

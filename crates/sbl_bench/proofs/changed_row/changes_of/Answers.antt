@@ -2,8 +2,8 @@ use Rattle.std.proofs.Common.{◌∙◌, ◌++◌, List, ℕ, Option, map, ap}
 use Rattle.std.specs.Option.{option_to_list}
 use Rattle.sbl_machine.specs.declared.outcome.RunTrace.{RunTrace}
 use Rattle.sbl_rows.specs.ChangedRows.{view_changed_row}
-use Rattle.sbl_bench.specs.Last.{changed_since}
-use Rattle.sbl_bench.specs.Pairs.{find}
+use Rattle.sbl_bench.specs.inside.Last.{changed_since}
+use Rattle.sbl_bench.specs.inside.Pairs.{find}
 use Rattle.sbl_bench.proofs.LastChanges.{last_step}
 use Rattle.sbl_bench.proofs.changed_row.changes_of.Goals as goal
 

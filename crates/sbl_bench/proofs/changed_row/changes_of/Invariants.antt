@@ -1,6 +1,6 @@
 use Rattle.std.proofs.Common.{◌≡◌, ◌++◌, drop, map}
 use Rattle.sbl_rows.specs.ChangedRows.{view_changed_row}
-use Rattle.sbl_bench.specs.Last.{last_changes}
+use Rattle.sbl_bench.specs.inside.Last.{last_changes}
 use Rattle.sbl_bench.proofs.changed_row.changes_of.Given as goal
 
 -- the changes so far, and those of the words still to come

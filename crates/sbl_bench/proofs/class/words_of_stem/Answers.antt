@@ -1,5 +1,5 @@
 use Rattle.std.proofs.Common.{◌∙◌, subst}
-use Rattle.sbl_bench.specs.Pairs.{IsIndexed}
+use Rattle.sbl_bench.specs.inside.Pairs.{IsIndexed}
 use Rattle.sbl_bench.proofs.ClassFacts.{words_kept}
 use Rattle.sbl_rows.proofs.Ranging.{if_ok_weaker, own_keys}
 use Rattle.sbl_bench.proofs.class.words_of_stem.Goals as goal

@@ -1,5 +1,5 @@
-use Rattle.sbl_bench.proofs.Undoing.{equal_installed, equal_read}
+use Rattle.sbl_bench.proofs.Undoing.{equal_read}
 use Rattle.sbl_bench.proofs.laws.equal_scripts_run_nothing.Goals as goal
 
 pub returns : goal.returns
-returns c = record { read = equal_read c.only_items_differ.ensures.alike; installed = equal_installed c.only_items_differ.ensures.alike }
+returns c = equal_read c.only_items_differ.ensures.alike

@@ -1,5 +1,5 @@
 use Rattle.std.proofs.Common.{subst}
-use Rattle.sbl_bench.specs.Pairs.{IsIndexed}
+use Rattle.sbl_bench.specs.inside.Pairs.{IsIndexed}
 use Rattle.sbl_bench.proofs.pairs.follow.Goals as goal
 
 pub returns-in-Ok : goal.returns-in-Ok

@@ -1,7 +1,7 @@
 use Rattle.std.proofs.Common.{◌∙◌, drop_of_length-le, List, ℕ, ap, subst, arith}
 use Rattle.sbl_semantics.specs.declared.outcome.Outcome.{Outcome}
 use Rattle.sbl_semantics.specs.Outcome.{outcome_of}
-use Rattle.sbl_bench.specs.Pairs.{IsFollowed, find, has}
+use Rattle.sbl_bench.specs.inside.Pairs.{IsFollowed, find, has}
 use Rattle.sbl_bench.proofs.Following.{followed_all, followed_more, followed_none}
 use Rattle.sbl_bench.proofs.pairs.follow_each.Goals as goal
 

@@ -1,7 +1,7 @@
 use Rattle.std.proofs.Common.{drop, List}
 use Rattle.sbl_bench.specs.KeptRuns.{KeptWord}
-use Rattle.sbl_bench.specs.Last.{Follows}
-use Rattle.sbl_bench.specs.Pairs.{ArePaired}
+use Rattle.sbl_bench.specs.inside.Last.{Follows}
+use Rattle.sbl_bench.specs.inside.Pairs.{ArePaired}
 use Rattle.sbl_bench.proofs.Following.{AreFollowedSoFar}
 use Rattle.sbl_bench.proofs.pairs.follow_each.Given as goal
 

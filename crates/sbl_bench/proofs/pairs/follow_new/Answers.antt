@@ -1,6 +1,6 @@
 use Rattle.std.proofs.Common.{◌∙◌, ◌||◌, ap, subst}
 use Rattle.sbl_semantics.specs.Outcome.{outcome_of}
-use Rattle.sbl_bench.specs.Pairs.{IsIndexed, has, is_pair_of}
+use Rattle.sbl_bench.specs.inside.Pairs.{IsIndexed, has, is_pair_of}
 use Rattle.sbl_bench.proofs.Following.{one_more}
 use Rattle.sbl_bench.proofs.pairs.follow_new.Goals as goal
 

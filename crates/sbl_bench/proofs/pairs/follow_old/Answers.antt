@@ -1,6 +1,6 @@
 use Rattle.std.proofs.Common.{◌∙◌, ◌&&◌, not, ap, sym, subst}
 use Rattle.sbl_semantics.specs.Outcome.{outcome_of}
-use Rattle.sbl_bench.specs.Pairs.{IsIndexed, has, is_pair_of}
+use Rattle.sbl_bench.specs.inside.Pairs.{IsIndexed, has, is_pair_of}
 use Rattle.sbl_bench.proofs.Following.{one_less}
 use Rattle.sbl_bench.proofs.pairs.follow_old.Goals as goal
 

@@ -1,7 +1,7 @@
 use Rattle.std.specs.List.{IsDistinct}
 use Rattle.std.specs.Map.{keys_of}
 use Rattle.std.specs.Str.{bytes_eq}
-use Rattle.sbl_bench.specs.Pairs.{Text}
+use Rattle.sbl_bench.specs.inside.Pairs.{Text}
 use Rattle.sbl_bench.proofs.PairFacts.{ArePairedSoFar}
 use Rattle.sbl_bench.proofs.pairs.pairs_of.Given as goal
 

@@ -5,7 +5,7 @@ use Rattle.std.specs.declared.vec.Vec.{Vec}
 use Rattle.std.specs.declared.alloc.Global.{Global}
 use Rattle.sbl_semantics.specs.Outcome.{outcome_of, run_of, touches_of, used_of}
 use Rattle.sbl_bench.specs.KeptRuns.{KeptWord, words_in, IsKept}
-use Rattle.sbl_bench.specs.Pairs.{IsOneMore}
+use Rattle.sbl_bench.specs.inside.Pairs.{IsOneMore}
 use Rattle.sbl_rows.specs.Setting.{under}
 use Rattle.indexmap.proofs.CallerLemmas.{insert_entry-new}
 use Rattle.sbl_bench.proofs.MapEntries.{is_key, not_found, words-push, kept-push, put_more}

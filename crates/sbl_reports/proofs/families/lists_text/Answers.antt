@@ -9,5 +9,5 @@ use Rattle.sbl_reports.proofs.families.lists_text.Goals as goal
 pub returns : goal.returns
 returns c =
     let lines : IfOk c.lines_of.result (λ text. text.items ≡ records_text (map result_fields (view_results c.in_ok-found.found.items))) =
-    IfOk-weaker c.lines_of.result _ _ (λ text e. seen_lines result_fields view_result _ _ _ e c.deref-3.ensures.value) c.lines_of.ensures in
+    IfOk-weaker c.lines_of.result _ _ (λ text e. seen_lines result_fields view_result _ _ _ e c.deref-2.ensures.value) c.lines_of.ensures in
     search rules

@@ -1,5 +1,5 @@
 use Rattle.std.proofs.Common.{◌≡◌, take}
-use Rattle.sbl_rows.specs.WordRows.{texts_of}
+use Rattle.sbl_rows.specs.Classes.{texts_of}
 use Rattle.sbl_reports.specs.FamilyReader.{words_read}
 use Rattle.sbl_reports.proofs.families.words_of.Given as goal
 

@@ -1,7 +1,7 @@
 use Rattle.std.proofs.Common.{◌≡◌, ◌++◌, [], map, take}
 use Rattle.std.specs.Str.{encode_utf8_all}
 use Rattle.csv.specs.Records.{fields_of, partial_of}
-use Rattle.sbl_rows.specs.WordRows.{texts_of}
+use Rattle.sbl_rows.specs.Classes.{texts_of}
 use Rattle.sbl_reports.proofs.records.push_texts.Given as goal
 
 abbrev pub invariant-loop-characters : goal.invariant-loop-characters

@@ -10,7 +10,7 @@ use Rattle.sbl_sessions.specs.Session.{IsSession}
 use Rattle.sbl_io.specs.declared.faults.LineFault.TheVariants as read
 use Rattle.sbl_io.specs.declared.faults.ServeFault.{ServeFault}
 use Rattle.sbl_io.proofs.Bytes.{whole_none, whole_trans}
-use Rattle.sbl_sessions.proofs.SessionFacts.{session_starts, session_goes_on, session_ends, session_at_line, session_at_write, session_open}
+use Rattle.sbl_sessions.proofs.SessionFacts.{at, session_starts, session_goes_on, session_ends, session_at_line, session_at_write, session_open}
 use Rattle.sbl_sessions.proofs.serving.serve.Goals as goal
 
 no_fault : {f : Option LineFault} → f ≡ None → IsSome f → ⊥
@@ -81,7 +81,7 @@ returns-in_err-reply-clause-session g c = λ _.
     let whole : f ≡ fault.Read → TookWhole (input_of left c.args.lines.now) (input_of left c.loop-bench.lines) =
     λ is. c.loop-bench.invariant.feeds (c.next_line.ensures.stays (c.answer.ensures.reading.stays (c.in_err-reply.ensures.reading.drained (ap (λ (x : ServeFault). Err x) is) c.in_ok-next_line.ensures.ready.1).1)) in
     rw (p.1, p.2)
-    (subst (λ (x : Contents). IsSession (input_of left c.args.lines.now) (input_of left c.answer.new.lines) (held c.args.writer.now) (held c.loop-bench.writer) (contents_of c.args.bench.now) x (Err f)) (sym broken.1)
+    (subst (λ (x : Contents). IsSession (at (input_of left c.args.lines.now) (held c.args.writer.now) (contents_of c.args.bench.now)) (at (input_of left c.answer.new.lines) (held c.loop-bench.writer) x) (Err f)) (sym broken.1)
     (session_open _ (input_of left c.loop-bench.lines) (input_of left c.next_line.new.self) _ _ _ _ _ (line_of c.next_line.new.self) f c.loop-bench.invariant.session
     (c.in_ok-next_line.ensures.more c.if-branch.true) (c.in_ok-next_line.ensures.fits c.if-branch.true) broken.0.0 whole broken.0.1))
 

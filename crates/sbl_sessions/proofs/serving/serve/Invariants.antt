@@ -3,12 +3,12 @@ use Rattle.std.specs.Io.KnownBytes.{Keeps}
 use Rattle.sbl_bench.specs.KeptRuns.{contents_of}
 use Rattle.sbl_io.specs.Devices.{WritesInTime}
 use Rattle.sbl_io.specs.HeldInput.{KeepsTime, TakesFeeds, fault_of, fuel_of, input_of, reads_bound}
-use Rattle.sbl_sessions.specs.Session.{RepliesToInput}
+use Rattle.sbl_sessions.specs.Session.{Replies, moment}
 use Rattle.sbl_sessions.proofs.serving.serve.Given as goal
 
 abbrev pub invariant-loop-bench : goal.invariant-loop-bench
 invariant-loop-bench g l = record {
-  session : RepliesToInput (input_of g.R.Source.left l.fn.lines) (input_of g.R.Source.left l.lines) (g.W.Sink.held l.fn.writer) (g.W.Sink.held l.writer) (contents_of l.fn.bench) (contents_of l.bench);
+  session : Replies (moment g.R.Source.left g.W.Sink.held l.fn.lines l.fn.writer l.fn.bench) (moment g.R.Source.left g.W.Sink.held l.lines l.writer l.bench);
   fault : fault_of l.lines ≡ fault_of l.fn.lines;
   feeds : TakesFeeds g.R.Source.left l.fn.lines l.lines;
   read : (g.R.Source.tally l.lines.reader).failures ≡ (g.R.Source.tally l.fn.lines.reader).failures;

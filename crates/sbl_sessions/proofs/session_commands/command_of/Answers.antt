@@ -2,9 +2,11 @@ use Rattle.std.proofs.Common.{◌≡◌, ◌∙◌, arith, rules, refl, sym, ap,
 use Rattle.std.specs.Str.{IsUtf8, is_utf8}
 use Rattle.std.proofs.lemmas.Str.{IsUtf8-from_is_utf8, is_utf8-from_IsUtf8}
 use Rattle.sbl_sessions.specs.Commands as spec
+use Rattle.sbl_sessions.specs.inside.Names as names
+use Rattle.sbl_sessions.proofs.CommandFacts.{by_tables}
 use Rattle.sbl_sessions.proofs.session_commands.command_of.Goals as goal
 
-of_none : (line : List ℕ) → length line ≡ 0 → spec.Nothing ≡ spec.line_command line
+of_none : (line : List ℕ) → length line ≡ 0 → names.Nothing ≡ spec.line_command line
 unfolding spec.line_command
 of_none [] e = refl
 of_none (b ∷ line) e = absurd (omega arith)
@@ -28,7 +30,7 @@ returns-then-is_empty c = of_none c.args.line.now (search rules)
 
 pub returns-in-Ok : goal.returns-in-Ok
 returns-in-Ok c =
-    c.text_command.ensures ∙ ap spec.text_command c.in-Ok.ensures.cases.0 ∙ sym (of_text c.args.line.now (search rules) c.in-Ok.ensures.cases.1)
+    c.text_command.ensures ∙ ap names.tested_command c.in-Ok.ensures.cases.0 ∙ sym (by_tables c.args.line.now) ∙ sym (of_text c.args.line.now (search rules) c.in-Ok.ensures.cases.1)
 
 pub returns-in-Err : goal.returns-in-Err
 returns-in-Err c = sym (of_bytes c.args.line.now (search rules) c.in-Err.ensures.cases.0)

@@ -1,29 +1,19 @@
-use Rattle.std.proofs.Common.{inl, inr, refl, rules, subst, ℕ, List, Option, codes}
+use Rattle.std.proofs.Common.{inl, inr, refl, rules, codes}
 use Rattle.std.proofs.KnownBytes.{Appends-nil}
-use Rattle.std.specs.Prelude.{string_bytes}
-use Rattle.sbl_io.specs.HeldInput.{input_of}
-use Rattle.snowbench.specs.Program.{IsAnswer, fault_line}
+use Rattle.snowbench.specs.Program.{fault_line}
 use Rattle.snowbench.proofs.AnswerFacts.{writes_line}
 use Rattle.snowbench.proofs.program.run.Goals as goal
 
 pub returns-in-Ok-clause-runs : goal.returns-in-Ok-clause-runs
 returns-in-Ok-clause-runs g c =
-    let left = g.R.Source.left in
-    let held = g.W.Sink.held in
     let made = c.in-Ok.ensures in
-    let runs = c.run_with.ensures.runs made.fault in
-    let last = c.run_with.new.lines in
-    let answers = subst (λ (input : Option (List ℕ)). IsAnswer c.args.wanted.now.verb (string_bytes c.args.wanted.now.external) input (input_of left last) (held c.args.writer.now) (held c.run_with.new.writer) runs.0) made.input runs.1 in
     inr (record {
       lines = c.in-Ok.lines;
-      last = last;
-      answer = runs.0;
+      last = c.run_with.new.lines;
       made = record { input = made.input; fault = made.fault; counts = made.tally; bound = made.bound; in_time = made.in_time };
       in_time = c.run_with.ensures.reads_in_time;
       bound = c.run_with.ensures.bound;
-      answers = answers;
-      reasons = runs.2;
-      reported = runs.3;
+      runs = c.run_with.ensures.runs made.fault;
     })
 
 pub returns-in-Err-clause-runs : goal.returns-in-Err-clause-runs

@@ -6,7 +6,7 @@ use Rattle.sbl_bench.specs.KeptRuns.{KeptRuns, KeptWord, contents_of, words_in}
 use Rattle.sbl_rows.specs.ChangedRows.{changed_rows}
 use Rattle.sbl_bench.specs.LeavesChanges.{rows_now}
 use Rattle.sbl_rows.specs.Rows.{rows_of}
-use Rattle.sbl_bench.specs.Last.{last_changes}
+use Rattle.sbl_bench.specs.inside.Last.{last_changes}
 use Rattle.sbl_bench.proofs.LastChanges.{no_rows_change}
 use Rattle.sbl_bench.specs.Edits.{Edits, Add}
 use Rattle.sbl_bench.specs.Contents.{Contents}

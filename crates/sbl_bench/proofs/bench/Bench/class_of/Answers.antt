@@ -16,7 +16,7 @@ returns-in_ok-stem-in-Stem c =
     let stem = c.in-Stem.stem.items in
     (λ i. Some (record {
       stem = (c.in_ok-stem-in-Stem.ensures.items ∙ c.as_slice-in-Stem.ensures.value) i;
-      words = (c.in_ok-words-in-Stem.ensures (under (source_of b.script) b.limit) c.self.invariant.1.fresh ∙ ap (λ (s : List ℕ). in_order (words_with s rows)) c.as_slice.ensures.value) i;
+      members = (c.in_ok-words-in-Stem.ensures (under (source_of b.script) b.limit) c.self.invariant.1.fresh ∙ ap (λ (s : List ℕ). in_order (words_with s rows)) c.as_slice.ensures.value) i;
     }))
     ∙ ap (λ (o : Outcome). option_map (class_with rows) (stem_of (outcome_of o))) (sym c.in-Stem.is ∙ c.outcome.ensures)
     ∙ class_found (under (source_of b.script) b.limit) b.traces.entries c.args.word.now c.self.invariant.1.fresh (Some c.in-Some.last.now) c.in-Some.ensures.value

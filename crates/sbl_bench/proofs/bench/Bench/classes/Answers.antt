@@ -1,13 +1,13 @@
 use Rattle.std.proofs.Common.{◌∙◌, [], ap, subst}
 use Rattle.sbl_script.specs.ParsedScript.{source_of}
 use Rattle.sbl_rows.specs.Setting.{under}
-use Rattle.sbl_rows.specs.Classes.{classes_of}
+use Rattle.sbl_rows.specs.Classes.{classes_of, stem_pairs}
 use Rattle.sbl_rows.specs.Grouping.{put_pairs}
 use Rattle.sbl_bench.specs.KeptRuns.{setting_of, KeptRuns, words_in}
-use Rattle.sbl_bench.specs.Pairs.{IsIndexed}
+use Rattle.sbl_bench.specs.inside.Pairs.{IsIndexed}
 use Rattle.sbl_rows.specs.Rows.{rows_of}
 use Rattle.sbl_bench.proofs.ClassFacts.{kept_sorted}
-use Rattle.sbl_rows.proofs.GroupFacts.{grouped_rows}
+use Rattle.sbl_rows.proofs.GroupFacts.{grouped_all}
 use Rattle.sbl_rows.proofs.Ranging.{if_ok_weaker, own_keys}
 use Rattle.sbl_bench.proofs.bench.Bench.classes.Goals as goal
 
@@ -20,7 +20,7 @@ returns-in-Some c =
     (λ classes is.
     is
     ∙ ap (put_pairs []) (kept_sorted s b.traces.entries set c.self.invariant.1.fresh c.words_are_unique.ensures (subst (IsIndexed b.traces.entries) c.in-Some.is c.self.invariant.2) c.classes_among.ensures.ordered (own_keys set))
-    ∙ grouped_rows (rows_of s (words_in b.traces.entries))
+    ∙ grouped_all (stem_pairs (rows_of s (words_in b.traces.entries)))
     ∙ ap (λ (k : KeptRuns). classes_of (rows_of (setting_of k) k.words)) c.self.view_is)
     c.classes_among.ensures.classes
 
@@ -33,6 +33,6 @@ returns-in_ok-pairs-in-None c =
     (λ classes is.
     is
     ∙ ap (put_pairs []) (kept_sorted s b.traces.entries set c.self.invariant.1.fresh c.words_are_unique.ensures c.in_ok-pairs-in-None.ensures c.classes_among-in-None.ensures.ordered (own_keys set))
-    ∙ grouped_rows (rows_of s (words_in b.traces.entries))
+    ∙ grouped_all (stem_pairs (rows_of s (words_in b.traces.entries)))
     ∙ ap (λ (k : KeptRuns). classes_of (rows_of (setting_of k) k.words)) c.self.view_is)
     c.classes_among-in-None.ensures.classes

@@ -1,8 +1,9 @@
 use Rattle.std.proofs.Common.{inl, refl, sym, subst}
 use Rattle.std.proofs.lemmas.Result.{err_from_is_err_and}
 use Rattle.sbl_script.specs.ParsedScript.{source_of}
-use Rattle.sbl_bench.specs.Changes.{Brings, IsExchange, affected_of}
+use Rattle.sbl_bench.specs.inside.Changes.{Brings, IsExchange, affected_of}
 use Rattle.sbl_bench.specs.Contents.{Contents}
+use Rattle.sbl_bench.specs.Edits.{BeforeEdit}
 use Rattle.sbl_bench.specs.KeptRuns.{KeptRuns, contents_of, words_in}
 use Rattle.sbl_rows.specs.Setting.{under}
 use Rattle.sbl_bench.proofs.Bringing.{exchange_brings}
@@ -11,7 +12,7 @@ use Rattle.sbl_bench.proofs.bench.Bench.exchange.Goals as goal
 pub returns-in_err-affected-clause-edits : goal.returns-in_err-affected-clause-edits
 returns-in_err-affected-clause-edits c e is =
     let f = err_from_is_err_and c.from_residual.result c.from_residual.ensures.1 in
-    rw (f.1, f.2) (record { wanted = is.wants; is = inl (is.passes, refl) })
+    rw (f.1, f.2) (BeforeEdit is.wants is.passes refl)
 
 pub take_script-requires : goal.take_script-requires
 take_script-requires c =

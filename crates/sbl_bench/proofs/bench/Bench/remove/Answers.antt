@@ -6,12 +6,12 @@ use Rattle.sbl_bench.specs.KeptRuns.{IsKept, KeptRuns, KeptWord, contents_of, wo
 use Rattle.sbl_rows.specs.ChangedRows.{changed_rows}
 use Rattle.sbl_bench.specs.LeavesChanges.{rows_now}
 use Rattle.sbl_rows.specs.Rows.{rows_of}
-use Rattle.sbl_bench.specs.Last.{last_changes}
+use Rattle.sbl_bench.specs.inside.Last.{last_changes}
 use Rattle.sbl_bench.proofs.LastChanges.{no_rows_change}
 use Rattle.sbl_bench.specs.Contents.{Contents}
 use Rattle.sbl_rows.specs.Setting.{under}
 use Rattle.sbl_bench.proofs.Refusals.{no_word, removes}
-use Rattle.sbl_bench.specs.Pairs.{IsIndexed}
+use Rattle.sbl_bench.specs.inside.Pairs.{IsIndexed}
 use Rattle.sbl_bench.proofs.MapEntries.{found_word, kept-remove, key_taken, words-remove}
 use Rattle.sbl_bench.proofs.bench.Bench.remove.Goals as goal
 

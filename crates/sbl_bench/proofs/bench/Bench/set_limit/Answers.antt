@@ -2,13 +2,13 @@ use Rattle.std.proofs.Common.{◌≡◌, ℕ, true, List, All, Ok, Err, inl, len
 use Rattle.std.proofs.lemmas.List.{length-map}
 use Rattle.std.proofs.lemmas.Result.{err_from_is_err_and}
 use Rattle.sbl_script.specs.ParsedScript.{source_of}
-use Rattle.sbl_bench.specs.Changes.{Brings, affected_of}
+use Rattle.sbl_bench.specs.inside.Changes.{Brings, affected_of}
 use Rattle.sbl_bench.specs.Edits.{Edit, Edits, Limit, is_limit}
 use Rattle.sbl_bench.specs.KeptRuns.{KeptWord, IsWord, KeptRuns, contents_of, words_in}
 use Rattle.sbl_rows.specs.ChangedRows.{changed_rows}
 use Rattle.sbl_bench.specs.Contents.{Contents}
-use Rattle.sbl_bench.specs.Last.{Follows, last_changes}
-use Rattle.sbl_bench.specs.Pairs.{IsIndexed}
+use Rattle.sbl_bench.specs.inside.Last.{Follows, last_changes}
+use Rattle.sbl_bench.specs.inside.Pairs.{IsIndexed}
 use Rattle.sbl_bench.specs.declared.change.Change.{Change}
 use Rattle.sbl_bench.specs.LeavesChanges.{rows_now}
 use Rattle.sbl_rows.specs.Rows.{rows_of}

@@ -2,9 +2,9 @@ use Rattle.std.proofs.Common.{map, inl, ap, sym, refl, subst}
 use Rattle.std.proofs.lemmas.Result.{err_from_is_err_and}
 use Rattle.sbl_script.specs.ParsedScript.{source_of}
 use Rattle.sbl_semantics.specs.TouchedItems.{item_of}
-use Rattle.sbl_bench.specs.Changes.{Brings, IsTaken, affected_of}
+use Rattle.sbl_bench.specs.inside.Changes.{Brings, IsTaken, affected_of}
 use Rattle.sbl_bench.specs.Contents.{Contents}
-use Rattle.sbl_bench.specs.Edits.{Replace}
+use Rattle.sbl_bench.specs.Edits.{BeforeEdit, Replace}
 use Rattle.sbl_bench.specs.KeptRuns.{KeptRuns, contents_of, words_in}
 use Rattle.sbl_rows.specs.Setting.{under}
 use Rattle.sbl_bench.proofs.Bringing.{edited_brings}
@@ -13,7 +13,7 @@ use Rattle.sbl_bench.proofs.bench.Bench.take_edited.Goals as goal
 pub returns-in_err-affected-clause-edits : goal.returns-in_err-affected-clause-edits
 returns-in_err-affected-clause-edits c e text is =
     let f = err_from_is_err_and c.from_residual.result c.from_residual.ensures.1 in
-    rw (f.1, f.2) (record { wanted = λ w same. cc same; is = inl (is.passes, refl) })
+    rw (f.1, f.2) (BeforeEdit (λ w same. cc same) is.passes refl)
 
 pub take_script-requires : goal.take_script-requires
 take_script-requires c =

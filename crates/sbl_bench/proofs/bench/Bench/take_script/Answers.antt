@@ -3,13 +3,13 @@ use Rattle.std.proofs.lemmas.List.{length-map}
 use Rattle.std.proofs.lemmas.Result.{err_from_is_err_and}
 use Rattle.sbl_script.specs.ParsedScript.{ParsedScript, source_of}
 use Rattle.sbl_machine.specs.MachineOf.{IsLinkedMachineOf}
-use Rattle.sbl_bench.specs.Changes.{Brings, affected_of}
-use Rattle.sbl_bench.specs.Edits.{Edits}
+use Rattle.sbl_bench.specs.inside.Changes.{Brings, affected_of}
+use Rattle.sbl_bench.specs.Edits.{BeforeEdit, Edits}
 use Rattle.sbl_bench.specs.KeptRuns.{KeptWord, IsKept, IsWord, KeptRuns, contents_of, words_in}
 use Rattle.sbl_rows.specs.ChangedRows.{changed_rows}
 use Rattle.sbl_bench.specs.Contents.{Contents}
-use Rattle.sbl_bench.specs.Last.{Follows, last_changes}
-use Rattle.sbl_bench.specs.Pairs.{IsIndexed}
+use Rattle.sbl_bench.specs.inside.Last.{Follows, last_changes}
+use Rattle.sbl_bench.specs.inside.Pairs.{IsIndexed}
 use Rattle.sbl_bench.specs.declared.change.Change.{Change}
 use Rattle.sbl_bench.specs.LeavesChanges.{rows_now}
 use Rattle.sbl_rows.specs.Rows.{rows_of}
@@ -25,7 +25,7 @@ words_length es = length-map es _
 pub returns-in_err-after-clause-edits : goal.returns-in_err-after-clause-edits
 returns-in_err-after-clause-edits c e brings =
     let f = err_from_is_err_and c.from_residual.result c.from_residual.ensures.1 in
-    rw (f.1, f.2) (record { wanted = brings.wants; is = inl (brings.passes, refl) })
+    rw (f.1, f.2) (BeforeEdit brings.wants brings.passes refl)
 
 pub returns-in_err-changes-clause-edits : goal.returns-in_err-changes-clause-edits
 returns-in_err-changes-clause-edits c e brings =
