@@ -7,8 +7,8 @@ mod program;
 
 pub use file_filter::{FilterEnd, run_filter};
 pub use program::{run, run_with};
+pub use sbl_batch::check;
 pub use sbl_bench::WordKeys;
-pub use sbl_check::check;
 pub use sbl_command_line::{Face, Options, Verb, Wanted, read_words};
 pub use sbl_input::{LoadFault, load, load_with_keys};
 pub use sbl_io::{Device, LineFault, Lines, MAX_LINE, ServeFault, Sink, Source, Stop};
