@@ -6,8 +6,8 @@ ghost use Rattle.sbl_sessions.specs.Commands as spec;
 ghost use Rattle.sbl_sessions.specs.Requests as requests;
 ghost use Rattle.sbl_sessions.specs.Words as words;
 ghost use Rattle.sbl_sessions.specs.CommandViews.{FindsTarget, view_asked, view_found, view_word};
-ghost use Rattle.sbl_sessions.specs.inside.Names as names;
-ghost use Rattle.sbl_sessions.specs.inside.Views.{view_command};
+ghost use Rattle.sbl_sessions.specs.inside.SessionParts as names;
+ghost use Rattle.sbl_sessions.specs.inside.RequestViews.{view_command};
 ghost use Rattle.sbl_sessions.specs.Numbers as numbers;
 
 use std::alloc::{AllocError, Global};
