@@ -8,7 +8,7 @@ ghost use Rattle.sbl_rows.specs.Rows.{view_row};
 ghost use Rattle.sbl_machine.specs.ItemRefs.{items_of_refs};
 ghost use Rattle.sbl_print.specs.Canonical.{canonical};
 ghost use Rattle.sbl_sessions.specs.{Answers.with_line_feed, CommandViews.IsAnswer};
-ghost use Rattle.sbl_sessions.specs.inside.Names.{Class, Trace};
+ghost use Rattle.sbl_sessions.specs.inside.SessionParts.{Class, Trace};
 ghost use Rattle.sbl_reports.specs.ItemRecords.{items_text};
 ghost use Rattle.sbl_reports.specs.Listings as spec;
 

@@ -3,7 +3,7 @@ ghost use Rattle.std.specs.Prelude.{◌≡◌, ◌≤◌, None, Some, Err, IfOk,
 ghost use Rattle.std.specs.Io.KnownBytes.{IsAtEnd, Keeps};
 ghost use Rattle.sbl_bench.specs.KeptRuns.{contents_of};
 ghost use Rattle.sbl_sessions.specs.CommandViews.{IsAnswer};
-ghost use Rattle.sbl_sessions.specs.inside.Views.{BreaksBlock, IsAnswered};
+ghost use Rattle.sbl_sessions.specs.inside.RequestViews.{BreaksBlock, IsAnswered};
 ghost use Rattle.sbl_sessions.specs.Commands.{line_command};
 ghost use Rattle.sbl_io.specs.Devices.{WritesInTime};
 ghost use Rattle.sbl_io.specs.Faults.{left_by, serve_fault_of};
