@@ -14,7 +14,9 @@ ghost use Rattle.sbl_ast.specs.Order.{in_order};
 ghost use Rattle.sbl_ast.specs.declared.mode.Mode.{Mode};
 ghost use Rattle.sbl_explain.specs.Searches.{Call, course, fits, is_conditional, AllRefused, OneTaken, EndsWith, IsSearch, first_length};
 
-use sbl_explain::laws::{each_search_takes_first, plain_searches_take_longest, searches_take_first};
+use sbl_explain::laws::{
+    each_search_takes_first, plain_searches_take_longest, searches_take_first,
+};
 
 /// Needs the whole of the law `searches_take_first`.
 pub fn needs_searches_take_first()

@@ -3,7 +3,7 @@ ghost use Rattle.std.specs.Prelude.{◌≡◌, ◌≤◌, None, Some, Err, IfOk,
 ghost use Rattle.std.specs.Io.KnownBytes.{IsAtEnd, Keeps};
 ghost use Rattle.sbl_bench.specs.KeptRuns.{contents_of};
 ghost use Rattle.sbl_sessions.specs.CommandViews.{IsAnswer};
-ghost use Rattle.sbl_sessions.specs.inside.Views.{BreaksBlock, IsAnswered};
+ghost use Rattle.sbl_sessions.specs.inside.RequestViews.{BreaksBlock, IsAnswered};
 ghost use Rattle.sbl_sessions.specs.Commands.{line_command};
 ghost use Rattle.sbl_io.specs.Devices.{WritesInTime};
 ghost use Rattle.sbl_io.specs.Faults.{left_by, serve_fault_of};
@@ -18,8 +18,8 @@ use crate::reports::{
 use crate::session_commands::{Command, asks_block, command_of, keep_line};
 use crate::session_edits::{add_word, edit_script, remove_word};
 use sbl_bench::{Bench, EditFault};
-use sbl_formats::read_block;
 use sbl_io::{Lines, ServeFault, Sink, Source};
+use sbl_reports::read_block;
 use std::alloc::Global;
 
 /// Makes the edit or the report that a line without a block asks for, and returns the reply.

@@ -2,12 +2,13 @@
 ghost use Rattle.std.specs.Prelude.{◌≡◌, IfOk, OnErr, Some, true};
 ghost use Rattle.std.specs.Option.{is_some, unwrap_or};
 ghost use Rattle.sbl_bench.specs.Edits as edits;
+ghost use Rattle.sbl_script.specs.Parts.{view_part};
 ghost use Rattle.sbl_sessions.specs.Commands as spec;
 ghost use Rattle.sbl_sessions.specs.Requests as requests;
 ghost use Rattle.sbl_sessions.specs.Words as words;
 ghost use Rattle.sbl_sessions.specs.CommandViews.{KeepsLine};
-ghost use Rattle.sbl_sessions.specs.inside.Names as names;
-ghost use Rattle.sbl_sessions.specs.inside.Views.{view_command};
+ghost use Rattle.sbl_sessions.specs.inside.SessionParts as names;
+ghost use Rattle.sbl_sessions.specs.inside.RequestViews.{view_command};
 ghost use Rattle.sbl_sessions.specs.Numbers as numbers;
 
 use sbl_script::Part;

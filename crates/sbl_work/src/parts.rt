@@ -2,7 +2,7 @@
 ghost use Rattle.std.specs.Prelude.{◌≡◌, ℕ, List, Some, codes};
 ghost use Rattle.std.specs.Str.{bytes_eq};
 ghost use Rattle.sbl_bench.specs.KeptRuns.{contents_of};
-ghost use Rattle.sbl_formats.specs.Block.{HoldsText, made_text};
+ghost use Rattle.sbl_reports.specs.Block.{HoldsText, made_text};
 ghost use Rattle.sbl_sessions.specs.CommandViews.{KeepsLine};
 ghost use Rattle.sbl_sessions.specs.Commands.{text_of_block};
 ghost use Rattle.sbl_work.specs.Answering.{part_edit};
@@ -15,9 +15,8 @@ ghost use Rattle.sbl_work.specs.ReplyViews.{Answers, FindsBlock, IsFamiliesAnswe
 use crate::replies::{NOT_TEXT, edit_reply};
 use crate::requests::BlockRequest;
 use sbl_bench::{Bench, EditFault};
-use sbl_formats::{BlockFault, BlockText};
 use sbl_history::Desk;
-use sbl_reports::families_text;
+use sbl_reports::{BlockFault, BlockText, families_text};
 use sbl_script::{Part, ScriptFault};
 use sbl_sessions::{BAD_COMMAND, Reply, part_of, report};
 use sbl_source_map::without_head;
@@ -151,7 +150,7 @@ fn families_of(alloc: Global, bench: &Bench, block: BlockText) -> Reply
 
 /// Makes the edit or the report that a line asks for with its block, and returns the reply. `request` is what `block_request`
 /// returns for the line.
-pub fn answer_block(
+pub(crate) fn answer_block(
     alloc: Global,
     desk: &mut Desk,
     bench: &mut Bench,

@@ -1,9 +1,9 @@
 use Rattle.std.proofs.Common.{◌≡◌, ◌<◌, ◌∙◌, List, [], ℕ, None, Some, rules, length, ap, subst, sym}
 use Rattle.std.specs.Option.{option_map}
 use Rattle.sbl_bench.specs.KeptRuns.{contents_of}
-use Rattle.sbl_formats.specs.Block.{HasText, HoldsText, made_text, max_script}
-use Rattle.sbl_formats.specs.declared.block_text.BlockFault.{BlockFault}
-use Rattle.sbl_formats.specs.declared.block_text.BlockFault.TheVariants.{TooLong}
+use Rattle.sbl_reports.specs.Block.{HasText, HoldsText, made_text, max_script}
+use Rattle.sbl_reports.specs.declared.block_text.BlockFault.{BlockFault}
+use Rattle.sbl_reports.specs.declared.block_text.BlockFault.TheVariants.{TooLong}
 use Rattle.sbl_script.specs.Parts.{view_part}
 use Rattle.sbl_sessions.specs.CommandViews.{IsTextAnswer}
 use Rattle.sbl_sessions.specs.Commands.{block_command, target_of}
