@@ -39,11 +39,16 @@ changes_text before s = records_text (map change_fields (changes_of before (rows
 abbrev pub figure_fields : List ℕ → ℕ → List (List ℕ)
 figure_fields name number = name ∷ decimal number ∷ []
 
+abbrev pub word_figures : Stats → List (List (List ℕ))
+word_figures s = figure_fields (codes "words") s.words ∷ figure_fields (codes "refused") s.refused ∷ []
+
+abbrev pub class_figures : Stats → List (List (List ℕ))
+class_figures s =
+    figure_fields (codes "classes") s.classes ∷ figure_fields (codes "alone") s.alone ∷ figure_fields (codes "largest") s.largest ∷ []
+
 abbrev pub stats_fields : Stats → ℕ → List (List (List ℕ))
 stats_fields s runs =
-    figure_fields (codes "words") s.words ∷ figure_fields (codes "refused") s.refused ∷ figure_fields (codes "classes") s.classes
-    ∷ figure_fields (codes "alone") s.alone ∷ figure_fields (codes "largest") s.largest ∷ figure_fields (codes "unchanged") s.unchanged
-    ∷ figure_fields (codes "runs") runs ∷ []
+    word_figures s ++ (class_figures s ++ figure_fields (codes "unchanged") s.unchanged ∷ figure_fields (codes "runs") runs ∷ [])
 
 abbrev pub stats_text : Contents → List ℕ
 stats_text s = records_text (stats_fields (stats_of (rows_now s)) s.count)

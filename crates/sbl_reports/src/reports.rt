@@ -1,10 +1,11 @@
 //! The reports of work: what changed since some rows, figures, and the largest classes.
-ghost use Rattle.std.specs.Prelude.{◌≡◌, ◌++◌, ◌∷◌, [], IfOk, OnOk, codes, map};
+ghost use Rattle.std.specs.Prelude.{◌≡◌, ◌++◌, [], IfOk, OnOk, map};
 ghost use Rattle.csv.specs.Records.{fields_of, partial_of};
 ghost use Rattle.sbl_bench.specs.KeptRuns.{contents_of};
 ghost use Rattle.sbl_rows.specs.Classes.{view_stem_class};
 ghost use Rattle.sbl_rows.specs.Rows.{view_row};
 ghost use Rattle.sbl_rows.specs.Changes.{view_change};
+ghost use Rattle.sbl_rows.specs.Stats.{view_stats};
 ghost use Rattle.sbl_semantics.specs.Outcome.{outcome_of};
 ghost use Rattle.sbl_io.specs.Records.{record_line, records_text};
 ghost use Rattle.sbl_reports.specs.Reports as spec;
@@ -102,7 +103,7 @@ fn push_figure(alloc: Global, out: &mut Vec<u8>, name: &str, number: u64) -> Res
 
 /// Appends the lines of the figures about words. Returns `AllocError` if an allocation fails.
 fn push_word_figures(alloc: Global, out: &mut Vec<u8>, figures: &RowStats) -> Result<(), AllocError>
-    ensures { OnOk result (out.new.items ≡ out.old.items ++ records_text (spec.figure_fields (codes "words") figures.now.words ∷ spec.figure_fields (codes "refused") figures.now.refused ∷ [])) }
+    ensures { OnOk result (out.new.items ≡ out.old.items ++ records_text (spec.word_figures (view_stats figures.now))) }
 {
     push_figure(alloc, out, "words", figures.words as u64)?;
     push_figure(alloc, out, "refused", figures.refused as u64)
@@ -114,7 +115,7 @@ fn push_class_figures(
     out: &mut Vec<u8>,
     figures: &RowStats,
 ) -> Result<(), AllocError>
-    ensures { OnOk result (out.new.items ≡ out.old.items ++ records_text (spec.figure_fields (codes "classes") figures.now.classes ∷ spec.figure_fields (codes "alone") figures.now.alone ∷ spec.figure_fields (codes "largest") figures.now.largest ∷ [])) }
+    ensures { OnOk result (out.new.items ≡ out.old.items ++ records_text (spec.class_figures (view_stats figures.now))) }
 {
     push_figure(alloc, out, "classes", figures.classes as u64)?;
     push_figure(alloc, out, "alone", figures.alone as u64)?;
