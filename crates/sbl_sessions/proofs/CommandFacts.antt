@@ -12,7 +12,7 @@ use Rattle.sbl_sessions.specs.CommandViews.{FindsTarget, view_found}
 use Rattle.sbl_sessions.specs.Commands.{Command, target_of, text_command}
 use Rattle.sbl_sessions.specs.Requests.{block_word}
 use Rattle.sbl_sessions.specs.Words.{argument, command_word}
-use Rattle.sbl_sessions.specs.inside.Names.{is_space, tested_command}
+use Rattle.sbl_sessions.specs.inside.SessionParts.{is_space, tested_command}
 use Rattle.sbl_sessions.specs.declared.session_commands.Target.{Target}
 
 -- no space stands before this place
@@ -31,24 +31,24 @@ word_before line i within none here = ap (λ (n : ℕ). take n line) (sym (posit
 
 -- ---- the tables of commands
 
--- an entry of a table is a test
-tested : {X : Type 0} (f : X → Command) (b : Bool) (x : X) (rest : Option X) (d e : Command) → option_map_or f rest d ≡ e
+-- looking for an entry of a table is a test of each
+by_test : {X : Type 0} (f : X → Command) (b : Bool) (x : X) (rest : Option X) (d e : Command) → option_map_or f rest d ≡ e
     → option_map_or f (if b then Some x else rest) d ≡ (if b then f x else e)
-tested f true x rest d e same = refl
-tested f false x rest d e same = same
+by_test f true x rest d e same = refl
+by_test f false x rest d e same = same
 
 pub by_tables : (line : List ℕ) → text_command line ≡ tested_command line
 by_tables line =
     let word = command_word line in
-    tested _ (bytes_eq word (codes "add")) _ _ _ _
-    (tested _ (bytes_eq word (codes "remove")) _ _ _ _
-    (tested _ (bytes_eq word (codes "class")) _ _ _ _
-    (tested _ (bytes_eq word (codes "trace")) _ _ _ _
-    (tested _ (bytes_eq word (codes "limit")) _ _ _ _
-    (tested _ (bytes_eq line (codes "stems")) _ _ _ _
-    (tested _ (bytes_eq line (codes "classes")) _ _ _ _
-    (tested _ (bytes_eq line (codes "script")) _ _ _ _
-    (tested _ (bytes_eq line (codes "runs")) _ _ _ _ refl))))))))
+    by_test _ (bytes_eq word (codes "add")) _ _ _ _
+    (by_test _ (bytes_eq word (codes "remove")) _ _ _ _
+    (by_test _ (bytes_eq word (codes "class")) _ _ _ _
+    (by_test _ (bytes_eq word (codes "trace")) _ _ _ _
+    (by_test _ (bytes_eq word (codes "limit")) _ _ _ _
+    (by_test _ (bytes_eq line (codes "stems")) _ _ _ _
+    (by_test _ (bytes_eq line (codes "classes")) _ _ _ _
+    (by_test _ (bytes_eq line (codes "script")) _ _ _ _
+    (by_test _ (bytes_eq line (codes "runs")) _ _ _ _ refl))))))))
 
 -- ---- what a line with a block wants replaced
 

@@ -15,7 +15,7 @@ use Rattle.sbl_sessions.specs.Answers.{BlockRefused, Enough, RefusedAfter, edit_
 use Rattle.sbl_reports.specs.Block.{HasText, made_text, max_script}
 use Rattle.sbl_sessions.specs.CommandViews.{IsEditAnswer, IsTextAnswer}
 use Rattle.sbl_sessions.specs.Commands.{Bad, Command, block_command, target_of, text_of_block, with_text}
-use Rattle.sbl_sessions.specs.Faults.{fault_in}
+use Rattle.sbl_sessions.specs.EditFaults.{fault_in}
 
 -- where memory was refused
 out_of_memory : (s t : Contents) (e : Edit) → IsOutOfMemory s e t → IsEditAnswer s e (edit_text (Some fault.OutOfMemory)) t

@@ -10,13 +10,13 @@ use Rattle.sbl_bench.specs.Contents.{Contents}
 use Rattle.sbl_sessions.specs.Answers.{Answers, IsReplyTo, Memory}
 use Rattle.sbl_reports.specs.Block.{BlockLines, Breaks, HoldsText, ReadsBlock, point}
 use Rattle.sbl_sessions.specs.CommandViews.{IsAnswer, IsReply, IsTextAnswer}
-use Rattle.sbl_sessions.specs.inside.Views.{IsAnswered}
+use Rattle.sbl_sessions.specs.inside.RequestViews.{IsAnswered}
 use Rattle.sbl_sessions.specs.Commands.{block_command, command_of, line_command}
 use Rattle.sbl_io.specs.HeldInput.{AllFit, BeginsLong, BreaksOff, GivesLine, Took, TookWhole}
 use Rattle.sbl_script.specs.Edits.{ScriptEdit}
 use Rattle.sbl_sessions.specs.Words.{command_word}
 use Rattle.sbl_sessions.specs.Requests.{Request, TookRequests, asks_block, block_word, lines_in_all}
-use Rattle.sbl_sessions.specs.inside.Names.{IsBegun, IsRequest, block_lines, lines_in}
+use Rattle.sbl_sessions.specs.inside.SessionParts.{IsBegun, IsRequest, block_lines, lines_in}
 use Rattle.sbl_sessions.specs.Session.{CutsReply, CutsRequest, IsSession, Moment, Replies}
 use Rattle.sbl_reports.specs.declared.block_text.BlockText.{BlockText}
 use Rattle.sbl_io.specs.Faults.{serve_fault_of}

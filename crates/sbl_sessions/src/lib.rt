@@ -10,4 +10,4 @@ mod session_edits;
 
 pub use replies::{BAD_COMMAND, Reply, edit_text, report, write_reply};
 pub use serving::{answer_line, serve};
-pub use session_commands::{BlockWord, Target, block_word, number_in, part_of, target_of};
+pub use session_commands::{asks_block, keep_line, number_in, part_of};

@@ -8,7 +8,7 @@ ghost use Rattle.sbl_rows.specs.Rows.{view_row};
 ghost use Rattle.sbl_machine.specs.ItemRefs.{items_of_refs};
 ghost use Rattle.sbl_print.specs.Canonical.{canonical};
 ghost use Rattle.sbl_sessions.specs.{Answers.with_line_feed, CommandViews.IsAnswer};
-ghost use Rattle.sbl_sessions.specs.inside.Names.{Class, Trace};
+ghost use Rattle.sbl_sessions.specs.inside.SessionParts.{Class, Trace};
 ghost use Rattle.sbl_reports.specs.ItemRecords.{items_text};
 ghost use Rattle.sbl_reports.specs.Listings as spec;
 
@@ -100,7 +100,7 @@ pub(crate) fn class_reply(alloc: Global, bench: &Bench, word: &str) -> Reply
 
 /// Returns the text of some items: a row for each, in their order. Returns `AllocError` if an allocation fails.
 fn items_text(alloc: Global, items: BTreeSet<ItemRef<'_>>) -> Result<Vec<u8>, AllocError>
-    ensures { IfOk result (λ text. text.items ≡ items_text (items_of_refs items)) }
+    ensures { IfOk result (λ text. text.items ≡ items_text (items_of_refs items.entry)) }
 {
     let items: Vec<ItemRef<'_>> = items.into_iter().collect(alloc)?;
     sbl_reports::items_text(alloc, &items)

@@ -9,7 +9,7 @@ use Rattle.sbl_bench.specs.declared.fault.EditFault.TheVariants as edit
 use Rattle.sbl_script.specs.Edits.{ScriptEdit}
 use Rattle.sbl_sessions.specs.Answers.{edit_text, with_line_feed}
 use Rattle.sbl_sessions.specs.CommandViews.{IsTextAnswer}
-use Rattle.sbl_sessions.specs.Faults.{fault_in}
+use Rattle.sbl_sessions.specs.EditFaults.{fault_in}
 use Rattle.sbl_explain.specs.Unused as unused
 use Rattle.sbl_explain.specs.Integers as integers
 use Rattle.sbl_explain.specs.WhyRows as rows

@@ -12,5 +12,6 @@ mod serving;
 mod whys;
 
 pub use files::Paths;
+pub use parts::answer_block;
 pub use requests::{BlockRequest, block_request};
 pub use serving::work;

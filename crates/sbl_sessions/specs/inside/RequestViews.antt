@@ -10,7 +10,7 @@ use Rattle.sbl_sessions.specs.CommandViews.{IsAnswer}
 use Rattle.sbl_sessions.specs.Commands as command
 use Rattle.sbl_sessions.specs.Commands.{command_of}
 use Rattle.sbl_sessions.specs.Requests.{asks_block}
-use Rattle.sbl_sessions.specs.inside.Names.{Class, Classes, IsRequest, Nothing, Runs, Script, Stems, Trace, block_lines}
+use Rattle.sbl_sessions.specs.inside.SessionParts.{Class, Classes, IsRequest, Nothing, Runs, Script, Stems, Trace, block_lines}
 use Rattle.sbl_sessions.specs.declared.replies.Reply.{Reply}
 use Rattle.sbl_sessions.specs.declared.session_commands.Command.{Command}
 use Rattle.sbl_sessions.specs.declared.session_commands.Command.TheVariants as variants
