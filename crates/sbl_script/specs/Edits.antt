@@ -97,7 +97,9 @@ among_depths ps = map (λ p. p.1) (filter (λ p. is_among p.0) ps)
 -- among.
 abbrev pub text_in : Option Plain → ScriptEdit → Result Text EditFault
 text_in (Some (routine m c os)) (body n) = Ok texts.body
-text_in (Some (routine m c os)) (among n k) = ok_or (option_map (λ p. texts.among p.1) (find (λ p. nat_eq p.0 k) (enumerate_from 1 (among_depths (places_in texts.body (c, os)))))) edits.NoAmong
+text_in (Some (routine m c os)) (among n k) =
+    ok_or (option_map (λ p. texts.among p.1) (find (λ p. nat_eq p.0 k) (enumerate_from 1 (among_depths (places_in texts.body (c, os))))))
+    edits.NoAmong
 text_in (Some (grouping m a ts)) (terms n) = Ok texts.terms
 text_in _ (terms n) = Err edits.NoGrouping
 text_in _ e = Err edits.NoRoutine
@@ -125,7 +127,8 @@ IsChanged e w x old new = ⊥
 
 -- and so it makes the items js of is
 abbrev pub IsMade : List Item → ScriptEdit → (w : Text) → TreeOf w → List Item → Type 0
-IsMade is e w x js = (old : Plain) × (new : Plain) × (first_of (changes e) is ≡ Some old) × IsChanged e w x old new × (js ≡ items_with (changes e) new is)
+IsMade is e w x js =
+    (old : Plain) × (new : Plain) × (first_of (changes e) is ≡ Some old) × IsChanged e w x old new × (js ≡ items_with (changes e) new is)
 
 -- after an edit of an among there have to be as many amongs as before
 abbrev pub keeps_count : ScriptEdit → List Item → List Item → Bool
@@ -159,6 +162,7 @@ IsEdited s e text t = (w : Text) × (text_for s.items e ≡ Ok w) × IsSubstitut
 abbrev pub IsEditFault : Source → ScriptEdit → List ℕ → EditFault → Type 0
 IsEditFault s e text edits.AmongCount = (w : Text) × (text_for s.items e ≡ Ok w) × (t : Source) × IsSubstituted s e w text false t
 IsEditFault s e text (edits.Script f) =
-    (w : Text) × (text_for s.items e ≡ Ok w) × (around : TreeOf w → List Item) × ((x : TreeOf w) → IsMade s.items e w x (around x)) × IsFaultIn w (state_before (changes e) s.items) around s.external text f
+    (w : Text) × (text_for s.items e ≡ Ok w) × (around : TreeOf w → List Item) × ((x : TreeOf w) → IsMade s.items e w x (around x))
+    × IsFaultIn w (state_before (changes e) s.items) around s.external text f
 IsEditFault s e text edits.OutOfMemory = ⊥
 IsEditFault s e text f = text_for s.items e ≡ Err f

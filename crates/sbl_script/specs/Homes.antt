@@ -2,7 +2,7 @@
 -- the edit, and the fault of a text.
 use Rattle.std.specs.Prelude.{◌≡◌, ℕ, Bool, nat_eq, true, false, List, [], ◌∷◌, Option, Some, None, Result, Ok, Err, if◌then◌else◌}
 use Rattle.std.specs.List.{list_any}
-use Rattle.std.specs.Option.{ok_or, option_map, option_or}
+use Rattle.std.specs.Option.{MatchOption, ok_or, option_map, option_or}
 use Rattle.sbl_text.specs.declared.fault.ScriptFault.{ScriptFault}
 use Rattle.sbl_text.specs.Escapes.{InForce, nothing_set}
 use Rattle.sbl_text.specs.Directives.{Directives, start_under}
@@ -20,6 +20,10 @@ use Rattle.sbl_ast.specs.Source.{Source}
 use Rattle.sbl_resolver.specs.Checks.{WellDeclared}
 use Rattle.sbl_script.specs.Reading.{HasTokens, IsFaultIn, first_left_out, lexemes}
 use Rattle.sbl_script.specs.Edits.{ScriptEdit, body, among, terms, changes, is_routine_named, is_grouping_named, escapes_after, plains_with, items_with}
+
+-- a search of trees found nothing, or a tree with this view
+abbrev pub Finds : {A : Type 0} → (A → Plain) → Option A → Option Plain → Type 0
+Finds view found wanted = MatchOption found (wanted ≡ None) (λ x. wanted ≡ Some (view x))
 
 -- ---- the definition that changes
 
@@ -88,7 +92,8 @@ home_of_body items n = home_at items (is_routine_named n) texts.body (λ b. rout
 -- where the among is found in the tree: as deep as it is there, and with as many amongs
 abbrev pub home_of_among : List Item → List ℕ → RowView → ℕ → AmongContents → Home
 home_of_among items n b k h =
-    home_at items (is_routine_named n) (texts.among h.0) (λ a. routine n (put_in_body b k a).0 (put_in_body b k a).1) (λ a. nat_eq (count_in_among a) (count_in_among (h.1, h.2)))
+    home_at items (is_routine_named n) (texts.among h.0) (λ a. routine n (put_in_body b k a).0 (put_in_body b k a).1)
+    (λ a. nat_eq (count_in_among a) (count_in_among (h.1, h.2)))
 
 abbrev pub home_of_held : List Item → List ℕ → RowView → ℕ → Option AmongContents → Result Home EditFault
 home_of_held items n b k o = ok_or (option_map (home_of_among items n b k) o) edits.NoAmong

@@ -36,9 +36,11 @@ number_of p items = number_from p (in_order items) 1
 
 -- in a well-declared script, if a fault of an edit names an item, that item is the one that the edit changes
 abbrev pub OnlyTheItem : Type 0
-OnlyTheItem = (s : Source) (e : ScriptEdit) (text : List ℕ) (f : ScriptFault) (i : ℕ) → WellDeclared s.items s.external → IsEditFault s e text (edits.Script f) → item_of f ≡ Some i →
-    number_of (changes e) s.items ≡ Some i
+OnlyTheItem =
+    (s : Source) (e : ScriptEdit) (text : List ℕ) (f : ScriptFault) (i : ℕ) → WellDeclared s.items s.external → IsEditFault s e text (edits.Script f)
+    → item_of f ≡ Some i → number_of (changes e) s.items ≡ Some i
 
 -- an edit of a well-declared script never has the fault that there is no such external
 abbrev pub ExternalStays : Type 0
-ExternalStays = (s : Source) (e : ScriptEdit) (text : List ℕ) → WellDeclared s.items s.external → IsEditFault s e text (edits.Script fault.NoExternal) → ⊥
+ExternalStays =
+    (s : Source) (e : ScriptEdit) (text : List ℕ) → WellDeclared s.items s.external → IsEditFault s e text (edits.Script fault.NoExternal) → ⊥

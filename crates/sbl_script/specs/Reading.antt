@@ -69,7 +69,9 @@ pub record IsGrammarFault (w : Text) (ts : List PlacedToken) (end : ℕ) (f : Sc
 
 -- a token is not supported, or the tokens form no tree
 abbrev pub IsUnread : Text → List PlacedToken → ℕ → ScriptFault → Type 0
-IsUnread w ts end f = ((place : ℕ) × (first_left_out ts ≡ Some place) × (f ≡ fault.OutOfProfile place)) ⊎ ((first_left_out ts ≡ None) × IsGrammarFault w ts end f)
+IsUnread w ts end f =
+    ((place : ℕ) × (first_left_out ts ≡ Some place) × (f ≡ fault.OutOfProfile place))
+    ⊎ ((first_left_out ts ≡ None) × IsGrammarFault w ts end f)
 
 -- The tokens form a tree, and a check of the script with this tree fails with fault f. `around` makes the items of the
 -- script from the tree.

@@ -1,7 +1,7 @@
 //! Finds the definition of a routine or a grouping, finds what is in force before it, and copies items with another
 //! definition in its place.
 
-ghost use Rattle.std.specs.Prelude.{◌≡◌, MatchOption, None, Some, IfOk, IfErr, map};
+ghost use Rattle.std.specs.Prelude.{◌≡◌, IfOk, IfErr, map};
 ghost use Rattle.std.specs.List.{list_any};
 ghost use Rattle.sbl_ast.specs.Tree as trees;
 ghost use Rattle.sbl_ast.specs.View.{view_argument, view_item, view_items, view_plain, view_row, view_term};
@@ -48,7 +48,7 @@ fn is_grouping_named(plain: &Plain, name: &str) -> bool
 }
 
 fn plain_if<'a>(plain: &'a Plain, part: Part<'_>) -> Option<&'a Plain>
-    ensures { MatchOption result (homes.plain_if (spec.changes (view_part part.entry)) (view_plain plain.now) ≡ None) (λ x. homes.plain_if (spec.changes (view_part part.entry)) (view_plain plain.now) ≡ Some (view_plain x.now)) }
+    ensures { homes.Finds (λ x. view_plain x.now) result (homes.plain_if (spec.changes (view_part part.entry)) (view_plain plain.now)) }
 {
     if defines(plain, part) {
         Some(plain)
@@ -58,7 +58,7 @@ fn plain_if<'a>(plain: &'a Plain, part: Part<'_>) -> Option<&'a Plain>
 }
 
 fn first_in<'a>(plains: &'a [Plain], part: Part<'_>) -> Option<&'a Plain>
-    ensures { MatchOption result (homes.first_in (spec.changes (view_part part.entry)) (map view_plain plains.now) ≡ None) (λ x. homes.first_in (spec.changes (view_part part.entry)) (map view_plain plains.now) ≡ Some (view_plain x.now)) }
+    ensures { homes.Finds (λ x. view_plain x.now) result (homes.first_in (spec.changes (view_part part.entry)) (map view_plain plains.now)) }
 {
     for plain in plains {
         if let Some(found) = plain_if(plain, part) {
@@ -69,11 +69,8 @@ fn first_in<'a>(plains: &'a [Plain], part: Part<'_>) -> Option<&'a Plain>
 }
 
 /// Returns the first definition that the part may be in, in text order; `None` if there is none.
-pub fn definition_of<'a>(
-    items: &'a [ScriptItem],
-    part: Part<'_>,
-) -> Option<&'a Plain>
-    ensures { MatchOption result (spec.first_of (spec.changes (view_part part.entry)) (view_items items.now) ≡ None) (λ x. spec.first_of (spec.changes (view_part part.entry)) (view_items items.now) ≡ Some (view_plain x.now)) }
+pub fn definition_of<'a>(items: &'a [ScriptItem], part: Part<'_>) -> Option<&'a Plain>
+    ensures { homes.Finds (λ x. view_plain x.now) result (spec.first_of (spec.changes (view_part part.entry)) (view_items items.now)) }
 {
     for item in items {
         let found = match item {
@@ -89,7 +86,7 @@ pub fn definition_of<'a>(
 
 /// Returns the body of the first routine or external with this name; `None` if there is none.
 pub fn routine_of<'a>(items: &'a [ScriptItem], name: &str) -> Option<&'a RowOfCommands>
-    ensures { MatchOption result (spec.first_of (spec.is_routine_named name.now) (view_items items.now) ≡ None) (λ body. spec.first_of (spec.is_routine_named name.now) (view_items items.now) ≡ Some (trees.routine name.now (view_row body.now).0 (view_row body.now).1)) }
+    ensures { homes.Finds (λ body. trees.routine name.now (view_row body.now).0 (view_row body.now).1) result (spec.first_of (spec.is_routine_named name.now) (view_items items.now)) }
 {
     match definition_of(items, Part::Routine(name))? {
         Plain::Routine { name: _, body } => Some(body),
@@ -99,7 +96,7 @@ pub fn routine_of<'a>(items: &'a [ScriptItem], name: &str) -> Option<&'a RowOfCo
 
 /// Returns the first grouping with this name; `None` if there is none.
 pub fn grouping_of<'a>(items: &'a [ScriptItem], name: &str) -> Option<&'a Grouping>
-    ensures { MatchOption result (spec.first_of (spec.is_grouping_named name.now) (view_items items.now) ≡ None) (λ x. spec.first_of (spec.is_grouping_named name.now) (view_items items.now) ≡ Some (trees.grouping name.now (view_argument x.now.first) (map view_term x.now.others.items))) }
+    ensures { homes.Finds (λ x. trees.grouping name.now (view_argument x.now.first) (map view_term x.now.others.items)) result (spec.first_of (spec.is_grouping_named name.now) (view_items items.now)) }
 {
     match definition_of(items, Part::Grouping(name))? {
         Plain::Grouping(grouping) => Some(grouping),

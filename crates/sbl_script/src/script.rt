@@ -324,9 +324,9 @@ impl Script {
         part: Part<'_>,
         new: Plain,
     ) -> Result<Script, ScriptFault>
-        requires same { changes (view_part part.entry) (view_plain new) ≡ true }
+        requires same { changes (view_part part) (view_plain new) ≡ true }
         requires shallow { AreShallow (placed_plain (view_plain new) []) }
-        requires spelled { IsSpelled (state_reached (changes (view_part part.entry)) (source_of self.now).items) (view_plain new) }
+        requires spelled { IsSpelled (state_reached (changes (view_part part)) (source_of self.now).items) (view_plain new) }
         ensures items { IfOk result (λ s. (source_of s).items ≡ items_with (changes (view_part part.entry)) (view_plain new) (source_of self.now).items) }
         ensures external { IfOk result (λ s. (source_of s).external ≡ (source_of self.now).external) }
         ensures well_declared { IfOk result (λ s. WellDeclared (source_of s).items (source_of s).external) }
@@ -338,15 +338,10 @@ impl Script {
     }
 
     /// Returns the script with `new` in place of the first definition that the part may be in.
-    fn with_plain(
-        &self,
-        alloc: Global,
-        part: Part<'_>,
-        new: &Plain,
-    ) -> Result<Script, ScriptFault>
-        requires same { changes (view_part part.entry) (view_plain new.now) ≡ true }
+    fn with_plain(&self, alloc: Global, part: Part<'_>, new: &Plain) -> Result<Script, ScriptFault>
+        requires same { changes (view_part part) (view_plain new.now) ≡ true }
         requires shallow { AreShallow (placed_plain (view_plain new.now) []) }
-        requires spelled { IsSpelled (state_reached (changes (view_part part.entry)) (source_of self.now).items) (view_plain new.now) }
+        requires spelled { IsSpelled (state_reached (changes (view_part part)) (source_of self.now).items) (view_plain new.now) }
         ensures items { IfOk result (λ s. (source_of s).items ≡ items_with (changes (view_part part.entry)) (view_plain new.now) (source_of self.now).items) }
         ensures external { IfOk result (λ s. (source_of s).external ≡ (source_of self.now).external) }
         ensures well_declared { IfOk result (λ s. WellDeclared (source_of s).items (source_of s).external) }

@@ -18,7 +18,9 @@ use Rattle.sbl_source_map.specs.declared.fault_places.FaultPlace.{FaultPlace}
 
 -- what the checks look at in a tree are, one for one and in order, the subject tokens of the text that is read as it
 abbrev pub SubjectsAreTokens : Type 0
-SubjectsAreTokens = (ts : List PlacedToken) (items : List Item) → IsReadAs script (lexemes ts) items → subjects (subject_tokens ts) ≡ subjects_of (occurrences_of items)
+SubjectsAreTokens =
+    (ts : List PlacedToken) (items : List Item) → IsReadAs script (lexemes ts) items
+    → subjects (subject_tokens ts) ≡ subjects_of (occurrences_of items)
 
 -- ---- the token of a fault
 
@@ -49,7 +51,8 @@ pub record IsPlaceIn (bytes : List ℕ) (p : FaultPlace) : Type 0 where
 
 -- the byte offset of the token at which the checks find this fault, if it is what they find in these bytes
 abbrev pub IsTokenOffset : List ℕ → ScriptFault → Option ℕ → Type 0
-IsTokenOffset bytes f o = MatchOption o ((t : SubjectToken) → IsFaultAt bytes f t → ⊥) (λ offset. (t : SubjectToken) × IsFaultAt bytes f t × (offset ≡ t.token.start))
+IsTokenOffset bytes f o =
+    MatchOption o ((t : SubjectToken) → IsFaultAt bytes f t → ⊥) (λ offset. (t : SubjectToken) × IsFaultAt bytes f t × (offset ≡ t.token.start))
 
 -- the place that a fault itself has
 abbrev pub place_in : ScriptFault → Option ℕ
@@ -95,7 +98,8 @@ is_of_token _ = false
 
 -- a fault at a token is one of these, and it is the fault of the bytes, with each external
 abbrev pub FaultAtIsFault : Type 0
-FaultAtIsFault = (bytes external : List ℕ) (f : ScriptFault) (t : SubjectToken) → IsFaultAt bytes f t → (is_of_token f ≡ true) × IsFaultOf bytes external f
+FaultAtIsFault =
+    (bytes external : List ℕ) (f : ScriptFault) (t : SubjectToken) → IsFaultAt bytes f t → (is_of_token f ≡ true) × IsFaultOf bytes external f
 
 -- if the fault of the bytes is one of these, it is at a token
 abbrev pub FaultIsAt : Type 0

@@ -20,10 +20,12 @@ abbrev pub IsAfterWord : Reading → Reading → List ℕ → Option ℕ → Typ
 IsAfterWord r t word None = (words : List (List ℕ)) → Follows r.text r.state r.rest (word ∷ words) None
 IsAfterWord r t word (Some end) =
     (t.text ≡ r.text) × (t.fault ≡ None) × ((before : List ℕ) × (r.text ≡ before ++ t.rest) × (end ≡ byte_length before))
-    × ((words : List (List ℕ)) (after : Option (List ℕ)) → Follows r.text t.state t.rest words after → Follows r.text r.state r.rest (word ∷ words) after)
+    × ((words : List (List ℕ)) (after : Option (List ℕ)) → Follows r.text t.state t.rest words after
+    → Follows r.text r.state r.rest (word ∷ words) after)
 
 -- the byte of a text after these words, if they are its first tokens
 abbrev pub IsEndOf : List (List ℕ) → List ℕ → Option ℕ → Type 0
 IsEndOf words text None = Follows (chars text) start (chars text) words None
 IsEndOf words text (Some end) =
-    (before : List ℕ) × (rest : List ℕ) × (chars text ≡ before ++ rest) × (end ≡ byte_length before) × Follows (chars text) start (chars text) words (Some rest)
+    (before : List ℕ) × (rest : List ℕ) × (chars text ≡ before ++ rest) × (end ≡ byte_length before)
+    × Follows (chars text) start (chars text) words (Some rest)

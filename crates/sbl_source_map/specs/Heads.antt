@@ -27,7 +27,8 @@ GoesOn (Some token) word more after = ((token.text.now ≡ word) × more) ⊎ (�
 abbrev pub Follows : List ℕ → Directives → List ℕ → List (List ℕ) → Option (List ℕ) → Type 0
 Follows text s from [] after = after ≡ Some from
 Follows text s from (word ∷ words) after =
-    (t : Directives) × (rest : List ℕ) × (next : Option Token) × IsNextToken text s from t rest next × GoesOn next word (Follows text t rest words after) after
+    (t : Directives) × (rest : List ℕ) × (next : Option Token) × IsNextToken text s from t rest next
+    × GoesOn next word (Follows text t rest words after) after
 
 -- the characters that follow, or the whole text if there are none
 abbrev pub bytes_or : List ℕ → Option (List ℕ) → List ℕ

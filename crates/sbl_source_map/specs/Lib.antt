@@ -11,3 +11,4 @@ pub mod Heads
 pub mod Walks
 pub mod HeadReader
 pub mod FaultKinds
+pub mod TokenTrees

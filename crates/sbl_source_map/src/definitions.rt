@@ -124,7 +124,7 @@ fn defines(plain: &Plain, name: &str) -> bool
 
 /// Returns the item if it defines this name.
 fn plain_if<'a>(plain: &'a Plain, name: &str) -> Option<&'a Plain>
-    ensures { MatchOption result (homes.plain_if (spec.defines_name name.now) (view_plain plain.now) ≡ None) (λ x. homes.plain_if (spec.defines_name name.now) (view_plain plain.now) ≡ Some (view_plain x.now)) }
+    ensures { homes.Finds (λ x. view_plain x.now) result (homes.plain_if (spec.defines_name name.now) (view_plain plain.now)) }
 {
     if defines(plain, name) {
         Some(plain)
@@ -135,7 +135,7 @@ fn plain_if<'a>(plain: &'a Plain, name: &str) -> Option<&'a Plain>
 
 /// Returns the first of these items that defines this name.
 fn first_in<'a>(plains: &'a [Plain], name: &str) -> Option<&'a Plain>
-    ensures { MatchOption result (homes.first_in (spec.defines_name name.now) (map view_plain plains.now) ≡ None) (λ x. homes.first_in (spec.defines_name name.now) (map view_plain plains.now) ≡ Some (view_plain x.now)) }
+    ensures { homes.Finds (λ x. view_plain x.now) result (homes.first_in (spec.defines_name name.now) (map view_plain plains.now)) }
 {
     for plain in plains {
         if let Some(found) = plain_if(plain, name) {
@@ -147,7 +147,7 @@ fn first_in<'a>(plains: &'a [Plain], name: &str) -> Option<&'a Plain>
 
 /// Returns the first definition of this name, in text order; `None` if there is none.
 fn definition_of<'a>(items: &'a [ScriptItem], name: &str) -> Option<&'a Plain>
-    ensures { MatchOption result (edits.first_of (spec.defines_name name.now) (view_items items.now) ≡ None) (λ x. edits.first_of (spec.defines_name name.now) (view_items items.now) ≡ Some (view_plain x.now)) }
+    ensures { homes.Finds (λ x. view_plain x.now) result (edits.first_of (spec.defines_name name.now) (view_items items.now)) }
 {
     for item in items {
         let found = match item {

@@ -3,13 +3,12 @@
 ghost use Rattle.std.specs.Prelude.{◌≡◌, ◌≤◌, List, None, Some, IfOk, MatchOption, length, map};
 ghost use Rattle.std.specs.Str.{IsUtf8, chars};
 ghost use Rattle.sbl_text.specs.{Directives.start, Tokens.ArePlaced, Tokens.PlacedToken, Tokens.placed_of};
-ghost use Rattle.sbl_ast.specs.Tree as trees;
-ghost use Rattle.sbl_ast.specs.{Texts.script, View.view_items};
-ghost use Rattle.sbl_parser.specs.Reading.{IsReadAs};
+ghost use Rattle.sbl_ast.specs.View.{view_items};
 ghost use Rattle.sbl_script.specs.Reading as spec;
-ghost use Rattle.sbl_script.specs.Reading.{HasTokens, max_script, lexemes};
+ghost use Rattle.sbl_script.specs.Reading.{HasTokens, max_script};
 ghost use Rattle.sbl_source_map.specs.FaultPlaces as places;
 ghost use Rattle.sbl_source_map.specs.FaultPlaces.{HasNoFaultAt, IsOffset, IsPlaceIn, IsTokenOffset};
+ghost use Rattle.sbl_source_map.specs.TokenTrees.{HaveNoTree, IsTreeOf};
 
 use crate::fault_kinds::is_same;
 use crate::laws::{faults_are_at_tokens, token_is_one};
@@ -79,7 +78,7 @@ fn tree_of(
     tokens: &[Token<'_>],
     end: usize,
 ) -> Result<Option<Vec<ScriptItem>>, AllocError>
-    ensures { IfOk result (λ o. MatchOption o ((items : List trees.Item) → spec.first_left_out (map placed_of tokens.now) ≡ None → IsReadAs script (lexemes (map placed_of tokens.now)) items → ⊥) (λ items. (spec.first_left_out (map placed_of tokens.now) ≡ None) × IsReadAs script (lexemes (map placed_of tokens.now)) (view_items items.items))) }
+    ensures { IfOk result (λ o. MatchOption o (HaveNoTree (map placed_of tokens.now)) (λ items. IsTreeOf (map placed_of tokens.now) (view_items items.items))) }
 {
     one_fault();
     if let Some(_place) = first_left_out(tokens) {

@@ -11,8 +11,7 @@ mod requests;
 mod serving;
 mod whys;
 
-pub use answers::answer_line;
 pub use files::Paths;
-pub use parts::{answer_block, part_of};
+pub use parts::answer_block;
 pub use requests::{BlockRequest, block_request};
 pub use serving::work;

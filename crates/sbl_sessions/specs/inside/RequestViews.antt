@@ -3,7 +3,7 @@ use Rattle.std.specs.Prelude.{◌≡◌, ℕ, true, List, Option}
 use Rattle.std.specs.Str.{chars}
 use Rattle.sbl_bench.specs.Contents.{Contents}
 use Rattle.sbl_bench.specs.Edits as edits
-use Rattle.sbl_formats.specs.Block.{BlockLines, Breaks}
+use Rattle.sbl_reports.specs.Block.{BlockLines, Breaks}
 use Rattle.sbl_io.specs.HeldInput.{AllFit, Took}
 use Rattle.sbl_io.specs.declared.faults.ServeFault.{ServeFault}
 use Rattle.sbl_sessions.specs.CommandViews.{IsAnswer}

@@ -3,10 +3,10 @@ use Rattle.std.specs.Prelude.{◌≡◌, ◌≢◌, ◌⊎◌, ◌==◌, ◌-◌
 use Rattle.std.specs.Option.{IfSome, is_some, option_map_or, unwrap_or}
 use Rattle.std.specs.Str.{bytes_eq, chars}
 use Rattle.sbl_bench.specs.Edits as edits
-use Rattle.sbl_formats.specs.Block.{NoPoint, point}
+use Rattle.sbl_reports.specs.Block.{NoPoint, point}
 use Rattle.sbl_io.specs.declared.faults.ServeFault.{ServeFault}
 use Rattle.sbl_io.specs.declared.faults.ServeFault.TheVariants as fault
-use Rattle.sbl_listings.specs.Listings.{class_text, classes_text, stems_text, trace_text}
+use Rattle.sbl_reports.specs.Listings.{class_text, classes_text, stems_text, trace_text}
 use Rattle.sbl_print.specs.Canonical.{canonical}
 use Rattle.sbl_sessions.specs.Commands.{Bad, Command, Makes, Reports, Says}
 use Rattle.sbl_sessions.specs.Numbers.{number_in}

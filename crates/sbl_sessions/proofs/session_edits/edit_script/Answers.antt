@@ -2,9 +2,9 @@ use Rattle.std.proofs.Common.{◌≡◌, ◌<◌, List, [], ℕ, true, None, Som
 use Rattle.std.specs.Option.{is_some}
 use Rattle.std.specs.declared.alloc.AllocError.{AllocError}
 use Rattle.sbl_bench.specs.KeptRuns.{contents_of}
-use Rattle.sbl_formats.specs.Block.{HasText, HoldsText, made_text, max_script}
-use Rattle.sbl_formats.specs.declared.block_text.BlockFault.{BlockFault}
-use Rattle.sbl_formats.specs.declared.block_text.BlockFault.TheVariants.{TooLong}
+use Rattle.sbl_reports.specs.Block.{HasText, HoldsText, made_text, max_script}
+use Rattle.sbl_reports.specs.declared.block_text.BlockFault.{BlockFault}
+use Rattle.sbl_reports.specs.declared.block_text.BlockFault.TheVariants.{TooLong}
 use Rattle.sbl_sessions.specs.declared.session_commands.Target.{Target}
 use Rattle.sbl_sessions.specs.CommandViews.{FindsTarget, IsTextAnswer, view_found, view_target}
 use Rattle.sbl_sessions.specs.Commands.{block_command, target_of}
