@@ -83,7 +83,7 @@ session_goes_on a b c d h i j s t u line reply so gives fits is writes =
       written = Appends-trans h i j so.text text so.written (writes text is.answer.2);
     }
 
-failed : ServeFault → Result (Unit {0}) ServeFault
+abbrev failed : ServeFault → Result (Unit {0}) ServeFault
 failed f = Err f
 
 -- the fault of a result is one
