@@ -5,7 +5,7 @@ ghost use Rattle.sbl_bench.specs.KeptRuns.{contents_of};
 ghost use Rattle.sbl_bench.specs.Edits as edits;
 ghost use Rattle.sbl_script.specs.Parts.{view_part};
 ghost use Rattle.sbl_sessions.specs.Answers as spec;
-ghost use Rattle.sbl_formats.specs.Block.{HoldsText};
+ghost use Rattle.sbl_reports.specs.Block.{HoldsText};
 ghost use Rattle.sbl_sessions.specs.CommandViews.{IsEditAnswer, IsTextAnswer, KeepsLine};
 ghost use Rattle.sbl_sessions.specs.Commands.{block_command};
 
@@ -13,7 +13,7 @@ use crate::replies::{BAD_COMMAND, edit_text};
 use crate::session_commands::part_of;
 use sbl_bench::laws::words_fit;
 use sbl_bench::{Bench, EditFault, MAX_WORD_LENGTH};
-use sbl_formats::{BlockFault, BlockText};
+use sbl_reports::{BlockFault, BlockText};
 use sbl_script::{Part, ScriptFault};
 use std::alloc::AllocError;
 

@@ -10,7 +10,7 @@ use Rattle.sbl_bench.specs.KeptRuns.{KeptRuns, contents_of}
 use Rattle.sbl_bench.specs.declared.fault.EditFault.{EditFault}
 use Rattle.sbl_bench.specs.declared.fault.EditFault.TheVariants as edit
 use Rattle.sbl_script.specs.Edits.{ScriptEdit}
-use Rattle.sbl_formats.specs.Block.{max_script}
+use Rattle.sbl_reports.specs.Block.{max_script}
 use Rattle.sbl_sessions.specs.CommandViews.{IsReply, KeepsLine}
 use Rattle.sbl_sessions.specs.Commands.{line_command}
 use Rattle.sbl_sessions.specs.Requests.{asks_block}

@@ -2,7 +2,7 @@
 ghost use Rattle.std.specs.Prelude.{◌≡◌, ℕ, List, Some, codes};
 ghost use Rattle.std.specs.Str.{bytes_eq};
 ghost use Rattle.sbl_bench.specs.KeptRuns.{contents_of};
-ghost use Rattle.sbl_formats.specs.Block.{HoldsText, made_text};
+ghost use Rattle.sbl_reports.specs.Block.{HoldsText, made_text};
 ghost use Rattle.sbl_sessions.specs.CommandViews.{KeepsLine};
 ghost use Rattle.sbl_sessions.specs.Commands.{text_of_block};
 ghost use Rattle.sbl_work.specs.Answering.{part_edit};
