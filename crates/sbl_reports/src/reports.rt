@@ -9,6 +9,7 @@ ghost use Rattle.sbl_rows.specs.Stats.{view_stats};
 ghost use Rattle.sbl_semantics.specs.Outcome.{outcome_of};
 ghost use Rattle.sbl_io.specs.Records.{record_line, records_text};
 ghost use Rattle.sbl_reports.specs.Reports as spec;
+ghost use Rattle.sbl_reports.specs.RowRecords.{class_fields, outcome_fields};
 
 use crate::records::{Record, lines_of, push_named, push_stem};
 use csv::ByteRecord;
@@ -25,7 +26,7 @@ fn push_outcome(
     outcome: &Outcome,
 ) -> Result<(), AllocError>
     requires { partial_of csv_record.old ≡ [] }
-    ensures fields { OnOk result (fields_of csv_record.new ≡ fields_of csv_record.old ++ spec.outcome_fields (outcome_of outcome.now)) }
+    ensures fields { OnOk result (fields_of csv_record.new ≡ fields_of csv_record.old ++ outcome_fields (outcome_of outcome.now)) }
     ensures partial { OnOk result (partial_of csv_record.new ≡ []) }
 {
     match outcome {
@@ -70,8 +71,9 @@ impl Record for ChangeRow<'_> {
 }
 
 impl Record for StemClass<'_> {
-    ghost fields = { λ class. spec.class_fields (view_stem_class class) };
+    ghost fields = { λ class. class_fields (view_stem_class class) };
 
+    #[tactic(auto, unfolding(crate::specs::RowRecords::class_fields))]
     fn fill(&self, text: &mut String, csv_record: &mut ByteRecord) -> Result<(), AllocError> {
         push_stem(text, csv_record, self.stem, &self.members)
     }
