@@ -1,20 +1,20 @@
-//! Laws of sbl_filter (specs/Laws.antt), written out.
+//! Laws of sbl_batch (specs/Laws.antt), written out.
 
 ghost use Rattle.std.specs.Prelude.{◌≡◌, ◌++◌, ℕ, List, [], Option, Some, Result, Ok};
 ghost use Rattle.sbl_ast.specs.Source.{Source};
 ghost use Rattle.sbl_bench.specs.Contents.{Contents, opening_contents};
 ghost use Rattle.sbl_bench.specs.Vocabulary.{vocabulary};
-ghost use Rattle.sbl_filter.specs.Filter.{Filters, IsFiltered, filter_output};
-ghost use Rattle.sbl_filter.specs.Laws.{IsToldByBytes, NoRepeats};
-ghost use Rattle.sbl_filter.specs.ToEnd.{FiltersToEnd, without_line};
-ghost use Rattle.sbl_filter.specs.declared.word_fault.WordFault.{WordFault};
-ghost use Rattle.sbl_formats.specs.Block.{NoPoint};
+ghost use Rattle.sbl_batch.specs.Filter.{Filters, IsFiltered, filter_output};
+ghost use Rattle.sbl_batch.specs.Laws.{IsToldByBytes, NoRepeats};
+ghost use Rattle.sbl_batch.specs.ToEnd.{FiltersToEnd, without_line};
+ghost use Rattle.sbl_batch.specs.declared.word_fault.WordFault.{WordFault};
+ghost use Rattle.sbl_reports.specs.Block.{NoPoint};
 ghost use Rattle.sbl_input.specs.Loading.{IsLoaded};
 ghost use Rattle.sbl_input.specs.declared.faults.LoadFault.{LoadFault};
 ghost use Rattle.sbl_io.specs.LinesOf.{lines_of};
-ghost use Rattle.sbl_listings.specs.Listings.{stems_text};
+ghost use Rattle.sbl_reports.specs.Listings.{stems_text};
 
-use sbl_filter::laws::{
+use sbl_batch::laws::{
     filtering_is_one, inputs_are_one, parts_make_whole, stem_is_filter, to_end_is_filter,
 };
 

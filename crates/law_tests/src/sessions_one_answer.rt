@@ -5,7 +5,7 @@ ghost use Rattle.sbl_bench.specs.Contents.{Contents};
 ghost use Rattle.sbl_sessions.specs.Answers.{Answers, Memory};
 ghost use Rattle.sbl_sessions.specs.Requests.{Request};
 
-use sbl_sessions::answers_are_one;
+use sbl_sessions::laws::answers_are_one;
 
 /// Needs the whole of the law `answers_are_one`.
 pub fn needs_answers_are_one()

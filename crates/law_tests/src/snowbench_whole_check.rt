@@ -5,7 +5,7 @@ ghost use Rattle.std.specs.List.{flat_map};
 ghost use Rattle.sbl_io.specs.HeldInput.{Took};
 ghost use Rattle.sbl_io.specs.LinesOf.{lines_of};
 
-use snowbench::lists_are_read;
+use snowbench::laws::lists_are_read;
 
 /// Needs the whole of the law `lists_are_read`.
 pub fn needs_lists_are_read()

@@ -1,4 +1,4 @@
-//! Laws of sbl_why (specs/Searches.antt), written out.
+//! Laws of sbl_explain (specs/Searches.antt), written out.
 
 ghost use Rattle.std.specs.Prelude.{◌≡◌, ℕ, false, List, [], ◌∷◌, ◌++◌, Option, Some, None};
 ghost use Rattle.std.specs.List.{list_any};
@@ -12,9 +12,11 @@ ghost use Rattle.sbl_ast.specs.Source.{Source};
 ghost use Rattle.sbl_semantics.specs.Fitting.{ahead_at};
 ghost use Rattle.sbl_ast.specs.Order.{in_order};
 ghost use Rattle.sbl_ast.specs.declared.mode.Mode.{Mode};
-ghost use Rattle.sbl_why.specs.Searches.{Call, course, fits, is_conditional, AllRefused, OneTaken, EndsWith, IsSearch, first_length};
+ghost use Rattle.sbl_explain.specs.Searches.{Call, course, fits, is_conditional, AllRefused, OneTaken, EndsWith, IsSearch, first_length};
 
-use sbl_why::laws::{each_search_takes_first, plain_searches_take_longest, searches_take_first};
+use sbl_explain::laws::{
+    each_search_takes_first, plain_searches_take_longest, searches_take_first,
+};
 
 /// Needs the whole of the law `searches_take_first`.
 pub fn needs_searches_take_first()

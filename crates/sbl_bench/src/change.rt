@@ -2,14 +2,13 @@
 //! allocation.
 
 ghost use Rattle.std.specs.Prelude.{◌≡◌, ◌≤◌, ◌+◌, ◌-◌, ◌++◌, ◌∷◌, ℕ, [], length, map, OnOk, OnErr, IfOk, IfErr, IsSome, Some, All, false, if◌then◌else◌};
-ghost use Rattle.std.specs.List.{filter_map};
 ghost use Rattle.std.specs.Str.{bytes_eq};
 ghost use Rattle.sbl_ast.specs.Source.{Source};
 ghost use Rattle.sbl_machine.specs.MachineOf.{IsLinkedMachineOf};
 ghost use Rattle.sbl_bench.specs.inside.Changes as spec;
 ghost use Rattle.sbl_bench.specs.inside.Changes.{affected_of, is_changed, reruns, view_change, view_run, AreAnew};
 ghost use Rattle.sbl_bench.specs.KeptRuns.{words_in, AreFresh, IsWord};
-ghost use Rattle.sbl_bench.specs.inside.Last.{change_of, last_changes, word_found, word_run, AreApart, AreThere, Follows};
+ghost use Rattle.sbl_bench.specs.inside.Last.{last_changes, rows_between, word_found, word_run, AreApart, AreThere, Follows};
 ghost use Rattle.sbl_bench.specs.inside.Pairs.{IsUnique, Text, find, keys, same_text};
 ghost use Rattle.sbl_bench.specs.Contents.{max_runs};
 ghost use Rattle.sbl_rows.specs.Setting.{Setting, under};
@@ -156,7 +155,7 @@ pub(crate) fn make_changes(traces: &mut Traces, changes: Vec<Change>) -> Vec<Cha
     ensures fresh { (t : Setting) → AreAnew t traces.old.entries changes.items → AreFresh t traces.new.entries }
     ensures words { words_in traces.new.entries ≡ words_in traces.old.entries }
     ensures follows { Follows traces.old.entries result.items traces.new.entries }
-    ensures last { (s t : Setting) → AreFresh s traces.old.entries → AreAnew t traces.old.entries changes.items → last_changes traces.new.entries result.items ≡ filter_map (change_of s t) (map (λ c. c.word.items) changes.items) }
+    ensures last { (s t : Setting) → AreFresh s traces.old.entries → AreAnew t traces.old.entries changes.items → last_changes traces.new.entries result.items ≡ rows_between s t changes.items }
 {
     let mut changes = changes;
     commit(traces, changes.as_mut_slice());

@@ -30,8 +30,11 @@ view_step (step.Limit n) = ToLimit n
 abbrev pub view_marked : MarkedRow → Row
 view_marked r = record { word = r.word.items; outcome = outcome_of r.outcome }
 
+abbrev pub view_steps : Vec Step Global → List Turn
+view_steps steps = map view_step steps.items
+
 abbrev pub past_of : History → Past
-past_of h = record { earlier = map view_step h.earlier.items; later = map view_step h.later.items }
+past_of h = record { earlier = view_steps h.earlier; later = view_steps h.later }
 
 abbrev pub view_text : Option (Vec ℕ Global) → Option (List ℕ)
 view_text text = option_map (λ t. t.items) text
@@ -58,14 +61,16 @@ text_after text (ToLimit n) = text
 
 -- What undoes or redoes: the last of the turns in the first list is made, and what takes it back becomes the last of the other
 -- list. If there is none, or the bench refuses its edit, nothing changes but, maybe, the count of runs.
-abbrev pub Turns : Result (Unit {0}) HistoryFault → Contents → Contents → Option (List ℕ) → Option (List ℕ) → List Turn → List Turn → List Turn → List Turn → Type 0
+abbrev pub Turns : Result (Unit {0}) HistoryFault → Contents → Contents → Option (List ℕ) → Option (List ℕ)
+    → List Turn → List Turn → List Turn → List Turn → Type 0
 Turns (Ok u) s t text new_text from to new_from new_to =
     (turn : Turn) × (from ≡ new_from ++ turn ∷ []) × Edits (Ok u) s (edit_of turn) t × (new_to ≡ to ++ back s text turn ∷ [])
     × (new_text ≡ text_after text turn)
 Turns (Err fault.Nothing) s t text new_text from to new_from new_to =
     (from ≡ []) × (t ≡ s) × (new_text ≡ text) × (new_from ≡ from) × (new_to ≡ to)
 Turns (Err (fault.Edit f)) s t text new_text from to new_from new_to =
-    (rest : List Turn) × (turn : Turn) × (from ≡ rest ++ turn ∷ []) × Edits (Err f) s (edit_of turn) t × (new_text ≡ text) × (new_from ≡ from) × (new_to ≡ to)
+    (rest : List Turn) × (turn : Turn) × (from ≡ rest ++ turn ∷ []) × Edits (Err f) s (edit_of turn) t
+    × (new_text ≡ text) × (new_from ≡ from) × (new_to ≡ to)
 
 -- the latest edit in force is undone
 abbrev pub Undoes : Result (Unit {0}) HistoryFault → Contents → State → Contents → State → Type 0

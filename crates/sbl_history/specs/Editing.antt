@@ -14,12 +14,16 @@ use Rattle.sbl_history.specs.Splicing.{IsTextOf}
 abbrev pub SameText : Contents → Contents → Type 0
 SameText s t = canonical s.setting.script.items ≡ canonical t.setting.script.items
 
+-- the text before is remembered; or nothing is, and then this holds
+abbrev pub Remembers : List ℕ → Type 0 → State → State → Type 0
+Remembers text unless d e = (unless × (e.past ≡ d.past)) ⊎ (e.past ≡ remember_turn d.past (ToText text))
+
 -- After an accepted edit of the script this text is kept, and the edit is remembered. It may be forgotten only if the canonical
 -- text is the same after it.
 pub record IsNoted (s t : Contents) (d e : State) (text : Option (List ℕ)) : Type 0 where
   pub text_is : e.text ≡ text
   pub marked : e.marked ≡ d.marked
-  pub past : (SameText s t × (e.past ≡ d.past)) ⊎ (e.past ≡ remember_turn d.past (ToText (text_in s d.text)))
+  pub past : Remembers (text_in s d.text) (SameText s t) d e
 
 -- The bench makes an edit of the script, and the desk notes it with this text. After a fault the desk is unchanged.
 abbrev pub Replaces : Result (Unit {0}) EditFault → Edit → Option (List ℕ) → Contents → State → Contents → State → Type 0

@@ -9,7 +9,11 @@ use Rattle.sbl_script.specs.Reading.{IsScriptOf}
 abbrev pub Reads : List ℕ → List ℕ → List ℕ → Type 0
 Reads external bytes text = (script : Source) × IsScriptOf bytes external script × (canonical script.items ≡ text)
 
+-- for this external, the bytes are a text of the script of a bench
+abbrev pub IsTextIn : Contents → List ℕ → List ℕ → Type 0
+IsTextIn s external bytes = Reads external bytes (canonical s.setting.script.items)
+
 -- What may be kept if a part of the script of s was edited, and t is the bench after that: a text of the script in force, or
 -- none. The external stays.
 abbrev pub IsTextOf : Contents → Contents → Option (List ℕ) → Type 0
-IsTextOf s t kept = IfSome kept (λ bytes. Reads s.setting.script.external bytes (canonical t.setting.script.items))
+IsTextOf s t kept = IfSome kept (IsTextIn t s.setting.script.external)

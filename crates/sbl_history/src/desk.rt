@@ -1,12 +1,12 @@
 //! A desk: what is kept beside a bench at work, so that its edits can be undone and its rows compared with those at a mark.
-ghost use Rattle.std.specs.Prelude.{◌≡◌, ◌⊎◌, ℕ, List, [], IfOk, IfSome, OnErr, OnOk, None, Some, map, string_bytes, true};
+ghost use Rattle.std.specs.Prelude.{◌≡◌, ℕ, List, [], IfOk, IfSome, OnErr, OnOk, None, Some, map, string_bytes, true};
 ghost use Rattle.sbl_bench.specs.Contents.{rows_now};
-ghost use Rattle.sbl_bench.specs.Edits.{Edits, Replace, Whole};
+ghost use Rattle.sbl_bench.specs.Edits.{Whole};
 ghost use Rattle.sbl_bench.specs.KeptRuns.{contents_of};
 ghost use Rattle.sbl_print.specs.Canonical.{canonical};
 ghost use Rattle.sbl_rows.specs.Rows.{view_row};
 ghost use Rattle.sbl_history.specs.Desks.{Redoes, Undoes, state_of, text_in, view_text};
-ghost use Rattle.sbl_history.specs.{Editing.NotesLimit, Editing.Replaces, Editing.ReplacesPart, History.ToText, History.remember_turn, Splicing.Reads};
+ghost use Rattle.sbl_history.specs.{Editing.NotesLimit, Editing.Remembers, Editing.Replaces, Editing.ReplacesPart, Splicing.IsTextIn, Splicing.Reads};
 ghost use Rattle.sbl_script.specs.Parts.{view_part};
 
 use crate::history::{HistoryFault, text_of, turn};
@@ -102,7 +102,7 @@ impl Desk {
     fn note(&mut self, bench: &Bench, before: Before, text: Option<Vec<u8>>)
         ensures text { (state_of self.new).text ≡ view_text text }
         ensures marked { (state_of self.new).marked ≡ (state_of self.old).marked }
-        ensures past { ((canonical (contents_of bench.now).setting.script.items ≡ string_bytes before.canonical) × ((state_of self.new).past ≡ (state_of self.old).past)) ⊎ ((state_of self.new).past ≡ remember_turn (state_of self.old).past (ToText before.text.items)) }
+        ensures past { Remembers before.text.items (canonical (contents_of bench.now).setting.script.items ≡ string_bytes before.canonical) (state_of self.old) (state_of self.new) }
     {
         self.text = text;
         if has_canonical(self.alloc, bench, before.canonical.as_str()) {
@@ -127,26 +127,26 @@ impl Desk {
         Ok(())
     }
 
-    /// Replaces a part of the script by a text, as `Bench::replace_routine`, `Bench::replace_among` and `Bench::replace_grouping`
-    /// do, and remembers the edit if it changed the script. The text in force is the text before with this part put into it, if
-    /// that is a text of the script after the edit; otherwise the canonical text.
+    /// Replaces a part of the script by a text, as `Bench::replace` does, and remembers the edit if it changed the script. The
+    /// text in force is the text before with this part put into it, if that is a text of the script after the edit; otherwise the
+    /// canonical text.
     ///
     /// # Errors
     ///
-    /// Returns the faults of these three. Returns `OutOfMemory` also if an allocation fails before the edit is tried. Then the
-    /// desk is unchanged.
+    /// Returns the faults of `Bench::replace`. Returns `OutOfMemory` also if an allocation fails before the edit is tried. Then
+    /// the desk is unchanged.
     pub fn replace_part(
         &mut self,
         bench: &mut Bench,
-        target: Part<'_>,
+        part: Part<'_>,
         text: &str,
     ) -> Result<(), EditFault>
-        ensures { ReplacesPart result (view_part target.entry) text.now (contents_of bench.old) (state_of self.old) (contents_of bench.new) (state_of self.new) }
+        ensures { ReplacesPart result (view_part part.entry) text.now (contents_of bench.old) (state_of self.old) (contents_of bench.new) (state_of self.new) }
     {
         let before = self.before(bench)?;
         let external = bench.script().external();
-        let found = splice(self.alloc, &before.text, external, target, text)?;
-        edit_part(bench, target, text)?;
+        let found = splice(self.alloc, &before.text, external, part, text)?;
+        bench.replace(part, text)?;
         let kept = text_in_force(self.alloc, bench, found);
         self.note(bench, before, kept);
         Ok(())
@@ -193,20 +193,9 @@ impl Desk {
     }
 }
 
-/// Replaces a part of the script of a bench by a text. Returns the fault of the bench.
-fn edit_part(bench: &mut Bench, target: Part<'_>, text: &str) -> Result<(), EditFault>
-    ensures { Edits result (contents_of bench.old) (Replace (view_part target.entry) text.now) (contents_of bench.new) }
-{
-    match target {
-        Part::Routine(name) => bench.replace_routine(name, text),
-        Part::Among(name, k) => bench.replace_among(name, k, text),
-        Part::Grouping(name) => bench.replace_grouping(name, text),
-    }
-}
-
 /// Returns the text if it is known to be one of the script of the bench; `None` also if an allocation fails.
 fn text_in_force(alloc: Global, bench: &Bench, found: Option<SplicedText>) -> Option<Vec<u8>>
-    ensures { (external : List ℕ) → IfSome found (λ c. Reads external c.text.items (string_bytes c.canonical)) → IfSome (view_text result) (λ bytes. Reads external bytes (canonical (contents_of bench.now).setting.script.items)) }
+    ensures { (external : List ℕ) → IfSome found (λ c. Reads external c.text.items (string_bytes c.canonical)) → IfSome (view_text result) (IsTextIn (contents_of bench.now) external) }
 {
     match found {
         Some(spliced) => {

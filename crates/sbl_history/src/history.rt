@@ -2,7 +2,7 @@
 ghost use Rattle.std.specs.Prelude.{◌≡◌, ◌≤◌, ◌<◌, ◌+◌, ◌-◌, ◌++◌, ◌∷◌, [], Some, drop, length, map, IfOk, OnOk, OnErr, vec_len, vec_capacity};
 ghost use Rattle.sbl_bench.specs.Edits.{Edits};
 ghost use Rattle.sbl_bench.specs.KeptRuns.{contents_of};
-ghost use Rattle.sbl_history.specs.Desks.{Turns, back, past_of, text_after, text_in, view_step, view_text};
+ghost use Rattle.sbl_history.specs.Desks.{Turns, back, past_of, text_after, text_in, view_step, view_steps, view_text};
 ghost use Rattle.sbl_history.specs.History.{ToLimit, ToText, edit_of, latest, remember_turn};
 
 use crate::steps::{History, Step};
@@ -82,7 +82,7 @@ pub(crate) fn turn(
     requires few { vec_len from.old + vec_len to.old ≤ 100 }
     requires room { 100 ≤ vec_capacity from.old }
     requires to_room { 100 ≤ vec_capacity to.old }
-    ensures turns { Turns result (contents_of bench.old) (contents_of bench.new) (view_text text.old) (view_text text.new) (map view_step from.old.items) (map view_step to.old.items) (map view_step from.new.items) (map view_step to.new.items) }
+    ensures turns { Turns result (contents_of bench.old) (contents_of bench.new) (view_text text.old) (view_text text.new) (view_steps from.old) (view_steps to.old) (view_steps from.new) (view_steps to.new) }
     ensures few { vec_len from.new + vec_len to.new ≡ vec_len from.old + vec_len to.old }
     ensures room { vec_capacity from.new ≡ vec_capacity from.old }
     ensures to_room { vec_capacity to.new ≡ vec_capacity to.old }

@@ -47,24 +47,24 @@ fn put_in(
     Ok(new)
 }
 
-/// Returns the text of a script with another part in place of the target; `None` if the text has no such part.
+/// Returns the text of a script with a new text in place of a part; `None` if the text has no such part.
 fn with_part(
     alloc: Global,
     text: &[u8],
-    target: Part<'_>,
-    part: &str,
+    part: Part<'_>,
+    new: &str,
 ) -> Result<Option<Vec<u8>>, AllocError> {
     let is_crlf = has_crlf(text);
     let Ok(text) = str::from_utf8(text) else {
         return Ok(None);
     };
-    match cut_at_part(alloc, text, target)? {
-        Some(cut) => Ok(Some(put_in(alloc, &cut, part, is_crlf)?)),
+    match cut_at_part(alloc, text, part)? {
+        Some(cut) => Ok(Some(put_in(alloc, &cut, new, is_crlf)?)),
         None => Ok(None),
     }
 }
 
-/// Returns the text of a script with another part in place of the target, if that reads as a script with this external.
+/// Returns the text of a script with a new text in place of a part, if that reads as a script with this external.
 ///
 /// # Errors
 ///
@@ -73,12 +73,12 @@ pub(crate) fn splice(
     alloc: Global,
     text: &[u8],
     external: &str,
-    target: Part<'_>,
-    part: &str,
+    part: Part<'_>,
+    new: &str,
 ) -> Result<Option<SplicedText>, AllocError>
     ensures { IfOk result (λ found. IfSome found (λ c. Reads external.now c.text.items (string_bytes c.canonical))) }
 {
-    let Some(text) = with_part(alloc, text, target, part)? else {
+    let Some(text) = with_part(alloc, text, part, new)? else {
         return Ok(None);
     };
     match Script::parse(alloc, &text, external) {

@@ -3,7 +3,7 @@ use Rattle.std.proofs.Common.{◌≡◌, ◌≢◌, ◌⊎◌, inl, inr, ◌∙�
 use Rattle.std.proofs.lemmas.List.{append-nil, length-map}
 use Rattle.std.proofs.lemmas.Slice.Eq.{bytes_eq-Decides}
 use Rattle.std.specs.Str.{bytes_eq, is_utf8}
-use Rattle.sbl_formats.specs.Block.{BlockLines, point}
+use Rattle.sbl_reports.specs.Block.{BlockLines, point}
 use Rattle.sbl_input.specs.Loading.{AllText}
 use Rattle.sbl_io.specs.HeldInput.{StandFirst}
 use Rattle.sbl_io.specs.LinesOf.{AreWhole, without_carriage_return, max_line, onto_first, raw_lines}

@@ -12,13 +12,13 @@ use Rattle.sbl_script.specs.Reading.{IsFaultOf, IsScriptOf}
 use Rattle.sbl_bench.specs.Contents.{IsFaultOrMemory, Contents, Opens, opening_fault}
 use Rattle.sbl_bench.specs.declared.fault.EditFault.{EditFault}
 use Rattle.sbl_bench.specs.declared.fault.EditFault.TheVariants as edit
-use Rattle.sbl_formats.specs.Block.{BlockLines, Breaks, NoPoint, made_text, max_script, point}
+use Rattle.sbl_reports.specs.Block.{BlockLines, Breaks, NoPoint, made_text, max_script, point}
 use Rattle.sbl_io.specs.HeldInput.{AllFit, Took}
 use Rattle.sbl_io.specs.Faults.{serve_fault_of}
 use Rattle.sbl_input.specs.Loading.{AllText, IsLoaded, ReadsScript, TookFault, TookSource, TookWords, WordLines}
 use Rattle.sbl_input.specs.WordLists.{ReadsWords}
 use Rattle.sbl_io.specs.declared.faults.LineFault.{LineFault}
-use Rattle.sbl_formats.proofs.BlockFacts.{all_fit-push, no_point-push}
+use Rattle.sbl_reports.proofs.BlockFacts.{all_fit-push, no_point-push}
 use Rattle.sbl_io.specs.declared.faults.LineFault.TheVariants as line
 use Rattle.sbl_input.specs.declared.faults.LoadFault.{LoadFault}
 use Rattle.sbl_input.specs.declared.faults.LoadFault.TheVariants.{Input, Open, Script}

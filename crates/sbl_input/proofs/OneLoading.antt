@@ -11,7 +11,7 @@ use Rattle.sbl_ast.specs.Source.{Source}
 use Rattle.sbl_script.specs.Reading.{IsFaultOf, IsScriptOf}
 use Rattle.sbl_text.specs.declared.fault.ScriptFault.{ScriptFault}
 use Rattle.sbl_text.specs.declared.fault.ScriptFault.TheVariants as script
-use Rattle.sbl_formats.specs.Block.{BlockLines, Breaks, made_text, max_script, point}
+use Rattle.sbl_reports.specs.Block.{BlockLines, Breaks, made_text, max_script, point}
 use Rattle.sbl_io.specs.HeldInput.{BeginsLong, StandFirst, Took}
 use Rattle.sbl_io.specs.LinesOf.{lines_of}
 use Rattle.sbl_input.specs.Loading.{IsInput, IsLoaded, TookFault, TookNoText, TookSource, TookWords, WordLines}

@@ -14,8 +14,8 @@ use Rattle.sbl_bench.specs.declared.fault.EditFault.{EditFault}
 use Rattle.sbl_bench.specs.declared.fault.EditFault.TheVariants as fault
 use Rattle.sbl_io.specs.Records.{record_line, records_text}
 use Rattle.sbl_semantics.specs.Limit.{default_limit}
-use Rattle.sbl_formats.specs.RowRecords.{row_fields}
-use Rattle.sbl_listings.specs.Listings.{stems_text}
+use Rattle.sbl_reports.specs.RowRecords.{row_fields}
+use Rattle.sbl_reports.specs.Listings.{stems_text}
 use Rattle.sbl_input.specs.VocabularyRows.{RowsOpen, text_of_rows}
 use Rattle.sbl_input.specs.WordLists.{OpensAs, texts_of}
 use Rattle.sbl_input.proofs.WordListFacts.{any_is_word, skips}

@@ -7,7 +7,7 @@ use Rattle.sbl_ast.specs.Source.{Source}
 use Rattle.sbl_bench.specs.Contents.{opening_contents, opening_fault}
 use Rattle.sbl_bench.specs.KeptRuns.{contents_of}
 use Rattle.sbl_input.specs.Loading.{IsInput, IsLoaded}
-use Rattle.sbl_listings.specs.Listings.{stems_text}
+use Rattle.sbl_reports.specs.Listings.{stems_text}
 use Rattle.sbl_input.specs.declared.faults.LoadFault.{LoadFault}
 
 -- The rows of an input: those of a bench of it; or why it has no bench.

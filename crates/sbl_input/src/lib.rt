@@ -2,11 +2,10 @@
 #![tactic(auto)]
 
 mod faults;
-mod laws;
+pub mod laws;
 mod loading;
 mod vocabulary_rows;
 mod word_list;
 
 pub use faults::LoadFault;
-pub use laws::loading_is_one;
 pub use loading::{load, load_rows, load_with_keys, read_script};

@@ -18,8 +18,8 @@ use crate::faults::LoadFault;
 use crate::vocabulary_rows::vocabulary_rows;
 use crate::word_list::WordList;
 use sbl_bench::{Bench, EditFault, WordKeys};
-use sbl_formats::{BlockFault, read_block};
 use sbl_io::{Lines, ServeFault, Source};
+use sbl_reports::{BlockFault, read_block};
 use sbl_script::{Script, ScriptFault};
 use std::alloc::Global;
 

@@ -1,6 +1,6 @@
 -- What an edit affects, by number.
 use Rattle.std.specs.Prelude.{◌≡◌, ℕ, Bool, true, List}
-use Rattle.std.specs.List.{list_any}
+use Rattle.std.specs.List.{list_all, list_any}
 use Rattle.sbl_semantics.specs.Items.{is_member}
 use Rattle.sbl_semantics.specs.declared.touch.Touch.{Touch}
 use Rattle.sbl_semantics.specs.Touches.{same_touch}
@@ -15,6 +15,10 @@ abbrev pub has_item : Names' → Item' → Bool
 has_item names (Routine n) = is_member names.routines n
 has_item names (Among n k) = is_member names.routines n
 has_item names (Grouping n) = is_member names.groupings n
+
+-- the script defines the routine or the grouping of each of these items
+abbrev pub Defines : Source → List Item' → Type 0
+Defines s xs = list_all (has_item (names_of s)) xs ≡ true
 
 -- The marks of some items: a touch is one of them exactly if an edit of one of the items affects what it touches.
 abbrev pub AreMarksOf : Source → List Item' → List Touch → Type 0

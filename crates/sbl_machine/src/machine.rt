@@ -1,14 +1,14 @@
 //! The machine.
 
-ghost use Rattle.std.specs.Prelude.{◌≡◌, ℕ, ◌<◌, ◌≤◌, ◌+◌, true, length, map, slice_index_or, [], IfOk, MatchResult, ◌↔◌, Err};
-ghost use Rattle.std.specs.List.{list_all, list_any};
+ghost use Rattle.std.specs.Prelude.{◌≡◌, ℕ, ◌<◌, ◌≤◌, ◌+◌, length, map, slice_index_or, [], IfOk, MatchResult, ◌↔◌, Err};
+ghost use Rattle.std.specs.List.{list_any};
 ghost use Rattle.sbl_semantics.specs.Limit.{max_levels, max_word_length};
 ghost use Rattle.sbl_ast.specs.declared.mode.Mode.TheVariants.{Forward};
 ghost use Rattle.sbl_program.specs.AmongStrings.{Listing};
 ghost use Rattle.sbl_machine.specs.MachineOf.{IsMachineOf, machine_plan};
 ghost use Rattle.sbl_program.specs.ProgramOf.{program_of};
 ghost use Rattle.sbl_run_state.specs.Endings.{Follows};
-ghost use Rattle.sbl_machine.specs.Marks.{AreMarksOf, has_item};
+ghost use Rattle.sbl_machine.specs.Marks.{AreMarksOf, Defines};
 ghost use Rattle.sbl_program.specs.Run.{calls};
 ghost use Rattle.sbl_program.specs.Start.{start};
 ghost use Rattle.sbl_semantics.specs.Outcome.{integers_at, integers_of, outcome_at, outcome_of, run_of, touched_at, touches_of, used_at, used_of, events_at, events_in, events_of};
@@ -194,7 +194,7 @@ impl<S: AmongSearch> Machine<S> {
         script: &Script,
         items: &[Item],
     ) -> Result<TouchLog, AllocError>
-        ensures { IsMachineOf S S.entries S.mode self.now (source_of script.now) → list_all (has_item (names_of (source_of script.now))) (map item_of items.now) ≡ true → IfOk result (λ marks. AreMarksOf (source_of script.now) (map item_of items.now) marks) }
+        ensures { IsMachineOf S S.entries S.mode self.now (source_of script.now) → Defines (source_of script.now) (map item_of items.now) → IfOk result (AreMarksOf (source_of script.now) (map item_of items.now)) }
     {
         is_spelled(script);
         marks_of(alloc, &self.names, script.items(), items)

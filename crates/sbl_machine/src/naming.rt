@@ -110,7 +110,7 @@ fn item_ref<'n>(names: &'n Names, touch: Touch) -> ItemRef<'n>
 }
 
 fn add_ref<'n>(items: &mut BTreeSet<ItemRef<'n>>, item: ItemRef<'n>) -> Result<(), AllocError>
-    ensures { OnOk result (items_of_refs items.new ≡ insert_key item_cmp (items_of_refs items.old) (item_of_ref item)) }
+    ensures { OnOk result (items_of_refs items.new ≡ insert_key item_cmp (items_of_refs items.old) (item_of_ref item.entry)) }
 {
     match items.insert(item) {
         Ok(_) => Ok(()),

@@ -1,9 +1,17 @@
-//! The reports on the rows of a bench: what changed since other rows, figures, the largest classes, and families.
+//! The texts that commands read and write: blocks of lines, the rows and classes of a bench, and the reports on them.
 #![tactic(auto)]
 
+mod block_text;
 mod families;
+mod item_records;
+mod listings;
 mod records;
 mod reports;
+mod row_records;
 
+pub use block_text::{BlockFault, BlockText, read_block};
 pub use families::families_text;
+pub use item_records::items_text;
+pub use listings::rows_text;
 pub use reports::{changes_text, largest_text, stats_text};
+pub use row_records::{Record, RecordWriter, outcome_fields, records_text};

@@ -1,5 +1,5 @@
 -- What an edit makes of a script, as its tokens say it, is what the tree in its place makes of it.
-use Rattle.std.proofs.Common.{◌≡◌, ◌⊎◌, ℕ, ◌+◌, ◌-◌, Bool, true, false, cond, not, ◌||◌, nat_eq, suc, List, [], ◌∷◌, ◌++◌, append_assoc, length, map, take, Option, Some, None, option_map, is_some, Result, Ok, Err, if◌then◌else◌, refl, sym, ap, subst, ◌∙◌, arith}
+use Rattle.std.proofs.Common.{◌≡◌, ℕ, ◌+◌, Bool, true, false, cond, not, ◌||◌, nat_eq, suc, List, [], ◌∷◌, ◌++◌, append_assoc, length, map, take, Option, Some, None, option_map, is_some, Result, Ok, Err, if◌then◌else◌, refl, sym, ap, subst, ◌∙◌, arith}
 use Rattle.std.specs.List.{before_first, filter, find, fold, list_any, prefix_len}
 use Rattle.std.specs.Option.{ok_or, option_or}
 use Rattle.sbl_token.specs.Lexemes as lex
@@ -12,7 +12,7 @@ use Rattle.sbl_ast.specs.declared.mode.Mode.TheVariants.{Backward}
 use Rattle.sbl_ast.specs.Counts.{count_in_among}
 use Rattle.sbl_ast.specs.Order.{ItemInMode, in_mode, in_order}
 use Rattle.sbl_ast.specs.Tree.{Argument, Term, Command, Others, Starter, Groups, Plain, declaration, escapes, macro, routine, grouping, Item, plain, backward, among_}
-use Rattle.sbl_ast.specs.Places.{AtDepth, places, placed_command, placed_plain, placed_plains, tokens}
+use Rattle.sbl_ast.specs.Places.{AtDepth, places, placed_plain, placed_plains, tokens}
 use Rattle.sbl_ast.specs.Source.{Source}
 use Rattle.sbl_ast.specs.Texts.{Text, TreeOf, places_in}
 use Rattle.sbl_ast.specs.Texts as texts
@@ -29,7 +29,7 @@ use Rattle.sbl_script.specs.Edits.{ScriptEdit, body, among, terms, changes, is_r
 use Rattle.sbl_script.specs.Homes.{Home, Walk, first_in, first_passing, home, home_in, home_of_among, home_of_body, home_of_held, home_of_terms, plain_if, state_reached, walk_in, walk_to, IsEditedAt, IsEditFaultAt, IsFaultAt, IsSubstitutedAt}
 use Rattle.sbl_script.proofs.AmongEnds.{after_same, inside}
 use Rattle.sbl_script.proofs.AmongDepths.{N, both_n, same_test, text_same, words_with}
-use Rattle.sbl_script.proofs.Found.{grouping_found, routine_found, some_plain}
+use Rattle.sbl_script.proofs.Found.{routine_found, some_plain}
 use Rattle.sbl_script.proofs.Shallow.{plains_before}
 
 abbrev Ps : Type 0

@@ -3,7 +3,7 @@ use Rattle.std.proofs.Common.{◌≡◌, ℕ, Bool, true, false, List, length, R
 use Rattle.sbl_text.specs.declared.fault.ScriptFault.{ScriptFault}
 use Rattle.sbl_text.specs.Tokens.{PlacedToken}
 use Rattle.sbl_ast.specs.Tree.{Item}
-use Rattle.sbl_ast.specs.Texts.{Text, TreeOf}
+use Rattle.sbl_ast.specs.Texts.{TreeOf}
 use Rattle.sbl_parser.specs.Reading.{IsReadAs}
 use Rattle.sbl_script.specs.declared.edit_fault.EditFault.{EditFault}
 use Rattle.sbl_script.specs.declared.edit_fault.EditFault.TheVariants as edits
@@ -12,7 +12,7 @@ use Rattle.sbl_resolver.specs.Checks.{fault_of}
 use Rattle.sbl_script.specs.Reading.{IsUnread, lexemes}
 use Rattle.sbl_script.specs.Edits.{ScriptEdit}
 use Rattle.sbl_script.specs.Homes.{Home, IsEditedAt, IsSubstitutedAt, IsEditFaultAt, home, IsFaultAt}
-use Rattle.sbl_script.proofs.OneReading.{Facts, tree_one, fault_is_one, placed_one, text_is_one, no_text_fault, unread_is_one, no_unread, some_one, some_none, same_source}
+use Rattle.sbl_script.proofs.OneReading.{Facts, tree_one, fault_is_one, placed_one, no_text_fault, no_unread, some_none, same_source}
 
 -- the tree and the script are one
 substituted_tree : Facts → (s : Source) (h : Home) (text : List ℕ) (m n : Bool) (t u : Source) (a : IsSubstitutedAt s h text m t) (b : IsSubstitutedAt s h text n u) → a.tree ≡ b.tree

@@ -15,7 +15,7 @@ use Rattle.sbl_ast.specs.Terminal.{lexeme_as}
 use Rattle.sbl_token.specs.Lexemes as lex
 use Rattle.sbl_token.specs.declared.signs.Sign.TheVariants as signs
 use Rattle.sbl_ast.specs.Tree.{Argument, Term, Starter, Groups, among_, Plain, declaration, escapes, macro, routine, grouping, Item, plain, backward}
-use Rattle.sbl_ast.specs.Places.{lexemes_of, AtDepth, placed_command, placed_plain, placed_plains, placed_items, places, tokens}
+use Rattle.sbl_ast.specs.Places.{lexemes_of, AtDepth, placed_command, placed_plain, placed_plains, placed_items, tokens}
 use Rattle.sbl_ast.specs.View.{RowView}
 use Rattle.sbl_tree_amongs.specs.Amongs.{put_in_body}
 use Rattle.sbl_ast.specs.Texts.{Text, TreeOf, body, places_in, script, tokens_of}

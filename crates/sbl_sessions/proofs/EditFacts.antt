@@ -5,28 +5,24 @@ use Rattle.std.proofs.lemmas.Grind.{common_steps}
 use Rattle.std.specs.Option.{is_some, option_map_or}
 use Rattle.std.specs.Str.{is_utf8}
 use Rattle.sbl_bench.specs.Contents.{Contents}
-use Rattle.sbl_bench.specs.Edits.{Edit, Edits, Add, Replace, IsAccepted, IsBrokenOff, IsMeterFull, IsOutOfMemory, IsRefused, IsVerdict, PassesTests, refusal_of_add}
+use Rattle.sbl_bench.specs.Edits.{Edit, Edits, Add, Replace, BeforeEdit, During, IsAccepted, IsMeterFull, IsOutOfMemory, IsRefused, IsVerdict, refusal_of_add}
 use Rattle.sbl_bench.specs.declared.fault.EditFault.{EditFault}
 use Rattle.sbl_bench.specs.declared.fault.EditFault.TheVariants as fault
 use Rattle.sbl_script.specs.Edits.{ScriptEdit}
 use Rattle.sbl_text.specs.declared.fault.ScriptFault.{ScriptFault}
 use Rattle.sbl_text.specs.declared.fault.ScriptFault.TheVariants as script
 use Rattle.sbl_sessions.specs.Answers.{BlockRefused, Enough, RefusedAfter, edit_text, with_line_feed}
-use Rattle.sbl_formats.specs.Block.{HasText, made_text, max_script}
+use Rattle.sbl_reports.specs.Block.{HasText, made_text, max_script}
 use Rattle.sbl_sessions.specs.CommandViews.{IsEditAnswer, IsTextAnswer}
 use Rattle.sbl_sessions.specs.Commands.{Bad, Command, block_command, target_of, text_of_block, with_text}
-use Rattle.sbl_sessions.specs.Faults.{fault_in}
+use Rattle.sbl_sessions.specs.EditFaults.{fault_in}
 
 -- where memory was refused
 out_of_memory : (s t : Contents) (e : Edit) → IsOutOfMemory s e t → IsEditAnswer s e (edit_text (Some fault.OutOfMemory)) t
-out_of_memory s t e h = by h.is
-  where
-    none_more : s.count ≡ s.count + 0
-    none_more = omega arith
-
-    by : (PassesTests s e × (t ≡ s)) ⊎ IsBrokenOff s e t → IsEditAnswer s e (edit_text (Some fault.OutOfMemory)) t
-    by (inl p) = (RefusedAfter 0, (Some fault.OutOfMemory, (refl, p.1 ∙ ap (λ (k : ℕ). record s { count = k }) none_more, h), refl))
-    by (inr b) = (RefusedAfter b.2, (Some fault.OutOfMemory, (refl, b.4, h), refl))
+out_of_memory s t e (BeforeEdit wanted passes same) =
+    let none_more : s.count ≡ s.count + 0 = omega arith in
+    (RefusedAfter 0, (Some fault.OutOfMemory, (refl, same ∙ ap (λ (k : ℕ). record s { count = k }) none_more, BeforeEdit wanted passes same), refl))
+out_of_memory s t e (During wanted made is n few same) = (RefusedAfter n, (Some fault.OutOfMemory, (refl, same, During wanted made is n few same), refl))
 
 pub answer_of_edit : (r : Result (Unit {0}) EditFault) (s t : Contents) (e : Edit) → Edits r s e t → IsEditAnswer s e (edit_text (fault_in r)) t
 answer_of_edit (Ok u) s t e h = (Enough, (None, h, refl))
@@ -73,15 +69,12 @@ verdict_long s t word cut f long short h = by h.0
     by (inr m) = let none : Some fault.WordTooLong ≡ None = sym short ∙ m.1.0 in absurd (cc none)
 
 not_for_memory : (s t : Contents) (cut : List ℕ) → refusal_of_add s cut ≡ Some fault.WordTooLong → IsOutOfMemory s (Add cut) t → ⊥
-not_for_memory s t cut short h = by h.is
+not_for_memory s t cut short (BeforeEdit wanted passes same) = of_text (passes fault.WordTooLong short)
   where
     of_text : (fault.WordTooLong ≡ fault.AmongCount) ⊎ ((g : ScriptFault) × (fault.WordTooLong ≡ fault.Script g)) → ⊥
     of_text (inl e) = cc e
     of_text (inr e) = let differ : fault.WordTooLong ≡ fault.Script e.0 = e.1 in cc differ
-
-    by : (PassesTests s (Add cut) × (t ≡ s)) ⊎ IsBrokenOff s (Add cut) t → ⊥
-    by (inl p) = of_text (p.0 fault.WordTooLong short)
-    by (inr b) = not_accepted s b.0 cut short b.1
+not_for_memory s t cut short (During wanted made is n few same) = not_accepted s made cut short is
 
 refused_long : (r : Result (Unit {0}) EditFault) (s t : Contents) (word cut : List ℕ) → refusal_of_add s word ≡ Some fault.WordTooLong
     → refusal_of_add s cut ≡ Some fault.WordTooLong → Edits r s (Add cut) t → Edits r s (Add word) t

@@ -7,7 +7,7 @@ use Rattle.std.proofs.lemmas.Slice.Eq.{bytes_eq-Decides}
 use Rattle.std.specs.List.{find}
 use Rattle.std.specs.Str.{bytes_eq}
 use Rattle.sbl_bench.specs.Contents.{Contents}
-use Rattle.sbl_bench.specs.Edits.{Edits, Remove, IsAccepted, IsMeterFull, IsOutOfMemory, IsRefused, IsVerdict}
+use Rattle.sbl_bench.specs.Edits.{Edits, Remove, BeforeEdit, During, IsAccepted, IsMeterFull, IsOutOfMemory, IsRefused, IsVerdict}
 use Rattle.sbl_bench.specs.KeptRuns.{IsWord}
 use Rattle.sbl_rows.specs.Rows.{Row, rows_of}
 use Rattle.sbl_rows.specs.Setting.{Setting}
@@ -87,7 +87,8 @@ not_removed : (s t : Contents) (cut : List ℕ) → is_word cut s.words ≡ fals
 not_removed s t cut missing h = let no : true ≡ false = sym h.after.0 ∙ missing in cc no
 
 no_memory : (s t : Contents) (cut : List ℕ) → IsOutOfMemory s (Remove cut) t → ⊥
-no_memory s t cut h = h.wanted cut refl
+no_memory s t cut (BeforeEdit wanted passes same) = wanted cut refl
+no_memory s t cut (During wanted made is n few same) = wanted cut refl
 
 removes_absent : (r : Result (Unit {0}) EditFault) (s t : Contents) (word cut : List ℕ) → is_word word s.words ≡ false → is_word cut s.words ≡ false
     → Edits r s (Remove cut) t → Edits r s (Remove word) t

@@ -6,7 +6,7 @@ use Rattle.std.specs.List.{list_all}
 use Rattle.sbl_text.specs.Classes.{is_digit}
 use Rattle.sbl_text.specs.Tokens.{digits_value, number_of}
 use Rattle.sbl_sessions.specs.Numbers.{number_in}
-use Rattle.sbl_sessions.specs.inside.Names.{max_number}
+use Rattle.sbl_sessions.specs.inside.SessionParts.{max_number}
 
 -- what is left after so many digits writes, after this number, what the whole writes
 pub record Reads (text : List ℕ) (i n : ℕ) : Type 0 where

@@ -17,10 +17,10 @@ use Rattle.sbl_semantics.specs.TouchedItems.{Item', touched_items}
 use Rattle.sbl_io.specs.Records.{records_text}
 use Rattle.sbl_sessions.specs.Answers.{Enough, IsReport, Memory, RefusedAfter, edit_text}
 use Rattle.sbl_sessions.specs.CommandViews.{IsReply}
-use Rattle.sbl_formats.specs.RowRecords.{class_fields, row_fields}
-use Rattle.sbl_listings.specs.Listings.{class_or_row_text, class_text}
-use Rattle.sbl_formats.specs.ItemRecords.{items_text}
-use Rattle.sbl_listings.specs.Listings.{trace_text}
+use Rattle.sbl_reports.specs.RowRecords.{class_fields, row_fields}
+use Rattle.sbl_reports.specs.Listings.{class_or_row_text, class_text}
+use Rattle.sbl_reports.specs.ItemRecords.{items_text}
+use Rattle.sbl_reports.specs.Listings.{trace_text}
 use Rattle.sbl_sessions.specs.declared.replies.Reply.{Reply}
 
 pub map_twice : {A B C : Type 0} (g : B → C) (f : A → B) (xs : List A) → map (λ (x : A). g (f x)) xs ≡ map g (map f xs)

@@ -8,24 +8,24 @@ use Rattle.std.specs.Option.{is_some}
 use Rattle.std.proofs.KnownBytes.{Appends-nil, Appends-trans}
 use Rattle.sbl_bench.specs.Contents.{Contents}
 use Rattle.sbl_sessions.specs.Answers.{Answers, IsReplyTo, Memory}
-use Rattle.sbl_formats.specs.Block.{BlockLines, Breaks, HoldsText, ReadsBlock, point}
+use Rattle.sbl_reports.specs.Block.{BlockLines, Breaks, HoldsText, ReadsBlock, point}
 use Rattle.sbl_sessions.specs.CommandViews.{IsAnswer, IsReply, IsTextAnswer}
-use Rattle.sbl_sessions.specs.inside.Views.{IsAnswered}
+use Rattle.sbl_sessions.specs.inside.RequestViews.{IsAnswered}
 use Rattle.sbl_sessions.specs.Commands.{block_command, command_of, line_command}
 use Rattle.sbl_io.specs.HeldInput.{AllFit, BeginsLong, BreaksOff, GivesLine, Took, TookWhole}
 use Rattle.sbl_script.specs.Edits.{ScriptEdit}
 use Rattle.sbl_sessions.specs.Words.{command_word}
-use Rattle.sbl_sessions.specs.Requests.{Request, TookRequests, asks_block, block_word, lines_in_all}
-use Rattle.sbl_sessions.specs.inside.Names.{IsBegun, IsRequest, block_lines, lines_in}
+use Rattle.sbl_sessions.specs.Requests.{Request, TookRequests, asks_block, lines_in_all}
+use Rattle.sbl_sessions.specs.inside.SessionParts.{IsBegun, IsRequest, block_lines, lines_in}
 use Rattle.sbl_sessions.specs.Session.{CutsReply, CutsRequest, IsSession, Moment, Replies}
-use Rattle.sbl_formats.specs.declared.block_text.BlockText.{BlockText}
+use Rattle.sbl_reports.specs.declared.block_text.BlockText.{BlockText}
 use Rattle.sbl_io.specs.Faults.{serve_fault_of}
 use Rattle.sbl_io.specs.declared.faults.LineFault.{LineFault}
 use Rattle.sbl_io.specs.declared.faults.LineFault.TheVariants as read
 use Rattle.sbl_io.specs.declared.faults.ServeFault.{ServeFault}
 use Rattle.sbl_io.specs.declared.faults.ServeFault.TheVariants as fault
 use Rattle.sbl_sessions.specs.declared.replies.Reply.{Reply}
-use Rattle.sbl_formats.proofs.BlockFacts.{all_fit-append, all_fit-push, broken_block}
+use Rattle.sbl_reports.proofs.BlockFacts.{all_fit-append, all_fit-push, broken_block}
 use Rattle.sbl_io.proofs.Bytes.{took-kept, took-none, took-trans}
 
 -- ---- answers
@@ -83,13 +83,16 @@ session_goes_on a b c d h i j s t u line reply so gives fits is writes =
       written = Appends-trans h i j so.text text so.written (writes text is.answer.2);
     }
 
--- the result is this fault alone
-same_fault : (f g : ServeFault) → Err {A = Unit {0}} f ≡ Err g → f ≡ g
-same_fault f g is = ap fault_in is
+abbrev failed : ServeFault → Result (Unit {0}) ServeFault
+failed f = Err f
+
+-- the fault of a result is one
+same_fault : (f g : ServeFault) → failed f ≡ failed g → f ≡ g
+same_fault f g is = ap fault_or is
   where
-    fault_in : Result (Unit {0}) ServeFault → ServeFault
-    fault_in (Ok u) = f
-    fault_in (Err x) = x
+    fault_or : Result (Unit {0}) ServeFault → ServeFault
+    fault_or (Ok u) = f
+    fault_or (Err x) = x
 
 input_stopped : (old new : Moment) (f : ServeFault) → f ≢ fault.Write → CutsRequest old new f → IsSession old new (Err f)
 input_stopped old new f other cuts = record {
@@ -146,12 +149,6 @@ session_at_write a b c d h i j s t u line reply n so gives fits is writes =
     record { ends = λ is. cc is; writer_stops = λ _. cuts; input_stops = λ f is other. absurd (other (sym (same_fault fault.Write f is))) }
 
 -- ---- the answer to a request
-
-pub asks : (line : List ℕ) {target : List ℕ → Option ScriptEdit} → block_word (command_word line) ≡ Some target → asks_block line ≡ true
-asks line is = ap is_some is
-
-pub asks_none : (line : List ℕ) → block_word (command_word line) ≡ None → asks_block line ≡ false
-asks_none line is = ap is_some is
 
 -- a line that asks for no block
 pub answered_line : (a : Option (List ℕ)) (line : List ℕ) (s t : Contents) (reply : Reply) → asks_block line ≡ false → IsAnswer s (line_command line) reply t → IsAnswered a a line s reply t

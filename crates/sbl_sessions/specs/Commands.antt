@@ -5,12 +5,12 @@ use Rattle.std.specs.Option.{option_and_then, option_map_or, unwrap_or}
 use Rattle.std.specs.Str.{bytes_eq, chars, is_utf8}
 use Rattle.sbl_bench.specs.Contents.{Contents}
 use Rattle.sbl_bench.specs.Edits as edits
-use Rattle.sbl_listings.specs.Listings.{class_text, classes_text, stems_text, trace_text}
+use Rattle.sbl_reports.specs.Listings.{class_text, classes_text, stems_text, trace_text}
 use Rattle.sbl_print.specs.Canonical.{canonical}
 use Rattle.sbl_script.specs.Edits.{ScriptEdit}
 use Rattle.sbl_text.specs.declared.fault.ScriptFault.{ScriptFault}
 use Rattle.sbl_text.specs.declared.fault.ScriptFault.TheVariants as fault
-use Rattle.sbl_formats.specs.Block.{made_text, max_script}
+use Rattle.sbl_reports.specs.Block.{made_text, max_script}
 use Rattle.sbl_sessions.specs.Numbers.{number_in}
 use Rattle.sbl_sessions.specs.Requests.{Request, block_word}
 use Rattle.sbl_sessions.specs.Words.{argument, command_word}

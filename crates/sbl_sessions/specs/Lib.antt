@@ -5,7 +5,7 @@ pub mod Requests
 pub mod Commands
 pub mod Answers
 pub mod CommandViews
-pub mod Faults
+pub mod EditFaults
 pub mod Session
 pub mod OneAnswer
 -- what the functions inside the crate promise each other: nothing in these need be believed

@@ -3,7 +3,7 @@ use Rattle.std.specs.Prelude.{◌≡◌, ◌⊎◌, ◌≤◌, ℕ, length, Bool
 use Rattle.std.specs.List.{All, flat_map}
 use Rattle.std.specs.Option.{IfSome, is_some, option_map, option_map_or}
 use Rattle.std.specs.Str.{bytes_eq}
-use Rattle.sbl_formats.specs.Block.{BlockLines, NoPoint, point}
+use Rattle.sbl_reports.specs.Block.{BlockLines, NoPoint, point}
 use Rattle.sbl_io.specs.HeldInput.{AllFit, Took}
 use Rattle.sbl_io.specs.LinesOf.{max_line}
 use Rattle.sbl_script.specs.Edits.{ScriptEdit, among, body, terms}

@@ -4,7 +4,7 @@ use Rattle.std.specs.Io.KnownBytes.{Appends, IsAtEnd}
 use Rattle.sbl_bench.specs.Contents.{Contents}
 use Rattle.sbl_bench.specs.KeptRuns.{KeptRuns, contents_of}
 use Rattle.sbl_sessions.specs.Answers.{Answers, IsReplyTo, Memory}
-use Rattle.sbl_formats.specs.Block.{Breaks}
+use Rattle.sbl_reports.specs.Block.{Breaks}
 use Rattle.sbl_sessions.specs.Commands.{command_of}
 use Rattle.sbl_io.specs.Devices.{HasStopped, Tally}
 use Rattle.sbl_io.specs.HeldInput.{HasCause, TookWhole, fault_of, input_of}

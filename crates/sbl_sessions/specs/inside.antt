@@ -1,2 +1,2 @@
-pub mod Names
-pub mod Views
+pub mod RequestViews
+pub mod SessionParts

@@ -1,14 +1,13 @@
 //! Sessions over a bench. A reader gives commands, and the replies go to a writer.
 #![tactic(auto)]
 
-mod laws;
+pub mod laws;
 mod replies;
 mod reports;
 mod serving;
 mod session_commands;
 mod session_edits;
 
-pub use laws::answers_are_one;
 pub use replies::{BAD_COMMAND, Reply, edit_text, report, write_reply};
 pub use serving::{answer_line, serve};
-pub use session_commands::{BlockWord, Target, block_word, number_in, target_of};
+pub use session_commands::{asks_block, keep_line, number_in, part_of};

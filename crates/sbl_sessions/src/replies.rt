@@ -4,7 +4,7 @@ ghost use Rattle.std.specs.Io.KnownBytes.{Appends};
 ghost use Rattle.sbl_sessions.specs.Answers as spec;
 ghost use Rattle.sbl_sessions.specs.CommandViews.{IsReply};
 ghost use Rattle.sbl_io.specs.Devices.{HasStopped, WritesInTime};
-ghost use Rattle.sbl_sessions.specs.Faults.{fault_in};
+ghost use Rattle.sbl_sessions.specs.EditFaults.{fault_in};
 
 use sbl_bench::{EditFault, script_name_between};
 use sbl_io::{ServeFault, Sink, write_all};

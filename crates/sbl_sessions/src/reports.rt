@@ -8,17 +8,16 @@ ghost use Rattle.sbl_rows.specs.Rows.{view_row};
 ghost use Rattle.sbl_machine.specs.ItemRefs.{items_of_refs};
 ghost use Rattle.sbl_print.specs.Canonical.{canonical};
 ghost use Rattle.sbl_sessions.specs.{Answers.with_line_feed, CommandViews.IsAnswer};
-ghost use Rattle.sbl_sessions.specs.inside.Names.{Class, Trace};
-ghost use Rattle.sbl_formats.specs.ItemRecords.{items_text};
-ghost use Rattle.sbl_listings.specs.Listings as spec;
+ghost use Rattle.sbl_sessions.specs.inside.SessionParts.{Class, Trace};
+ghost use Rattle.sbl_reports.specs.ItemRecords.{items_text};
+ghost use Rattle.sbl_reports.specs.Listings as spec;
 
 use crate::replies::{Reply, edit_text, report};
 use crate::session_edits::{MAX_LOOKED_AT, first_characters};
 use sbl_bench::laws::words_fit;
 use sbl_bench::{Bench, EditFault, Row};
-use sbl_formats::records_text;
-use sbl_listings::rows_text;
 use sbl_machine::ItemRef;
+use sbl_reports::{records_text, rows_text};
 use std::alloc::{AllocError, Global};
 use std::collections::BTreeSet;
 
@@ -101,10 +100,10 @@ pub(crate) fn class_reply(alloc: Global, bench: &Bench, word: &str) -> Reply
 
 /// Returns the text of some items: a row for each, in their order. Returns `AllocError` if an allocation fails.
 fn items_text(alloc: Global, items: BTreeSet<ItemRef<'_>>) -> Result<Vec<u8>, AllocError>
-    ensures { IfOk result (λ text. text.items ≡ items_text (items_of_refs items)) }
+    ensures { IfOk result (λ text. text.items ≡ items_text (items_of_refs items.entry)) }
 {
     let items: Vec<ItemRef<'_>> = items.into_iter().collect(alloc)?;
-    sbl_formats::items_text(alloc, &items)
+    sbl_reports::items_text(alloc, &items)
 }
 
 /// Returns the reply with the items that the run of a word touches, or `no 41 Absent` if the word is not in the vocabulary; the

@@ -3,7 +3,7 @@ ghost use Rattle.std.specs.Prelude.{◌≡◌, ◌≤◌, None, Some, Err, IfOk,
 ghost use Rattle.std.specs.Io.KnownBytes.{IsAtEnd, Keeps};
 ghost use Rattle.sbl_bench.specs.KeptRuns.{contents_of};
 ghost use Rattle.sbl_sessions.specs.CommandViews.{IsAnswer};
-ghost use Rattle.sbl_sessions.specs.inside.Views.{BreaksBlock, IsAnswered};
+ghost use Rattle.sbl_sessions.specs.inside.RequestViews.{BreaksBlock, IsAnswered};
 ghost use Rattle.sbl_sessions.specs.Commands.{line_command};
 ghost use Rattle.sbl_io.specs.Devices.{WritesInTime};
 ghost use Rattle.sbl_io.specs.Faults.{left_by, serve_fault_of};
@@ -15,11 +15,11 @@ use crate::replies::{BAD_COMMAND, Reply, edit_text, report, write_reply};
 use crate::reports::{
     class_reply, classes_text, keep_classes, runs_text, script_text, stems_text, trace_reply,
 };
-use crate::session_commands::{Command, block_word, command_of, target_of};
+use crate::session_commands::{Command, asks_block, command_of, keep_line};
 use crate::session_edits::{add_word, edit_script, remove_word};
 use sbl_bench::{Bench, EditFault};
-use sbl_formats::read_block;
 use sbl_io::{Lines, ServeFault, Sink, Source};
+use sbl_reports::read_block;
 use std::alloc::Global;
 
 /// Makes the edit or the report that a line without a block asks for, and returns the reply.
@@ -57,14 +57,12 @@ fn answer<R: Source + Drop>(bench: &mut Bench, lines: &mut Lines<R>) -> Result<R
     ensures broken { IfErr result (λ fault. BreaksBlock (input_of R.left lines.old) (input_of R.left lines.new) (line_of lines.old) fault × (contents_of bench.new ≡ contents_of bench.old)) }
     ensures reading { Reading R.left R.tally lines.old lines.new result }
 {
-    match block_word(lines.line()) {
-        None => Ok(answer_line(lines.alloc(), bench, lines.line())),
-        Some(word) => {
-            let target = target_of(lines.alloc(), word, lines.line());
-            let block = read_block(lines)?;
-            Ok(Reply::Fixed(edit_script(bench, target, block)))
-        }
+    if !asks_block(lines.line()) {
+        return Ok(answer_line(lines.alloc(), bench, lines.line()));
     }
+    let kept = keep_line(lines.alloc(), lines.line());
+    let block = read_block(lines)?;
+    Ok(Reply::Fixed(edit_script(bench, kept, block)))
 }
 
 /// Replies to each request of the input in turn, up to the end of input. A request is a line and, if its command word is

@@ -2,14 +2,16 @@
 ghost use Rattle.std.specs.Prelude.{◌≡◌, IfOk, OnErr, Some, true};
 ghost use Rattle.std.specs.Option.{is_some, unwrap_or};
 ghost use Rattle.sbl_bench.specs.Edits as edits;
+ghost use Rattle.sbl_script.specs.Parts.{view_part};
 ghost use Rattle.sbl_sessions.specs.Commands as spec;
 ghost use Rattle.sbl_sessions.specs.Requests as requests;
 ghost use Rattle.sbl_sessions.specs.Words as words;
-ghost use Rattle.sbl_sessions.specs.CommandViews.{FindsTarget, view_asked, view_found, view_word};
-ghost use Rattle.sbl_sessions.specs.inside.Names as names;
-ghost use Rattle.sbl_sessions.specs.inside.Views.{view_command};
+ghost use Rattle.sbl_sessions.specs.CommandViews.{KeepsLine};
+ghost use Rattle.sbl_sessions.specs.inside.SessionParts as inside;
+ghost use Rattle.sbl_sessions.specs.inside.RequestViews.{view_command};
 ghost use Rattle.sbl_sessions.specs.Numbers as numbers;
 
+use sbl_script::Part;
 use std::alloc::{AllocError, Global};
 
 /// The command on a line that no block follows, with the word or the number that it is about.
@@ -47,7 +49,7 @@ pub(crate) fn command_of(line: &[u8]) -> Command<'_>
 
 /// Returns the command of a line that is UTF-8.
 fn text_command(text: &str) -> Command<'_>
-    ensures { view_command result ≡ names.tested_command text.now }
+    ensures { view_command result ≡ inside.tested_command text.now }
 {
     let (word, argument) = match text.split_once(' ') {
         Some((word, argument)) => (word, argument),
@@ -79,74 +81,56 @@ fn limit_command(argument: &str) -> Command<'static>
     }
 }
 
-/// The command word of a line that a block follows: the word of an edit of the script.
-#[derive(Clone, Copy, Debug, PartialEq, Eq)]
-pub enum BlockWord {
-    /// `routine NAME`
-    Routine,
-    /// `among NAME K`
-    Among,
-    /// `grouping NAME`
-    Grouping,
-}
-
-/// Returns the command word of a line if a block follows the line, whatever else the line contains.
-pub fn block_word(line: &[u8]) -> Option<BlockWord>
-    ensures { view_asked result ≡ requests.block_word (words.command_word line.now) }
+/// Returns the part that a command word and its argument name, if a block follows that word: `routine NAME`, `among NAME K` or
+/// `grouping NAME`. The inner `None` is for an argument that is not a name, a space and a number after `among`.
+fn part_by<'a>(word: &[u8], argument: &'a str) -> Option<Option<Part<'a>>>
+    ensures { option_map (λ part. option_map view_part part) result ≡ option_map (λ names. names argument.now) (requests.block_word word.now) }
 {
-    let word = command_word(line);
     if word == b"routine".as_slice() {
-        return Some(BlockWord::Routine);
+        return Some(Some(Part::Routine(argument)));
     }
     if word == b"among".as_slice() {
-        return Some(BlockWord::Among);
+        return Some(among_by(argument));
     }
     if word == b"grouping".as_slice() {
-        return Some(BlockWord::Grouping);
+        return Some(Some(Part::Grouping(argument)));
     }
     None
 }
 
-/// The part of the script that the text of a block replaces.
-#[derive(Debug, Drop)]
-pub enum Target {
-    /// The body of the routine or external of this name.
-    Body(String),
-    /// The among of this number in the routine or external of this name.
-    Among(String, u64),
-    /// The terms of the grouping of this name.
-    Terms(String),
+fn among_by(argument: &str) -> Option<Part<'_>>
+    ensures { option_map view_part result ≡ option_map (among (words.command_word argument.now)) (numbers.number_in (words.argument argument.now)) }
+{
+    let (name, digits) = argument.split_once(' ')?;
+    let k = number_in(digits.as_bytes())?;
+    Some(Part::Among(name, k))
 }
 
-/// Returns what a line with this block word replaces; `None` if the line is bad: it is not UTF-8, or the argument of `among` is
-/// not a name, a space and a number. Returns `AllocError` if an allocation fails. Does not allocate for a bad line.
-pub fn target_of(alloc: Global, word: BlockWord, line: &[u8]) -> Result<Option<Target>, AllocError>
-    requires { requests.block_word (words.command_word line.now) ≡ Some (view_word word) }
-    ensures { FindsTarget result line.now }
+/// Whether a block follows the line, whatever else the line contains.
+pub fn asks_block(line: &[u8]) -> bool
+    ensures { result ≡ requests.asks_block line.now }
+{
+    part_by(command_word(line), "").is_some()
+}
+
+/// Returns the part that a line names whose block replaces it; `None` if no block follows the line or its argument is bad.
+pub fn part_of(line: &str) -> Option<Part<'_>>
+    ensures { option_map view_part result ≡ spec.target_of line.now }
+{
+    part_by(command_word(line.as_bytes()), argument_of(line))?
+}
+
+/// Returns a copy of a line that names a part, for the time in which its block is read; `None` if the line is bad: it is not
+/// UTF-8, or names no part. Does not allocate for a bad line.
+pub fn keep_line(alloc: Global, line: &[u8]) -> Result<Option<String>, AllocError>
+    ensures { KeepsLine result line.now }
 {
     let Ok(line) = str::from_utf8(line) else {
         return Ok(None);
     };
-    target_by(alloc, word, argument_of(line))
-}
-
-/// Returns what a block word and its argument replace, as `target_of` does.
-fn target_by(alloc: Global, word: BlockWord, argument: &str) -> Result<Option<Target>, AllocError>
-    ensures found { IfOk result (λ found. view_found found ≡ view_word word argument.now) }
-    ensures refused { OnErr result (is_some (view_word word argument.now) ≡ true) }
-{
-    match word {
-        BlockWord::Routine => Ok(Some(Target::Body(String::from_str(alloc, argument)?))),
-        BlockWord::Among => {
-            let Some((name, digits)) = argument.split_once(' ') else {
-                return Ok(None);
-            };
-            let Some(k) = number_in(digits.as_bytes()) else {
-                return Ok(None);
-            };
-            Ok(Some(Target::Among(String::from_str(alloc, name)?, k)))
-        }
-        BlockWord::Grouping => Ok(Some(Target::Terms(String::from_str(alloc, argument)?))),
+    match part_of(line) {
+        Some(_) => Ok(Some(String::from_str(alloc, line)?)),
+        None => Ok(None),
     }
 }
 

@@ -6,7 +6,7 @@ use Rattle.std.specs.Str.{bytes_eq, is_utf8}
 use Rattle.sbl_sessions.specs.Commands.{line_command}
 use Rattle.sbl_work.specs.Commands.{Echo, Nothing, Session, alone_command, is_comment, positive, text_command, utf8_command}
 use Rattle.sbl_sessions.specs.Words.{argument, command_word}
-use Rattle.sbl_sessions.specs.inside.Names.{is_space}
+use Rattle.sbl_sessions.specs.inside.SessionParts.{is_space}
 use Rattle.sbl_sessions.proofs.CommandFacts.{NoSpace}
 
 -- ---- the argument

@@ -12,10 +12,10 @@ use Rattle.sbl_bench.specs.declared.fault.EditFault.{EditFault}
 use Rattle.sbl_bench.specs.declared.fault.EditFault.TheVariants as fault
 use Rattle.sbl_script.specs.Edits.{ScriptEdit}
 use Rattle.sbl_sessions.specs.Answers.{BlockRefused, Enough, edit_text, with_line_feed}
-use Rattle.sbl_formats.specs.Block.{made_text, max_script}
+use Rattle.sbl_reports.specs.Block.{made_text, max_script}
 use Rattle.sbl_sessions.specs.CommandViews.{FindsTarget, IsReply}
 use Rattle.sbl_sessions.specs.Commands.{target_of, text_of_block}
-use Rattle.sbl_sessions.specs.Faults.{fault_in}
+use Rattle.sbl_sessions.specs.EditFaults.{fault_in}
 use Rattle.sbl_sessions.specs.declared.replies.Reply.{Reply}
 use Rattle.sbl_text.specs.declared.fault.ScriptFault.{ScriptFault}
 use Rattle.sbl_text.specs.declared.fault.ScriptFault.TheVariants as script

@@ -17,12 +17,12 @@ use Rattle.sbl_io.specs.declared.faults.LineFault.{LineFault}
 use Rattle.sbl_io.specs.declared.faults.LineFault.TheVariants as read
 use Rattle.sbl_io.specs.declared.faults.ServeFault.{ServeFault}
 use Rattle.sbl_io.specs.declared.faults.ServeFault.TheVariants as fault
-use Rattle.sbl_formats.proofs.BlockFacts.{all_fit-append, all_fit-push, broken_block}
-use Rattle.sbl_formats.specs.Block.{BlockLines, Breaks, HoldsText, ReadsBlock, point}
+use Rattle.sbl_reports.proofs.BlockFacts.{all_fit-append, all_fit-push, broken_block}
+use Rattle.sbl_reports.specs.Block.{BlockLines, Breaks, HoldsText, ReadsBlock, point}
 use Rattle.sbl_sessions.specs.CommandViews.{IsReply}
 use Rattle.sbl_sessions.specs.Requests.{Request, lines_in_all}
-use Rattle.sbl_sessions.specs.inside.Names.{block_lines, lines_in}
-use Rattle.sbl_formats.specs.declared.block_text.BlockText.{BlockText}
+use Rattle.sbl_sessions.specs.inside.SessionParts.{block_lines, lines_in}
+use Rattle.sbl_reports.specs.declared.block_text.BlockText.{BlockText}
 use Rattle.sbl_sessions.specs.declared.replies.Reply.{Reply}
 use Rattle.sbl_work.specs.Answering.{IsWorkAnswered}
 use Rattle.sbl_work.specs.Commands.{asks_work_block, block_command, quit_line}
@@ -210,6 +210,6 @@ answered_block a b line s t x y block reply asks reads is = record {
 
 -- a request with a block is for a line that asks for one
 pub asks_found : (request : BlockRequest) (line : List ℕ) → FindsBlock request line → asks_work_block line ≡ true
-asks_found (blocks.Part target) line so = rw so.0 refl
+asks_found (blocks.Part kept) line so = rw so.0 refl
 asks_found (blocks.Whole is_good) line so = rw (so.0, so.1) refl
 asks_found blocks.Families line so = rw (so.0, so.1, so.2) refl

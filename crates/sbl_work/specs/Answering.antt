@@ -7,8 +7,8 @@ use Rattle.sbl_io.specs.Devices.{Tally}
 use Rattle.sbl_io.specs.HeldInput.{AllFit, Took, input_of, line_of}
 use Rattle.sbl_io.specs.declared.faults.ServeFault.{ServeFault}
 use Rattle.sbl_io.specs.declared.lines.Lines.{Lines}
-use Rattle.sbl_formats.specs.Block.{BlockLines, Breaks, NoPoint}
-use Rattle.sbl_sessions.specs.inside.Names.{block_lines}
+use Rattle.sbl_reports.specs.Block.{BlockLines, Breaks, NoPoint}
+use Rattle.sbl_sessions.specs.inside.SessionParts.{block_lines}
 use Rattle.sbl_sessions.specs.declared.replies.Reply.{Reply}
 use Rattle.sbl_sessions.specs.Commands.{target_of, text_of_block}
 use Rattle.sbl_work.specs.Commands.{WorkCommand, asks_work_block, by_work_block, part_command}

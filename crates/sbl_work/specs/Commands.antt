@@ -4,7 +4,7 @@ use Rattle.std.specs.Option.{option_and_then}
 use Rattle.std.specs.Str.{bytes_eq, chars, is_utf8}
 use Rattle.sbl_io.specs.LinesOf.{lines_of}
 use Rattle.sbl_script.specs.Edits.{ScriptEdit}
-use Rattle.sbl_formats.specs.Block.{made_text, max_script}
+use Rattle.sbl_reports.specs.Block.{made_text, max_script}
 use Rattle.sbl_sessions.specs.Commands as session
 use Rattle.sbl_sessions.specs.Numbers.{number_in}
 use Rattle.sbl_sessions.specs.Requests.{asks_block}

@@ -9,10 +9,10 @@ use Rattle.sbl_bench.specs.declared.fault.EditFault.TheVariants as edit
 use Rattle.sbl_script.specs.Edits.{ScriptEdit}
 use Rattle.sbl_sessions.specs.Answers.{edit_text, with_line_feed}
 use Rattle.sbl_sessions.specs.CommandViews.{IsTextAnswer}
-use Rattle.sbl_sessions.specs.Faults.{fault_in}
-use Rattle.sbl_unused.specs.Unused as unused
-use Rattle.sbl_why.specs.Integers as integers
-use Rattle.sbl_why.specs.WhyRows as rows
+use Rattle.sbl_sessions.specs.EditFaults.{fault_in}
+use Rattle.sbl_explain.specs.Unused as unused
+use Rattle.sbl_explain.specs.Integers as integers
+use Rattle.sbl_explain.specs.WhyRows as rows
 use Rattle.sbl_work.specs.Commands.{WorkCommand, Nothing, Session, EditPart, EditWhole, Undo, Redo, Mark, Changes, Stats, Unused, Largest, Families, Why, Integers, Show, Saved, NoWords, NoFile, Echo}
 use Rattle.sbl_source_map.specs.Definitions.{definition_text}
 use Rattle.sbl_history.specs.Desks.{Redoes, State, Undoes}

@@ -10,8 +10,8 @@ use Rattle.sbl_bench.specs.KeptRuns.{KeptRuns, contents_of}
 use Rattle.sbl_bench.specs.declared.fault.EditFault.{EditFault}
 use Rattle.sbl_bench.specs.declared.fault.EditFault.TheVariants as edit
 use Rattle.sbl_script.specs.Edits.{ScriptEdit}
-use Rattle.sbl_formats.specs.Block.{max_script}
-use Rattle.sbl_sessions.specs.CommandViews.{FindsTarget, IsReply}
+use Rattle.sbl_reports.specs.Block.{max_script}
+use Rattle.sbl_sessions.specs.CommandViews.{IsReply, KeepsLine}
 use Rattle.sbl_sessions.specs.Commands.{line_command}
 use Rattle.sbl_sessions.specs.Requests.{asks_block}
 use Rattle.sbl_sessions.specs.declared.replies.Reply.{Reply}
@@ -69,7 +69,7 @@ IsFileAnswer s d line r t e = (file : Option (List ℕ)) × IsWorkAnswer s d (al
 
 -- what a line asks for with its block
 abbrev pub FindsBlock : BlockRequest → List ℕ → Type 0
-FindsBlock (blocks.Part target) line = (asks_block line ≡ true) × FindsTarget target line
+FindsBlock (blocks.Part kept) line = (asks_block line ≡ true) × KeepsLine kept line
 FindsBlock (blocks.Whole is_good) line = (asks_block line ≡ false) × (is_replace line ≡ true) × (is_good ≡ bytes_eq line (codes "replace"))
 FindsBlock blocks.Families line = (asks_block line ≡ false) × (is_replace line ≡ false) × (bytes_eq line (codes "families") ≡ true)
 

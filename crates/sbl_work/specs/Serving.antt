@@ -9,7 +9,7 @@ use Rattle.sbl_io.specs.HeldInput.{AllFit, GivesLine, Took, TookWhole}
 use Rattle.sbl_io.specs.LinesOf.{max_line}
 use Rattle.sbl_io.specs.declared.faults.ServeFault.{ServeFault}
 use Rattle.sbl_io.specs.declared.faults.ServeFault.TheVariants as fault
-use Rattle.sbl_formats.specs.Block.{BlockLines, Breaks, NoPoint}
+use Rattle.sbl_reports.specs.Block.{BlockLines, Breaks, NoPoint}
 use Rattle.sbl_sessions.specs.Requests.{Request, lines_in_all}
 use Rattle.sbl_work.specs.Commands.{asks_work_block, by_work_block, quit_line}
 use Rattle.sbl_history.specs.Desks.{State}

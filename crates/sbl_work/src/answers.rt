@@ -3,7 +3,7 @@ ghost use Rattle.std.specs.Prelude.{◌≡◌, IfOk};
 ghost use Rattle.std.specs.Str.{chars};
 ghost use Rattle.sbl_bench.specs.KeptRuns.{contents_of};
 ghost use Rattle.sbl_io.specs.LinesOf.{lines_of};
-ghost use Rattle.sbl_formats.specs.Block.{made_text};
+ghost use Rattle.sbl_reports.specs.Block.{made_text};
 ghost use Rattle.sbl_sessions.specs.{Answers.with_line_feed, Commands.line_command};
 ghost use Rattle.sbl_work.specs.Commands as spec;
 ghost use Rattle.sbl_history.specs.Desks.{State, state_of};
@@ -17,12 +17,12 @@ use crate::replies::{
 use crate::requests::{Request, count_in, request_of};
 use crate::whys::{integers_reply, why_reply};
 use sbl_bench::{Bench, EditFault};
+use sbl_explain::unused_text;
 use sbl_history::Desk;
 use sbl_io::first_line;
 use sbl_reports::{changes_text, largest_text, stats_text};
 use sbl_sessions::{Reply, report};
 use sbl_source_map::definition_text;
-use sbl_unused::unused_text;
 use std::alloc::{AllocError, Global};
 
 /// Returns the reply to `reload`.
@@ -203,7 +203,7 @@ fn session(alloc: Global, desk: &mut Desk, bench: &mut Bench, line: &[u8]) -> Re
 /// the file's end; it is `None` if the file was not written. Other commands do not look at it.
 ///
 /// If an allocation fails, the reply is `no 49 OutOfMemory`.
-pub fn answer_line(
+pub(crate) fn answer_line(
     alloc: Global,
     desk: &mut Desk,
     bench: &mut Bench,

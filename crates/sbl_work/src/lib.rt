@@ -11,8 +11,6 @@ mod requests;
 mod serving;
 mod whys;
 
-pub use answers::answer_line;
 pub use files::Paths;
-pub use parts::{answer_block, part_of};
 pub use requests::{BlockRequest, block_request};
 pub use serving::work;

@@ -2,8 +2,8 @@
 ghost use Rattle.std.specs.Prelude.{◌≡◌, ℕ, List, Some, codes};
 ghost use Rattle.std.specs.Str.{bytes_eq};
 ghost use Rattle.sbl_bench.specs.KeptRuns.{contents_of};
-ghost use Rattle.sbl_formats.specs.Block.{HoldsText, made_text};
-ghost use Rattle.sbl_sessions.specs.CommandViews.{FindsTarget, view_target};
+ghost use Rattle.sbl_reports.specs.Block.{HoldsText, made_text};
+ghost use Rattle.sbl_sessions.specs.CommandViews.{KeepsLine};
 ghost use Rattle.sbl_sessions.specs.Commands.{text_of_block};
 ghost use Rattle.sbl_work.specs.Answering.{part_edit};
 ghost use Rattle.sbl_work.specs.Commands as spec;
@@ -15,11 +15,10 @@ ghost use Rattle.sbl_work.specs.ReplyViews.{Answers, FindsBlock, IsFamiliesAnswe
 use crate::replies::{NOT_TEXT, edit_reply};
 use crate::requests::BlockRequest;
 use sbl_bench::{Bench, EditFault};
-use sbl_formats::{BlockFault, BlockText};
 use sbl_history::Desk;
-use sbl_reports::families_text;
+use sbl_reports::{BlockFault, BlockText, families_text};
 use sbl_script::{Part, ScriptFault};
-use sbl_sessions::{BAD_COMMAND, Reply, Target, report};
+use sbl_sessions::{BAD_COMMAND, Reply, part_of, report};
 use sbl_source_map::without_head;
 use std::alloc::{AllocError, Global};
 
@@ -44,17 +43,6 @@ fn replace_by(desk: &mut Desk, bench: &mut Bench, block: BlockText) -> Result<()
     }
 }
 
-/// Returns the part of a script that a target is.
-pub fn part_of(target: &Target) -> Part<'_>
-    ensures { view_part result ≡ view_target target.now }
-{
-    match target {
-        Target::Body(name) => Part::Routine(name.as_str()),
-        Target::Among(name, k) => Part::Among(name.as_str(), *k),
-        Target::Terms(name) => Part::Grouping(name.as_str()),
-    }
-}
-
 /// Replaces a part of the script by a text that may begin as its definition does.
 fn replace_part_by(
     alloc: Global,
@@ -74,34 +62,49 @@ fn replace_part_by(
     }
 }
 
-/// Makes the edit that a target and a block ask for, and returns the reply.
-fn edit_target(
-    alloc: Global,
-    desk: &mut Desk,
-    bench: &mut Bench,
-    target: &Target,
-    block: BlockText,
-) -> Reply
-    ensures { (lines : List (List ℕ)) → HoldsText block lines → Answers bench.old desk.old (spec.part_command (Some (view_target target.now)) (text_of_block lines)) result bench.new desk.new }
-{
-    match text_of(block) {
-        Ok(text) => edit_reply(replace_part_by(alloc, desk, bench, part_of(target), &text)),
-        Err(fault) => edit_reply(Err(fault)),
-    }
-}
-
-/// Makes the edit that a line and its block ask for, and returns the reply. A bad line is refused, whatever its block is.
+/// Makes the edit of a part by a block, and returns the reply.
 fn edit_part(
     alloc: Global,
     desk: &mut Desk,
     bench: &mut Bench,
-    target: Result<Option<Target>, AllocError>,
+    part: Part<'_>,
     block: BlockText,
 ) -> Reply
-    ensures { (line : List ℕ) (lines : List (List ℕ)) → FindsTarget target line → HoldsText block lines → Answers bench.old desk.old (part_edit line lines) result bench.new desk.new }
+    ensures { (lines : List (List ℕ)) → HoldsText block lines → Answers bench.old desk.old (spec.part_command (Some (view_part part.entry)) (text_of_block lines)) result bench.new desk.new }
 {
-    match target {
-        Ok(Some(target)) => edit_target(alloc, desk, bench, &target, block),
+    match text_of(block) {
+        Ok(text) => edit_reply(replace_part_by(alloc, desk, bench, part, &text)),
+        Err(fault) => edit_reply(Err(fault)),
+    }
+}
+
+fn edit_named(
+    alloc: Global,
+    desk: &mut Desk,
+    bench: &mut Bench,
+    line: &str,
+    block: BlockText,
+) -> Reply
+    ensures { (lines : List (List ℕ)) → HoldsText block lines → Answers bench.old desk.old (part_edit line.now lines) result bench.new desk.new }
+{
+    match part_of(line) {
+        Some(part) => edit_part(alloc, desk, bench, part, block),
+        None => Reply::Fixed(BAD_COMMAND),
+    }
+}
+
+/// Makes the edit that a line and its block ask for, and returns the reply. A bad line is refused, whatever its block is.
+fn edit_kept(
+    alloc: Global,
+    desk: &mut Desk,
+    bench: &mut Bench,
+    kept: Result<Option<String>, AllocError>,
+    block: BlockText,
+) -> Reply
+    ensures { (line : List ℕ) (lines : List (List ℕ)) → KeepsLine kept line → HoldsText block lines → Answers bench.old desk.old (part_edit line lines) result bench.new desk.new }
+{
+    match kept {
+        Ok(Some(line)) => edit_named(alloc, desk, bench, line.as_str(), block),
         Ok(None) => Reply::Fixed(BAD_COMMAND),
         Err(_) => edit_reply(Err(EditFault::OutOfMemory)),
     }
@@ -147,7 +150,7 @@ fn families_of(alloc: Global, bench: &Bench, block: BlockText) -> Reply
 
 /// Makes the edit or the report that a line asks for with its block, and returns the reply. `request` is what `block_request`
 /// returns for the line.
-pub fn answer_block(
+pub(crate) fn answer_block(
     alloc: Global,
     desk: &mut Desk,
     bench: &mut Bench,
@@ -157,7 +160,7 @@ pub fn answer_block(
     ensures { (line : List ℕ) (lines : List (List ℕ)) → FindsBlock request line → HoldsText block lines → Answers bench.old desk.old (spec.block_command line lines) result bench.new desk.new }
 {
     match request {
-        BlockRequest::Part(target) => edit_part(alloc, desk, bench, target, block),
+        BlockRequest::Part(kept) => edit_kept(alloc, desk, bench, kept, block),
         BlockRequest::Whole(is_good) => replace_reply(desk, bench, is_good, block),
         BlockRequest::Families => families_of(alloc, bench, block),
     }

@@ -2,7 +2,7 @@
 ghost use Rattle.std.specs.Prelude.{None, OnErr, OnOk, Some};
 ghost use Rattle.sbl_sessions.specs.Answers.{edit_text};
 ghost use Rattle.sbl_sessions.specs.CommandViews.{IsReply};
-ghost use Rattle.sbl_sessions.specs.Faults.{fault_in};
+ghost use Rattle.sbl_sessions.specs.EditFaults.{fault_in};
 ghost use Rattle.sbl_work.specs.Replies as spec;
 
 use sbl_bench::EditFault;

@@ -5,7 +5,7 @@ ghost use Rattle.sbl_sessions.specs.Words as words;
 ghost use Rattle.sbl_work.specs.Commands as spec;
 ghost use Rattle.sbl_work.specs.ReplyViews.{FindsBlock, view_request};
 
-use sbl_sessions::{Target, block_word, number_in, target_of};
+use sbl_sessions::{asks_block, keep_line, number_in};
 use std::alloc::{AllocError, Global};
 
 /// What a line without a block asks for.
@@ -52,8 +52,8 @@ pub(crate) enum Request<'a> {
 /// What a line with a block asks for.
 #[derive(Debug, Drop)]
 pub enum BlockRequest {
-    /// Replaces a part of the script; none if the line is bad, or an allocation for its name failed.
-    Part(Result<Option<Target>, AllocError>),
+    /// Replaces the part of the script that the line names; none if the line is bad, or an allocation for it failed.
+    Part(Result<Option<String>, AllocError>),
     /// Replaces the whole script, if the line is `replace` alone.
     Whole(bool),
     /// Reports on families.
@@ -92,8 +92,8 @@ fn asks_replace(line: &[u8]) -> bool
 pub fn block_request(alloc: Global, line: &[u8]) -> Option<BlockRequest>
     ensures { MatchOption result (spec.asks_work_block line.now ≡ false) (λ request. FindsBlock request line.now) }
 {
-    if let Some(word) = block_word(line) {
-        return Some(BlockRequest::Part(target_of(alloc, word, line)));
+    if asks_block(line) {
+        return Some(BlockRequest::Part(keep_line(alloc, line)));
     }
     if asks_replace(line) {
         return Some(BlockRequest::Whole(line == b"replace".as_slice()));

@@ -8,8 +8,8 @@ ghost use Rattle.sbl_work.specs.Replies.{integers_reply_text, why_reply_text};
 
 use crate::replies::edit_reply;
 use sbl_bench::{Bench, EditFault};
+use sbl_explain::{integers_text, why_text};
 use sbl_sessions::Reply;
-use sbl_why::{integers_text, why_text};
 use std::alloc::{AllocError, Global};
 
 /// Returns the characters of a text. Returns `AllocError` if an allocation fails.

@@ -1,6 +1,6 @@
 //! Tests of checks with writers in memory. tests/cases has more of them.
 
-use sbl_check::check;
+use sbl_batch::check;
 use sbl_io::Device;
 use sbl_script::Script;
 use std::alloc::Global;

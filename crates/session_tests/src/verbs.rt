@@ -1,6 +1,6 @@
 //! A session or a filter over a reader and a writer in memory, from its script to its end.
 
-use sbl_filter::{WordFault, filter, filter_to_end};
+use sbl_batch::{WordFault, filter, filter_to_end};
 use sbl_input::{LoadFault, load, read_script};
 use sbl_io::{Device, Lines};
 use sbl_script::Script;

@@ -5,7 +5,7 @@ use Rattle.std.specs.declared.vec.Vec.{Vec}
 use Rattle.std.specs.declared.alloc.Global.{Global}
 use Rattle.sbl_bench.specs.Contents.{Contents}
 use Rattle.sbl_bench.specs.declared.fault.EditFault.TheVariants as edit
-use Rattle.sbl_check.specs.Differences.{IsChecked}
+use Rattle.sbl_batch.specs.Differences.{IsChecked}
 use Rattle.sbl_ast.specs.Source.{Source}
 use Rattle.sbl_input.specs.Loading.{IsLoaded, ReadsScript, TookSource}
 use Rattle.sbl_sessions.specs.Session.{IsSession}
@@ -16,10 +16,10 @@ use Rattle.sbl_io.specs.declared.faults.ServeFault.TheVariants as fault
 use Rattle.sbl_input.proofs.LoadFacts.{script_unread}
 use Rattle.snowbench.specs.WholeCheck.{ChecksLists, IsWholeCheck, LacksScript, ReadsExpected, ReadsWords, list_text}
 use Rattle.snowbench.specs.WholeFilter.{IsWholeFilter, line_of_fault}
-use Rattle.sbl_filter.specs.ToEnd.{FiltersToEnd, without_line}
-use Rattle.sbl_filter.specs.declared.word_fault.WordFault.{WordFault}
+use Rattle.sbl_batch.specs.ToEnd.{FiltersToEnd, without_line}
+use Rattle.sbl_batch.specs.declared.word_fault.WordFault.{WordFault}
 use Rattle.snowbench.specs.WholeSession.{IsWholeSession, as_load}
-use Rattle.sbl_filter.specs.Filter.{IsFiltered}
+use Rattle.sbl_batch.specs.Filter.{IsFiltered}
 use Rattle.snowbench.specs.StemmedRows.{IsStemmed}
 use Rattle.snowbench.specs.Program.{IsAnswer, IsReported, IsWritten, fault_line}
 use Rattle.sbl_command_line.specs.declared.command_line.Verb.{Verb}

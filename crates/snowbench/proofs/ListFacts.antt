@@ -7,7 +7,7 @@ use Rattle.sbl_io.specs.HeldInput.{AllFit}
 use Rattle.sbl_io.specs.Faults.{serve_fault_of}
 use Rattle.sbl_io.specs.declared.faults.LineFault.{LineFault}
 use Rattle.sbl_io.specs.declared.faults.LineFault.TheVariants.{Read, TooLong}
-use Rattle.sbl_formats.specs.Block.{BlockLines, Breaks}
+use Rattle.sbl_reports.specs.Block.{BlockLines, Breaks}
 use Rattle.snowbench.specs.WholeCheck.{ReadsExpected, ReadsWords, list_text}
 
 -- one more line

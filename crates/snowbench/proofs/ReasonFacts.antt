@@ -4,11 +4,11 @@ use Rattle.std.specs.Prelude.{IfErr, if◌then◌else◌, nat_lt}
 use Rattle.std.specs.Option.{option_or}
 use Rattle.std.specs.Str.{is_utf8}
 use Rattle.sbl_bench.specs.Contents.{Contents}
-use Rattle.sbl_check.specs.Differences.{IsChecked, ending, line_fault, pair_fault}
+use Rattle.sbl_batch.specs.Differences.{IsChecked, ending, line_fault, pair_fault}
 use Rattle.sbl_ast.specs.Source.{Source}
 use Rattle.sbl_input.specs.Loading as load
 use Rattle.sbl_input.specs.Loading.{AfterSource, IsLoaded, ReadsScript, WordLines}
-use Rattle.sbl_formats.specs.Block.{BlockLines, Breaks}
+use Rattle.sbl_reports.specs.Block.{BlockLines, Breaks}
 use Rattle.sbl_sessions.specs.Session.{Ends}
 use Rattle.sbl_input.specs.declared.faults.LoadFault.{LoadFault}
 use Rattle.sbl_input.specs.declared.faults.LoadFault.TheVariants.{Input}

@@ -10,7 +10,7 @@ use Rattle.sbl_io.specs.Devices.{HasStopped, IsUnused, Tally, max_count}
 use Rattle.sbl_io.specs.HeldInput.{HasCause, InTime, KeepsTime, fault_of, input_of, max_reads, reads_bound}
 use Rattle.sbl_io.specs.declared.lines.Lines.{Lines}
 use Rattle.sbl_io.specs.declared.faults.ServeFault.TheVariants as fault
-use Rattle.sbl_filter.specs.Filter.{IsFiltered}
+use Rattle.sbl_batch.specs.Filter.{IsFiltered}
 use Rattle.snowbench.specs.StemmedRows.{IsStemmed}
 use Rattle.snowbench.specs.WholeCheck.{IsWholeCheck}
 use Rattle.snowbench.specs.WholeSession.{IsWholeSession}

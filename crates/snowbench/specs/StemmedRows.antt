@@ -6,7 +6,7 @@ use Rattle.sbl_bench.specs.KeptRuns.{contents_of}
 use Rattle.sbl_bench.specs.Contents.{opening_contents, opening_fault}
 use Rattle.sbl_ast.specs.Source.{Source}
 use Rattle.sbl_input.specs.Loading.{IsInput, IsLoaded}
-use Rattle.sbl_listings.specs.Listings.{stems_text}
+use Rattle.sbl_reports.specs.Listings.{stems_text}
 use Rattle.sbl_input.specs.declared.faults.LoadFault.{LoadFault}
 use Rattle.sbl_input.specs.declared.faults.LoadFault.TheVariants.{Input}
 use Rattle.sbl_io.specs.declared.faults.ServeFault.TheVariants as fault

@@ -5,8 +5,8 @@ use Rattle.std.specs.Io.KnownBytes.{Appends, IsAtEnd}
 use Rattle.std.specs.declared.vec.Vec.{Vec}
 use Rattle.std.specs.declared.alloc.Global.{Global}
 use Rattle.sbl_ast.specs.Source.{Source}
-use Rattle.sbl_check.specs.Differences.{IsChecked}
-use Rattle.sbl_formats.specs.Block.{BlockLines, Breaks, TookBlock}
+use Rattle.sbl_batch.specs.Differences.{IsChecked}
+use Rattle.sbl_reports.specs.Block.{BlockLines, Breaks, TookBlock}
 use Rattle.sbl_input.specs.Loading.{ReadsScript, TookFault, TookSource}
 use Rattle.sbl_input.specs.declared.faults.LoadFault.{LoadFault}
 use Rattle.sbl_input.specs.declared.faults.LoadFault.TheVariants.{Script}

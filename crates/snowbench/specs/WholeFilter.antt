@@ -2,8 +2,8 @@
 use Rattle.std.specs.Prelude.{◌≡◌, ◌⊎◌, ℕ, List, [], Option, Some, None, Result, Ok, Err, IfErr}
 use Rattle.std.specs.Io.KnownBytes.{Appends}
 use Rattle.sbl_ast.specs.Source.{Source}
-use Rattle.sbl_filter.specs.ToEnd.{FiltersToEnd, without_line}
-use Rattle.sbl_filter.specs.declared.word_fault.WordFault.{WordFault}
+use Rattle.sbl_batch.specs.ToEnd.{FiltersToEnd, without_line}
+use Rattle.sbl_batch.specs.declared.word_fault.WordFault.{WordFault}
 use Rattle.sbl_input.specs.Loading.{TookSource}
 use Rattle.sbl_input.specs.declared.faults.LoadFault.{LoadFault}
 use Rattle.sbl_io.specs.Devices.{Tally}

@@ -10,7 +10,7 @@ ghost use Rattle.snowbench.specs.Filtering.{faults_of, line_in};
 ghost use Rattle.snowbench.specs.WholeFilter.{IsWholeFilter, RunsFilter};
 
 use crate::program::push_fault;
-use sbl_filter::filter_to_end;
+use sbl_batch::filter_to_end;
 use sbl_input::{LoadFault, read_script};
 use sbl_io::{Lines, Sink, Source};
 use sbl_script::Script;

@@ -2,16 +2,15 @@
 #![tactic(auto)]
 
 mod file_filter;
-mod laws;
+pub mod laws;
 mod program;
 
 pub use file_filter::{FilterEnd, run_filter};
-pub use laws::lists_are_read;
 pub use program::{run, run_with};
+pub use sbl_batch::check;
 pub use sbl_bench::WordKeys;
-pub use sbl_check::check;
 pub use sbl_command_line::{Face, Options, Verb, Wanted, read_words};
-pub use sbl_input::{LoadFault, load, load_with_keys, loading_is_one};
+pub use sbl_input::{LoadFault, load, load_with_keys};
 pub use sbl_io::{Device, LineFault, Lines, MAX_LINE, ServeFault, Sink, Source, Stop};
 pub use sbl_script::ScriptFault;
-pub use sbl_sessions::{answers_are_one, serve};
+pub use sbl_sessions::serve;

@@ -12,10 +12,9 @@ ghost use Rattle.snowbench.specs.StemmedRows.{IsStemmed};
 ghost use Rattle.snowbench.specs.WholeCheck.{ChecksLists, IsWholeCheck, ReadsExpected, ReadsWords};
 ghost use Rattle.snowbench.specs.WholeSession.{IsWholeSession};
 
+use sbl_batch::{check, filter};
 use sbl_bench::WordKeys;
-use sbl_check::check;
 use sbl_command_line::{Verb, Wanted};
-use sbl_filter::filter;
 use sbl_input::{LoadFault, load_rows, load_with_keys, read_script};
 use sbl_io::{Lines, ServeFault, Sink, Source, write_all};
 use sbl_script::Script;

@@ -1,6 +1,6 @@
 //! What is said between an input and the replies to it: which block a reply refuses.
 
-use sbl_sessions::block_word;
+use sbl_sessions::asks_block as asks_part;
 use sbl_work::block_request;
 use std::alloc::Global;
 
@@ -230,6 +230,6 @@ fn asks_block(alloc: Global, lead: Lead, line: &[u8]) -> bool {
     if lead == Lead::Work {
         block_request(alloc, line).is_some()
     } else {
-        block_word(line).is_some()
+        asks_part(line)
     }
 }

@@ -6,8 +6,7 @@ ghost use Rattle.std.specs.Io.{ReadsAtMost};
 use crate::messages::print_line;
 use crate::talk::{PROMPT, Talk};
 use sbl_diagnostics::{TypedBlock, fault_of, part_text, script_fault_text, whole_text};
-use sbl_sessions::{block_word, target_of};
-use sbl_work::part_of;
+use sbl_sessions::part_of;
 use std::alloc::{AllocError, Global};
 use std::cell::RefCell;
 use std::io::{Read, Write};
@@ -103,11 +102,11 @@ fn block_text<'x>(
     if command == b"replace".as_slice() {
         return whole_text(alloc, typed);
     }
-    let Some(word) = block_word(command) else {
+    let Ok(command) = str::from_utf8(command) else {
         return Ok(None);
     };
-    match target_of(alloc, word, command)? {
-        Some(target) => part_text(alloc, typed, part_of(&target)),
+    match part_of(command) {
+        Some(part) => part_text(alloc, typed, part),
         None => Ok(None),
     }
 }

@@ -1,8 +1,9 @@
 //! sbl_bench: the rows and classes of a vocabulary, its edits, and why they are refused.
 
-use crate::common::{displays, letters, lists, parse_body, parse_text, text_of};
-use sbl_bench::{Bench, Class, EditFault, Row, ScriptFault};
+use crate::common::{displays, field, letters, lists, parse_body, parse_text, text_of};
+use sbl_bench::{Bench, Class, EditFault, Row, ScriptFault, differences};
 use sbl_machine::{Item, Outcome};
+use sbl_script::Script;
 use std::alloc::{AllocError, Global};
 use std::process::Abort;
 use std::test::Fail;
@@ -64,6 +65,14 @@ fn class_of_text(alloc: Global, bench: &Bench, word: &str) -> Result<String, All
     }
 }
 
+/// The name of an item, with the number of an among, and a semicolon.
+fn item_text(alloc: Global, item: &Item) -> Result<String, AllocError> {
+    match item {
+        Item::Routine(name) | Item::Grouping(name) => format!(in alloc; "{name};"),
+        Item::Among(name, k) => format!(in alloc; "{name} {k};"),
+    }
+}
+
 /// The names of the routines that a word touched, `none` if the word is not there.
 fn touched_text(alloc: Global, bench: &Bench, word: &str) -> Result<String, AllocError> {
     let Some(items) = bench.touched(&letters(alloc, word)?)? else {
@@ -71,13 +80,43 @@ fn touched_text(alloc: Global, bench: &Bench, word: &str) -> Result<String, Allo
     };
     let mut text = String::new(alloc);
     for item in items.iter() {
-        let shown = match item {
-            Item::Routine(name) | Item::Grouping(name) => format!(in alloc; "{name};")?,
-            Item::Among(name, k) => format!(in alloc; "{name} {k};")?,
-        };
-        text.push_str(shown.as_str())?;
+        text.push_str(item_text(alloc, item)?.as_str())?;
     }
     Ok(text)
+}
+
+/// The items in which a script differs from that of a text, each with a semicolon; `more` if they differ in more.
+fn differences_text(alloc: Global, script: &Script, other: &str) -> Result<String, Fail> {
+    let other = parse_text(alloc, other)?;
+    let differing = differences(alloc, script, &other);
+    drop(other);
+    let Some(items) = differing? else {
+        return Ok(String::from_str(alloc, "more")?);
+    };
+    let mut text = String::new(alloc);
+    for item in &items {
+        text.push_str(item_text(alloc, item)?.as_str())?;
+    }
+    Ok(text)
+}
+
+/// Two scripts, and the items in which they differ.
+const DIFFERING: &str = "PLURALS|PLURALS|
+PLURALS|PREFIXES|more
+PREFIXES|externals ( stem ) define stem as ( [ among ( 'un' () 'in' () ) ] delete )|stem 1;
+PREFIXES|externals ( stem ) define stem as ( [ among ( 'un' () 're' () ) ] )|stem;
+GROUPINGS|groupings ( v w ) externals ( stem ) define v 'aei' define w v + 'y' define stem as true|v;stem;";
+
+#[test]
+fn two_scripts_differ_in_items(rt: HostRuntime) -> Result<(), Fail> {
+    let alloc = rt.alloc();
+    for row in DIFFERING.split('\n') {
+        let script = parse_text(alloc, field(row, 0))?;
+        let items = differences_text(alloc, &script, field(row, 1));
+        drop(script);
+        assert!(rt; items?.as_str() == field(row, 2), "{row}");
+    }
+    Ok(())
 }
 
 /// Asserts the rows, the classes and the count of runs of a bench.

@@ -1,18 +1,11 @@
 //! Whole scripts as edits, with the rows and the count of runs after each.
 
-use crate::tests::bench::{bench_of, rows_shown};
 use crate::tests::edits::tries;
-use sbl_bench::Bench;
-use sbl_script::Script;
 use std::alloc::{AllocError, Global};
-use std::process::Abort;
 use std::test::Fail;
-use test_support::{field, with_line_feeds};
+use test_support::field;
 
 const WORDS: &str = "xyb,ab,xb,q,ad";
-
-/// The rows of these words under `FIRST`.
-const ROWS: &str = "xyb xb;ab a;xb b;q ;ad ad;";
 
 /// Two groupings are built from `v`. `xyb` tests `u`, `xb` tests `u` and `w`, `q` tests `w`, and `ab` and `ad` test none of them.
 /// `ab` and `ad` enter `tail`, and only `ab` searches its among.
@@ -23,17 +16,10 @@ const FIRST: &str =
 const LAID_OUT: &str =
     "// the groupings¶groupings(v w u)routines(head tail)externals(stem)¶define v'a' /* and */ define w v+'b'¶define u v+'y' define head as([u]delete)¶define tail as('d'or([among('b'()'c'())]delete))¶define stem as('x'head)or('a'tail)or([non w]delete)";
 
-const OTHER_EXTERNAL: &str = "externals ( other ) define other as next";
-
 /// Returns the text with `new` in place of the first `old`.
 fn replace_first(alloc: Global, text: &str, old: &str, new: &str) -> Result<String, AllocError> {
     let (prefix, back) = text.split_once(old).unwrap_or(("", ""));
     format!(in alloc; "{prefix}{new}{back}")
-}
-
-/// Returns the first script with a `head` that takes nothing off.
-fn other_routine(alloc: Global) -> Result<String, AllocError> {
-    replace_first(alloc, FIRST, "( [ u ] delete )", "( u )")
 }
 
 /// Whole scripts one after another: a text, `first`, `laid out` or `before` for the script before it; a part of it and what is in its place
@@ -103,55 +89,4 @@ fn a_script_that_is_too_long_changes_nothing(rt: HostRuntime) -> Result<(), Fail
     let case = case_of(alloc, text.as_str())?;
     tries(&rt, alloc, case.as_str())?;
     Ok(())
-}
-
-/// Installs a script, and then the one that was in force, with the rows and the count of runs after each.
-fn installs(
-    rt: &impl Abort,
-    alloc: Global,
-    bench: &mut Bench,
-    script: &mut Script,
-    rows: [(&str, u64); 2],
-) -> Result<(), Fail> {
-    for (want, runs) in rows {
-        assert_eq!(rt; bench.install(script), Ok(()));
-        let shown = rows_shown(alloc, bench)?;
-        assert_eq!(rt; shown.as_str(), want);
-        assert_eq!(rt; bench.runs(), runs);
-    }
-    Ok(())
-}
-
-/// Installs an edited script and takes it back. The two words run that enter the routine which differs.
-fn installs_an_edited_one(rt: &impl Abort, alloc: Global, bench: &mut Bench) -> Result<(), Fail> {
-    let rows = [("xyb xyb;ab a;xb b;q ;ad ad;", 7), (ROWS, 9)];
-    let text = with_line_feeds(alloc, other_routine(alloc)?.as_str())?;
-    let mut script = Script::parse(alloc, text.as_str().as_bytes(), "stem")?;
-    let done = installs(rt, alloc, bench, &mut script, rows);
-    script.discard();
-    done
-}
-
-/// Installs a script with another external and takes it back. All words run.
-fn installs_another(rt: &impl Abort, alloc: Global, bench: &mut Bench) -> Result<(), Fail> {
-    let rows = [("xyb xyb;ab ab;xb xb;q q;ad ad;", 14), (ROWS, 19)];
-    let mut script = Script::parse(alloc, OTHER_EXTERNAL.as_bytes(), "other")?;
-    let done = installs(rt, alloc, bench, &mut script, rows);
-    script.discard();
-    done
-}
-
-/// Does both in turn.
-fn installs_both(rt: &impl Abort, alloc: Global, bench: &mut Bench) -> Result<(), Fail> {
-    installs_an_edited_one(rt, alloc, bench)?;
-    installs_another(rt, alloc, bench)
-}
-
-#[test]
-fn installing_the_script_before_takes_an_edit_back(rt: HostRuntime) -> Result<(), Fail> {
-    let alloc = rt.alloc();
-    let mut bench = bench_of(alloc, FIRST, WORDS)?;
-    let done = installs_both(&rt, alloc, &mut bench);
-    bench.leak();
-    done
 }

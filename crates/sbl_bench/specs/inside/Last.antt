@@ -1,5 +1,5 @@
 -- The words that the last edit ran again, each with its run before, next to the words with their runs now.
-use Rattle.std.specs.Prelude.{◌≡◌, ◌≢◌, ℕ, false, List, Option, Some, IsSome}
+use Rattle.std.specs.Prelude.{◌≡◌, ◌≢◌, ℕ, false, List, Option, Some, IsSome, map}
 use Rattle.std.specs.List.{All, AllPairs, filter_map}
 use Rattle.std.specs.Option.{option_and_then}
 use Rattle.sbl_semantics.specs.Outcome.{outcome_of, run_of}
@@ -25,6 +25,10 @@ last_changes entries last = filter_map (last_change entries) last
 -- what an edit that leads from one setting to another one changes for a word
 abbrev pub change_of : Setting → Setting → List ℕ → Option ChangedRow
 change_of s t word = if_changed word (run_of s.script word s.limit) (run_of t.script word t.limit)
+
+-- the same for the words of these changes
+abbrev pub rows_between : Setting → Setting → List Change → List ChangedRow
+rows_between s t changes = filter_map (change_of s t) (map (λ c. c.word.items) changes)
 
 -- a word of a change, and its run
 abbrev pub word_run : Change → List ℕ × Option RunTrace

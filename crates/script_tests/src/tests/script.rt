@@ -120,7 +120,6 @@ fn a_script_keeps_what_was_read(rt: HostRuntime) {
     script.discard();
 }
 
-
 #[test]
 fn the_laws_of_trees_and_scripts_are_called(_rt: HostRuntime) {
     one_tree();

@@ -1,10 +1,10 @@
 use Rattle.std.proofs.Common.{refl, ap, ◌≡◌, ◌≢◌, ◌∙◌, ◌++◌, [], ◌∷◌, arith, rules, inl, inr, map, sym, subst, List, ℕ, true}
 use Rattle.std.specs.Str.{chars, is_utf8}
 use Rattle.std.proofs.lemmas.Result.{err_from_is_err_and}
-use Rattle.sbl_formats.specs.Block.{point}
+use Rattle.sbl_reports.specs.Block.{point}
 use Rattle.sbl_input.specs.WordLists.{HoldsWords}
 use Rattle.sbl_io.specs.HeldInput.{input_of, line_of, GivesLine}
-use Rattle.sbl_formats.proofs.BlockFacts.{all_fit-push, no_point-push}
+use Rattle.sbl_reports.proofs.BlockFacts.{all_fit-push, no_point-push}
 use Rattle.sbl_io.proofs.Bytes.{took-kept, took-none, took-trans}
 use Rattle.sbl_input.proofs.LoadFacts.{IsUnreadWord, all_text-push, chars-push, word_unread, words_stopped}
 use Rattle.sbl_input.proofs.loading.read_words.Goals as goal

@@ -1,6 +1,6 @@
 use Rattle.std.proofs.Common.{◌≡◌, ◌≤◌, List, ℕ, map}
 use Rattle.std.specs.Str.{chars}
-use Rattle.sbl_formats.specs.Block.{NoPoint}
+use Rattle.sbl_reports.specs.Block.{NoPoint}
 use Rattle.sbl_input.specs.Loading.{AllText}
 use Rattle.sbl_input.specs.WordLists.{HoldsWords}
 use Rattle.sbl_io.specs.HeldInput.{AllFit, KeepsTime, Took, fault_of, fuel_of, input_of, reads_bound}

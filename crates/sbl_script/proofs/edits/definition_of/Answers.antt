@@ -1,4 +1,4 @@
-use Rattle.std.proofs.Common.{rules, ◌≡◌, None, Some, ◌∙◌, arith}
+use Rattle.std.proofs.Common.{◌≡◌, None, Some, ◌∙◌, arith}
 use Rattle.std.proofs.lemmas.Grind.{common_steps}
 use Rattle.sbl_ast.specs.View.{view_items, view_plain}
 use Rattle.sbl_script.specs.Edits.{changes}

@@ -7,8 +7,8 @@ use Rattle.sbl_print.specs.Canonical.{canonical}
 use Rattle.sbl_sessions.specs.Answers.{Enough, with_line_feed}
 use Rattle.sbl_sessions.specs.CommandViews.{IsAnswer, IsEditAnswer}
 use Rattle.sbl_sessions.specs.Commands.{Command, Makes}
-use Rattle.sbl_sessions.specs.inside.Names.{Class, Classes, Runs, Script, Stems}
-use Rattle.sbl_listings.specs.Listings.{classes_text, stems_text}
+use Rattle.sbl_sessions.specs.inside.SessionParts.{Class, Classes, Runs, Script, Stems}
+use Rattle.sbl_reports.specs.Listings.{classes_text, stems_text}
 use Rattle.sbl_sessions.specs.declared.replies.Reply.TheVariants as reply
 use Rattle.sbl_sessions.proofs.EditFacts.{answer_of_edit}
 use Rattle.sbl_sessions.proofs.ReportFacts.{report_answer}

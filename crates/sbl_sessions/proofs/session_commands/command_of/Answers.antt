@@ -2,7 +2,7 @@ use Rattle.std.proofs.Common.{◌≡◌, ◌∙◌, arith, rules, refl, sym, ap,
 use Rattle.std.specs.Str.{IsUtf8, is_utf8}
 use Rattle.std.proofs.lemmas.Str.{IsUtf8-from_is_utf8, is_utf8-from_IsUtf8}
 use Rattle.sbl_sessions.specs.Commands as spec
-use Rattle.sbl_sessions.specs.inside.Names as names
+use Rattle.sbl_sessions.specs.inside.SessionParts as names
 use Rattle.sbl_sessions.proofs.CommandFacts.{by_tables}
 use Rattle.sbl_sessions.proofs.session_commands.command_of.Goals as goal
 

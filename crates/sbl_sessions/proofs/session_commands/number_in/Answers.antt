@@ -1,6 +1,6 @@
 use Rattle.std.proofs.Common.{◌≡◌, ◌+◌, ◌-◌, ◌*◌, ◌≤◌, min, get_or, true, arith, rules}
 use Rattle.sbl_text.specs.Classes.{is_digit}
-use Rattle.sbl_sessions.specs.inside.Names.{max_number}
+use Rattle.sbl_sessions.specs.inside.SessionParts.{max_number}
 use Rattle.sbl_sessions.proofs.NumberFacts.{reads_more}
 use Rattle.sbl_sessions.proofs.session_commands.number_in.Goals as goal
 

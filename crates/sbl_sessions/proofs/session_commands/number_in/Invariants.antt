@@ -1,5 +1,5 @@
 use Rattle.std.proofs.Common.{◌≤◌}
-use Rattle.sbl_sessions.specs.inside.Names.{max_number}
+use Rattle.sbl_sessions.specs.inside.SessionParts.{max_number}
 use Rattle.sbl_sessions.proofs.NumberFacts.{Reads}
 use Rattle.sbl_sessions.proofs.session_commands.number_in.Given as goal
 

@@ -2,7 +2,7 @@ use Rattle.std.proofs.Common.{rules, ◌≡◌, Option, List, ℕ, Some, ap, sub
 use Rattle.std.specs.Borrow.{Bor}
 use Rattle.sbl_bench.specs.KeptRuns.{contents_of}
 use Rattle.sbl_io.specs.LinesOf.{lines_of}
-use Rattle.sbl_formats.specs.Block.{made_text}
+use Rattle.sbl_reports.specs.Block.{made_text}
 use Rattle.sbl_work.specs.Commands.{Families, families_in_file, with_file}
 use Rattle.sbl_work.specs.ReplyViews.{IsWorkAnswer, view_file}
 use Rattle.sbl_work.proofs.ReplyFacts.{same_command}

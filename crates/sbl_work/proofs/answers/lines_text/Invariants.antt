@@ -1,6 +1,6 @@
 use Rattle.std.proofs.Common.{◌≡◌, ◌++◌, length}
 use Rattle.sbl_io.specs.LinesOf.{lines_of}
-use Rattle.sbl_formats.specs.Block.{made_text}
+use Rattle.sbl_reports.specs.Block.{made_text}
 use Rattle.sbl_work.proofs.answers.lines_text.Given as goal
 
 abbrev pub invariant-loop-line : goal.invariant-loop-line

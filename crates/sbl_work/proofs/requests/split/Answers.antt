@@ -1,6 +1,6 @@
 use Rattle.std.proofs.Common.{◌≡◌, ◌∙◌, ◌+◌, arith, rules, sym, get_or, true}
 use Rattle.std.proofs.lemmas.List.{length-drop, take_all}
-use Rattle.sbl_sessions.specs.inside.Names.{is_space}
+use Rattle.sbl_sessions.specs.inside.SessionParts.{is_space}
 use Rattle.sbl_sessions.proofs.CommandFacts.{word_before}
 use Rattle.sbl_work.proofs.LineFacts.{argument_after, no_argument}
 use Rattle.sbl_work.proofs.requests.split.Goals as goal

@@ -5,7 +5,7 @@ use Rattle.sbl_bench.specs.Whys.{refusal_of_why}
 use Rattle.sbl_bench.specs.declared.fault.EditFault.TheVariants as fault
 use Rattle.sbl_sessions.specs.Answers.{edit_text}
 use Rattle.sbl_sessions.specs.CommandViews.{IsReply}
-use Rattle.sbl_why.specs.WhyRows.{why_text}
+use Rattle.sbl_explain.specs.WhyRows.{why_text}
 use Rattle.sbl_work.specs.Replies.{why_reply_text}
 use Rattle.sbl_work.proofs.ReplyFacts.{rows_told}
 use Rattle.sbl_work.proofs.whys.why_reply.Goals as goal

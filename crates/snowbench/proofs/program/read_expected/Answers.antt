@@ -2,7 +2,7 @@ use Rattle.std.proofs.Common.{◌≡◌, ◌∙◌, ◌++◌, [], ◌∷◌, ref
 use Rattle.std.proofs.lemmas.Result.{err_from_is_err_and}
 use Rattle.sbl_io.specs.HeldInput.{AllFit, fault_of, input_of, line_of}
 use Rattle.sbl_io.proofs.Bytes.{took-kept, took-none, took-trans}
-use Rattle.sbl_formats.proofs.BlockFacts.{all_fit-push, broken_block}
+use Rattle.sbl_reports.proofs.BlockFacts.{all_fit-push, broken_block}
 use Rattle.snowbench.proofs.ListFacts.{expected_broken, list-push}
 use Rattle.snowbench.proofs.program.read_expected.Goals as goal
 

@@ -2,8 +2,8 @@ use Rattle.std.proofs.Common.{◌≡◌, ◌≢◌, ◌∙◌, ◌++◌, [], ◌
 use Rattle.std.proofs.lemmas.Result.{err_from_is_err_and}
 use Rattle.sbl_io.specs.HeldInput.{GivesLine, fault_of, input_of, line_of}
 use Rattle.sbl_io.proofs.Bytes.{took-kept, took-none, took-trans}
-use Rattle.sbl_formats.specs.Block.{BlockLines, point}
-use Rattle.sbl_formats.proofs.BlockFacts.{all_fit-push, broken_block, no_point-push}
+use Rattle.sbl_reports.specs.Block.{BlockLines, point}
+use Rattle.sbl_reports.proofs.BlockFacts.{all_fit-push, broken_block, no_point-push}
 use Rattle.snowbench.proofs.ListFacts.{list-push, words_broken}
 use Rattle.snowbench.proofs.program.read_word_block.Goals as goal
 

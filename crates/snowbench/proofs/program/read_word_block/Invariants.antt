@@ -1,5 +1,5 @@
 use Rattle.std.proofs.Common.{◌≡◌, List, ℕ}
-use Rattle.sbl_formats.specs.Block.{BlockLines}
+use Rattle.sbl_reports.specs.Block.{BlockLines}
 use Rattle.snowbench.specs.WholeCheck.{list_text}
 use Rattle.sbl_io.specs.HeldInput.{KeepsTime, Took, fault_of, fuel_of, input_of, reads_bound}
 use Rattle.snowbench.proofs.program.read_word_block.Given as goal

@@ -5,8 +5,8 @@ use Rattle.sbl_rows.specs.Rows.{row_of}
 use Rattle.sbl_rows.specs.Setting.{under}
 use Rattle.sbl_io.specs.Records.{record_line}
 use Rattle.sbl_semantics.specs.Limit.{default_limit}
-use Rattle.sbl_formats.specs.RowRecords.{row_fields}
-use Rattle.sbl_formats.specs.RowWriter.{HasWritten}
+use Rattle.sbl_reports.specs.RowRecords.{row_fields}
+use Rattle.sbl_reports.specs.RowWriter.{HasWritten}
 use Rattle.sbl_input.specs.VocabularyRows.{text_of_rows}
 use Rattle.sbl_input.specs.WordLists.{texts_of}
 use Rattle.sbl_input.proofs.VocabularyFacts.{repeat-fine, repeat-skipped, new-full, new-last, rows-more}

@@ -1,0 +1,12 @@
+use Rattle.std.proofs.Common.{◌≡◌, ◌∙◌, [], ◌∷◌, List, ℕ, IfOk, ap, subst}
+use Rattle.sbl_semantics.specs.Outcome.{outcome_of}
+use Rattle.sbl_io.specs.Records as texts
+use Rattle.sbl_batch.proofs.RowFacts.{row-is}
+use Rattle.sbl_batch.proofs.row_writer.row_text.Goals as goal
+
+pub returns-clause-row : goal.returns-clause-row
+returns-clause-row c = λ s made.
+    let fields = ap (λ (r : List (List ℕ)). c.args.word.now ∷ r) c.in_ok-kind.ensures
+    ∙ row-is s c.args.word.now c.args.characters.now (outcome_of c.in-Ok.traced.outcome) c.utf8.word c.requires.is (c.in-Ok.ensures.outcome s made) in
+    let bytes = subst (λ (w : List ℕ). IfOk c.next_line.result (λ text. text.items ≡ texts.record_line (w ∷ c.in_ok-kind.kind.now ∷ c.in_ok-kind.text.now ∷ []))) c.as_bytes.ensures.value c.next_line.ensures.line in
+    subst (λ (r : List (List ℕ)). IfOk c.next_line.result (λ text. text.items ≡ texts.record_line r)) fields bytes

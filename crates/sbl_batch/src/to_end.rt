@@ -1,0 +1,80 @@
+//! Reads words up to the end of input, and writes the row of each before it reads the next.
+ghost use Rattle.std.specs.Prelude.{◌≡◌, ◌≤◌, None, Err, Result, IfErr, OnOk};
+ghost use Rattle.sbl_batch.specs.ToEnd.{FiltersToEnd, with_line, without_line};
+ghost use Rattle.sbl_io.specs.Devices.{HasStopped, WritesInTime};
+ghost use Rattle.sbl_io.specs.HeldInput.{KeepsTime, fault_of, input_of, reads_bound};
+ghost use Rattle.sbl_script.specs.ParsedScript.{source_of};
+ghost use Rattle.sbl_input.specs.Faults.{left_by_load};
+ghost use Rattle.sbl_input.specs.Loading.{HasReason};
+
+use crate::filtering::filter_line;
+use crate::row_writer::RowWriter;
+use crate::word_fault::WordFault;
+use sbl_input::LoadFault;
+use sbl_io::{Lines, ServeFault, Sink, Source};
+use sbl_machine::{Machine, Meter};
+use sbl_script::Script;
+
+/// Writes the rows of the words up to the end of input. `line` is the number of the next line.
+#[inline(never)]
+fn filter_lines<R: Source + Drop, W: Sink>(
+    lines: &mut Lines<R>,
+    script: &Script,
+    writer: &mut W,
+    line: &mut u64,
+) -> Result<(), LoadFault>
+    requires { line.old ≡ 1 }
+    ensures filters { fault_of lines.old ≡ None → FiltersToEnd (source_of script.now) (input_of R.left lines.old) (input_of R.left lines.new) (W.held writer.old) (W.held writer.new) (with_line line.new result) }
+    ensures remembered { fault_of lines.old ≡ None → fault_of lines.new ≡ left_by_load result }
+    ensures bound { reads_bound R.tally lines.new ≡ reads_bound R.tally lines.old }
+    ensures steady { OnOk result (((R.tally lines.new.reader).failures ≡ (R.tally lines.old.reader).failures) × ((W.tally writer.new).failures ≡ (W.tally writer.old).failures)) }
+    ensures why { IfErr result (λ fault. HasReason R.tally lines.old lines.new fault) }
+    ensures why_write { IfErr result (λ fault. fault ≡ LoadFault.Input ServeFault.Write → HasStopped W.tally writer.old writer.new) }
+    ensures reads_in_time { KeepsTime R.tally lines.old lines.new }
+    ensures writes_in_time { WritesInTime W.tally writer.old writer.new }
+{
+    let alloc = lines.alloc();
+    let machine = Machine::new(alloc, script)?;
+    let mut meter = Meter::new();
+    let mut rows = RowWriter::new(alloc);
+    while lines.next_line()? {
+        filter_line(alloc, &machine, &mut meter, &mut rows, lines.line(), writer)?;
+        *line = line.saturating_add(1);
+    }
+    Ok(())
+}
+
+/// Reads words up to the end of input, one a line, and writes the row of each word that is not empty before it reads the next line.
+/// A line `.` is a word, too. The row of a word is the one that `filter` writes for it, and a word that is there again has a row
+/// again.
+///
+/// Nothing is kept of a word after its row is written, and the number of words has no bound.
+///
+/// # Errors
+///
+/// At the first word that has a fault, returns it with the number of the word's line, after the rows of all words before that:
+/// `Read` or `LineTooLong` if its line cannot be read, `NotText` if it is not UTF-8, `WordTooLong` if it has more than 255
+/// characters, `Write` if the writer fails or is interrupted more than 1,000 times in a row; then a prefix of its row is written.
+/// Returns `OutOfMemory` if an allocation fails, after the rows of all words before.
+///
+/// The lines keep `Read` and `LineTooLong` and return them again. After any other fault, the next line is the one after the word.
+pub fn filter_to_end<R: Source + Drop, W: Sink>(
+    lines: &mut Lines<R>,
+    script: &Script,
+    writer: &mut W,
+) -> Result<(), WordFault>
+    ensures filters { fault_of lines.old ≡ None → FiltersToEnd (source_of script.now) (input_of R.left lines.old) (input_of R.left lines.new) (W.held writer.old) (W.held writer.new) result }
+    ensures remembered { fault_of lines.old ≡ None → fault_of lines.new ≡ left_by_load (without_line result) }
+    ensures bound { reads_bound R.tally lines.new ≡ reads_bound R.tally lines.old }
+    ensures steady { OnOk result (((R.tally lines.new.reader).failures ≡ (R.tally lines.old.reader).failures) × ((W.tally writer.new).failures ≡ (W.tally writer.old).failures)) }
+    ensures why { IfErr result (λ e. HasReason R.tally lines.old lines.new e.fault) }
+    ensures why_write { IfErr result (λ e. e.fault ≡ LoadFault.Input ServeFault.Write → HasStopped W.tally writer.old writer.new) }
+    ensures reads_in_time { KeepsTime R.tally lines.old lines.new }
+    ensures writes_in_time { WritesInTime W.tally writer.old writer.new }
+{
+    let mut line = 1;
+    match filter_lines(lines, script, writer, &mut line) {
+        Ok(()) => Ok(()),
+        Err(fault) => Err(WordFault { line, fault }),
+    }
+}

@@ -1,0 +1,19 @@
+mod WhyLines
+pub mod RunParts
+pub mod Onward
+pub mod Commands
+pub mod Compounds
+pub mod FirstAmongs
+pub mod SearchesEnd
+pub mod Bodies
+pub mod EachSearch
+pub mod PlainSearches
+pub mod IntegerLines
+pub mod Gathering
+pub mod Sets
+pub mod PartFacts
+pub mod Bases
+pub mod RowWords
+pub mod UnusedLines
+pub mod Unions
+pub mod Loops

@@ -1,0 +1,79 @@
+-- What several runs meet and take together.
+use Rattle.std.proofs.Common.{◌≡◌, ◌∙◌, ◌||◌, ◌<◌, ℕ, zero, suc, Bool, true, false, List, [], ◌∷◌, ◌++◌, ◌+◌, drop, get_or, length, map, refl, subst, sym, ap, ap₂}
+use Rattle.std.specs.List.{list_any}
+use Rattle.std.specs.Str.{bytes_eq}
+use Rattle.std.proofs.lemmas.Slice.Eq.{bytes_eq-Decides}
+use Rattle.sbl_rows.specs.Setting.{Setting}
+use Rattle.sbl_bench.specs.Vocabulary.{is_word}
+use Rattle.sbl_machine.specs.BuiltFrom.{is_affected_by, meets}
+use Rattle.sbl_semantics.specs.Outcome.{touches_of}
+use Rattle.sbl_semantics.specs.TouchedItems.{Item', item_of_touch, names_of, touched_items}
+use Rattle.sbl_machine.proofs.TouchedOrder.{any_ordered}
+use Rattle.std.specs.Borrow.{Bor}
+use Rattle.std.proofs.lemmas.List.{drop-map}
+use Rattle.sbl_explain.specs.Unused.{is_met}
+use Rattle.sbl_explain.specs.UnusedViews.{texts_of}
+use Rattle.sbl_explain.proofs.Loops.{at_index}
+
+pub or_assoc : (a b c : Bool) → ((a || b) || c) ≡ (a || (b || c))
+or_assoc true b c = refl
+or_assoc false b c = refl
+
+pub or_turn : (a b c : Bool) → ((a || b) || c) ≡ (b || (a || c))
+or_turn true true c = refl
+or_turn true false c = refl
+or_turn false b c = refl
+
+pub or_last : (a : Bool) → (a || false) ≡ a
+or_last true = refl
+or_last false = refl
+
+pub any_append : {A : Type 0} (test : A → Bool) (xs ys : List A) → list_any test (xs ++ ys) ≡ (list_any test xs || list_any test ys)
+any_append test [] ys = refl
+any_append test (x ∷ xs) ys = ap (λ (b : Bool). test x || b) (any_append test xs ys) ∙ sym (or_assoc (test x) (list_any test xs) (list_any test ys))
+
+-- the last of some values is taken away
+pub any_popped : {A B : Type 0} (f : A → B) (test : B → Bool) (xs : List A) (x : A) (rest : Bool) → (list_any test (map f (xs ++ x ∷ [])) || rest) ≡ (list_any test (map f xs) || (test (f x) || rest))
+any_popped f test [] x rest = ap (λ (b : Bool). b || rest) (or_last (test (f x)))
+any_popped f test (y ∷ ys) x rest =
+    or_assoc (test (f y)) (list_any test (map f (ys ++ x ∷ []))) rest
+    ∙ ap (λ (b : Bool). test (f y) || b) (any_popped f test ys x rest)
+    ∙ sym (or_assoc (test (f y)) (list_any test (map f ys)) (test (f x) || rest))
+
+-- a word of a list is there
+pub word_first : (w : List ℕ) (words : List (List ℕ)) → is_word w (w ∷ words) ≡ true
+word_first w words = ap (λ (b : Bool). b || is_word w words) ((bytes_eq-Decides w w).1 refl)
+
+met_one : (s : Setting) (x : Item') (w : List ℕ) → list_any (is_affected_by s.script x) (touched_items s.script w s.limit) ≡ meets x s.script w s.limit
+unfolding meets touched_items
+met_one s x w = any_ordered (is_affected_by s.script x) (map (item_of_touch (names_of s.script)) (touches_of s.script w s.limit))
+
+pub met_words : (s : Setting) (x : Item') (words : List (List ℕ)) → list_any (λ (w : List ℕ). list_any (is_affected_by s.script x) (touched_items s.script w s.limit)) words ≡ is_met s words x
+met_words s x [] = refl
+met_words s x (w ∷ words) = ap₂ (λ (a b : Bool). a || b) (met_one s x w) (met_words s x words)
+
+pub or_prefix : (a b c : Bool) → (a || (b || c)) ≡ ((b || a) || c)
+or_prefix true true c = refl
+or_prefix true false c = refl
+or_prefix false true c = refl
+or_prefix false false c = refl
+
+pub or_both : (a b c : Bool) → (b || (a || c)) ≡ ((a || b) || c)
+or_both a b c = or_prefix b a c
+
+or_true : (b c : Bool) → c ≡ true → (b || c) ≡ true
+or_true true c h = refl
+or_true false c h = h
+
+-- a word of the rest of a list is one of the list
+word_dropped : (w : List ℕ) (words : List (List ℕ)) (i : ℕ) → is_word w (drop i words) ≡ true → is_word w words ≡ true
+word_dropped w [] zero h = h
+word_dropped w [] (suc i) h = h
+word_dropped w (x ∷ words) zero h = h
+word_dropped w (x ∷ words) (suc i) h = or_true (bytes_eq w x) (is_word w words) (word_dropped w words i h)
+
+-- so is the word at an index
+pub word_at : (words : List (Bor (List ℕ))) (i : ℕ) (d : Bor (List ℕ)) → i < length words → is_word (get_or words i d).now (texts_of words) ≡ true
+word_at words i d lt =
+    word_dropped (get_or words i d).now (texts_of words) i
+    (subst (λ (ws : List (List ℕ)). is_word (get_or words i d).now ws ≡ true) (sym (at_index (λ (t : Bor (List ℕ)). t.now) words i d lt) ∙ sym (drop-map (λ (t : Bor (List ℕ)). t.now) i words)) (word_first (get_or words i d).now (texts_of (drop (i + 1) words))))

@@ -1,0 +1,15 @@
+-- definitions that public contracts depend on
+pub mod Moments
+pub mod WhyRows
+pub mod Integers
+pub mod RoutineAmongs
+pub mod Searches
+pub mod Parts
+pub mod Unused
+-- what the functions inside the crate promise each other: nothing in these need be believed
+pub mod OpenSearches
+pub mod EventViews
+pub mod Places
+pub mod GatheredGroups
+pub mod TakesRows
+pub mod UnusedViews

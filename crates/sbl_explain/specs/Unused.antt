@@ -1,0 +1,93 @@
+-- What no word of a vocabulary uses.
+use Rattle.std.specs.Prelude.{ℕ, suc, Bool, ◌&&◌, List, [], ◌∷◌, ◌++◌, Some, codes, decimal, slice_index_or, if◌then◌else◌}
+use Rattle.std.specs.List.{flat_map, list_any}
+use Rattle.std.specs.Str.{bytes_eq, encode_utf8_all}
+use Rattle.sbl_rows.specs.Setting.{Setting}
+use Rattle.sbl_machine.specs.BuiltFrom.{meets}
+use Rattle.sbl_semantics.specs.TouchedItems.{Item', Routine, Among, Grouping, names_of, same_item}
+use Rattle.sbl_semantics.specs.Outcome.{events_of}
+use Rattle.sbl_io.specs.Records.{records_text}
+use Rattle.sbl_semantics.specs.Events.{Event', Finds}
+use Rattle.sbl_explain.specs.Parts.{Part, parts_of}
+use Rattle.sbl_explain.specs.Moments.{Moment, after, at_start, routine_of, string_taken}
+
+-- ---- what the runs of the words use
+
+-- some word's run touches the item or, if it is a grouping, one that is built from it
+abbrev pub is_met : Setting → List (List ℕ) → Item' → Bool
+is_met s words x = list_any (λ w. meets x s.script w s.limit) words
+
+-- an among, and a string that a search of it takes
+abbrev pub Take : Type 0
+Take = Item' × List ℕ
+
+abbrev pub same_take : Take → Take → Bool
+same_take t u = same_item t.0 u.0 && bytes_eq t.1 u.1
+
+-- what the event at a moment takes, given the names of routines
+abbrev pub takes_at : List (List ℕ) → Moment → Event' → List Take
+takes_at names m (Finds k (Some n)) = (Among (slice_index_or names (routine_of m) []) (suc k), string_taken n m) ∷ []
+takes_at names m e = []
+
+-- what events take, in order
+abbrev pub takes_from : List (List ℕ) → Moment → List Event' → List Take
+takes_from names m [] = []
+takes_from names m (e ∷ events) = takes_at names m e ++ takes_from names (after e m) events
+
+-- what the run of a word takes, up to its end or to where it is refused
+abbrev pub takes_of : Setting → List ℕ → List Take
+takes_of s word = takes_from (names_of s.script).routines (at_start word) (events_of s.script word s.limit)
+
+-- some word's run takes this string at this among
+abbrev pub is_taken : Setting → List (List ℕ) → Take → Bool
+is_taken s words t = list_any (λ w. list_any (same_take t) (takes_of s w)) words
+
+-- ---- the rows
+
+-- the name of an item or of its routine, and the number of an among
+abbrev pub place_fields : Item' → List (List ℕ)
+place_fields (Routine n) = n ∷ []
+place_fields (Among n k) = n ∷ decimal k ∷ []
+place_fields (Grouping n) = n ∷ []
+
+abbrev pub kind_field : Item' → List ℕ
+kind_field (Routine n) = codes "routine"
+kind_field (Among n k) = codes "among"
+kind_field (Grouping n) = codes "grouping"
+
+abbrev pub item_row : Item' → List (List ℕ)
+item_row x = kind_field x ∷ place_fields x
+
+abbrev pub entry_row : Take → List (List ℕ)
+entry_row t = codes "entry" ∷ (place_fields t.0 ++ encode_utf8_all t.1 ∷ [])
+
+-- a row for an item, unless a word meets it
+abbrev pub item_rows : Setting → List (List ℕ) → Item' → List (List (List ℕ))
+item_rows s words x = if is_met s words x then [] else item_row x ∷ []
+
+-- a row for a string of an among, unless a word takes it there
+abbrev pub string_rows : Setting → List (List ℕ) → Take → List (List (List ℕ))
+string_rows s words t = if is_taken s words t then [] else entry_row t ∷ []
+
+-- the rows of the strings of an among
+abbrev pub untaken_rows : Setting → List (List ℕ) → Item' → List (List ℕ) → List (List (List ℕ))
+untaken_rows s words among strings = flat_map (λ q. string_rows s words (among, q)) strings
+
+-- the same, if a word meets the among
+abbrev pub entry_rows : Setting → List (List ℕ) → Part → List (List (List ℕ))
+entry_rows s words p = if is_met s words p.0 then untaken_rows s words p.0 p.1 else []
+
+-- of some parts, the items that no word meets
+abbrev pub unmet_rows : Setting → List (List ℕ) → List Part → List (List (List ℕ))
+unmet_rows s words parts = flat_map (λ p. item_rows s words p.0) parts
+
+-- of some parts, the items that no word meets, and then the strings of the other amongs that no word takes, in the order of the parts
+abbrev pub rows_of_parts : Setting → List (List ℕ) → List Part → List (List (List ℕ))
+rows_of_parts s words parts = unmet_rows s words parts ++ flat_map (entry_rows s words) parts
+
+-- what no word uses of a script, in the order of items
+abbrev pub unused_rows : Setting → List (List ℕ) → List (List (List ℕ))
+unused_rows s words = rows_of_parts s words (parts_of s.script)
+
+unfoldable pub unused_text : Setting → List (List ℕ) → List ℕ
+unused_text s words = records_text (unused_rows s words)

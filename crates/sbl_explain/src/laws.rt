@@ -1,0 +1,22 @@
+//! Laws of the searches of a run.
+
+ghost use Rattle.sbl_explain.specs.Searches.{EachSearchTakesFirst, PlainTakesLongest, PlainTakesOne, SearchesTakeFirst};
+
+/// A search takes the first of the strings of its among that fit between the cursor and the limit, the longest first, that
+/// has no condition or whose condition signals t. It takes none if each of them has a condition that signals f. It calls
+/// the conditions of the strings up to the one that it takes, in this order, and no others.
+pub fn searches_take_first()
+    ensures { SearchesTakeFirst }
+{}
+
+/// Each search in the events of a run is such a search of an among that its routine has. It begins in the state in which the
+/// run with just too few steps for it is refused. If the run is not refused, the search ends.
+pub fn each_search_takes_first()
+    ensures { EachSearchTakesFirst }
+{}
+
+/// If none of the strings that fit has a condition, a search takes the longest of them; it takes none only if none fits.
+pub fn plain_searches_take_longest()
+    ensures longest { PlainTakesLongest }
+    ensures one { PlainTakesOne }
+{}

@@ -1,0 +1,21 @@
+//! What explains runs: the events of a word's run, its integer variables, and what no word of a vocabulary uses.
+#![tactic(auto)]
+
+mod amongs;
+mod bench_words;
+mod event_rows;
+mod integers;
+pub mod laws;
+mod moment;
+mod slices;
+mod takes;
+mod touched_items;
+mod unused;
+mod usable_parts;
+mod why;
+
+pub use integers::integers_text;
+pub use moment::Moment;
+pub use slices::first;
+pub use unused::unused_text;
+pub use why::why_text;

@@ -1,0 +1,125 @@
+//! The strings that the runs of the words of a bench take.
+
+ghost use Rattle.std.specs.Prelude.{◌≡◌, ◌||◌, Bool, List, ℕ, map, OnOk, IfOk};
+ghost use Rattle.std.specs.List.{list_any};
+ghost use Rattle.sbl_bench.specs.KeptRuns.{setting_of};
+ghost use Rattle.sbl_semantics.specs.TouchedItems.{item_of};
+ghost use Rattle.sbl_semantics.specs.Events.{event_of};
+ghost use Rattle.sbl_explain.specs.Unused.{Take, same_take, takes_at, takes_from, takes_of};
+ghost use Rattle.sbl_explain.specs.UnusedViews.{HasTaken, IsUnion, takes_in, texts_of};
+ghost use Rattle.sbl_explain.specs.WhyRows.{routine_names};
+ghost use Rattle.sbl_explain.specs.Moments.{at_start};
+
+use crate::moment::Moment;
+use sbl_bench::Bench;
+use sbl_machine::Item;
+use sbl_run_state::Event;
+use std::alloc::{AllocError, Global};
+use std::collections::BTreeSet;
+
+/// Amongs, each with a string that is taken there.
+pub(crate) type Takes = BTreeSet<(Item, Vec<char>)>;
+
+/// Adds an among and a string. Returns `AllocError` if an allocation fails.
+#[tactic(auto, using(crate::proofs::Sets::take_added))]
+fn add_take(takes: &mut Takes, among: Item, string: Vec<char>) -> Result<(), AllocError>
+    ensures { OnOk result ((test : Take → Bool) → list_any test (takes_in takes.new) ≡ (test (item_of among, string.items) || list_any test (takes_in takes.old))) }
+{
+    takes.insert((among, string))?;
+    Ok(())
+}
+
+/// Adds what an event takes. Returns `AllocError` if an allocation fails, or if the number of an among is above `u64::MAX`: no
+/// routine has so many.
+fn add_event(
+    alloc: Global,
+    takes: &mut Takes,
+    bench: &Bench,
+    moment: &Moment,
+    event: &Event,
+) -> Result<(), AllocError>
+    ensures { OnOk result (IsUnion (takes_in takes.new) (takes_at (routine_names (setting_of bench.now)) moment.now (event_of event.now)) (takes_in takes.old)) }
+{
+    let Event::Finds(among, Some(length)) = event else {
+        return Ok(());
+    };
+    let Some(number) = (*among as u64).checked_add(1) else {
+        return Err(AllocError);
+    };
+    let name = String::from_str(alloc, bench.routine_name(moment.routine()))?;
+    let string = Vec::from_slice(alloc, moment.string_taken(*length))?;
+    add_take(takes, Item::Among(name, number), string)
+}
+
+/// Adds what the events of a run on a word take. Returns `AllocError` as `add_event` does.
+fn add_events(
+    alloc: Global,
+    takes: &mut Takes,
+    bench: &Bench,
+    word: &[char],
+    events: &[Event],
+) -> Result<(), AllocError>
+    ensures { OnOk result (IsUnion (takes_in takes.new) (takes_from (routine_names (setting_of bench.now)) (at_start word.now) (map event_of events.now)) (takes_in takes.old)) }
+{
+    let mut moment = Moment::new(alloc, word)?;
+    for event in events {
+        add_event(alloc, takes, bench, &moment, event)?;
+        moment.pass(event)?;
+    }
+    Ok(())
+}
+
+/// Adds what the run of a word takes. Returns `AllocError` as `add_event` does, or if the word cannot be run.
+fn add_word(
+    alloc: Global,
+    takes: &mut Takes,
+    bench: &Bench,
+    word: &[char],
+) -> Result<(), AllocError>
+    ensures { OnOk result (IsUnion (takes_in takes.new) (takes_of (setting_of bench.now) word.now) (takes_in takes.old)) }
+{
+    match bench.why(word) {
+        Ok(why) => add_events(alloc, takes, bench, word, why.events.as_slice()),
+        Err(_) => Err(AllocError),
+    }
+}
+
+/// Returns what the runs of some words take. Returns `AllocError` as `add_word` does.
+pub(crate) fn takes_by_words(
+    alloc: Global,
+    bench: &Bench,
+    words: &[&[char]],
+) -> Result<Takes, AllocError>
+    ensures { IfOk result (HasTaken (setting_of bench.now) (texts_of words.now)) }
+{
+    let mut takes = BTreeSet::new(alloc);
+    for word in words {
+        add_word(alloc, &mut takes, bench, word)?;
+    }
+    Ok(takes)
+}
+
+/// Returns a copy of an item. Returns `AllocError` if an allocation fails.
+fn item_copy(alloc: Global, item: &Item) -> Result<Item, AllocError>
+    ensures { IfOk result (λ copy. item_of copy ≡ item_of item.now) }
+{
+    match item {
+        Item::Routine(name) => Ok(Item::Routine(String::from_str(alloc, name)?)),
+        Item::Among(name, number) => Ok(Item::Among(String::from_str(alloc, name)?, *number)),
+        Item::Grouping(name) => Ok(Item::Grouping(String::from_str(alloc, name)?)),
+    }
+}
+
+/// Returns whether a string is taken at an among. Returns `AllocError` if an allocation fails.
+#[tactic(auto, using(crate::proofs::Sets::take_held))]
+pub(crate) fn has_take(
+    alloc: Global,
+    takes: &Takes,
+    among: &Item,
+    string: &[char],
+) -> Result<bool, AllocError>
+    ensures { IfOk result (λ b. b ≡ list_any (same_take (item_of among.now, string.now)) (takes_in takes.now)) }
+{
+    let key = (item_copy(alloc, among)?, Vec::from_slice(alloc, string)?);
+    Ok(takes.contains(&key))
+}

@@ -1,0 +1,208 @@
+//! The text of the rows of what no word uses.
+
+ghost use Rattle.std.specs.Prelude.{◌≡◌, ◌++◌, [], OnOk, IfOk};
+ghost use Rattle.std.specs.List.{flat_map};
+ghost use Rattle.csv.specs.Records.{fields_of, partial_of};
+ghost use Rattle.sbl_bench.specs.KeptRuns.{setting_of};
+ghost use Rattle.sbl_rows.specs.Setting.{Setting};
+ghost use Rattle.sbl_semantics.specs.TouchedItems.{item_of};
+ghost use Rattle.sbl_io.specs.Records.{record_line};
+ghost use Rattle.sbl_io.specs.Reports.{TakesMore};
+ghost use Rattle.sbl_explain.specs.TakesRows.{TakesRows};
+ghost use Rattle.sbl_explain.specs.Unused as spec;
+ghost use Rattle.sbl_explain.specs.UnusedViews.{HasMet, HasTaken, Words, part_of, parts_in, texts_of};
+
+use crate::bench_words::words_of;
+use crate::takes::{Takes, has_take, takes_by_words};
+use crate::touched_items::{has_item, met_by_words};
+use crate::usable_parts::{Parts, parts_of};
+use csv::ByteRecord;
+use sbl_bench::Bench;
+use sbl_io::{Report, ReportLength, ReportText, text_of};
+use sbl_machine::Item;
+use std::alloc::{AllocError, Global};
+use std::collections::BTreeSet;
+
+/// Appends the name of an item or of its routine, and the number of an among. Returns `AllocError` if an allocation fails.
+fn push_place(alloc: Global, csv_record: &mut ByteRecord, item: &Item) -> Result<(), AllocError>
+    requires { partial_of csv_record.old ≡ [] }
+    ensures fields { OnOk result (fields_of csv_record.new ≡ fields_of csv_record.old ++ spec.place_fields (item_of item.now)) }
+    ensures partial { OnOk result (partial_of csv_record.new ≡ []) }
+{
+    match item {
+        Item::Routine(name) | Item::Grouping(name) => csv_record.push_field(name.as_bytes()),
+        Item::Among(name, number) => {
+            let digits = format!(in alloc; "{number}")?;
+            csv_record.push_field(name.as_bytes())?;
+            csv_record.push_field(digits.as_bytes())
+        }
+    }
+}
+
+/// Returns the name of the kind of an item.
+fn kind(item: &Item) -> &'static str
+    ensures { result.now ≡ spec.kind_field (item_of item.now) }
+{
+    match item {
+        Item::Routine(_) => "routine",
+        Item::Among(_, _) => "among",
+        Item::Grouping(_) => "grouping",
+    }
+}
+
+/// Appends the line of an item. Returns `AllocError` if an allocation fails.
+fn push_item<T: Report>(alloc: Global, out: &mut T, item: &Item) -> Result<(), AllocError>
+    ensures { OnOk result (TakesMore T.has_taken out.old out.new (record_line (spec.item_row (item_of item.now)))) }
+{
+    let mut csv_record = ByteRecord::new(alloc);
+    csv_record.push_field(kind(item).as_bytes())?;
+    push_place(alloc, &mut csv_record, item)?;
+    out.push(&csv_record)
+}
+
+/// Appends the line of a string of an among. Returns `AllocError` if an allocation fails.
+fn push_entry<T: Report>(
+    alloc: Global,
+    out: &mut T,
+    among: &Item,
+    string: &[char],
+) -> Result<(), AllocError>
+    ensures { OnOk result (TakesMore T.has_taken out.old out.new (record_line (spec.entry_row (item_of among.now, string.now)))) }
+{
+    let mut csv_record = ByteRecord::new(alloc);
+    csv_record.push_field(b"entry")?;
+    push_place(alloc, &mut csv_record, among)?;
+    let text = text_of(alloc, string)?;
+    csv_record.push_field(text.as_bytes())?;
+    out.push(&csv_record)
+}
+
+/// Appends the line of an item, unless a word meets it. Returns `AllocError` if an allocation fails.
+fn push_unmet<T: Report>(
+    alloc: Global,
+    out: &mut T,
+    met: &BTreeSet<Item>,
+    item: &Item,
+) -> Result<(), AllocError>
+    ensures { (s : Setting) (words : Words) → HasMet s words met.now → OnOk result (TakesRows T.has_taken out.old out.new (spec.item_rows s words (item_of item.now))) }
+{
+    if has_item(met, item) {
+        Ok(())
+    } else {
+        push_item(alloc, out, item)
+    }
+}
+
+/// Appends the line of a string of an among, unless a word takes it there. Returns `AllocError` if an allocation fails.
+fn push_untaken<T: Report>(
+    alloc: Global,
+    out: &mut T,
+    taken: &Takes,
+    among: &Item,
+    string: &[char],
+) -> Result<(), AllocError>
+    ensures { (s : Setting) (words : Words) → HasTaken s words taken.now → OnOk result (TakesRows T.has_taken out.old out.new (spec.string_rows s words (item_of among.now, string.now))) }
+{
+    if has_take(alloc, taken, among, string)? {
+        Ok(())
+    } else {
+        push_entry(alloc, out, among, string)
+    }
+}
+
+/// Appends the lines of the strings of an among that no word takes there. Returns `AllocError` if an allocation fails.
+fn push_strings<T: Report>(
+    alloc: Global,
+    out: &mut T,
+    taken: &Takes,
+    among: &Item,
+    strings: &[&[char]],
+) -> Result<(), AllocError>
+    ensures { (s : Setting) (words : Words) → HasTaken s words taken.now → OnOk result (TakesRows T.has_taken out.old out.new (spec.untaken_rows s words (item_of among.now) (texts_of strings.now))) }
+{
+    for string in strings {
+        push_untaken(alloc, out, taken, among, string)?;
+    }
+    Ok(())
+}
+
+/// Appends the lines of the items that no word meets. Returns `AllocError` if an allocation fails.
+fn push_items<T: Report>(
+    alloc: Global,
+    out: &mut T,
+    met: &BTreeSet<Item>,
+    parts: &Parts<'_>,
+) -> Result<(), AllocError>
+    ensures { (s : Setting) (words : Words) → HasMet s words met.now → OnOk result (TakesRows T.has_taken out.old out.new (spec.unmet_rows s words (parts_in parts.now))) }
+{
+    for (item, _) in parts.iter() {
+        push_unmet(alloc, out, met, item)?;
+    }
+    Ok(())
+}
+
+/// Appends the lines of the strings of one part, if a word meets it. Returns `AllocError` if an allocation fails.
+fn push_part<T: Report>(
+    alloc: Global,
+    out: &mut T,
+    met: &BTreeSet<Item>,
+    taken: &Takes,
+    item: &Item,
+    strings: &[&[char]],
+) -> Result<(), AllocError>
+    ensures { (s : Setting) (words : Words) → HasMet s words met.now → HasTaken s words taken.now → OnOk result (TakesRows T.has_taken out.old out.new (spec.entry_rows s words (part_of item.now strings.now))) }
+{
+    if !has_item(met, item) {
+        return Ok(());
+    }
+    push_strings(alloc, out, taken, item, strings)
+}
+
+/// Appends the lines of the strings that no word takes. Returns `AllocError` if an allocation fails.
+fn push_entries<T: Report>(
+    alloc: Global,
+    out: &mut T,
+    met: &BTreeSet<Item>,
+    taken: &Takes,
+    parts: &Parts<'_>,
+) -> Result<(), AllocError>
+    ensures { (s : Setting) (words : Words) → HasMet s words met.now → HasTaken s words taken.now → OnOk result (TakesRows T.has_taken out.old out.new (flat_map (spec.entry_rows s words) (parts_in parts.now))) }
+{
+    for (item, strings) in parts.iter() {
+        push_part(alloc, out, met, taken, item, strings)?;
+    }
+    Ok(())
+}
+
+/// Appends the lines of what no word uses. Returns `AllocError` if an allocation fails.
+fn push_rows<T: Report>(
+    alloc: Global,
+    out: &mut T,
+    met: &BTreeSet<Item>,
+    taken: &Takes,
+    parts: &Parts<'_>,
+) -> Result<(), AllocError>
+    ensures { (s : Setting) (words : Words) → HasMet s words met.now → HasTaken s words taken.now → OnOk result (TakesRows T.has_taken out.old out.new (spec.rows_of_parts s words (parts_in parts.now))) }
+{
+    push_items(alloc, out, met, parts)?;
+    push_entries(alloc, out, met, taken, parts)
+}
+
+/// Returns the rows of what no word of the vocabulary uses, under the script and the limit of the bench: the routines, amongs and
+/// groupings that the run of no word touches, in their order, and then the strings of the other amongs that the run of no word
+/// takes. A grouping counts as touched if one that is built from it is. Runs that are refused count.
+///
+/// Returns `AllocError` if an allocation fails.
+pub fn unused_text(alloc: Global, bench: &Bench) -> Result<Vec<u8>, AllocError>
+    ensures { IfOk result (λ text. text.items ≡ spec.unused_text (setting_of bench.now) bench.now.words) }
+{
+    let parts = parts_of(alloc, bench.script())?;
+    let words = words_of(alloc, bench)?;
+    let met = met_by_words(alloc, bench, &words)?;
+    let taken = takes_by_words(alloc, bench, &words)?;
+    let mut length = ReportLength::new();
+    push_rows(alloc, &mut length, &met, &taken, &parts)?;
+    let mut out = ReportText::with_length(alloc, &length)?;
+    push_rows(alloc, &mut out, &met, &taken, &parts)?;
+    Ok(out.into_bytes())
+}

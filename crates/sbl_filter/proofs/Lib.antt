@@ -1,5 +1,0 @@
-pub mod RowFacts
-pub mod FilterFacts
-pub mod ToEndFacts
-pub mod LawFacts
-pub mod OneFilter

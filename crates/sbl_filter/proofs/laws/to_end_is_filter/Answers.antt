@@ -1,5 +1,0 @@
-use Rattle.sbl_filter.proofs.ToEndFacts.{to_end-filter}
-use Rattle.sbl_filter.proofs.laws.to_end_is_filter.Goals as goal
-
-pub returns : goal.returns
-returns c = to_end-filter

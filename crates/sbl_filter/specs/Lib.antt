@@ -1,6 +1,0 @@
--- definitions that the contracts of public functions use
-pub mod Filter
-pub mod ToEnd
-pub mod Laws
--- what the functions inside the crate promise each other: nothing in these need be believed
-pub mod LineWriter

@@ -1,2 +1,0 @@
-pub mod BlockFacts
-pub mod RecordFacts

@@ -1,2 +1,0 @@
--- definitions that the contracts of public functions use
-pub mod Listings
