@@ -1,13 +1,15 @@
 //! The reports of work: what changed since some rows, figures, and the largest classes.
-ghost use Rattle.std.specs.Prelude.{◌≡◌, ◌++◌, ◌∷◌, [], IfOk, OnOk, codes, map};
+ghost use Rattle.std.specs.Prelude.{◌≡◌, ◌++◌, [], IfOk, OnOk, map};
 ghost use Rattle.csv.specs.Records.{fields_of, partial_of};
 ghost use Rattle.sbl_bench.specs.KeptRuns.{contents_of};
 ghost use Rattle.sbl_rows.specs.Classes.{view_stem_class};
 ghost use Rattle.sbl_rows.specs.Rows.{view_row};
 ghost use Rattle.sbl_rows.specs.Changes.{view_change};
+ghost use Rattle.sbl_rows.specs.Stats.{view_stats};
 ghost use Rattle.sbl_semantics.specs.Outcome.{outcome_of};
 ghost use Rattle.sbl_io.specs.Records.{record_line, records_text};
 ghost use Rattle.sbl_reports.specs.Reports as spec;
+ghost use Rattle.sbl_reports.specs.RowRecords.{class_fields, outcome_fields};
 
 use crate::records::{Record, lines_of, push_named, push_stem};
 use csv::ByteRecord;
@@ -24,7 +26,7 @@ fn push_outcome(
     outcome: &Outcome,
 ) -> Result<(), AllocError>
     requires { partial_of csv_record.old ≡ [] }
-    ensures fields { OnOk result (fields_of csv_record.new ≡ fields_of csv_record.old ++ spec.outcome_fields (outcome_of outcome.now)) }
+    ensures fields { OnOk result (fields_of csv_record.new ≡ fields_of csv_record.old ++ outcome_fields (outcome_of outcome.now)) }
     ensures partial { OnOk result (partial_of csv_record.new ≡ []) }
 {
     match outcome {
@@ -69,8 +71,9 @@ impl Record for ChangeRow<'_> {
 }
 
 impl Record for StemClass<'_> {
-    ghost fields = { λ class. spec.class_fields (view_stem_class class) };
+    ghost fields = { λ class. class_fields (view_stem_class class) };
 
+    #[tactic(auto, unfolding(crate::specs::RowRecords::class_fields))]
     fn fill(&self, text: &mut String, csv_record: &mut ByteRecord) -> Result<(), AllocError> {
         push_stem(text, csv_record, self.stem, &self.members)
     }
@@ -102,7 +105,7 @@ fn push_figure(alloc: Global, out: &mut Vec<u8>, name: &str, number: u64) -> Res
 
 /// Appends the lines of the figures about words. Returns `AllocError` if an allocation fails.
 fn push_word_figures(alloc: Global, out: &mut Vec<u8>, figures: &RowStats) -> Result<(), AllocError>
-    ensures { OnOk result (out.new.items ≡ out.old.items ++ records_text (spec.figure_fields (codes "words") figures.now.words ∷ spec.figure_fields (codes "refused") figures.now.refused ∷ [])) }
+    ensures { OnOk result (out.new.items ≡ out.old.items ++ records_text (spec.word_figures (view_stats figures.now))) }
 {
     push_figure(alloc, out, "words", figures.words as u64)?;
     push_figure(alloc, out, "refused", figures.refused as u64)
@@ -114,7 +117,7 @@ fn push_class_figures(
     out: &mut Vec<u8>,
     figures: &RowStats,
 ) -> Result<(), AllocError>
-    ensures { OnOk result (out.new.items ≡ out.old.items ++ records_text (spec.figure_fields (codes "classes") figures.now.classes ∷ spec.figure_fields (codes "alone") figures.now.alone ∷ spec.figure_fields (codes "largest") figures.now.largest ∷ [])) }
+    ensures { OnOk result (out.new.items ≡ out.old.items ++ records_text (spec.class_figures (view_stats figures.now))) }
 {
     push_figure(alloc, out, "classes", figures.classes as u64)?;
     push_figure(alloc, out, "alone", figures.alone as u64)?;

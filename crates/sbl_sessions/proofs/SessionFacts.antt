@@ -83,13 +83,16 @@ session_goes_on a b c d h i j s t u line reply so gives fits is writes =
       written = Appends-trans h i j so.text text so.written (writes text is.answer.2);
     }
 
--- the result is this fault alone
-same_fault : (f g : ServeFault) → Err {A = Unit {0}} f ≡ Err g → f ≡ g
-same_fault f g is = ap fault_in is
+abbrev failed : ServeFault → Result (Unit {0}) ServeFault
+failed f = Err f
+
+-- the fault of a result is one
+same_fault : (f g : ServeFault) → failed f ≡ failed g → f ≡ g
+same_fault f g is = ap fault_or is
   where
-    fault_in : Result (Unit {0}) ServeFault → ServeFault
-    fault_in (Ok u) = f
-    fault_in (Err x) = x
+    fault_or : Result (Unit {0}) ServeFault → ServeFault
+    fault_or (Ok u) = f
+    fault_or (Err x) = x
 
 input_stopped : (old new : Moment) (f : ServeFault) → f ≢ fault.Write → CutsRequest old new f → IsSession old new (Err f)
 input_stopped old new f other cuts = record {
