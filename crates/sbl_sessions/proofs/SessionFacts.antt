@@ -15,7 +15,7 @@ use Rattle.sbl_sessions.specs.Commands.{block_command, command_of, line_command}
 use Rattle.sbl_io.specs.HeldInput.{AllFit, BeginsLong, BreaksOff, GivesLine, Took, TookWhole}
 use Rattle.sbl_script.specs.Edits.{ScriptEdit}
 use Rattle.sbl_sessions.specs.Words.{command_word}
-use Rattle.sbl_sessions.specs.Requests.{Request, TookRequests, asks_block, block_word, lines_in_all}
+use Rattle.sbl_sessions.specs.Requests.{Request, TookRequests, asks_block, lines_in_all}
 use Rattle.sbl_sessions.specs.inside.SessionParts.{IsBegun, IsRequest, block_lines, lines_in}
 use Rattle.sbl_sessions.specs.Session.{CutsReply, CutsRequest, IsSession, Moment, Replies}
 use Rattle.sbl_reports.specs.declared.block_text.BlockText.{BlockText}
@@ -149,12 +149,6 @@ session_at_write a b c d h i j s t u line reply n so gives fits is writes =
     record { ends = λ is. cc is; writer_stops = λ _. cuts; input_stops = λ f is other. absurd (other (sym (same_fault fault.Write f is))) }
 
 -- ---- the answer to a request
-
-pub asks : (line : List ℕ) {target : List ℕ → Option ScriptEdit} → block_word (command_word line) ≡ Some target → asks_block line ≡ true
-asks line is = ap is_some is
-
-pub asks_none : (line : List ℕ) → block_word (command_word line) ≡ None → asks_block line ≡ false
-asks_none line is = ap is_some is
 
 -- a line that asks for no block
 pub answered_line : (a : Option (List ℕ)) (line : List ℕ) (s t : Contents) (reply : Reply) → asks_block line ≡ false → IsAnswer s (line_command line) reply t → IsAnswered a a line s reply t
