@@ -44,23 +44,23 @@ fn push_records<T: Record, R: Report>(
 {
     let mut text = String::new(alloc);
     let mut csv_record = ByteRecord::new(alloc);
-    for record in records {
-        push_record(out, &mut text, &mut csv_record, record)?;
+    for value in records {
+        push_record(out, &mut text, &mut csv_record, value)?;
     }
     Ok(())
 }
 
-/// Appends the line of a record. `text` and `csv_record` are buffers. Returns `AllocError` if an allocation fails.
+/// Appends the line of a value. `text` and `csv_record` are buffers. Returns `AllocError` if an allocation fails.
 fn push_record<T: Record, R: Report>(
     out: &mut R,
     text: &mut String,
     csv_record: &mut ByteRecord,
-    record: &T,
+    value: &T,
 ) -> Result<(), AllocError>
-    ensures { OnOk result (TakesMore R.has_taken out.old out.new (spec.record_line (T.fields record.now))) }
+    ensures { OnOk result (TakesMore R.has_taken out.old out.new (spec.record_line (T.fields value.now))) }
 {
     csv_record.clear();
-    record.fill(text, csv_record)?;
+    value.fill(text, csv_record)?;
     out.push(csv_record)
 }
 
