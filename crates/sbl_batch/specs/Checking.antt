@@ -1,5 +1,6 @@
 -- A check in the midst of its work.
-use Rattle.std.specs.Prelude.{◌≡◌, ℕ, ◌+◌, Bool, true, false, List, [], ◌∷◌, ◌++◌, Option, Some, None, Result, Ok, Err, length, take, string_bytes}
+use Rattle.std.specs.Prelude.{◌≡◌, ℕ, ◌+◌, Bool, true, false, List, [], ◌∷◌, ◌++◌, length, take, string_bytes}
+use Rattle.std.specs.Prelude.{Option, Some, None, Result, Ok, Err}
 use Rattle.std.specs.Io.KnownBytes.{Appends, Keeps}
 use Rattle.std.specs.declared.vec.Vec.{Vec}
 use Rattle.std.specs.declared.alloc.Global.{Global}
@@ -41,7 +42,8 @@ ComparesPair script n word expected held new_held (Err f) = (pair_fault word exp
 
 -- The comparison so far: the rows of these lines were written, so many, and the others are those of the lines that are left,
 -- the first of which has this number.
-pub record Progress (script : Source) (words expected words_left expected_left : List ℕ) (n found : ℕ) (held new_held : Option (List ℕ)) : Type 0 where
+pub record Progress (script : Source) (words expected words_left expected_left : List ℕ) (n found : ℕ)
+    (held new_held : Option (List ℕ)) : Type 0 where
   pub done : List (List (List ℕ))
   pub rows : spec.all_differences script words expected ≡ done ++ differences script n (lines_of words_left) (lines_of expected_left)
   pub ends : ending (lines_of words) (lines_of expected) ≡ ending (lines_of words_left) (lines_of expected_left)

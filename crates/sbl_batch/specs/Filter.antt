@@ -1,13 +1,15 @@
 -- What a filter of a script writes for words: the rows that `stem` writes for them, one after another.
-use Rattle.std.specs.Prelude.{◌≡◌, ◌≢◌, ◌⊎◌, ◌<◌, ◌≤◌, ℕ, Bool, true, false, List, [], ◌∷◌, Option, Result, Ok, Err, ⊤, length, map, take}
+use Rattle.std.specs.Prelude.{◌≡◌, ◌≢◌, ◌⊎◌, ◌<◌, ◌≤◌, ℕ, Bool, true, false, List, [], ◌∷◌, Option, Some, Result, Ok, Err, ⊤, length, map, take}
 use Rattle.std.specs.List.{filter}
 use Rattle.std.specs.Str.{chars, is_utf8}
-use Rattle.std.specs.Io.KnownBytes.{Appends}
+use Rattle.std.specs.Io.KnownBytes.{Appends, Keeps}
 use Rattle.sbl_rows.specs.Rows.{rows_of}
 use Rattle.sbl_rows.specs.Setting.{under}
 use Rattle.sbl_bench.specs.declared.fault.EditFault.TheVariants as edit
+use Rattle.sbl_io.specs.Faults.{serve_fault_of}
 use Rattle.sbl_io.specs.HeldInput.{BeginsLong, BreaksOff, Took}
 use Rattle.sbl_io.specs.LinesOf.{max_line}
+use Rattle.sbl_io.specs.declared.faults.LineFault.{LineFault}
 use Rattle.sbl_io.specs.declared.faults.ServeFault.TheVariants as fault
 use Rattle.sbl_semantics.specs.Limit.{default_limit, max_word_length}
 use Rattle.sbl_io.specs.Records.{records_text}
@@ -76,6 +78,12 @@ Filters s old new held new_held (Err f) =
     × Rows s old next held next_held lines × Stops s next new next_held new_held f
 
 -- ---- the whole input
+
+-- a fault that the lines remember is returned again, and nothing is read or written
+abbrev pub RepeatsFault
+    : Option LineFault → Result (Unit {0}) LoadFault → Option (List ℕ) → Option (List ℕ) → Option (List ℕ) → Option (List ℕ) → Type 0
+RepeatsFault remembered result old new held new_held =
+    (fault : LineFault) → remembered ≡ Some fault → (result ≡ Err (Input (serve_fault_of fault))) × Keeps old new × Keeps held new_held
 
 -- What a filter of an input writes: the rows of its words. If the script block has a fault, nothing is written.
 abbrev pub IsFiltered : Option (List ℕ) → Option (List ℕ) → List ℕ → Option (List ℕ) → Option (List ℕ) → Result (Unit {0}) LoadFault → Type 0

@@ -1,12 +1,9 @@
 //! Reads a script and words, and writes the row of each word before it reads the next.
-ghost use Rattle.std.specs.Prelude.{◌≡◌, ◌≤◌, None, Some, Err, IfErr, OnOk};
-ghost use Rattle.std.specs.Io.KnownBytes.{Keeps};
-ghost use Rattle.sbl_batch.specs.Filter.{Filters, IsFiltered, WritesLine};
+ghost use Rattle.std.specs.Prelude.{◌≡◌, ◌≤◌, None, IfErr, OnOk};
+ghost use Rattle.sbl_batch.specs.Filter.{Filters, IsFiltered, RepeatsFault, WritesLine};
 ghost use Rattle.sbl_batch.specs.LineWriter.{IsBetweenLines};
 ghost use Rattle.sbl_io.specs.Devices.{HasStopped, WritesInTime};
-ghost use Rattle.sbl_io.specs.Faults.{serve_fault_of};
 ghost use Rattle.sbl_io.specs.HeldInput.{KeepsTime, fault_of, input_of, reads_bound};
-ghost use Rattle.sbl_io.specs.declared.faults.LineFault.{LineFault};
 ghost use Rattle.sbl_machine.specs.MachineOf.{IsLinkedMachineOf};
 ghost use Rattle.sbl_ast.specs.Source.{Source};
 ghost use Rattle.sbl_script.specs.ParsedScript.{source_of};
@@ -114,7 +111,7 @@ pub fn filter<R: Source + Drop, W: Sink>(
     ensures why_read { IfErr result (λ fault. HasReason R.tally lines.old lines.new fault) }
     ensures why_write { IfErr result (λ fault. fault ≡ LoadFault.Input ServeFault.Write → HasStopped W.tally writer.old writer.new) }
     ensures remembered { fault_of lines.new ≡ left_by_load result }
-    ensures again { (fault : LineFault) → fault_of lines.old ≡ Some fault → (result ≡ Err (LoadFault.Input (serve_fault_of fault))) × Keeps (input_of R.left lines.old) (input_of R.left lines.new) × Keeps (W.held writer.old) (W.held writer.new) }
+    ensures again { RepeatsFault (fault_of lines.old) result (input_of R.left lines.old) (input_of R.left lines.new) (W.held writer.old) (W.held writer.new) }
     ensures bound { reads_bound R.tally lines.new ≡ reads_bound R.tally lines.old }
     ensures reads_in_time { KeepsTime R.tally lines.old lines.new }
     ensures writes_in_time { WritesInTime W.tally writer.old writer.new }

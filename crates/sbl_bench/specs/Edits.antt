@@ -145,7 +145,7 @@ PassesTests s e = (f : EditFault) → IsRefused s e f → (f ≡ fault.AmongCoun
 pub data IsOutOfMemory (s : Contents) (e : Edit) (t : Contents) : Type 0 where
   BeforeEdit : ((word : List ℕ) → e ≢ Remove word) → PassesTests s e → t ≡ s → IsOutOfMemory s e t
   During : ((word : List ℕ) → e ≢ Remove word) → (made : Contents) (is : IsAccepted s e made) (n : ℕ)
-    → n ≤ runs_needed s e is.setting → t ≡ record s { count = s.count + n } → IsOutOfMemory s e t
+      → n ≤ runs_needed s e is.setting → t ≡ record s { count = s.count + n } → IsOutOfMemory s e t
 
 -- ---- the result of an edit, and the bench after it
 

@@ -1,6 +1,8 @@
 -- The amongs of a body as the code gathers them.
 use Rattle.std.specs.Prelude.{List, [], ◌∷◌, ◌++◌}
-use Rattle.sbl_ast.specs.Tree.{Command, bracket, simple_, literal_, name_, non_, prefixed, counted, move_, named, splice_, setlimit_, assign_, compare_, compare_values_, among_, Rows, no_rows, row, Others, no_others, joined, Starter, no_starter, starter, Groups, bare, group}
+use Rattle.sbl_ast.specs.Tree.{Command, bracket, simple_, literal_, name_, non_, prefixed, counted, move_, named, splice_, setlimit_, assign_}
+use Rattle.sbl_ast.specs.Tree.{compare_, compare_values_, among_, Rows, no_rows, row, Others, no_others, joined, Starter, no_starter, starter}
+use Rattle.sbl_ast.specs.Tree.{Groups, bare, group}
 
 -- The groups of the amongs of a command, in the order of their words `among`, after those so far.
 abbrev mutual

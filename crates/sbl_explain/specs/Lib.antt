@@ -11,4 +11,5 @@ pub mod OpenSearches
 pub mod EventViews
 pub mod Places
 pub mod GatheredGroups
+pub mod TakesRows
 pub mod UnusedViews

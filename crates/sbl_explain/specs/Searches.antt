@@ -1,6 +1,7 @@
 -- What a search of a run takes: the first of the strings that fit, the longest first, that has no condition or whose
 -- condition signalled t.
-use Rattle.std.specs.Prelude.{◌≡◌, ◌<◌, ℕ, zero, suc, Bool, true, false, List, [], ◌∷◌, ◌++◌, length, map, Option, Some, None, slice_index_or, slice_set, ⊤}
+use Rattle.std.specs.Prelude.{◌≡◌, ◌<◌, ℕ, zero, suc, Bool, true, false, List, [], ◌∷◌, ◌++◌, length, map, ⊤}
+use Rattle.std.specs.Prelude.{Option, Some, None, slice_index_or, slice_set}
 use Rattle.std.specs.List.{flat_map, list_all, list_any}
 use Rattle.sbl_semantics.specs.Meaning.{Offer, calls, ending_with_events, offers, search}
 use Rattle.sbl_semantics.specs.Outcome.{events_at, events_of}
@@ -148,8 +149,10 @@ IsWhole (Signals b s) = ⊤
 IsWhole (Stops fault s) = ⊥
 
 -- The search of the k-th among of routine i in the events of a run, after the events `before`. With so many steps the run is
--- refused just before the search, in the state `start`; with one step more the search begins. `rest` is what follows. If the run is not refused, the search ends.
-pub record IsSearch (script : Source) (word : List ℕ) (limit : ℕ) (before : List Event') (i k : ℕ) (m : Mode) (cursor : ℕ) (rest : List Event') : Type 0 where
+-- refused just before the search, in the state `start`; with one step more the search begins. `rest` is what follows. If the run
+-- is not refused, the search ends.
+pub record IsSearch (script : Source) (word : List ℕ) (limit : ℕ) (before : List Event') (i k : ℕ) (m : Mode) (cursor : ℕ)
+    (rest : List Event') : Type 0 where
   pub steps : ℕ
   pub fewer : steps < limit
   pub start : State

@@ -69,13 +69,25 @@ item_rows s words x = if is_met s words x then [] else item_row x ∷ []
 abbrev pub string_rows : Setting → List (List ℕ) → Take → List (List (List ℕ))
 string_rows s words t = if is_taken s words t then [] else entry_row t ∷ []
 
--- the rows of the strings of an among, if a word meets it
-abbrev pub entry_rows : Setting → List (List ℕ) → Part → List (List (List ℕ))
-entry_rows s words p = if is_met s words p.0 then flat_map (λ q. string_rows s words (p.0, q)) p.1 else []
+-- the rows of the strings of an among
+abbrev pub untaken_rows : Setting → List (List ℕ) → Item' → List (List ℕ) → List (List (List ℕ))
+untaken_rows s words among strings = flat_map (λ q. string_rows s words (among, q)) strings
 
--- the items that no word uses, and then the strings of the other amongs that no word takes, in the order of items
+-- the same, if a word meets the among
+abbrev pub entry_rows : Setting → List (List ℕ) → Part → List (List (List ℕ))
+entry_rows s words p = if is_met s words p.0 then untaken_rows s words p.0 p.1 else []
+
+-- of some parts, the items that no word meets
+abbrev pub unmet_rows : Setting → List (List ℕ) → List Part → List (List (List ℕ))
+unmet_rows s words parts = flat_map (λ p. item_rows s words p.0) parts
+
+-- of some parts, the items that no word meets, and then the strings of the other amongs that no word takes, in the order of the parts
+abbrev pub rows_of_parts : Setting → List (List ℕ) → List Part → List (List (List ℕ))
+rows_of_parts s words parts = unmet_rows s words parts ++ flat_map (entry_rows s words) parts
+
+-- what no word uses of a script, in the order of items
 abbrev pub unused_rows : Setting → List (List ℕ) → List (List (List ℕ))
-unused_rows s words = flat_map (λ p. item_rows s words p.0) (parts_of s.script) ++ flat_map (entry_rows s words) (parts_of s.script)
+unused_rows s words = rows_of_parts s words (parts_of s.script)
 
 unfoldable pub unused_text : Setting → List (List ℕ) → List ℕ
 unused_text s words = records_text (unused_rows s words)

@@ -1,12 +1,13 @@
 -- What the code's values stand for.
 use Rattle.std.specs.Prelude.{◌≡◌, ℕ, Bool, ◌&&◌, ◌||◌, List, map}
 use Rattle.std.specs.Borrow.{Bor}
+use Rattle.std.specs.BTreeMap.{BTreeMap}
 use Rattle.std.specs.BTreeSet.{BTreeSet}
 use Rattle.std.specs.Global.{Vec}
 use Rattle.std.specs.List.{list_any}
 use Rattle.sbl_rows.specs.Setting.{Setting}
 use Rattle.sbl_machine.specs.BuiltFrom.{built_on}
-use Rattle.sbl_semantics.specs.TouchedItems.{Item', Grouping, item_of, items_in, same_item}
+use Rattle.sbl_semantics.specs.TouchedItems.{Item', Grouping, item_of, items_in, same_item, touched_items}
 use Rattle.sbl_semantics.specs.declared.item.Item.{Item}
 use Rattle.sbl_ast.specs.Tree.{Groups, Plain, grouping}
 use Rattle.sbl_ast.specs.View.{view_among}
@@ -21,11 +22,21 @@ view_amongs amongs = map (λ a. (view_among a.now).1) amongs
 abbrev pub texts_of : List (Bor (List ℕ)) → List (List ℕ)
 texts_of texts = map (λ t. t.now) texts
 
+abbrev pub part_of : Item → List (Bor (List ℕ)) → Part
+part_of item strings = (item_of item, texts_of strings)
+
 abbrev pub view_part : Item × Vec (Bor (List ℕ)) → Part
-view_part e = (item_of e.0, texts_of e.1.items)
+view_part e = part_of e.0 e.1.items
 
 abbrev pub view_parts : List (Item × Vec (Bor (List ℕ))) → List Part
 view_parts entries = map view_part entries
+
+abbrev pub parts_in : BTreeMap Item (Vec (Bor (List ℕ))) → List Part
+parts_in parts = view_parts parts.entries
+
+-- the words of a vocabulary
+abbrev pub Words : Type 0
+Words = List (List ℕ)
 
 -- an among and a string that it takes
 abbrev pub Key : Type 0
@@ -36,6 +47,18 @@ take_of k = (item_of k.0, k.1.items)
 
 abbrev pub takes_in : BTreeSet Key → List Take
 takes_in set = map take_of set.keys
+
+-- a list has the values of two others, and no other value: of each test, one of its values passes if one of theirs does
+abbrev pub IsUnion : {X : Type 0} → List X → List X → List X → Type 0
+IsUnion {X = X} all some others = (test : X → Bool) → list_any test all ≡ (list_any test some || list_any test others)
+
+-- the items that the run of a word touches
+abbrev pub touched_by : Setting → List ℕ → List Item'
+touched_by s word = touched_items s.script word s.limit
+
+-- the items are those that the runs of the words touch
+abbrev pub AreTouched : Setting → List (List ℕ) → BTreeSet Item → Type 0
+AreTouched s words items = (test : Item' → Bool) → list_any test (items_in items) ≡ list_any (λ w. list_any test (touched_by s w)) words
 
 -- Whether an item is touched after what a definition adds: if it is a touched grouping, the groupings that its terms name
 -- count as touched.

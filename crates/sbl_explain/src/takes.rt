@@ -3,10 +3,11 @@
 ghost use Rattle.std.specs.Prelude.{◌≡◌, ◌||◌, Bool, List, ℕ, map, OnOk, IfOk};
 ghost use Rattle.std.specs.List.{list_any};
 ghost use Rattle.sbl_bench.specs.KeptRuns.{setting_of};
-ghost use Rattle.sbl_semantics.specs.TouchedItems.{item_of, names_of};
+ghost use Rattle.sbl_semantics.specs.TouchedItems.{item_of};
 ghost use Rattle.sbl_semantics.specs.Events.{event_of};
 ghost use Rattle.sbl_explain.specs.Unused.{Take, same_take, takes_at, takes_from, takes_of};
-ghost use Rattle.sbl_explain.specs.UnusedViews.{HasTaken, takes_in, texts_of};
+ghost use Rattle.sbl_explain.specs.UnusedViews.{HasTaken, IsUnion, takes_in, texts_of};
+ghost use Rattle.sbl_explain.specs.WhyRows.{routine_names};
 ghost use Rattle.sbl_explain.specs.Moments.{at_start};
 
 use crate::moment::Moment;
@@ -37,7 +38,7 @@ fn add_event(
     moment: &Moment,
     event: &Event,
 ) -> Result<(), AllocError>
-    ensures { OnOk result ((test : Take → Bool) → list_any test (takes_in takes.new) ≡ (list_any test (takes_at (names_of (setting_of bench.now).script).routines moment.now (event_of event.now)) || list_any test (takes_in takes.old))) }
+    ensures { OnOk result (IsUnion (takes_in takes.new) (takes_at (routine_names (setting_of bench.now)) moment.now (event_of event.now)) (takes_in takes.old)) }
 {
     let Event::Finds(among, Some(length)) = event else {
         return Ok(());
@@ -58,7 +59,7 @@ fn add_events(
     word: &[char],
     events: &[Event],
 ) -> Result<(), AllocError>
-    ensures { OnOk result ((test : Take → Bool) → list_any test (takes_in takes.new) ≡ (list_any test (takes_from (names_of (setting_of bench.now).script).routines (at_start word.now) (map event_of events.now)) || list_any test (takes_in takes.old))) }
+    ensures { OnOk result (IsUnion (takes_in takes.new) (takes_from (routine_names (setting_of bench.now)) (at_start word.now) (map event_of events.now)) (takes_in takes.old)) }
 {
     let mut moment = Moment::new(alloc, word)?;
     for event in events {
@@ -75,7 +76,7 @@ fn add_word(
     bench: &Bench,
     word: &[char],
 ) -> Result<(), AllocError>
-    ensures { OnOk result ((test : Take → Bool) → list_any test (takes_in takes.new) ≡ (list_any test (takes_of (setting_of bench.now) word.now) || list_any test (takes_in takes.old))) }
+    ensures { OnOk result (IsUnion (takes_in takes.new) (takes_of (setting_of bench.now) word.now) (takes_in takes.old)) }
 {
     match bench.why(word) {
         Ok(why) => add_events(alloc, takes, bench, word, why.events.as_slice()),

@@ -5,10 +5,10 @@ ghost use Rattle.std.specs.List.{list_any};
 ghost use Rattle.sbl_bench.specs.KeptRuns.{setting_of};
 ghost use Rattle.sbl_bench.specs.Vocabulary.{is_word};
 ghost use Rattle.sbl_machine.specs.BuiltFrom.{is_affected_by, any_names, names};
-ghost use Rattle.sbl_semantics.specs.TouchedItems.{Item', Grouping, item_of, items_in, same_item, touched_items};
+ghost use Rattle.sbl_semantics.specs.TouchedItems.{Item', Grouping, item_of, items_in, same_item};
 ghost use Rattle.sbl_script.specs.ParsedScript.{source_of};
 ghost use Rattle.sbl_ast.specs.View.{view_argument, view_plain, view_term};
-ghost use Rattle.sbl_explain.specs.UnusedViews.{HasMet, and_terms, texts_of};
+ghost use Rattle.sbl_explain.specs.UnusedViews.{AreTouched, HasMet, IsUnion, and_terms, texts_of, touched_by};
 
 use sbl_ast::{Argument, Plain, Term, items_in_order};
 use sbl_bench::Bench;
@@ -28,7 +28,7 @@ fn add_item(items: &mut BTreeSet<Item>, item: Item) -> Result<(), AllocError>
 
 /// Adds the items of another set. Returns `AllocError` if an allocation fails.
 fn add_items(items: &mut BTreeSet<Item>, more: BTreeSet<Item>) -> Result<(), AllocError>
-    ensures { OnOk result ((test : Item' → Bool) → list_any test (items_in items.new) ≡ (list_any test (items_in more) || list_any test (items_in items.old))) }
+    ensures { OnOk result (IsUnion (items_in items.new) (items_in more) (items_in items.old)) }
 {
     for item in more {
         add_item(items, item)?;
@@ -38,7 +38,7 @@ fn add_items(items: &mut BTreeSet<Item>, more: BTreeSet<Item>) -> Result<(), All
 
 /// Adds the items that the run of a word of the vocabulary touches. Returns `AllocError` if an allocation fails.
 fn add_touched(items: &mut BTreeSet<Item>, bench: &Bench, word: &[char]) -> Result<(), AllocError>
-    ensures { is_word word.now bench.now.words ≡ true → OnOk result ((test : Item' → Bool) → list_any test (items_in items.new) ≡ (list_any test (touched_items (setting_of bench.now).script word.now (setting_of bench.now).limit) || list_any test (items_in items.old))) }
+    ensures { is_word word.now bench.now.words ≡ true → OnOk result (IsUnion (items_in items.new) (touched_by (setting_of bench.now) word.now) (items_in items.old)) }
 {
     match bench.touched(word)? {
         Some(more) => add_items(items, more),
@@ -53,7 +53,7 @@ fn touched_by_words(
     bench: &Bench,
     words: &[&[char]],
 ) -> Result<BTreeSet<Item>, AllocError>
-    ensures { texts_of words.now ≡ bench.now.words → IfOk result (λ items. (test : Item' → Bool) → list_any test (items_in items) ≡ list_any (λ w. list_any test (touched_items (setting_of bench.now).script w (setting_of bench.now).limit)) bench.now.words) }
+    ensures { texts_of words.now ≡ bench.now.words → IfOk result (AreTouched (setting_of bench.now) bench.now.words) }
 {
     let mut items = BTreeSet::new(alloc);
     for word in words {

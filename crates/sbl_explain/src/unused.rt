@@ -1,15 +1,16 @@
 //! The text of the rows of what no word uses.
 
-ghost use Rattle.std.specs.Prelude.{◌≡◌, ◌++◌, [], ℕ, List, OnOk, IfOk};
+ghost use Rattle.std.specs.Prelude.{◌≡◌, ◌++◌, [], OnOk, IfOk};
 ghost use Rattle.std.specs.List.{flat_map};
 ghost use Rattle.csv.specs.Records.{fields_of, partial_of};
 ghost use Rattle.sbl_bench.specs.KeptRuns.{setting_of};
 ghost use Rattle.sbl_rows.specs.Setting.{Setting};
 ghost use Rattle.sbl_semantics.specs.TouchedItems.{item_of};
-ghost use Rattle.sbl_io.specs.Records.{record_line, records_text};
+ghost use Rattle.sbl_io.specs.Records.{record_line};
 ghost use Rattle.sbl_io.specs.Reports.{TakesMore};
+ghost use Rattle.sbl_explain.specs.TakesRows.{TakesRows};
 ghost use Rattle.sbl_explain.specs.Unused as spec;
-ghost use Rattle.sbl_explain.specs.UnusedViews.{HasMet, HasTaken, texts_of, view_parts};
+ghost use Rattle.sbl_explain.specs.UnusedViews.{HasMet, HasTaken, Words, part_of, parts_in, texts_of};
 
 use crate::bench_words::words_of;
 use crate::takes::{Takes, has_take, takes_by_words};
@@ -83,7 +84,7 @@ fn push_unmet<T: Report>(
     met: &BTreeSet<Item>,
     item: &Item,
 ) -> Result<(), AllocError>
-    ensures { (s : Setting) (words : List (List ℕ)) → HasMet s words met.now → OnOk result (TakesMore T.has_taken out.old out.new (records_text (spec.item_rows s words (item_of item.now)))) }
+    ensures { (s : Setting) (words : Words) → HasMet s words met.now → OnOk result (TakesRows T.has_taken out.old out.new (spec.item_rows s words (item_of item.now))) }
 {
     if has_item(met, item) {
         Ok(())
@@ -100,7 +101,7 @@ fn push_untaken<T: Report>(
     among: &Item,
     string: &[char],
 ) -> Result<(), AllocError>
-    ensures { (s : Setting) (words : List (List ℕ)) → HasTaken s words taken.now → OnOk result (TakesMore T.has_taken out.old out.new (records_text (spec.string_rows s words (item_of among.now, string.now)))) }
+    ensures { (s : Setting) (words : Words) → HasTaken s words taken.now → OnOk result (TakesRows T.has_taken out.old out.new (spec.string_rows s words (item_of among.now, string.now))) }
 {
     if has_take(alloc, taken, among, string)? {
         Ok(())
@@ -117,7 +118,7 @@ fn push_strings<T: Report>(
     among: &Item,
     strings: &[&[char]],
 ) -> Result<(), AllocError>
-    ensures { (s : Setting) (words : List (List ℕ)) → HasTaken s words taken.now → OnOk result (TakesMore T.has_taken out.old out.new (records_text (flat_map (λ q. spec.string_rows s words (item_of among.now, q)) (texts_of strings.now)))) }
+    ensures { (s : Setting) (words : Words) → HasTaken s words taken.now → OnOk result (TakesRows T.has_taken out.old out.new (spec.untaken_rows s words (item_of among.now) (texts_of strings.now))) }
 {
     for string in strings {
         push_untaken(alloc, out, taken, among, string)?;
@@ -132,7 +133,7 @@ fn push_items<T: Report>(
     met: &BTreeSet<Item>,
     parts: &Parts<'_>,
 ) -> Result<(), AllocError>
-    ensures { (s : Setting) (words : List (List ℕ)) → HasMet s words met.now → OnOk result (TakesMore T.has_taken out.old out.new (records_text (flat_map (λ p. spec.item_rows s words p.0) (view_parts parts.now.entries)))) }
+    ensures { (s : Setting) (words : Words) → HasMet s words met.now → OnOk result (TakesRows T.has_taken out.old out.new (spec.unmet_rows s words (parts_in parts.now))) }
 {
     for (item, _) in parts.iter() {
         push_unmet(alloc, out, met, item)?;
@@ -149,7 +150,7 @@ fn push_part<T: Report>(
     item: &Item,
     strings: &[&[char]],
 ) -> Result<(), AllocError>
-    ensures { (s : Setting) (words : List (List ℕ)) → HasMet s words met.now → HasTaken s words taken.now → OnOk result (TakesMore T.has_taken out.old out.new (records_text (spec.entry_rows s words (item_of item.now, texts_of strings.now)))) }
+    ensures { (s : Setting) (words : Words) → HasMet s words met.now → HasTaken s words taken.now → OnOk result (TakesRows T.has_taken out.old out.new (spec.entry_rows s words (part_of item.now strings.now))) }
 {
     if !has_item(met, item) {
         return Ok(());
@@ -165,7 +166,7 @@ fn push_entries<T: Report>(
     taken: &Takes,
     parts: &Parts<'_>,
 ) -> Result<(), AllocError>
-    ensures { (s : Setting) (words : List (List ℕ)) → HasMet s words met.now → HasTaken s words taken.now → OnOk result (TakesMore T.has_taken out.old out.new (records_text (flat_map (spec.entry_rows s words) (view_parts parts.now.entries)))) }
+    ensures { (s : Setting) (words : Words) → HasMet s words met.now → HasTaken s words taken.now → OnOk result (TakesRows T.has_taken out.old out.new (flat_map (spec.entry_rows s words) (parts_in parts.now))) }
 {
     for (item, strings) in parts.iter() {
         push_part(alloc, out, met, taken, item, strings)?;
@@ -181,7 +182,7 @@ fn push_rows<T: Report>(
     taken: &Takes,
     parts: &Parts<'_>,
 ) -> Result<(), AllocError>
-    ensures { (s : Setting) (words : List (List ℕ)) → HasMet s words met.now → HasTaken s words taken.now → OnOk result (TakesMore T.has_taken out.old out.new (records_text (flat_map (λ p. spec.item_rows s words p.0) (view_parts parts.now.entries) ++ flat_map (spec.entry_rows s words) (view_parts parts.now.entries)))) }
+    ensures { (s : Setting) (words : Words) → HasMet s words met.now → HasTaken s words taken.now → OnOk result (TakesRows T.has_taken out.old out.new (spec.rows_of_parts s words (parts_in parts.now))) }
 {
     push_items(alloc, out, met, parts)?;
     push_entries(alloc, out, met, taken, parts)

@@ -5,9 +5,9 @@ ghost use Rattle.sbl_bench.specs.Whys.{refusal_of_why};
 ghost use Rattle.sbl_bench.specs.declared.fault.EditFault.{EditFault as AnyFault};
 ghost use Rattle.sbl_semantics.specs.Outcome.{outcome_of};
 ghost use Rattle.sbl_io.specs.Records.{records_text};
-ghost use Rattle.sbl_io.specs.Reports.{TakesMore};
 ghost use Rattle.sbl_semantics.specs.Events.{event_of};
 ghost use Rattle.sbl_explain.specs.Moments.{at_start};
+ghost use Rattle.sbl_explain.specs.TakesRows.{TakesRows};
 ghost use Rattle.sbl_explain.specs.WhyRows as spec;
 
 use crate::event_rows::{push_event, push_more, push_outcome};
@@ -30,7 +30,7 @@ fn push_events<T: Report>(
     word: &[char],
     events: &[Event],
 ) -> Result<(), AllocError>
-    ensures { OnOk result (TakesMore T.has_taken out.old out.new (records_text (spec.rows_from (spec.routine_names (setting_of bench.now)) (at_start word.now) (map event_of events.now)))) }
+    ensures { OnOk result (TakesRows T.has_taken out.old out.new (spec.rows_from (spec.routine_names (setting_of bench.now)) (at_start word.now) (map event_of events.now))) }
 {
     let mut moment = Moment::new(alloc, word)?;
     for event in events {
@@ -47,7 +47,7 @@ fn push_run<T: Report>(
     word: &[char],
     why: &Why,
 ) -> Result<(), AllocError>
-    ensures { OnOk result (TakesMore T.has_taken out.old out.new (records_text (spec.why_rows (spec.routine_names (setting_of bench.now)) word.now (map event_of why.now.events.items) (outcome_of why.now.outcome)))) }
+    ensures { OnOk result (TakesRows T.has_taken out.old out.new (spec.why_rows (spec.routine_names (setting_of bench.now)) word.now (map event_of why.now.events.items) (outcome_of why.now.outcome))) }
 {
     let shown = first(why.events.as_slice(), MAX_EVENTS);
     push_events(alloc, out, bench, word, shown)?;

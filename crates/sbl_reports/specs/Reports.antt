@@ -3,24 +3,13 @@ use Rattle.std.specs.Prelude.{ℕ, List, [], ◌∷◌, ◌++◌, codes, decimal
 use Rattle.std.specs.Str.{encode_utf8_all}
 use Rattle.sbl_bench.specs.Contents.{Contents, rows_now}
 use Rattle.sbl_rows.specs.Changes.{Added, Change, Changed, Merged, Removed, Renamed, Split, changes_of}
-use Rattle.sbl_rows.specs.Classes.{Class}
 use Rattle.sbl_rows.specs.Largest.{largest_of}
 use Rattle.sbl_rows.specs.Rows.{Row}
 use Rattle.sbl_rows.specs.Stats.{Stats, stats_of}
-use Rattle.sbl_semantics.specs.Outcome.{Outcome', Stem, Refused}
 use Rattle.sbl_io.specs.Records.{records_text}
-use Rattle.sbl_semantics.specs.Names.{name_of}
+use Rattle.sbl_reports.specs.RowRecords.{class_fields, outcome_fields, stem_fields}
 
 -- ---- changes
-
--- a stem, or the name of a refusal
-abbrev pub outcome_fields : Outcome' → List (List ℕ)
-outcome_fields (Stem text) = codes "stem" ∷ encode_utf8_all text ∷ []
-outcome_fields (Refused f) = codes "refused" ∷ name_of f ∷ []
-
--- a stem, and then others
-abbrev pub stem_fields : List ℕ → List (List ℕ) → List (List ℕ)
-stem_fields stem stems = map encode_utf8_all (stem ∷ stems)
 
 abbrev pub change_fields : Change → List (List ℕ)
 change_fields (Added word) = codes "added" ∷ encode_utf8_all word ∷ []
@@ -39,20 +28,21 @@ changes_text before s = records_text (map change_fields (changes_of before (rows
 abbrev pub figure_fields : List ℕ → ℕ → List (List ℕ)
 figure_fields name number = name ∷ decimal number ∷ []
 
+abbrev pub word_figures : Stats → List (List (List ℕ))
+word_figures s = figure_fields (codes "words") s.words ∷ figure_fields (codes "refused") s.refused ∷ []
+
+abbrev pub class_figures : Stats → List (List (List ℕ))
+class_figures s =
+    figure_fields (codes "classes") s.classes ∷ figure_fields (codes "alone") s.alone ∷ figure_fields (codes "largest") s.largest ∷ []
+
 abbrev pub stats_fields : Stats → ℕ → List (List (List ℕ))
 stats_fields s runs =
-    figure_fields (codes "words") s.words ∷ figure_fields (codes "refused") s.refused ∷ figure_fields (codes "classes") s.classes
-    ∷ figure_fields (codes "alone") s.alone ∷ figure_fields (codes "largest") s.largest ∷ figure_fields (codes "unchanged") s.unchanged
-    ∷ figure_fields (codes "runs") runs ∷ []
+    word_figures s ++ (class_figures s ++ figure_fields (codes "unchanged") s.unchanged ∷ figure_fields (codes "runs") runs ∷ [])
 
 abbrev pub stats_text : Contents → List ℕ
 stats_text s = records_text (stats_fields (stats_of (rows_now s)) s.count)
 
 -- ---- the largest classes
-
--- the stem of a class, then its words
-abbrev pub class_fields : Class → List (List ℕ)
-class_fields c = stem_fields c.stem c.members
 
 -- a row for each of the n largest classes
 abbrev pub largest_text : ℕ → Contents → List ℕ

@@ -1,19 +1,18 @@
 -- The command word of a line, found byte by byte, and what a line with a block wants replaced.
-use Rattle.std.proofs.Common.{◌≡◌, ◌⊎◌, inl, inr, ◌∙◌, ◌<◌, ◌≤◌, ◌+◌, ℕ, Bool, true, false, List, Option, Some, None, Result, Ok, Err, IfOk, OnErr, if◌then◌else◌, length, take, get_or, refl, sym, ap, subst, arith}
+use Rattle.std.proofs.Common.{◌≡◌, ◌⊎◌, inl, inr, ◌∙◌, ◌<◌, ◌≤◌, ◌+◌, ℕ, Bool, true, false, List, Option, Some, None, if◌then◌else◌, length, take, get_or, refl, sym, ap, subst, arith}
 use Rattle.std.proofs.lemmas.Bool.{cases_lt}
 use Rattle.std.proofs.lemmas.List.Sums.{position_or_len_is}
 use Rattle.std.proofs.lemmas.Str.{IsUtf8-from_is_utf8}
 use Rattle.std.specs.Prelude.{codes}
-use Rattle.std.specs.Option.{is_some, option_and_then, option_map_or}
+use Rattle.std.specs.Option.{is_some, option_and_then, option_map, option_map_or}
 use Rattle.std.specs.Str.{IsUtf8, bytes_eq, is_utf8}
-use Rattle.std.specs.declared.alloc.AllocError.{AllocError}
 use Rattle.sbl_script.specs.Edits.{ScriptEdit}
-use Rattle.sbl_sessions.specs.CommandViews.{FindsTarget, view_found}
+use Rattle.sbl_script.specs.Parts.{view_part}
+use Rattle.sbl_script.specs.declared.part.Part.{Part}
 use Rattle.sbl_sessions.specs.Commands.{Command, target_of, text_command}
 use Rattle.sbl_sessions.specs.Requests.{block_word}
 use Rattle.sbl_sessions.specs.Words.{argument, command_word}
 use Rattle.sbl_sessions.specs.inside.SessionParts.{is_space, tested_command}
-use Rattle.sbl_sessions.specs.declared.session_commands.Target.{Target}
 
 -- no space stands before this place
 abbrev pub NoSpace : List ℕ → ℕ → Type 0
@@ -60,19 +59,27 @@ not_text bytes none = by (is_utf8 bytes) refl
     by true e = absurd (none (IsUtf8-from_is_utf8 bytes e))
     by false e = e
 
-pub finds_none : (line : List ℕ) → is_utf8 line ≡ false → None ≡ target_of line
-finds_none line bytes = rw bytes refl
+pub target_of_bytes : (line : List ℕ) → is_utf8 line ≡ false → target_of line ≡ None
+target_of_bytes line bytes = rw bytes refl
 
-target_is : (line given : List ℕ) (target : List ℕ → Option ScriptEdit) → is_utf8 line ≡ true → block_word (command_word line) ≡ Some target → given ≡ argument line
-    → target given ≡ target_of line
-target_is line given target utf8 asked is =
-    ap target is
-    ∙ sym (ap (λ (b : Bool). if b then option_and_then (λ (t : List ℕ → Option ScriptEdit). t (argument line)) (block_word (command_word line)) else None) utf8
-    ∙ ap (option_and_then (λ (t : List ℕ → Option ScriptEdit). t (argument line))) asked)
+pub target_of_text : (line : List ℕ) → is_utf8 line ≡ true → option_and_then (λ names. names (argument line)) (block_word (command_word line)) ≡ target_of line
+target_of_text line text = rw text refl
 
--- what was found for the word and the argument is what the line wants
-pub finds : (r : Result (Option Target) AllocError) (line given : List ℕ) (target : List ℕ → Option ScriptEdit) → is_utf8 line ≡ true
-    → block_word (command_word line) ≡ Some target → given ≡ argument line
-    → IfOk r (λ found. view_found found ≡ target given) → OnErr r (is_some (target given) ≡ true) → FindsTarget r line
-finds (Ok o) line given target utf8 asked is found refused = found ∙ target_is line given target utf8 asked is
-finds (Err e) line given target utf8 asked is found refused = sym (ap is_some (target_is line given target utf8 asked is)) ∙ refused
+-- a command word names parts if a block follows it
+pub asks_by : (part : Option (Option Part)) (word : Option (List ℕ → Option ScriptEdit)) (given : List ℕ)
+    → option_map (λ p. option_map view_part p) part ≡ option_map (λ names. names given) word → is_some part ≡ is_some word
+asks_by part word given same = is_some_map (λ p. option_map view_part p) part ∙ ap is_some same ∙ sym (is_some_map (λ names. names given) word)
+  where
+    is_some_map : {A B : Type 0} (f : A → B) (o : Option A) → is_some o ≡ is_some (option_map f o)
+    is_some_map f None = refl
+    is_some_map f (Some x) = refl
+
+-- the part of a command word and an argument
+pub named_by : (part : Option Part) (word : Option (List ℕ → Option ScriptEdit)) (given : List ℕ)
+    → Some (option_map view_part part) ≡ option_map (λ names. names given) word → option_map view_part part ≡ option_and_then (λ names. names given) word
+named_by part None given same = absurd cc
+named_by part (Some names) given same = cc
+
+pub none_by : (word : Option (List ℕ → Option ScriptEdit)) (given : List ℕ) → None ≡ option_map (λ names. names given) word → None ≡ option_and_then (λ names. names given) word
+none_by None given same = refl
+none_by (Some names) given same = absurd cc

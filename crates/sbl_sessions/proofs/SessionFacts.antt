@@ -15,7 +15,7 @@ use Rattle.sbl_sessions.specs.Commands.{block_command, command_of, line_command}
 use Rattle.sbl_io.specs.HeldInput.{AllFit, BeginsLong, BreaksOff, GivesLine, Took, TookWhole}
 use Rattle.sbl_script.specs.Edits.{ScriptEdit}
 use Rattle.sbl_sessions.specs.Words.{command_word}
-use Rattle.sbl_sessions.specs.Requests.{Request, TookRequests, asks_block, block_word, lines_in_all}
+use Rattle.sbl_sessions.specs.Requests.{Request, TookRequests, asks_block, lines_in_all}
 use Rattle.sbl_sessions.specs.inside.SessionParts.{IsBegun, IsRequest, block_lines, lines_in}
 use Rattle.sbl_sessions.specs.Session.{CutsReply, CutsRequest, IsSession, Moment, Replies}
 use Rattle.sbl_reports.specs.declared.block_text.BlockText.{BlockText}
@@ -83,13 +83,16 @@ session_goes_on a b c d h i j s t u line reply so gives fits is writes =
       written = Appends-trans h i j so.text text so.written (writes text is.answer.2);
     }
 
--- the result is this fault alone
-same_fault : (f g : ServeFault) → Err {A = Unit {0}} f ≡ Err g → f ≡ g
-same_fault f g is = ap fault_in is
+abbrev with_fault : ServeFault → Result (Unit {0}) ServeFault
+with_fault f = Err f
+
+-- the fault of a result is one
+same_fault : (f g : ServeFault) → with_fault f ≡ with_fault g → f ≡ g
+same_fault f g is = ap fault_or is
   where
-    fault_in : Result (Unit {0}) ServeFault → ServeFault
-    fault_in (Ok u) = f
-    fault_in (Err x) = x
+    fault_or : Result (Unit {0}) ServeFault → ServeFault
+    fault_or (Ok u) = f
+    fault_or (Err x) = x
 
 input_stopped : (old new : Moment) (f : ServeFault) → f ≢ fault.Write → CutsRequest old new f → IsSession old new (Err f)
 input_stopped old new f other cuts = record {
@@ -146,12 +149,6 @@ session_at_write a b c d h i j s t u line reply n so gives fits is writes =
     record { ends = λ is. cc is; writer_stops = λ _. cuts; input_stops = λ f is other. absurd (other (sym (same_fault fault.Write f is))) }
 
 -- ---- the answer to a request
-
-pub asks : (line : List ℕ) {target : List ℕ → Option ScriptEdit} → block_word (command_word line) ≡ Some target → asks_block line ≡ true
-asks line is = ap is_some is
-
-pub asks_none : (line : List ℕ) → block_word (command_word line) ≡ None → asks_block line ≡ false
-asks_none line is = ap is_some is
 
 -- a line that asks for no block
 pub answered_line : (a : Option (List ℕ)) (line : List ℕ) (s t : Contents) (reply : Reply) → asks_block line ≡ false → IsAnswer s (line_command line) reply t → IsAnswered a a line s reply t

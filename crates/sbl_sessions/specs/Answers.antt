@@ -1,5 +1,5 @@
 -- The replies of a session to its requests.
-use Rattle.std.specs.Prelude.{◌≡◌, ◌+◌, ℕ, List, [], ◌∷◌, ◌++◌, codes, decimal, Option, Some, None}
+use Rattle.std.specs.Prelude.{◌≡◌, ◌+◌, ℕ, List, [], ◌∷◌, ◌++◌, codes, Option, Some, None}
 use Rattle.sbl_bench.specs.Contents.{Contents}
 use Rattle.sbl_bench.specs.Edits.{Edit, Replace, IsOutOfMemory, IsVerdict}
 use Rattle.sbl_bench.specs.Names.{script_name}
@@ -13,25 +13,25 @@ abbrev pub with_line_feed : List ℕ → List ℕ
 with_line_feed text = text ++ 10 ∷ []
 
 -- the number and the name of a fault
-abbrev pub number_and_name : EditFault → ℕ × List ℕ
-number_and_name fault.Present = (40, codes "Present")
-number_and_name fault.Absent = (41, codes "Absent")
-number_and_name fault.EmptyWord = (42, codes "EmptyWord")
-number_and_name fault.WordTooLong = (43, codes "WordTooLong")
-number_and_name fault.Full = (44, codes "Full")
-number_and_name fault.NoRoutine = (45, codes "NoRoutine")
-number_and_name fault.NoAmong = (46, codes "NoAmong")
-number_and_name fault.AmongCount = (47, codes "AmongCount")
-number_and_name (fault.Script f) = (48, script_name f)
-number_and_name fault.OutOfMemory = (49, codes "OutOfMemory")
-number_and_name fault.MeterFull = (50, codes "MeterFull")
-number_and_name fault.BadLimit = (51, codes "BadLimit")
-number_and_name fault.NoGrouping = (53, codes "NoGrouping")
+abbrev pub number_and_name : EditFault → List ℕ × List ℕ
+number_and_name fault.Present = (codes "40", codes "Present")
+number_and_name fault.Absent = (codes "41", codes "Absent")
+number_and_name fault.EmptyWord = (codes "42", codes "EmptyWord")
+number_and_name fault.WordTooLong = (codes "43", codes "WordTooLong")
+number_and_name fault.Full = (codes "44", codes "Full")
+number_and_name fault.NoRoutine = (codes "45", codes "NoRoutine")
+number_and_name fault.NoAmong = (codes "46", codes "NoAmong")
+number_and_name fault.AmongCount = (codes "47", codes "AmongCount")
+number_and_name (fault.Script f) = (codes "48", script_name f)
+number_and_name fault.OutOfMemory = (codes "49", codes "OutOfMemory")
+number_and_name fault.MeterFull = (codes "50", codes "MeterFull")
+number_and_name fault.BadLimit = (codes "51", codes "BadLimit")
+number_and_name fault.NoGrouping = (codes "53", codes "NoGrouping")
 
 -- the reply to an edit: `ok`, or `no` with the number and name of the fault
 abbrev pub edit_text : Option EditFault → List ℕ
 edit_text None = with_line_feed (codes "ok")
-edit_text (Some f) = with_line_feed (codes "no " ++ decimal (number_and_name f).0 ++ 32 ∷ (number_and_name f).1)
+edit_text (Some f) = with_line_feed (codes "no " ++ (number_and_name f).0 ++ 32 ∷ (number_and_name f).1)
 
 -- The memory that a request gets: enough for all of it; too little for its name or its block; or too little for its edit or its
 -- report, after this many of the runs that the edit needs.

@@ -1,5 +1,5 @@
 -- A line that is kept and a reply, without memory addresses.
-use Rattle.std.specs.Prelude.{◌≡◌, ℕ, true, List, Option, Some, None, Result, Ok, Err, string_bytes}
+use Rattle.std.specs.Prelude.{◌≡◌, ℕ, true, List, Option, Some, None, Result, Ok, Err, String, string_bytes}
 use Rattle.std.specs.Option.{is_some}
 use Rattle.sbl_bench.specs.Edits as edits
 use Rattle.std.specs.declared.alloc.AllocError.{AllocError}

@@ -1,13 +1,14 @@
 //! The commands of a session.
-ghost use Rattle.std.specs.Prelude.{◌≡◌, IfOk, OnErr, Some, true};
-ghost use Rattle.std.specs.Option.{is_some, unwrap_or};
+ghost use Rattle.std.specs.Prelude.{◌≡◌};
+ghost use Rattle.std.specs.Option.{option_map, unwrap_or};
 ghost use Rattle.sbl_bench.specs.Edits as edits;
+ghost use Rattle.sbl_script.specs.Edits.{among};
 ghost use Rattle.sbl_script.specs.Parts.{view_part};
 ghost use Rattle.sbl_sessions.specs.Commands as spec;
 ghost use Rattle.sbl_sessions.specs.Requests as requests;
 ghost use Rattle.sbl_sessions.specs.Words as words;
 ghost use Rattle.sbl_sessions.specs.CommandViews.{KeepsLine};
-ghost use Rattle.sbl_sessions.specs.inside.SessionParts as names;
+ghost use Rattle.sbl_sessions.specs.inside.SessionParts as inside;
 ghost use Rattle.sbl_sessions.specs.inside.RequestViews.{view_command};
 ghost use Rattle.sbl_sessions.specs.Numbers as numbers;
 
@@ -49,7 +50,7 @@ pub(crate) fn command_of(line: &[u8]) -> Command<'_>
 
 /// Returns the command of a line that is UTF-8.
 fn text_command(text: &str) -> Command<'_>
-    ensures { view_command result ≡ names.tested_command text.now }
+    ensures { view_command result ≡ inside.tested_command text.now }
 {
     let (word, argument) = match text.split_once(' ') {
         Some((word, argument)) => (word, argument),

@@ -8,7 +8,7 @@ ghost use Rattle.sbl_tree_diff.specs.ItemsIn.{items_in};
 ghost use Rattle.sbl_tree_diff.specs.WalkViews.{numbers_of};
 
 use crate::command_diff::differ_bodies;
-use crate::same::{same_argument, same_base, same_literal, same_names, same_terms};
+use crate::same::{alike, same_argument, same_base, same_literal, same_names, same_terms};
 use sbl_ast::{Plain, ScriptItem, copy_name};
 use sbl_semantics::Item;
 use std::alloc::{AllocError, Global};
@@ -79,58 +79,36 @@ fn differ_plain(alloc: Global, one: &Plain, other: &Plain) -> Result<Option<Vec<
     ensures { IfOk result (λ r. items_in r ≡ parts.differ_plain (view_plain one.now) (view_plain other.now)) }
 {
     match one {
-        Plain::Declaration(kind, names) => {
-            let Plain::Declaration(other_kind, other_names) = other else {
-                return Ok(None);
-            };
+        Plain::Declaration(kind, names) =>
+            alike!(other, Plain::Declaration(other_kind, other_names) => {
             let same = *kind == *other_kind && same_names(names, other_names);
             Ok(no_item_when(alloc, same))
-        }
-        Plain::StringEscapes(left, right) => {
-            let Plain::StringEscapes(other_left, other_right) = other else {
-                return Ok(None);
-            };
+        }),
+        Plain::StringEscapes(left, right) =>
+            alike!(other, Plain::StringEscapes(other_left, other_right) => {
             Ok(no_item_when(alloc, *left == *other_left && *right == *other_right))
-        }
-        Plain::StringDef { name, base, value } => {
-            if let Plain::StringDef {
-                name: other_name,
-                base: other_base,
-                value: other_value,
-            } = other
-            {
-                let same = name.as_str() == other_name.as_str()
-                    && same_base(base, other_base)
-                    && same_literal(value, other_value);
-                Ok(no_item_when(alloc, same))
-            } else {
-                Ok(None)
-            }
-        }
-        Plain::Routine { name, body } => {
-            if let Plain::Routine {
-                name: other_name,
-                body: other_body,
-            } = other
-            {
-                if name.as_str() == other_name.as_str() {
-                    let numbers = differ_bodies(alloc, body, other_body)?;
-                    return Ok(Some(items_by(alloc, name, numbers)?));
-                }
-            }
-            Ok(None)
-        }
-        Plain::Grouping(grouping) => {
-            let Plain::Grouping(other_grouping) = other else {
+        }),
+        Plain::StringDef { name, base, value } =>
+            alike!(other, Plain::StringDef { name: other_name, base: other_base, value: other_value } => {
+            let same = name.as_str() == other_name.as_str() && same_base(base, other_base) && same_literal(value, other_value);
+            Ok(no_item_when(alloc, same))
+        }),
+        Plain::Routine { name, body } =>
+            alike!(other, Plain::Routine { name: other_name, body: other_body } => {
+            if name.as_str() != other_name.as_str() {
                 return Ok(None);
-            };
+            }
+            let numbers = differ_bodies(alloc, body, other_body)?;
+            Ok(Some(items_by(alloc, name, numbers)?))
+        }),
+        Plain::Grouping(grouping) => alike!(other, Plain::Grouping(other_grouping) => {
             if grouping.name.as_str() != other_grouping.name.as_str() {
                 return Ok(None);
             }
             let same = same_argument(&grouping.first, &other_grouping.first)
                 && same_terms(&grouping.others, &other_grouping.others);
             Ok(Some(grouping_unless(alloc, &grouping.name, same)?))
-        }
+        }),
     }
 }
 
@@ -159,18 +137,12 @@ impl Differ for ScriptItem {
     #[tactic(auto, using(crate::proofs::Joins::each_viewed))]
     fn differ(&self, alloc: Global, other: &ScriptItem) -> Result<Option<Vec<Item>>, AllocError> {
         match self {
-            ScriptItem::Plain(plain) => {
-                let ScriptItem::Plain(other_plain) = other else {
-                    return Ok(None);
-                };
-                plain.differ(alloc, other_plain)
-            }
-            ScriptItem::BackwardMode(plains) => {
-                let ScriptItem::BackwardMode(other_plains) = other else {
-                    return Ok(None);
-                };
+            ScriptItem::Plain(plain) =>
+                alike!(other, ScriptItem::Plain(other_plain) => plain.differ(alloc, other_plain)),
+            ScriptItem::BackwardMode(plains) =>
+                alike!(other, ScriptItem::BackwardMode(other_plains) => {
                 differ_each(alloc, plains, other_plains)
-            }
+            }),
         }
     }
 }

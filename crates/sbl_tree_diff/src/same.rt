@@ -15,6 +15,18 @@ use sbl_ast::{
     Term,
 };
 
+/// The expression after `=>` if the other part has this form; otherwise returns `Ok(None)`.
+macro_rules! alike {
+    ($other:ident, $form:pat => $then:expr) => {{
+        let $form = $other else {
+            return Ok(None);
+        };
+        $then
+    }};
+}
+
+pub(crate) use alike;
+
 /// Whether two flags are the same.
 pub(crate) fn same_flag(one: bool, other: bool) -> bool
     ensures { result ≡ beq one other }
@@ -105,55 +117,27 @@ fn same_scales(one: &Vec<NextFactor>, other: &Vec<NextFactor>) -> bool
 fn same_factor(one: &Factor, other: &Factor) -> bool
     ensures { result ≡ spec.same_factor (view_factor one.now) (view_factor other.now) }
 {
-    match one {
-        Factor::Minus(one) => match other {
-            Factor::Minus(other) => same_factor(one, other),
-            Factor::Bracket(_)
-            | Factor::Number(_)
-            | Factor::Name(_)
-            | Factor::Constant(_)
-            | Factor::LenOf(_) => false,
-        },
-        Factor::Bracket(one) => match other {
-            Factor::Bracket(other) => same_expression(one, other),
-            Factor::Minus(_)
-            | Factor::Number(_)
-            | Factor::Name(_)
-            | Factor::Constant(_)
-            | Factor::LenOf(_) => false,
-        },
-        Factor::Number(one) => match other {
-            Factor::Number(other) => *one == *other,
-            Factor::Minus(_)
-            | Factor::Bracket(_)
-            | Factor::Name(_)
-            | Factor::Constant(_)
-            | Factor::LenOf(_) => false,
-        },
-        Factor::Name(one) => match other {
-            Factor::Name(other) => one.as_str() == other.as_str(),
-            Factor::Minus(_)
-            | Factor::Bracket(_)
-            | Factor::Number(_)
-            | Factor::Constant(_)
-            | Factor::LenOf(_) => false,
-        },
-        Factor::Constant(one) => match other {
-            Factor::Constant(other) => *one == *other,
+    match (one, other) {
+        (Factor::Minus(one), Factor::Minus(other)) => same_factor(one, other),
+        (Factor::Bracket(one), Factor::Bracket(other)) => same_expression(one, other),
+        (Factor::Number(one), Factor::Number(other)) => *one == *other,
+        (Factor::Name(one), Factor::Name(other)) => one.as_str() == other.as_str(),
+        (Factor::Constant(one), Factor::Constant(other)) => *one == *other,
+        (Factor::LenOf(one), Factor::LenOf(other)) => same_argument(one, other),
+        (
             Factor::Minus(_)
             | Factor::Bracket(_)
             | Factor::Number(_)
             | Factor::Name(_)
-            | Factor::LenOf(_) => false,
-        },
-        Factor::LenOf(one) => match other {
-            Factor::LenOf(other) => same_argument(one, other),
+            | Factor::Constant(_)
+            | Factor::LenOf(_),
             Factor::Minus(_)
             | Factor::Bracket(_)
             | Factor::Number(_)
             | Factor::Name(_)
-            | Factor::Constant(_) => false,
-        },
+            | Factor::Constant(_)
+            | Factor::LenOf(_),
+        ) => false,
     }
 }
 

@@ -12,6 +12,5 @@ mod serving;
 mod whys;
 
 pub use files::Paths;
-pub use parts::answer_block;
 pub use requests::{BlockRequest, block_request};
 pub use serving::work;

@@ -102,4 +102,4 @@ pub record IsExchange (s : Contents) (e : Edit) (t : Source) : Type 0 where
   pub wants : (word : List ℕ) → e ≢ Remove word
   pub words : words_after s e ≡ s.words
   pub met_is : (w : List ℕ)
-    → needs_run s e (under t s.setting.limit) w ≡ meets_listed (differs s.setting.script t) s.setting.script w s.setting.limit
+      → needs_run s e (under t s.setting.limit) w ≡ meets_listed (differs s.setting.script t) s.setting.script w s.setting.limit

@@ -1,8 +1,7 @@
-use Rattle.std.proofs.Common.{◌≡◌, ◌∙◌, true, false, sym}
+use Rattle.std.proofs.Common.{◌≡◌, ◌∙◌, true, false, refl, sym}
 use Rattle.std.proofs.lemmas.Str.{IsUtf8-from_is_utf8, is_utf8-from_IsUtf8}
 use Rattle.sbl_bench.specs.KeptRuns.{contents_of}
 use Rattle.sbl_script.specs.Parts.{view_part}
-use Rattle.sbl_sessions.specs.CommandViews.{view_target}
 use Rattle.sbl_sessions.proofs.EditFacts.{replaced_text}
 use Rattle.sbl_sessions.proofs.session_edits.replace.Goals as goal
 
@@ -11,8 +10,8 @@ returns-in_default-clause-text c = λ utf8. absurd (c.in_default.ensures.cases.0
 
 pub returns-clause-text : goal.returns-clause-text
 returns-clause-text c = λ utf8.
-    replaced_text c.replace.result (contents_of c.args.bench.now) (contents_of c.replace.new.self) (view_part c.part_of.result) (view_target c.args.target.now) c.in-Ok.text.now c.args.text.now _
-    c.part_of.ensures c.in-Ok.ensures.cases.0 c.replace.ensures.edits c.edit_text-2.ensures
+    let what = view_part c.args.part in
+    replaced_text c.replace.result (contents_of c.args.bench.now) (contents_of c.replace.new.self) what what c.in-Ok.text.now c.args.text.now _ refl c.in-Ok.ensures.cases.0 c.replace.ensures.edits c.edit_text-2.ensures
 
 pub returns-clause-bytes : goal.returns-clause-bytes
 returns-clause-bytes c = λ bytes.
