@@ -11,7 +11,8 @@ use Rattle.sbl_ast.specs.Source.{Source}
 use Rattle.sbl_semantics.specs.Limit.{default_limit}
 use Rattle.sbl_bench.specs.Contents.{Contents, IsFaultOrMemory, Opens, opening_fault, word_fault}
 use Rattle.sbl_rows.specs.Setting.{under}
-use Rattle.sbl_bench.specs.Vocabulary.{is_skipped, is_word, vocabulary, with_all, with_word}
+use Rattle.sbl_bench.specs.Vocabulary.{is_skipped, is_word, vocabulary, with_word}
+use Rattle.sbl_bench.specs.inside.ProofNames.{with_all}
 use Rattle.sbl_bench.specs.declared.fault.EditFault.{EditFault}
 use Rattle.sbl_input.specs.WordLists.{AreDistinct, AreKept, HasRoom, OpensAs, texts_of}
 use Rattle.sbl_input.specs.declared.word_list.KeptWords.{KeptWords}

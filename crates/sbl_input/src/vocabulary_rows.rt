@@ -17,7 +17,7 @@ ghost use Rattle.sbl_machine.specs.MachineOf.{IsLinkedMachineOf};
 use indexmap::IndexSet;
 use sbl_bench::{EditFault, MAX_WORD_LENGTH, MAX_WORDS, Row, WordKeys};
 use sbl_machine::{DEFAULT_LIMIT, Machine, Meter, Table};
-use sbl_reports::{Record, RecordWriter};
+use sbl_reports::RecordWriter;
 use sbl_script::Script;
 use std::alloc::{AllocError, Global};
 use std::mem::forget;
@@ -137,7 +137,7 @@ fn write_row(
         word,
         outcome: &traced.outcome,
     };
-    row.write(records)
+    records.push(&row)
 }
 
 /// Returns the text of the rows of the vocabulary of these words. Returns `WordTooLong`, `Full` or `OutOfMemory` as

@@ -1,5 +1,6 @@
 use Rattle.std.proofs.Common.{◌≡◌}
-use Rattle.sbl_bench.specs.Vocabulary.{vocabulary, with_all}
+use Rattle.sbl_bench.specs.Vocabulary.{vocabulary}
+use Rattle.sbl_bench.specs.inside.ProofNames.{with_all}
 use Rattle.sbl_input.specs.WordLists.{texts_of}
 use Rattle.sbl_input.proofs.word_list.distinct.Given as goal
 

@@ -3,7 +3,7 @@ use Rattle.std.proofs.lemmas.List.{nil_from_length}
 use Rattle.std.specs.declared.vec.Vec.{Vec}
 use Rattle.std.specs.declared.alloc.Global.{Global}
 use Rattle.sbl_bench.specs.Contents.{opening_fault}
-use Rattle.sbl_bench.specs.Vocabulary.{with_all}
+use Rattle.sbl_bench.specs.inside.ProofNames.{with_all}
 use Rattle.sbl_reports.specs.Listings.{stems_text}
 use Rattle.sbl_reports.specs.RowWriter.{HasWritten}
 use Rattle.sbl_input.specs.VocabularyRows.{text_of_rows}

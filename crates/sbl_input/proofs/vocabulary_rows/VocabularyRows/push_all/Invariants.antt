@@ -1,7 +1,8 @@
 use Rattle.std.proofs.Common.{◌≡◌, []}
 use Rattle.sbl_ast.specs.Source.{Source}
 use Rattle.sbl_bench.specs.Contents.{opening_fault}
-use Rattle.sbl_bench.specs.Vocabulary.{vocabulary, with_all}
+use Rattle.sbl_bench.specs.Vocabulary.{vocabulary}
+use Rattle.sbl_bench.specs.inside.ProofNames.{with_all}
 use Rattle.sbl_machine.specs.MachineOf.{IsLinkedMachineOf}
 use Rattle.sbl_reports.specs.RowWriter.{HasWritten}
 use Rattle.sbl_input.specs.VocabularyRows.{IsWriting}
