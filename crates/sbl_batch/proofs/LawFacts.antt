@@ -9,11 +9,11 @@ use Rattle.std.specs.List.{filter}
 use Rattle.std.specs.Option.{option_or}
 use Rattle.std.specs.Prelude.{⊤}
 use Rattle.std.specs.Str.{bytes_eq, chars}
-use Rattle.sbl_bench.specs.Contents.{Contents, is_full, opening_contents, opening_fault, word_fault}
+use Rattle.sbl_bench.specs.Contents.{Contents, opening_contents, opening_fault, word_fault}
 use Rattle.sbl_rows.specs.Rows.{rows_of}
 use Rattle.sbl_rows.specs.Setting.{under}
 use Rattle.sbl_bench.specs.Vocabulary.{is_skipped, is_word, with_word}
-use Rattle.sbl_bench.specs.inside.ProofNames.{with_all}
+use Rattle.sbl_bench.specs.inside.ProofNames.{is_full, with_all}
 use Rattle.sbl_bench.specs.declared.fault.EditFault.{EditFault}
 use Rattle.sbl_bench.specs.declared.fault.EditFault.TheVariants as edit
 use Rattle.sbl_batch.specs.Filter.{filter_output, is_filled}

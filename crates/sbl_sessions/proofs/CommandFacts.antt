@@ -1,14 +1,17 @@
 -- The command word of a line, found byte by byte, and what a line with a block wants replaced.
-use Rattle.std.proofs.Common.{◌≡◌, ◌⊎◌, inl, inr, ◌∙◌, ◌<◌, ◌≤◌, ◌+◌, ℕ, Bool, true, false, List, Option, Some, None, if◌then◌else◌, length, take, get_or, refl, sym, ap, subst, arith}
+use Rattle.std.proofs.Common.{◌≡◌, ◌⊎◌, inl, inr, ◌∙◌, ◌<◌, ◌≤◌, ◌+◌, ℕ, Bool, true, false, List, Option, Some, None, Result, String, if◌then◌else◌, length, take, get_or, refl, sym, ap, subst, arith}
 use Rattle.std.proofs.lemmas.Bool.{cases_lt}
 use Rattle.std.proofs.lemmas.List.Sums.{position_or_len_is}
 use Rattle.std.proofs.lemmas.Str.{IsUtf8-from_is_utf8}
 use Rattle.std.specs.Prelude.{codes}
 use Rattle.std.specs.Option.{is_some, option_and_then, option_map, option_map_or}
 use Rattle.std.specs.Str.{IsUtf8, bytes_eq, is_utf8}
+use Rattle.std.specs.declared.alloc.AllocError.{AllocError}
+use Rattle.std.specs.declared.alloc.Global.{Global}
 use Rattle.sbl_script.specs.Edits.{ScriptEdit}
 use Rattle.sbl_script.specs.Parts.{view_part}
 use Rattle.sbl_script.specs.declared.part.Part.{Part}
+use Rattle.sbl_sessions.specs.CommandViews.{KeepsLine}
 use Rattle.sbl_sessions.specs.Commands.{Command, target_of, text_command}
 use Rattle.sbl_sessions.specs.Requests.{block_word}
 use Rattle.sbl_sessions.specs.Words.{argument, command_word}
@@ -65,21 +68,12 @@ target_of_bytes line bytes = rw bytes refl
 pub target_of_text : (line : List ℕ) → is_utf8 line ≡ true → option_and_then (λ names. names (argument line)) (block_word (command_word line)) ≡ target_of line
 target_of_text line text = rw text refl
 
--- a command word names parts if a block follows it
-pub asks_by : (part : Option (Option Part)) (word : Option (List ℕ → Option ScriptEdit)) (given : List ℕ)
-    → option_map (λ p. option_map view_part p) part ≡ option_map (λ names. names given) word → is_some part ≡ is_some word
-asks_by part word given same = is_some_map (λ p. option_map view_part p) part ∙ ap is_some same ∙ sym (is_some_map (λ names. names given) word)
-  where
-    is_some_map : {A B : Type 0} (f : A → B) (o : Option A) → is_some o ≡ is_some (option_map f o)
-    is_some_map f None = refl
-    is_some_map f (Some x) = refl
-
 -- the part of a command word and an argument
 pub named_by : (part : Option Part) (word : Option (List ℕ → Option ScriptEdit)) (given : List ℕ)
     → Some (option_map view_part part) ≡ option_map (λ names. names given) word → option_map view_part part ≡ option_and_then (λ names. names given) word
 named_by part None given same = absurd cc
 named_by part (Some names) given same = cc
 
-pub none_by : (word : Option (List ℕ → Option ScriptEdit)) (given : List ℕ) → None ≡ option_map (λ names. names given) word → None ≡ option_and_then (λ names. names given) word
-none_by None given same = refl
-none_by (Some names) given same = absurd cc
+-- a line is kept as this
+pub kept_as : (kept known : Result (Option (String Global)) AllocError) (line : List ℕ) → kept ≡ known → KeepsLine kept line → KeepsLine known line
+kept_as kept known line is keeps = subst (λ (x : Result (Option (String Global)) AllocError). KeepsLine x line) is keeps

@@ -13,7 +13,7 @@ use Rattle.sbl_bench.specs.declared.fault.EditFault.TheVariants as fault
 use Rattle.sbl_script.specs.Edits.{ScriptEdit}
 use Rattle.sbl_sessions.specs.Answers.{BlockRefused, Enough, edit_text, with_line_feed}
 use Rattle.sbl_reports.specs.Block.{made_text, max_script}
-use Rattle.sbl_sessions.specs.CommandViews.{FindsTarget, IsReply}
+use Rattle.sbl_sessions.specs.CommandViews.{IsReply}
 use Rattle.sbl_sessions.specs.Commands.{target_of, text_of_block}
 use Rattle.sbl_sessions.specs.EditFaults.{fault_in}
 use Rattle.sbl_sessions.specs.declared.replies.Reply.{Reply}
@@ -116,16 +116,16 @@ part_memory s d what (Ok text) = inr (refl, refl, refl)
 part_memory s d what (Err f) = ((BlockRefused, (refl, refl)), inl (refl, refl))
 
 -- the line is bad
-pub part_bad : (s : Contents) (d : State) (line : List ℕ) (lines : List (List ℕ)) (r : Reply) → FindsTarget (Ok None) line → IsReply r (with_line_feed (codes "no 52 BadCommand"))
+pub part_bad : (s : Contents) (d : State) (line : List ℕ) (lines : List (List ℕ)) (r : Reply) → target_of line ≡ None → IsReply r (with_line_feed (codes "no 52 BadCommand"))
     → IsWorkAnswer s d (part_command (target_of line) (text_of_block lines)) r s d
-part_bad s d line lines r finds shown =
-    same_command s s d d (part_command None (text_of_block lines)) (part_command (target_of line) (text_of_block lines)) r (ap (λ (o : Option ScriptEdit). part_command o (text_of_block lines)) finds)
+part_bad s d line lines r none shown =
+    same_command s s d d (part_command None (text_of_block lines)) (part_command (target_of line) (text_of_block lines)) r (ap (λ (o : Option ScriptEdit). part_command o (text_of_block lines)) (sym none))
     (with_line_feed (codes "no 52 BadCommand"), shown, ((Enough, (refl, refl)), inl (refl, refl)))
 
--- an allocation for the name of the line failed
-pub part_name : (s : Contents) (d : State) (line : List ℕ) (lines : List (List ℕ)) (r : Reply) → is_some (target_of line) ≡ true → IsReply r (edit_text (Some fault.OutOfMemory))
+-- an allocation for the line failed
+pub part_unkept : (s : Contents) (d : State) (line : List ℕ) (lines : List (List ℕ)) (r : Reply) → is_some (target_of line) ≡ true → IsReply r (edit_text (Some fault.OutOfMemory))
     → IsWorkAnswer s d (part_command (target_of line) (text_of_block lines)) r s d
-part_name s d line lines r some shown = by (target_of line) some
+part_unkept s d line lines r some shown = by (target_of line) some
   where
     by : (o : Option ScriptEdit) → is_some o ≡ true → IsWorkAnswer s d (part_command o (text_of_block lines)) r s d
     by None e = let no : false ≡ true = e in absurd (cc no)

@@ -24,15 +24,6 @@ fn part_in(text: &str) -> Part<'_> {
     }
 }
 
-/// Makes an edit.
-fn edit_part(alloc: Global, script: &Script, part: Part, text: &str) -> Result<Script, EditFault> {
-    match part {
-        Part::Routine(name) => script.with_routine(alloc, name, text),
-        Part::Among(name, k) => script.with_among(alloc, name, k, text),
-        Part::Grouping(name) => script.with_grouping(alloc, name, text),
-    }
-}
-
 /// Returns the script of a text. The names of two scripts are texts, too.
 fn script_named(rt: &impl Abort, alloc: Global, text: &str) -> Script {
     if text == "PORTER" {
@@ -47,7 +38,7 @@ fn script_named(rt: &impl Abort, alloc: Global, text: &str) -> Script {
 
 /// Asserts that an edit is refused with this fault, or accepted if the fault is empty.
 fn is_refused(rt: &impl Abort, alloc: Global, script: &Script, part: Part, text: &str, want: &str) {
-    let taken = edit_part(alloc, script, part, text);
+    let taken = script.with(alloc, part, text);
     let fault = fault_in(alloc, taken).expect(rt, "memory");
     assert_eq!(rt; fault.as_str(), want, "{part:?}: {text}");
 }
@@ -143,7 +134,7 @@ fn makes(
     want: bool,
 ) {
     let script = script_named(rt, alloc, before);
-    let made = edit_part(alloc, &script, edit.0, edit.1).expect(rt, "an edit");
+    let made = script.with(alloc, edit.0, edit.1).expect(rt, "an edit");
     script.discard();
     is_read_back(rt, alloc, &made);
     let other = script_named(rt, alloc, after);

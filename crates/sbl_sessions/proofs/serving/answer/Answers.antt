@@ -9,18 +9,18 @@ use Rattle.sbl_sessions.specs.declared.replies.Reply.TheVariants as reply
 use Rattle.sbl_sessions.proofs.SessionFacts.{answered_block, answered_line}
 use Rattle.sbl_sessions.proofs.serving.answer.Goals as goal
 
-pub returns-then-clause-answered : goal.returns-then-clause-answered
-returns-then-clause-answered g c =
+pub returns-then-not-asks_block-clause-answered : goal.returns-then-not-asks_block-clause-answered
+returns-then-not-asks_block-clause-answered g c =
     let s = contents_of c.args.bench.now in
     let t = contents_of c.answer_line.new.bench in
     let line = line_of c.args.lines.now in
     let asked : asks_block line ≡ false = search rules in
     let is : IsAnswer s (line_command line) c.answer_line.result t =
-    subst (λ (x : List ℕ). IsAnswer s (line_command x) c.answer_line.result t) c.line-2.ensures c.answer_line.ensures in
+    subst (λ (x : List ℕ). IsAnswer s (line_command x) c.answer_line.result t) c.line-then-not-asks_block.ensures c.answer_line.ensures in
     answered_line (input_of g.R.Source.left c.args.lines.now) line s t c.answer_line.result asked is
 
-pub returns-then-clause-reading : goal.returns-then-clause-reading
-returns-then-clause-reading g c = record {
+pub returns-then-not-asks_block-clause-reading : goal.returns-then-not-asks_block-clause-reading
+returns-then-not-asks_block-clause-reading g c = record {
   remembered = c.requires.ready;
   drained = λ is. cc is;
   fuel = omega arith;
@@ -33,8 +33,8 @@ returns-then-clause-reading g c = record {
   in_time = λ timely. timely;
 }
 
-pub returns-in_ok-block-clause-answered : goal.returns-in_ok-block-clause-answered
-returns-in_ok-block-clause-answered g c =
+pub returns-clause-answered : goal.returns-clause-answered
+returns-clause-answered g c =
     let s = contents_of c.args.bench.now in
     let t = contents_of c.edit_script.new.bench in
     let left = g.R.Source.left in

@@ -15,18 +15,15 @@ returns-in_default c = λ lines holds.
     bad_line (contents_of c.args.bench.now) c.args.line.now lines (sym (ap (option_map view_part) c.in_default.is) ∙ c.part_of.ensures)
 
 pub returns-in-Ok : goal.returns-in-Ok
-returns-in-Ok c =
+returns-in-Ok c = λ lines holds.
     let s = contents_of c.args.bench.now in
     let t = contents_of c.replace.new.bench in
     let line = c.args.line.now in
     let bytes = c.deref.result.now in
     let what = view_part c.in-Some.part in
     let named : Some what ≡ target_of line = sym (ap (option_map view_part) c.in-Some.is) ∙ c.part_of.ensures in
-    let answer : (lines : List (List ℕ)) → HoldsText c.args.block lines → IsTextAnswer s (block_command line lines) c.replace.result.now t =
-    λ lines holds.
     let held : HasText None bytes lines = subst (λ (x : List ℕ). HasText None x lines) (sym c.deref.ensures.value) (c.in-Ok.ensures.text lines holds) in
-    block_held s t line bytes c.replace.result.now lines what named held c.replace.ensures.text c.replace.ensures.bytes in
-    (answer, c.replace.utf8)
+    block_held s t line bytes c.replace.result.now lines what named held c.replace.ensures.text c.replace.ensures.bytes
 
 pub returns-in-Err-TooLong : goal.returns-in-Err-TooLong
 returns-in-Err-TooLong c = λ lines holds.
@@ -36,5 +33,4 @@ returns-in-Err-TooLong c = λ lines holds.
     let named : Some what ≡ target_of line = sym (ap (option_map view_part) c.in-Some.is) ∙ c.part_of.ensures in
     let why : c.in-Err-TooLong.field-0 ≡ TooLong = search rules in
     let long : max_script < length (made_text lines) = subst (λ (f : BlockFault). HasText (Some f) [] lines) why (c.in-Err-TooLong.ensures.fault lines holds) in
-    subst (λ (x : List ℕ). IsTextAnswer s (block_command line lines) x s) (sym c.edit_text-in-Err-TooLong.ensures)
-    (block_too_long s line lines what named long)
+    subst (λ (x : List ℕ). IsTextAnswer s (block_command line lines) x s) (sym c.edit_text.ensures) (block_too_long s line lines what named long)

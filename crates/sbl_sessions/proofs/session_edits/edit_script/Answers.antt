@@ -1,15 +1,10 @@
-use Rattle.std.proofs.Common.{◌≡◌, List, ℕ, true, None, Some, Ok, Err, Result, Option, rules, String, string_bytes, subst, sym, ◌∙◌}
-use Rattle.std.specs.Option.{is_some}
-use Rattle.std.specs.declared.alloc.AllocError.{AllocError}
-use Rattle.std.specs.declared.alloc.Global.{Global}
+use Rattle.std.proofs.Common.{◌≡◌, List, ℕ, None, Some, Ok, Err, rules, string_bytes, subst, sym, ◌∙◌}
 use Rattle.sbl_bench.specs.KeptRuns.{contents_of}
-use Rattle.sbl_sessions.specs.CommandViews.{IsTextAnswer, KeepsLine}
-use Rattle.sbl_sessions.specs.Commands.{block_command, target_of}
+use Rattle.sbl_sessions.specs.CommandViews.{IsTextAnswer}
+use Rattle.sbl_sessions.specs.Commands.{block_command}
+use Rattle.sbl_sessions.proofs.CommandFacts.{kept_as}
 use Rattle.sbl_sessions.proofs.EditFacts.{bad_line, name_refused}
 use Rattle.sbl_sessions.proofs.session_edits.edit_script.Goals as goal
-
-kept_as : (kept known : Result (Option (String Global)) AllocError) (line : List ℕ) → kept ≡ known → KeepsLine kept line → KeepsLine known line
-kept_as kept known line is keeps = subst (λ (x : Result (Option (String Global)) AllocError). KeepsLine x line) is keeps
 
 pub returns-in-Ok-None : goal.returns-in-Ok-None
 returns-in-Ok-None c = λ line lines keeps holds. bad_line (contents_of c.args.bench.now) line lines (sym (kept_as c.args.kept (Ok None) line (search rules) keeps))
