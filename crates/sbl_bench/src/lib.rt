@@ -21,6 +21,7 @@ mod word_hash;
 
 pub use bench::{Bench, MAX_LIMIT, MAX_WORDS};
 pub use fault::EditFault;
+pub use open::word_fault;
 pub use sbl_rows::{ChangedRow, Class, Row};
 pub use sbl_run_state::MAX_WORD_LENGTH;
 pub use sbl_script::ScriptFault;

@@ -1,12 +1,12 @@
 //! Opening a bench.
 
-ghost use Rattle.std.specs.Prelude.{◌≡◌, ◌≤◌, ◌<◌, ◌+◌, ◌^◌, ◌&&◌, not, map, length, [], None, OnOk, IfOk, IfErr};
+ghost use Rattle.std.specs.Prelude.{◌≡◌, ◌≤◌, ◌<◌, ◌+◌, ◌^◌, ◌&&◌, ℕ, List, not, nat_le, map, length, [], None, OnOk, IfOk, IfErr};
 ghost use Rattle.sbl_ast.specs.Source.{Source};
 ghost use Rattle.sbl_machine.specs.MachineOf.{IsLinkedMachineOf};
 ghost use Rattle.indexmap.specs.declared.map.entry.Entry.TheVariants.{Occupied};
 ghost use Rattle.indexmap.specs.Entry.{entry_map};
 ghost use Rattle.sbl_bench.specs.Vocabulary.{is_word, vocabulary, with_word};
-ghost use Rattle.sbl_bench.specs.Contents.{opening_fault, word_fault, IsFaultOrMemory};
+ghost use Rattle.sbl_bench.specs.Contents.{max_words, opening_fault, word_fault, IsFaultOrMemory};
 ghost use Rattle.sbl_bench.specs.inside.ProofNames.{is_full};
 ghost use Rattle.sbl_bench.specs.KeptRuns.{words_in, IsKept};
 ghost use Rattle.sbl_semantics.specs.Limit.{default_limit};
@@ -109,6 +109,24 @@ fn first_runs(
     Ok((traces, meter))
 }
 
+/// Returns the fault of a word that follows the words of a vocabulary, if it has one. `has_no_room` says whether the vocabulary is
+/// full and the word is not in it.
+pub fn word_fault(word: &[char], has_no_room: bool) -> Option<EditFault>
+    ensures { (words : List (List ℕ)) → has_no_room ≡ (nat_le max_words (length words) && not (is_word word.now words)) → result ≡ word_fault words word.now }
+{
+    if word.len() > MAX_WORD_LENGTH {
+        return Some(EditFault::WordTooLong);
+    }
+    if word.is_empty() {
+        return None;
+    }
+    if has_no_room {
+        Some(EditFault::Full)
+    } else {
+        None
+    }
+}
+
 // Whether the vocabulary is full and the word is not in it.
 fn has_no_room(traces: &Traces, word: &[char]) -> bool
     ensures { result ≡ (is_full (words_in traces.now.entries) && not (is_word word.now (words_in traces.now.entries))) }
@@ -134,14 +152,12 @@ fn take_word(
     ensures ok { OnOk result (word_fault (words_in traces.old.entries) word.items ≡ None) }
     ensures fault { IfErr result (λ f. IsFaultOrMemory (word_fault (words_in traces.old.entries) word.items) f) }
 {
-    if word.len() > MAX_WORD_LENGTH {
-        return Err(EditFault::WordTooLong);
+    let text = word.as_slice();
+    if let Some(fault) = word_fault(text, has_no_room(traces, text)) {
+        return Err(fault);
     }
     if word.is_empty() {
         return Ok(());
-    }
-    if has_no_room(traces, word.as_slice()) {
-        return Err(EditFault::Full);
     }
     let Ok(entry) = traces.entry(word) else {
         return Err(EditFault::OutOfMemory);
