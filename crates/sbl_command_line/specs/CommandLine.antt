@@ -23,7 +23,9 @@ flag name = record (new_rule name) { long = Some name; action = Some SetTrue }
 
 -- `run` has three files
 abbrev pub run_app : App
-run_app = with_rule (with_rule (with_rule (with_rule (verb_app (codes "run")) (required_rule (codes "SCRIPT"))) (new_rule (codes "WORDS"))) (new_rule (codes "COMMANDS"))) (flag (codes "strict"))
+run_app =
+    with_rule (with_rule (with_rule (with_rule (verb_app (codes "run")) (required_rule (codes "SCRIPT"))) (new_rule (codes "WORDS")))
+    (new_rule (codes "COMMANDS"))) (flag (codes "strict"))
 
 -- `session` and `stem` have flags
 abbrev pub session_app : App
@@ -38,11 +40,15 @@ filter_app = with_rule (with_rule (verb_app (codes "filter")) (new_rule (codes "
 
 -- `check` may have three files
 abbrev pub check_app : App
-check_app = with_rule (with_rule (with_rule (with_rule (verb_app (codes "check")) (new_rule (codes "SCRIPT"))) (new_rule (codes "WORDS"))) (new_rule (codes "STEMS"))) (flag (codes "places"))
+check_app =
+    with_rule (with_rule (with_rule (with_rule (verb_app (codes "check")) (new_rule (codes "SCRIPT"))) (new_rule (codes "WORDS")))
+    (new_rule (codes "STEMS"))) (flag (codes "places"))
 
 -- `work` has two files, and the faces of its answers
 abbrev pub work_app : App
-work_app = with_rule (with_rule (with_rule (with_rule (verb_app (codes "work")) (required_rule (codes "SCRIPT"))) (new_rule (codes "WORDS"))) (flag (codes "rows"))) (flag (codes "text"))
+work_app =
+    with_rule (with_rule (with_rule (with_rule (verb_app (codes "work")) (required_rule (codes "SCRIPT"))) (new_rule (codes "WORDS")))
+    (flag (codes "rows"))) (flag (codes "text"))
 
 -- the program itself
 abbrev pub top : App

@@ -40,7 +40,8 @@ TookFitting old new = (lines : List (List ℕ)) × TookBlock old new lines × (l
 -- The text of the script block. Or a block that was read to its end is too long, or it is not and an allocation for it failed. Or the
 -- block has no end.
 abbrev pub ReadsScript : Option (List ℕ) → Option (List ℕ) → Result (Vec ℕ Global) LoadFault → Type 0
-ReadsScript old new (Ok text) = (lines : List (List ℕ)) × TookBlock old new lines × (text.items ≡ made_text lines) × (length (made_text lines) ≤ max_script)
+ReadsScript old new (Ok text) =
+    (lines : List (List ℕ)) × TookBlock old new lines × (text.items ≡ made_text lines) × (length (made_text lines) ≤ max_script)
 ReadsScript old new (Err (Script script.ScriptTooLong)) = (lines : List (List ℕ)) × TookBlock old new lines × (max_script < length (made_text lines))
 ReadsScript old new (Err (Script f)) = ⊥
 ReadsScript old new (Err (Open f)) = ⊥

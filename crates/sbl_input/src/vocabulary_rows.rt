@@ -18,7 +18,7 @@ use crate::word_list::has_no_room;
 use indexmap::IndexSet;
 use sbl_bench::{EditFault, MAX_WORDS, Row, WordKeys, word_fault};
 use sbl_machine::{DEFAULT_LIMIT, Machine, Meter, Table};
-use sbl_reports::{Record, RecordWriter};
+use sbl_reports::RecordWriter;
 use sbl_script::Script;
 use std::alloc::{AllocError, Global};
 use std::mem::forget;
@@ -136,7 +136,7 @@ fn write_row(
         word,
         outcome: &traced.outcome,
     };
-    row.write(records)
+    records.push(&row)
 }
 
 /// Returns the text of the rows of the vocabulary of these words. Returns `WordTooLong`, `Full` or `OutOfMemory` as

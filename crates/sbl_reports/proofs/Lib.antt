@@ -1,5 +1,5 @@
 pub mod BlockFacts
-pub mod RowRecordFacts
+pub mod WriterFacts
 pub mod RowFacts
 pub mod FamilyFacts
 pub mod RecordFacts

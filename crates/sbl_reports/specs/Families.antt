@@ -4,7 +4,7 @@ use Rattle.std.specs.List.{filter, slice_split}
 use Rattle.sbl_bench.specs.Contents.{Contents, rows_now}
 use Rattle.sbl_rows.specs.Families.{FamilyResult, Under, Over, Pairs, family_results}
 use Rattle.sbl_io.specs.Records.{records_text}
-use Rattle.sbl_reports.specs.Reports.{stem_fields}
+use Rattle.sbl_reports.specs.RowRecords.{stem_fields}
 
 abbrev pub number_field : ℕ → List (List ℕ)
 number_field n = decimal n ∷ []

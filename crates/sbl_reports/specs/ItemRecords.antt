@@ -9,7 +9,6 @@ item_fields (Routine name) = codes "routine" ∷ name ∷ []
 item_fields (Among name k) = codes "among" ∷ name ∷ decimal k ∷ []
 item_fields (Grouping name) = codes "grouping" ∷ name ∷ []
 
--- ---- names for proofs
-
+-- the text of items
 abbrev pub items_text : List Item' → List ℕ
 items_text items = records_text (map item_fields items)

@@ -7,13 +7,9 @@ use Rattle.sbl_rows.specs.Largest.{largest_of}
 use Rattle.sbl_rows.specs.Rows.{Row}
 use Rattle.sbl_rows.specs.Stats.{Stats, stats_of}
 use Rattle.sbl_io.specs.Records.{records_text}
-use Rattle.sbl_reports.specs.RowRecords.{class_fields, outcome_fields}
+use Rattle.sbl_reports.specs.RowRecords.{class_fields, outcome_fields, stem_fields}
 
 -- ---- changes
-
--- a stem, and then others
-abbrev pub stem_fields : List ℕ → List (List ℕ) → List (List ℕ)
-stem_fields stem stems = map encode_utf8_all (stem ∷ stems)
 
 abbrev pub change_fields : Change → List (List ℕ)
 change_fields (Added word) = codes "added" ∷ encode_utf8_all word ∷ []

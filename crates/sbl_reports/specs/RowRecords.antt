@@ -14,6 +14,10 @@ outcome_fields (Refused f) = codes "refused" ∷ name_of f ∷ []
 unfoldable pub row_fields : Row → List (List ℕ)
 row_fields row = encode_utf8_all row.word ∷ outcome_fields row.outcome
 
+-- a stem, and then others
+abbrev pub stem_fields : List ℕ → List (List ℕ) → List (List ℕ)
+stem_fields stem stems = map encode_utf8_all (stem ∷ stems)
+
 -- the fields of a class: its stem, and then its words
 unfoldable pub class_fields : Class → List (List ℕ)
-class_fields c = map encode_utf8_all (c.stem ∷ c.members)
+class_fields c = stem_fields c.stem c.members

@@ -7,7 +7,7 @@ ghost use Rattle.sbl_rows.specs.Classes.{texts_of};
 ghost use Rattle.sbl_reports.specs.Families as spec;
 ghost use Rattle.sbl_reports.specs.FamilyReader.{families_read, read_by, read_on, with_word, words_read};
 
-use crate::records::{Record, lines_of, push_named};
+use crate::records::{Record, push_named, records_text};
 use csv::ByteRecord;
 use sbl_bench::Bench;
 use sbl_rows::{FamilyRow, families};
@@ -151,7 +151,7 @@ fn lists_text(alloc: Global, bench: &Bench, lists: &[Vec<&[char]>]) -> Result<Ve
 {
     let rows = bench.rows()?;
     let found = families(alloc, &rows, lists)?;
-    lines_of(alloc, &found)
+    records_text(alloc, &found)
 }
 
 /// Returns the report of the families of a text over the rows of a bench: a family for each line, with spaces, tabs or commas

@@ -5,13 +5,14 @@ mod block_text;
 mod families;
 mod item_records;
 mod listings;
+mod record_writer;
 mod records;
 mod reports;
 mod row_records;
 
 pub use block_text::{BlockFault, BlockText, read_block};
 pub use families::families_text;
-pub use item_records::items_text;
 pub use listings::rows_text;
+pub use record_writer::{RecordWriter, outcome_fields};
+pub use records::{Record, records_text};
 pub use reports::{changes_text, largest_text, stats_text};
-pub use row_records::{Record, RecordWriter, outcome_fields, records_text};

@@ -3,7 +3,7 @@ ghost use Rattle.std.specs.Prelude.{◌≡◌, IfOk};
 ghost use Rattle.sbl_bench.specs.KeptRuns.{contents_of};
 ghost use Rattle.sbl_reports.specs.Listings as spec;
 
-use crate::row_records::{Record, RecordWriter};
+use crate::record_writer::RecordWriter;
 use sbl_bench::Bench;
 use std::alloc::{AllocError, Global};
 
@@ -16,7 +16,7 @@ pub fn rows_text(alloc: Global, bench: &Bench) -> Result<Vec<u8>, AllocError>
     for i in 0..bench.len() {
         // A bench has a row at each number below its length: the case without one is proved impossible.
         if let Some(row) = bench.row(i) {
-            row.write(&mut writer)?;
+            writer.push(&row)?;
         }
     }
     writer.into_text()

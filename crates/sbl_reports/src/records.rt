@@ -1,18 +1,18 @@
-//! The lines of values that are written as one record each.
+//! The text of records. Its bytes are counted before memory for it is asked for.
 ghost use Rattle.std.specs.Prelude.{◌≡◌, ◌++◌, ◌∷◌, [], ℕ, IfOk, List, OnOk, encode_utf8_all, map};
 ghost use Rattle.csv.specs.Records.{fields_of, partial_of};
 ghost use Rattle.sbl_rows.specs.Classes.{texts_of};
 ghost use Rattle.sbl_io.specs.Records as spec;
 ghost use Rattle.sbl_io.specs.Reports.{TakesMore};
 ghost use Rattle.sbl_reports.specs.Blank.{IsBlank};
-ghost use Rattle.sbl_reports.specs.Reports.{stem_fields};
+ghost use Rattle.sbl_reports.specs.RowRecords.{stem_fields};
 
 use csv::ByteRecord;
 use sbl_io::{Report, ReportLength, ReportText, push_text};
 use std::alloc::{AllocError, Global};
 
 /// A value that is written as one record.
-pub(crate) trait Record {
+pub trait Record {
     /// Its fields, as bytes.
     ghost fields: { Self → List (List ℕ) };
 
@@ -22,39 +22,46 @@ pub(crate) trait Record {
         ensures { OnOk result (fields_of csv_record.new ≡ fields self.now) };
 }
 
-/// Returns the lines of values. Returns `AllocError` if an allocation fails.
-pub(crate) fn lines_of<T: Record>(alloc: Global, values: &[T]) -> Result<Vec<u8>, AllocError>
-    ensures { IfOk result (λ lines. lines.items ≡ spec.records_text (map T.fields values.now)) }
+/// Returns the text of these records: for each a line with its fields, quoted as `csv` quotes them. Returns `AllocError` if an
+/// allocation fails.
+pub fn records_text<T: Record>(alloc: Global, records: &[T]) -> Result<Vec<u8>, AllocError>
+    ensures { IfOk result (λ text. text.items ≡ spec.records_text (map T.fields records.now)) }
 {
     let mut length = ReportLength::new();
-    push_values(alloc, &mut length, values)?;
+    push_records(alloc, &mut length, records)?;
     let mut out = ReportText::with_length(alloc, &length)?;
-    push_values(alloc, &mut out, values)?;
+    push_records(alloc, &mut out, records)?;
     Ok(out.into_bytes())
 }
 
-/// Appends the lines of values. Returns `AllocError` if an allocation fails.
-fn push_values<T: Record, R: Report>(
+/// Appends the lines of records. Returns `AllocError` if an allocation fails.
+fn push_records<T: Record, R: Report>(
     alloc: Global,
     out: &mut R,
-    values: &[T],
+    records: &[T],
 ) -> Result<(), AllocError>
-    ensures { OnOk result (TakesMore R.has_taken out.old out.new (spec.records_text (map T.fields values.now))) }
+    ensures { OnOk result (TakesMore R.has_taken out.old out.new (spec.records_text (map T.fields records.now))) }
 {
-    for value in values {
-        push_value(alloc, out, value)?;
+    let mut text = String::new(alloc);
+    let mut csv_record = ByteRecord::new(alloc);
+    for record in records {
+        push_record(out, &mut text, &mut csv_record, record)?;
     }
     Ok(())
 }
 
-/// Appends the line of a value. Returns `AllocError` if an allocation fails.
-fn push_value<T: Record, R: Report>(alloc: Global, out: &mut R, value: &T) -> Result<(), AllocError>
-    ensures { OnOk result (TakesMore R.has_taken out.old out.new (spec.record_line (T.fields value.now))) }
+/// Appends the line of a record. `text` and `csv_record` are buffers. Returns `AllocError` if an allocation fails.
+fn push_record<T: Record, R: Report>(
+    out: &mut R,
+    text: &mut String,
+    csv_record: &mut ByteRecord,
+    record: &T,
+) -> Result<(), AllocError>
+    ensures { OnOk result (TakesMore R.has_taken out.old out.new (spec.record_line (T.fields record.now))) }
 {
-    let mut text = String::new(alloc);
-    let mut csv_record = ByteRecord::new(alloc);
-    value.fill(&mut text, &mut csv_record)?;
-    out.push(&csv_record)
+    csv_record.clear();
+    record.fill(text, csv_record)?;
+    out.push(csv_record)
 }
 
 /// Appends texts to a record, each as one field. Returns `AllocError` if an allocation fails.

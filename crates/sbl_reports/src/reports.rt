@@ -2,44 +2,19 @@
 ghost use Rattle.std.specs.Prelude.{◌≡◌, ◌++◌, [], IfOk, OnOk, map};
 ghost use Rattle.csv.specs.Records.{fields_of, partial_of};
 ghost use Rattle.sbl_bench.specs.KeptRuns.{contents_of};
-ghost use Rattle.sbl_rows.specs.Classes.{view_stem_class};
 ghost use Rattle.sbl_rows.specs.Rows.{view_row};
 ghost use Rattle.sbl_rows.specs.Changes.{view_change};
 ghost use Rattle.sbl_rows.specs.Stats.{view_stats};
-ghost use Rattle.sbl_semantics.specs.Outcome.{outcome_of};
 ghost use Rattle.sbl_io.specs.Records.{record_line, records_text};
 ghost use Rattle.sbl_reports.specs.Reports as spec;
-ghost use Rattle.sbl_reports.specs.RowRecords.{class_fields, outcome_fields};
 
-use crate::records::{Record, lines_of, push_named, push_stem};
+use crate::records::{Record, push_named, records_text};
+use crate::row_records::push_outcome;
 use csv::ByteRecord;
 use sbl_bench::{Bench, Row};
-use sbl_io::{push_line, push_text};
-use sbl_machine::Outcome;
-use sbl_rows::{ChangeRow, RowStats, StemClass, changes, largest_classes, stats};
+use sbl_io::push_line;
+use sbl_rows::{ChangeRow, RowStats, changes, largest_classes, stats};
 use std::alloc::{AllocError, Global};
-
-/// Appends an outcome to a record, as two fields. Returns `AllocError` if an allocation fails.
-fn push_outcome(
-    text: &mut String,
-    csv_record: &mut ByteRecord,
-    outcome: &Outcome,
-) -> Result<(), AllocError>
-    requires { partial_of csv_record.old ≡ [] }
-    ensures fields { OnOk result (fields_of csv_record.new ≡ fields_of csv_record.old ++ outcome_fields (outcome_of outcome.now)) }
-    ensures partial { OnOk result (partial_of csv_record.new ≡ []) }
-{
-    match outcome {
-        Outcome::Stem(stem) => {
-            csv_record.push_field(b"stem")?;
-            push_text(text, csv_record, stem.as_slice())
-        }
-        Outcome::Refused(fault) => {
-            csv_record.push_field(b"refused")?;
-            csv_record.push_field(fault.name().as_bytes())
-        }
-    }
-}
 
 impl Record for ChangeRow<'_> {
     ghost fields = { λ change. spec.change_fields (view_change change) };
@@ -70,15 +45,6 @@ impl Record for ChangeRow<'_> {
     }
 }
 
-impl Record for StemClass<'_> {
-    ghost fields = { λ class. class_fields (view_stem_class class) };
-
-    #[tactic(auto, unfolding(crate::specs::RowRecords::class_fields))]
-    fn fill(&self, text: &mut String, csv_record: &mut ByteRecord) -> Result<(), AllocError> {
-        push_stem(text, csv_record, self.stem, &self.members)
-    }
-}
-
 /// Returns the report of what changed: a row for each change between some rows and those of the bench.
 ///
 /// # Errors
@@ -89,7 +55,7 @@ pub fn changes_text(alloc: Global, before: &[Row<'_>], bench: &Bench) -> Result<
 {
     let rows = bench.rows()?;
     let found = changes(alloc, before, &rows)?;
-    lines_of(alloc, &found)
+    records_text(alloc, &found)
 }
 
 /// Appends the line of a figure. Returns `AllocError` if an allocation fails.
@@ -152,5 +118,5 @@ pub fn largest_text(alloc: Global, bench: &Bench, number: usize) -> Result<Vec<u
 {
     let rows = bench.rows()?;
     let classes = largest_classes(alloc, &rows, number)?;
-    lines_of(alloc, &classes)
+    records_text(alloc, &classes)
 }

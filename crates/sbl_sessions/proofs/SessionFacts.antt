@@ -83,11 +83,11 @@ session_goes_on a b c d h i j s t u line reply so gives fits is writes =
       written = Appends-trans h i j so.text text so.written (writes text is.answer.2);
     }
 
-abbrev failed : ServeFault → Result (Unit {0}) ServeFault
-failed f = Err f
+abbrev with_fault : ServeFault → Result (Unit {0}) ServeFault
+with_fault f = Err f
 
 -- the fault of a result is one
-same_fault : (f g : ServeFault) → failed f ≡ failed g → f ≡ g
+same_fault : (f g : ServeFault) → with_fault f ≡ with_fault g → f ≡ g
 same_fault f g is = ap fault_or is
   where
     fault_or : Result (Unit {0}) ServeFault → ServeFault

@@ -6,4 +6,5 @@ use Rattle.sbl_sessions.specs.Requests.{Request}
 
 abbrev pub AnswersAreOne : Type 0
 AnswersAreOne =
-    (s : Contents) (requests : List Request) (m : List Memory) (a b : List ℕ) (t u : Contents) → Answers s requests m a t → Answers s requests m b u → (a ≡ b) × (t ≡ u)
+    (s : Contents) (requests : List Request) (m : List Memory) (a b : List ℕ) (t u : Contents) →
+    Answers s requests m a t → Answers s requests m b u → (a ≡ b) × (t ≡ u)

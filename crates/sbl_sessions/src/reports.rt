@@ -103,7 +103,7 @@ fn items_text(alloc: Global, items: BTreeSet<ItemRef<'_>>) -> Result<Vec<u8>, Al
     ensures { IfOk result (λ text. text.items ≡ items_text (items_of_refs items.entry)) }
 {
     let items: Vec<ItemRef<'_>> = items.into_iter().collect(alloc)?;
-    sbl_reports::items_text(alloc, &items)
+    records_text(alloc, &items)
 }
 
 /// Returns the reply with the items that the run of a word touches, or `no 41 Absent` if the word is not in the vocabulary; the

@@ -1,7 +1,8 @@
 //! The commands of a session.
-ghost use Rattle.std.specs.Prelude.{◌≡◌, IfOk, OnErr, Some, true};
-ghost use Rattle.std.specs.Option.{is_some, unwrap_or};
+ghost use Rattle.std.specs.Prelude.{◌≡◌};
+ghost use Rattle.std.specs.Option.{option_map, unwrap_or};
 ghost use Rattle.sbl_bench.specs.Edits as edits;
+ghost use Rattle.sbl_script.specs.Edits.{among};
 ghost use Rattle.sbl_script.specs.Parts.{view_part};
 ghost use Rattle.sbl_sessions.specs.Commands as spec;
 ghost use Rattle.sbl_sessions.specs.Requests as requests;

@@ -20,7 +20,8 @@ use Rattle.sbl_work.specs.WholeWork.{WorksOrMemory}
 use Rattle.sbl_work.specs.ReplyViews.{IsWorkAnswer}
 
 -- the line with its block, if it asks for one, has this reply, for some bytes of its file; the block was taken from the input
-pub record IsWorkAnswered (input new_input : Option (List ℕ)) (line : List ℕ) (s : Contents) (d : State) (r : Reply) (t : Contents) (e : State) : Type 0 where
+pub record IsWorkAnswered (input new_input : Option (List ℕ)) (line : List ℕ)
+    (s : Contents) (d : State) (r : Reply) (t : Contents) (e : State) : Type 0 where
   pub block : Option (List (List ℕ))
   pub formed : (asks_work_block line ≡ is_some block) × IfSome block NoPoint
   pub fit : AllFit (block_lines block)

@@ -13,7 +13,8 @@ use Rattle.sbl_sessions.specs.EditFaults.{fault_in}
 use Rattle.sbl_explain.specs.Unused as unused
 use Rattle.sbl_explain.specs.Integers as integers
 use Rattle.sbl_explain.specs.WhyRows as rows
-use Rattle.sbl_work.specs.Commands.{WorkCommand, Nothing, Session, EditPart, EditWhole, Undo, Redo, Mark, Changes, Stats, Unused, Largest, Families, Why, Integers, Show, Saved, NoWords, NoFile, Echo}
+use Rattle.sbl_work.specs.Commands.{WorkCommand, Nothing, Session, EditPart, EditWhole, Undo, Redo, Mark, Changes, Stats}
+use Rattle.sbl_work.specs.Commands.{Unused, Largest, Families, Why, Integers, Show, Saved, NoWords, NoFile, Echo}
 use Rattle.sbl_source_map.specs.Definitions.{definition_text}
 use Rattle.sbl_history.specs.Desks.{Redoes, State, Undoes}
 use Rattle.sbl_history.specs.Editing.{IsLimitNoted, Replaces, ReplacesPart}

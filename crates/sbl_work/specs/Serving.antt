@@ -1,5 +1,6 @@
 -- What work writes for the lines of its input, and the bench and the desk after them.
-use Rattle.std.specs.Prelude.{◌≡◌, ◌⊎◌, ◌++◌, ◌≤◌, ℕ, Bool, true, false, List, [], ◌∷◌, codes, if◌then◌else◌, length, take, Option, Some, None, Result, Ok, Err, ⊤}
+use Rattle.std.specs.Prelude.{◌≡◌, ◌⊎◌, ◌++◌, ◌≤◌, ℕ, Bool, true, false, List, [], ◌∷◌, codes}
+use Rattle.std.specs.Prelude.{if◌then◌else◌, length, take, Option, Some, None, Result, Ok, Err, ⊤}
 use Rattle.std.specs.Io.KnownBytes.{Appends, IsAtEnd}
 use Rattle.std.specs.List.{All, flat_map}
 use Rattle.std.specs.Option.{IfSome, is_some}
@@ -69,14 +70,16 @@ abbrev pub dialogue : List ℕ → List (List ℕ) → List ℕ
 dialogue prompt replies = prompt ++ flat_map (with_prompt prompt) replies
 
 -- Exactly these requests have their replies: these were written, and the bench and the desk are those after them.
-pub record HasWorkReplies (prompt : List ℕ) (s : Contents) (d : State) (requests : List Request) (held new_held : Option (List ℕ)) (t : Contents) (e : State) : Type 0 where
+pub record HasWorkReplies (prompt : List ℕ) (s : Contents) (d : State) (requests : List Request)
+    (held new_held : Option (List ℕ)) (t : Contents) (e : State) : Type 0 where
   pub choices : List Choice
   pub replies : List (List ℕ)
   pub are : AreReplies choices s d requests replies t e
   pub written : Appends held new_held (dialogue prompt replies)
 
 -- After the replies to these requests, one more was carried out, and a prefix of its reply and of the prompt after it was written.
-pub record HasPartOfReply (prompt : List ℕ) (s : Contents) (d : State) (requests : List Request) (request : Request) (held new_held : Option (List ℕ)) (t : Contents) (e : State) : Type 0 where
+pub record HasPartOfReply (prompt : List ℕ) (s : Contents) (d : State) (requests : List Request)
+    (request : Request) (held new_held : Option (List ℕ)) (t : Contents) (e : State) : Type 0 where
   pub choices : List Choice
   pub replies : List (List ℕ)
   pub between : Contents
@@ -92,12 +95,14 @@ pub record HasPartOfReply (prompt : List ℕ) (s : Contents) (d : State) (reques
 -- ---- work
 
 -- Requests were taken from the input, and exactly these have their replies.
-abbrev pub WorkRepliesToInput : List ℕ → Option (List ℕ) → Option (List ℕ) → Option (List ℕ) → Option (List ℕ) → Contents → State → Contents → State → Type 0
+abbrev pub WorkRepliesToInput : List ℕ → Option (List ℕ) → Option (List ℕ) → Option (List ℕ) → Option (List ℕ)
+    → Contents → State → Contents → State → Type 0
 WorkRepliesToInput prompt input new_input held new_held s d t e =
     (requests : List Request) × TookWork input new_input requests × HasWorkReplies prompt s d requests held new_held t e
 
 -- nothing was read, and a prefix of the first prompt was written
-abbrev pub IsUnprompted : List ℕ → Option (List ℕ) → Option (List ℕ) → Option (List ℕ) → Option (List ℕ) → Contents → State → Contents → State → Type 0
+abbrev pub IsUnprompted : List ℕ → Option (List ℕ) → Option (List ℕ) → Option (List ℕ) → Option (List ℕ)
+    → Contents → State → Contents → State → Type 0
 IsUnprompted prompt input new_input held new_held s d t e =
     (count : ℕ) × Appends held new_held (take count prompt) × (new_input ≡ input) × (t ≡ s) × (e ≡ d)
 
@@ -106,16 +111,19 @@ IsUnprompted prompt input new_input held new_held s d t e =
 -- the input ends inside a block, a line is too long, or the reader stops, all requests before that have their replies; if the
 -- reader stops, a line feed ends the last of them. If the writer stops, the current request is carried out, and a prefix of its
 -- reply is written.
-abbrev pub IsWork : List ℕ → Option (List ℕ) → Option (List ℕ) → Option (List ℕ) → Option (List ℕ) → Contents → State → Contents → State → Result (Unit {0}) ServeFault → Type 0
+abbrev pub IsWork : List ℕ → Option (List ℕ) → Option (List ℕ) → Option (List ℕ) → Option (List ℕ)
+    → Contents → State → Contents → State → Result (Unit {0}) ServeFault → Type 0
 IsWork prompt input new_input held new_held s d t e (Ok u) =
     (WorkRepliesToInput prompt input new_input held new_held s d t e × IsAtEnd new_input)
     ⊎ ((between : Option (List ℕ)) × WorkRepliesToInput prompt input between held new_held s d t e × GivesLine between new_input quit_line)
 IsWork prompt input new_input held new_held s d t e (Err fault.Write) =
     IsUnprompted prompt input new_input held new_held s d t e
-    ⊎ ((requests : List Request) × (request : Request) × TookWork input new_input (requests ++ request ∷ []) × HasPartOfReply prompt s d requests request held new_held t e)
+    ⊎ ((requests : List Request) × (request : Request) × TookWork input new_input (requests ++ request ∷ [])
+    × HasPartOfReply prompt s d requests request held new_held t e)
 IsWork prompt input new_input held new_held s d t e (Err fault.Cut) =
     (between : Option (List ℕ)) × WorkRepliesToInput prompt input between held new_held s d t e × Breaks IsOpenWork between new_input fault.Cut
 IsWork prompt input new_input held new_held s d t e (Err fault.Read) =
-    (between : Option (List ℕ)) × TookWhole input between × WorkRepliesToInput prompt input between held new_held s d t e × Breaks IsBegunWork between new_input fault.Read
+    (between : Option (List ℕ)) × TookWhole input between × WorkRepliesToInput prompt input between held new_held s d t e
+    × Breaks IsBegunWork between new_input fault.Read
 IsWork prompt input new_input held new_held s d t e (Err f) =
     (between : Option (List ℕ)) × WorkRepliesToInput prompt input between held new_held s d t e × Breaks IsBegunWork between new_input f

@@ -34,19 +34,22 @@ abbrev pub IsUntouched : Option (List ℕ) → Option (List ℕ) → Option (Lis
 IsUntouched input new_input held new_held = (new_input ≡ input) × (new_held ≡ held)
 
 -- Work goes on from this bench and its desk at the start, and ends with this result, which has one of these reasons.
-abbrev pub WorksFrom : (Result (Unit {0}) ServeFault → Type 0) → List ℕ → List ℕ → Option (List ℕ) → Option (List ℕ) → Option (List ℕ) → Option (List ℕ) → Contents → Result (Unit {0}) ServeFault → Type 0
+abbrev pub WorksFrom : (Result (Unit {0}) ServeFault → Type 0) → List ℕ → List ℕ
+    → Option (List ℕ) → Option (List ℕ) → Option (List ℕ) → Option (List ℕ) → Contents → Result (Unit {0}) ServeFault → Type 0
 WorksFrom Reasons bytes prompt input new_input held new_held s result =
     (t : Contents) × (e : State) × IsWork prompt input new_input held new_held s (first_desk s bytes) t e result × Reasons result
 
 -- the same; or an allocation for the desk fails
-abbrev pub WorksOrMemory : (Result (Unit {0}) ServeFault → Type 0) → List ℕ → List ℕ → Option (List ℕ) → Option (List ℕ) → Option (List ℕ) → Option (List ℕ) → Contents → Result (Unit {0}) ServeFault → Type 0
+abbrev pub WorksOrMemory : (Result (Unit {0}) ServeFault → Type 0) → List ℕ → List ℕ
+    → Option (List ℕ) → Option (List ℕ) → Option (List ℕ) → Option (List ℕ) → Contents → Result (Unit {0}) ServeFault → Type 0
 WorksOrMemory Reasons bytes prompt input new_input held new_held s result =
     WorksFrom Reasons bytes prompt input new_input held new_held s result
     ⊎ ((result ≡ Err fault.OutOfMemory) × IsUntouched input new_input held new_held)
 
 -- There is no bench or no desk: the status is 1, and nothing is read or written. Or a bench is opened, the lines of the input get
 -- their replies, and the status is that of their end.
-abbrev pub IsWholeWork : (Result (Unit {0}) ServeFault → Type 0) → List ℕ → List ℕ → Option (List ℕ) → Option (List ℕ) → Option (List ℕ) → Option (List ℕ) → ℕ → Type 0
+abbrev pub IsWholeWork : (Result (Unit {0}) ServeFault → Type 0) → List ℕ → List ℕ
+    → Option (List ℕ) → Option (List ℕ) → Option (List ℕ) → Option (List ℕ) → ℕ → Type 0
 IsWholeWork Reasons external prompt input new_input held new_held status =
     ((status ≡ 1) × IsUntouched input new_input held new_held)
     ⊎ ((bytes : List ℕ) × (s : Contents) × (served : Result (Unit {0}) ServeFault) × IsOpened external bytes s

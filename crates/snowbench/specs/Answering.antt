@@ -7,7 +7,8 @@ use Rattle.sbl_input.specs.declared.faults.LoadFault.{LoadFault}
 use Rattle.snowbench.specs.Program.{HasReasons}
 
 -- What reading these lines and writing to this writer keeps, besides what is read and written.
-pub record Answering {R W A : Type 0} (reads : R → Tally) (writes : W → Tally) (lines new_lines : Lines R) (writer new_writer : W) (result : Result A LoadFault) : Type 0 where
+pub record Answering {R W A : Type 0} (reads : R → Tally) (writes : W → Tally) (lines new_lines : Lines R)
+    (writer new_writer : W) (result : Result A LoadFault) : Type 0 where
   pub why : fault_of lines ≡ None → IfErr result (λ fault. HasReasons reads writes lines new_lines writer new_writer fault)
   pub reads_in_time : KeepsTime reads lines new_lines
   pub writes_in_time : WritesInTime writes writer new_writer

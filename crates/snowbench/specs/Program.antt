@@ -1,5 +1,6 @@
 -- What the program writes for its input, and its exit status.
-use Rattle.std.specs.Prelude.{◌≡◌, ◌⊎◌, ◌+◌, ◌++◌, ◌==◌, ℕ, List, [], ◌∷◌, Option, None, Result, Ok, Err, IfErr, codes, if◌then◌else◌, min, string_bytes, take}
+use Rattle.std.specs.Prelude.{◌≡◌, ◌⊎◌, ◌+◌, ◌++◌, ◌==◌, ℕ, List, [], ◌∷◌, Option, None, Result, Ok}
+use Rattle.std.specs.Prelude.{Err, IfErr, codes, if◌then◌else◌, min, string_bytes, take}
 use Rattle.std.specs.Io.KnownBytes.{Appends, Keeps}
 use Rattle.sbl_command_line.specs.declared.command_line.Verb.{Verb}
 use Rattle.sbl_command_line.specs.declared.command_line.Verb.TheVariants.{Session, Stem, Filter, Check, Work}
@@ -63,7 +64,8 @@ pub record Runs {R W E : Type 0} (left : R → Option (List ℕ)) (reads : R →
     (said : E → Option (List ℕ)) (says : E → Tally) (wanted : Wanted)
     (lines last : Lines R) (writer new_writer : W) (errors new_errors : E) (status : ℕ) : Type 0 where
   pub result : Result ℕ LoadFault
-  pub is_written : IsAnswer wanted.verb (string_bytes wanted.external) (input_of left lines) (input_of left last) (held writer) (held new_writer) result
+  pub is_written : IsAnswer wanted.verb (string_bytes wanted.external) (input_of left lines) (input_of left last)
+      (held writer) (held new_writer) result
   pub has_cause : IfErr result (λ f. HasReasons reads writes lines last writer new_writer f)
   pub is_reported : IsReported said says errors new_errors status result
 

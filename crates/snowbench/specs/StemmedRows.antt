@@ -22,6 +22,7 @@ IsStemmed old new external held new_held (Err (Input fault.Write)) =
     (s : Source) × (words : List (List ℕ)) × IsInput old new external s words × (opening_fault [] (map chars words) ≡ None)
     × (n : ℕ) × Appends held new_held (take n (stems_text (opening_contents s (map chars words))))
 IsStemmed old new external held new_held (Err (Input fault.OutOfMemory)) =
-    (IsLoaded old new external (λ b. contents_of b) (Err (Input fault.OutOfMemory)) ⊎ ((s : Source) × (words : List (List ℕ)) × IsInput old new external s words))
+    (IsLoaded old new external (λ b. contents_of b) (Err (Input fault.OutOfMemory))
+    ⊎ ((s : Source) × (words : List (List ℕ)) × IsInput old new external s words))
     × Appends held new_held []
 IsStemmed old new external held new_held (Err f) = IsLoaded old new external (λ b. contents_of b) (Err f) × Appends held new_held []

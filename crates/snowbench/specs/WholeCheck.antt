@@ -64,7 +64,8 @@ LacksLists old new f =
 abbrev pub ChecksLists : Source → Option (List ℕ) → Option (List ℕ) → Option (List ℕ) → Option (List ℕ) → Result ℕ ServeFault → Type 0
 ChecksLists script old new held new_held result =
     ((f : ServeFault) × (result ≡ Err f) × LacksLists old new f × Appends held new_held [])
-    ⊎ ((between : Option (List ℕ)) × (words : List (List ℕ)) × (expected : List (List ℕ)) × TookBlock old between words × TookRest between new expected
+    ⊎ ((between : Option (List ℕ)) × (words : List (List ℕ)) × (expected : List (List ℕ))
+    × TookBlock old between words × TookRest between new expected
     × IsChecked script (list_text words) (list_text expected) held new_held result)
 
 -- There is no script: the result is its fault, and nothing is written. Or the lists after it are checked.

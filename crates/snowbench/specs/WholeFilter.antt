@@ -19,7 +19,8 @@ line_of_fault (Err f) = Some f.line
 
 -- There is no script: the result is its fault, which has no line, and nothing is written. Or the words after it are filtered; a
 -- fault of them has the number of its line.
-abbrev pub IsWholeFilter : Option (List ℕ) → Option (List ℕ) → List ℕ → Option (List ℕ) → Option (List ℕ) → Result (Unit {0}) LoadFault → Option ℕ → Type 0
+abbrev pub IsWholeFilter : Option (List ℕ) → Option (List ℕ) → List ℕ → Option (List ℕ) → Option (List ℕ)
+    → Result (Unit {0}) LoadFault → Option ℕ → Type 0
 IsWholeFilter input left external held new_held result line =
     ((f : LoadFault) × (result ≡ Err f) × (line ≡ None) × LacksScript input left external f × Appends held new_held [])
     ⊎ ((between : Option (List ℕ)) × (script : Source) × (filtered : Result (Unit {0}) WordFault) × (result ≡ without_line filtered)

@@ -8,6 +8,6 @@ use Rattle.sbl_reports.proofs.families.lists_text.Goals as goal
 
 pub returns : goal.returns
 returns c =
-    let lines : IfOk c.lines_of.result (λ text. text.items ≡ records_text (map result_fields (view_results c.in_ok-found.found.items))) =
-    IfOk-weaker c.lines_of.result _ _ (λ text e. seen_lines result_fields view_result _ _ _ e c.deref-2.ensures.value) c.lines_of.ensures in
+    let lines : IfOk c.records_text.result (λ text. text.items ≡ records_text (map result_fields (view_results c.in_ok-found.found.items))) =
+    IfOk-weaker c.records_text.result _ _ (λ text e. seen_lines result_fields view_result _ _ _ e c.deref-2.ensures.value) c.records_text.ensures in
     search rules

@@ -7,20 +7,20 @@ use Rattle.sbl_rows.specs.Rows.{Row, row_of, view_row}
 use Rattle.sbl_reports.specs.RowRecords.{row_fields}
 use Rattle.sbl_reports.specs.Listings.{stems_text}
 use Rattle.sbl_reports.specs.RowWriter.{HasWritten}
-use Rattle.sbl_reports.specs.declared.row_records.RecordWriter.{RecordWriter}
+use Rattle.sbl_reports.specs.declared.record_writer.RecordWriter.{RecordWriter}
 use Rattle.sbl_io.specs.Records.{records_text}
 use Rattle.sbl_reports.proofs.RowFacts.{no_row, row_more}
 use Rattle.sbl_reports.proofs.listings.rows_text.Goals as goal
-use Rattle.sbl_reports.proofs.listings.rows_text.Goals.{in-Some+in_ok-write, in_default}
+use Rattle.sbl_reports.proofs.listings.rows_text.Goals.{in-Some+in_ok-push, in_default}
 
 pub loop-i-preserved : goal.loop-i-preserved
 loop-i-preserved c =
     let rows = rows_now (contents_of c.args.bench.now) in
     let i = c.loop-i.i in
     elim c.match-row.branch [
-      | in-Some+in_ok-write w ↦
+      | in-Some+in_ok-push w ↦
           let at : slice_get rows i ≡ Some (view_row w.in-Some.row) = sym c.row.ensures ∙ ap (option_map view_row) w.in-Some.is in
-          let written = subst (HasWritten w.write.new.records.writer) (row_more rows i (view_row w.in-Some.row) at) (w.in_ok-write.ensures _ c.loop-i.invariant) in
+          let written = subst (HasWritten w.push.new.self.writer) (row_more rows i (view_row w.in-Some.row) at) (w.in_ok-push.ensures _ c.loop-i.invariant) in
           subst (λ (writer : RecordWriter). HasWritten writer.writer (records_text (map row_fields (take (i + 1) rows)))) (sym w.writer-is) written
       | in_default w ↦
           let none : slice_get rows i ≡ None = sym c.row.ensures ∙ ap (option_map view_row) w.in_default.is in

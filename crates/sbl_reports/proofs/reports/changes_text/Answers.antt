@@ -8,6 +8,6 @@ use Rattle.sbl_reports.proofs.reports.changes_text.Goals as goal
 
 pub returns : goal.returns
 returns c =
-    let lines : IfOk c.lines_of.result (λ text. text.items ≡ records_text (map change_fields (view_changes c.in_ok-found.found.items))) =
-    IfOk-weaker c.lines_of.result _ _ (λ text e. seen_lines change_fields view_change _ _ _ e c.deref-2.ensures.value) c.lines_of.ensures in
+    let lines : IfOk c.records_text.result (λ text. text.items ≡ records_text (map change_fields (view_changes c.in_ok-found.found.items))) =
+    IfOk-weaker c.records_text.result _ _ (λ text e. seen_lines change_fields view_change _ _ _ e c.deref-2.ensures.value) c.records_text.ensures in
     search rules

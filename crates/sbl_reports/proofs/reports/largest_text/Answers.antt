@@ -8,6 +8,6 @@ use Rattle.sbl_reports.proofs.reports.largest_text.Goals as goal
 
 pub returns : goal.returns
 returns c =
-    let lines : IfOk c.lines_of.result (λ text. text.items ≡ records_text (map class_fields (view_stem_classes c.in_ok-classes.classes.items))) =
-    IfOk-weaker c.lines_of.result _ _ (λ text e. seen_lines class_fields view_stem_class _ _ _ e c.deref-2.ensures.value) c.lines_of.ensures in
+    let lines : IfOk c.records_text.result (λ text. text.items ≡ records_text (map class_fields (view_stem_classes c.in_ok-classes.classes.items))) =
+    IfOk-weaker c.records_text.result _ _ (λ text e. seen_lines class_fields view_stem_class _ _ _ e c.deref-2.ensures.value) c.records_text.ensures in
     search rules

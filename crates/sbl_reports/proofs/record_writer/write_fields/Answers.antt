@@ -1,6 +1,6 @@
 use Rattle.std.proofs.Common.{rules, arith}
 use Rattle.std.proofs.lemmas.Grind.{common_steps}
-use Rattle.sbl_reports.proofs.row_records.write_record.Goals as goal
+use Rattle.sbl_reports.proofs.record_writer.write_fields.Goals as goal
 
 pub returns : goal.returns
 returns c = λ text has.
