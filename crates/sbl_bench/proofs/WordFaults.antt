@@ -1,6 +1,6 @@
 -- The fault of one word, by what is known of it.
 use Rattle.std.proofs.Common.{◌≡◌, ◌∙◌, ℕ, Bool, true, false, ◌&&◌, not, if◌then◌else◌, List, [], ◌∷◌, length, Option, Some, None, refl, sym, nat_eq, nat_lt, nat_le, ◌≤◌, ◌<◌, arith, tests}
-use Rattle.sbl_bench.specs.Contents.{IsFaultOrMemory, max_words, word_fault}
+use Rattle.sbl_bench.specs.Contents.{max_words, word_fault}
 use Rattle.sbl_bench.specs.Vocabulary.{is_skipped, is_word}
 use Rattle.sbl_bench.specs.declared.fault.EditFault.{EditFault}
 use Rattle.sbl_bench.specs.declared.fault.EditFault.TheVariants as fault
@@ -28,10 +28,6 @@ other_word words w b short some is = by (is_word w words) (nat_le max_words (len
     by true false h f = rw (is, h, f, low, skipped_is w words some ∙ h) refl
     by false true h f = rw (is, h, f, low, skipped_is w words some ∙ h) refl
     by false false h f = rw (is, h, f, low, skipped_is w words some ∙ h) refl
-
-pub fault_or_memory : (verdict : Option EditFault) (f : EditFault) → verdict ≡ Some f → IsFaultOrMemory verdict f
-fault_or_memory verdict fault.OutOfMemory is = tt
-fault_or_memory verdict _ is = is
 
 pub none_unless : (o : Option EditFault) → ((f : EditFault) → o ≡ Some f → ⊥) → o ≡ None
 none_unless None other = refl

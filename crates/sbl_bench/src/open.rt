@@ -1,12 +1,12 @@
 //! Opening a bench.
 
-ghost use Rattle.std.specs.Prelude.{◌≡◌, ◌≤◌, ◌<◌, ◌+◌, ◌^◌, ◌&&◌, ℕ, List, not, nat_le, map, length, [], None, OnOk, IfOk, IfErr};
+ghost use Rattle.std.specs.Prelude.{◌≡◌, ◌≤◌, ◌<◌, ◌+◌, ◌^◌, ◌&&◌, not, map, length, [], None, OnOk, IfOk, IfErr};
 ghost use Rattle.sbl_ast.specs.Source.{Source};
 ghost use Rattle.sbl_machine.specs.MachineOf.{IsLinkedMachineOf};
 ghost use Rattle.indexmap.specs.declared.map.entry.Entry.TheVariants.{Occupied};
 ghost use Rattle.indexmap.specs.Entry.{entry_map};
 ghost use Rattle.sbl_bench.specs.Vocabulary.{is_word, vocabulary, with_word};
-ghost use Rattle.sbl_bench.specs.Contents.{max_words, opening_fault, word_fault, IsFaultOrMemory};
+ghost use Rattle.sbl_bench.specs.Contents.{opening_fault, word_fault, IsFaultOrMemory};
 ghost use Rattle.sbl_bench.specs.inside.ProofNames.{is_full};
 ghost use Rattle.sbl_bench.specs.KeptRuns.{words_in, IsKept};
 ghost use Rattle.sbl_semantics.specs.Limit.{default_limit};
@@ -15,12 +15,12 @@ ghost use Rattle.sbl_rows.specs.Setting.{under};
 use crate::bench::{Bench, MAX_WORDS};
 use crate::fault::EditFault;
 use crate::last_run::{LastRun, SharedLists};
+use crate::refusal::word_fault;
 use crate::traces::{Traces, has_word};
 use crate::word_hash::WordKeys;
 use indexmap::IndexMap;
 use indexmap::map::{Entry, OccupiedEntry};
 use sbl_machine::{DEFAULT_LIMIT, Machine, Meter, Table};
-use sbl_run_state::MAX_WORD_LENGTH;
 use sbl_script::Script;
 use std::alloc::Global;
 
@@ -107,24 +107,6 @@ fn first_runs(
         take_word(alloc, machine, &mut meter, &mut lists, &mut traces, word)?;
     }
     Ok((traces, meter))
-}
-
-/// Returns the fault of a word that follows the words of a vocabulary, if it has one. `has_no_room` says whether the vocabulary is
-/// full and the word is not in it.
-pub fn word_fault(word: &[char], has_no_room: bool) -> Option<EditFault>
-    ensures { (words : List (List ℕ)) → has_no_room ≡ (nat_le max_words (length words) && not (is_word word.now words)) → result ≡ word_fault words word.now }
-{
-    if word.len() > MAX_WORD_LENGTH {
-        return Some(EditFault::WordTooLong);
-    }
-    if word.is_empty() {
-        return None;
-    }
-    if has_no_room {
-        Some(EditFault::Full)
-    } else {
-        None
-    }
 }
 
 // Whether the vocabulary is full and the word is not in it.

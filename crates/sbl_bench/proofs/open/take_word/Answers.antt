@@ -12,7 +12,7 @@ use Rattle.sbl_bench.specs.Contents.{word_fault}
 use Rattle.sbl_bench.specs.Vocabulary.{with_word}
 use Rattle.sbl_bench.proofs.MapEntries.{found_word, words-push, kept-push}
 use Rattle.sbl_bench.proofs.Taking.{comes_home, goes_last, skips, takes}
-use Rattle.sbl_bench.proofs.WordFaults.{fault_or_memory, none_unless, room_of, short_of}
+use Rattle.sbl_bench.proofs.WordFaults.{none_unless, room_of, short_of}
 use Rattle.sbl_bench.proofs.open.take_word.Goals as goal
 
 pub returns-in-Occupied-clause-words : goal.returns-in-Occupied-clause-words

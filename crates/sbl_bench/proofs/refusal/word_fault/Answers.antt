@@ -1,6 +1,6 @@
 use Rattle.std.proofs.Common.{rules}
 use Rattle.sbl_bench.proofs.WordFaults.{long_word, empty_word, other_word}
-use Rattle.sbl_bench.proofs.open.word_fault.Goals as goal
+use Rattle.sbl_bench.proofs.refusal.word_fault.Goals as goal
 
 pub returns-then-word-gt-MAX_WORD_LENGTH : goal.returns-then-word-gt-MAX_WORD_LENGTH
 returns-then-word-gt-MAX_WORD_LENGTH c = λ words room. search (rules, long_word words c.args.word.now)
