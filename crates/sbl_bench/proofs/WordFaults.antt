@@ -1,5 +1,5 @@
 -- The fault of one word, by what is known of it.
-use Rattle.std.proofs.Common.{◌≡◌, ◌∙◌, ℕ, Bool, true, false, ◌&&◌, not, if◌then◌else◌, List, [], ◌∷◌, length, Option, Some, None, refl, sym, nat_eq, nat_lt, nat_le, ◌≤◌, ◌<◌, arith, tests}
+use Rattle.std.proofs.Common.{◌≡◌, ◌∙◌, ℕ, Bool, true, false, ◌&&◌, not, if◌then◌else◌, List, [], ◌∷◌, length, Option, Some, None, refl, nat_eq, nat_lt, nat_le, ◌≤◌, ◌<◌, arith, tests}
 use Rattle.sbl_bench.specs.Contents.{max_words, word_fault}
 use Rattle.sbl_bench.specs.Vocabulary.{is_skipped, is_word}
 use Rattle.sbl_bench.specs.declared.fault.EditFault.{EditFault}
