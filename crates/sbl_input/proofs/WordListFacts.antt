@@ -1,5 +1,5 @@
 -- What one more word does to the words that are kept while a vocabulary is read.
-use Rattle.std.proofs.Common.{◌&&◌, ◌≡◌, ◌∙◌, ◌++◌, ℕ, Bool, true, false, List, [], ◌∷◌, length, Option, Some, None, Result, Ok, Err, is_some, refl, sym, ap, subst, suc, nat_eq, true≢false, arith, tests, not, ◌+◌, ◌≤◌, ◌<◌, nat_lt, nat_le}
+use Rattle.std.proofs.Common.{◌&&◌, ◌≡◌, ◌∙◌, ◌++◌, ℕ, Bool, true, false, List, [], ◌∷◌, length, Option, Some, None, Result, Ok, Err, is_some, refl, sym, ap, subst, suc, nat_eq, true≢false, arith, tests, not, ◌+◌, ◌≤◌, ◌<◌, nat_le}
 use Rattle.std.specs.Option.{option_map, option_or}
 use Rattle.std.specs.Str.{bytes_eq}
 use Rattle.std.specs.List.{list_any}
