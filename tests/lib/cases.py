@@ -1,7 +1,7 @@
 #!/usr/bin/env python3
 """Cuts files of cases (tests/README.md has their form) into the files of a run.
 
-  tests/cases.py ROOM FILE..
+  tests/lib/cases.py ROOM FILE..
 
 Writes ROOM/N.title, .words (one a line), .in, .out, .err and .status for the Nth case; .launcher if the launcher is tried, .proved if
 the case is not for a program that was compiled without proofs, and .sbl and .voc if it has files.

@@ -1,4 +1,4 @@
-# What tests/launcher and tests/terminal share: a room, a script with words and a session, and judgements. They set `top` and `room`.
+# What tests/suites/launcher and tests/suites/terminal share: a room, a script with words and a session, and judgements. They set `top` and `room`.
 # shellcheck shell=bash disable=SC2034,SC2154
 passed=0 failed=0 status=""
 

@@ -53,11 +53,11 @@ def read_seeds():
     """Returns the cases of each subcommand: its words, and the texts of its input, its script and its vocabulary."""
     seeds = {"session": [], "stem": [], "check": [], "work": []}
     with tempfile.TemporaryDirectory() as room:
-        pages = subprocess.run([sys.executable, "tests/pages.py", "README.md", *sorted(glob.glob("docs/*.md") + glob.glob("tests/cases/*.md"))],
+        pages = subprocess.run([sys.executable, "tests/lib/pages.py", "README.md", *sorted(glob.glob("docs/*.md") + glob.glob("tests/cases/*.md"))],
                                stdout=subprocess.PIPE, check=True).stdout
         with open(os.path.join(room, "pages"), "wb") as file:
             file.write(pages)
-        subprocess.run([sys.executable, "tests/cases.py", room, *sorted(glob.glob("tests/cases/*.cases")), file.name], check=True)
+        subprocess.run([sys.executable, "tests/lib/cases.py", room, *sorted(glob.glob("tests/cases/*.cases")), file.name], check=True)
         for path in sorted(glob.glob(os.path.join(room, "*.in"))):
             base = path[:-3]
             words = read(base + ".words").decode().split()
@@ -293,7 +293,7 @@ def main():
         for number, words, texts, wrong, result in pool.map(attempt, numbers):
             if wrong:
                 failed += 1
-                print("FAILED mutations: %s: bash tests/mutations --only %d %s" % (wrong, number, seed))
+                print("FAILED mutations: %s: bash tests/suites/mutations --only %d %s" % (wrong, number, seed))
             if result and not wrong:
                 end = words[0], result.stderr.decode().strip().split(" at ")[0].split(" in ")[0] or "status %d" % result.returncode
                 ends[end] = ends.get(end, 0) + 1

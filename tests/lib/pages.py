@@ -1,7 +1,7 @@
 #!/usr/bin/env python3
 """Finds what pages say of the program, and prints it as cases (tests/README.md has their form).
 
-  tests/pages.py PAGE..
+  tests/lib/pages.py PAGE..
 
 - `SCRIPT`: `ANSWER`, `ANSWER` ..   the rows of words, or the fault of the script, or 'accepted' if it has none; X is short for
                                     'externals ( stem ) define stem as';

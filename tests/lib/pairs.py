@@ -1,5 +1,5 @@
 #!/usr/bin/env python3
-"""Tries the pairs of tests/pairs.d (see tests/pairs). A file there has pairs:
+"""Tries the pairs of tests/sources/pairs.d (see tests/sources/pairs). A file there has pairs:
 
     == the title of the pair
     rows: checks.md checks.cases       the files of tests/cases that are tried first; the others follow
@@ -23,7 +23,7 @@ import sys
 import tempfile
 from concurrent.futures import ThreadPoolExecutor
 
-TOP = os.path.dirname(os.path.dirname(os.path.realpath(__file__)))
+TOP = os.path.dirname(os.path.dirname(os.path.dirname(os.path.realpath(__file__))))
 KEPT = os.path.join(TOP, "out", "pairs")
 PATIENCE = 120
 
@@ -60,7 +60,7 @@ class Pair:
 
 def read_pairs(folder="pairs.d"):
     pairs = []
-    for path in sorted(glob.glob(os.path.join(TOP, "tests", folder, "*.pairs"))):
+    for path in sorted(glob.glob(os.path.join(TOP, "tests", "sources", folder, "*.pairs"))):
         texts = None
         with open(path, encoding="utf-8") as file:
             for number, line in enumerate(file, 1):
@@ -111,16 +111,17 @@ class Cases:
         os.mkdir(self.room)
         self.files = {}
         pages = os.path.join(room, "pages")
-        for path in sorted(glob.glob(os.path.join(TOP, "tests", "cases", "*"))):
+        folder = os.path.join(TOP, "tests", "cases")
+        for path in sorted(glob.glob(folder + "/*.cases") + glob.glob(folder + "/*.md")):
             name = os.path.basename(path)
             source = path
             if name.endswith(".md"):
                 with open(pages, "wb") as file:
-                    subprocess.run([sys.executable, "tests/pages.py", path], cwd=TOP, stdout=file, check=True)
+                    subprocess.run([sys.executable, "tests/lib/pages.py", path], cwd=TOP, stdout=file, check=True)
                 source = pages
             part = os.path.join(self.room, name)
             os.mkdir(part)
-            subprocess.run([sys.executable, "tests/cases.py", part, source], cwd=TOP, check=True)
+            subprocess.run([sys.executable, "tests/lib/cases.py", part, source], cwd=TOP, check=True)
             cases = sorted(name[:-3] for name in os.listdir(part) if name.endswith(".in"))
             skipped = {name[:-9] for name in os.listdir(part) if name.endswith(".launcher")} | {name[:-7] for name in os.listdir(part) if name.endswith(".proved")}
             self.files[name] = [os.path.join(part, case) for case in cases if case not in skipped]
@@ -198,7 +199,7 @@ def main():
         return 0
     wrong = [line for pair in pairs for line in pair.wrong()]
     for line in wrong:
-        print("tests/pairs: " + line)
+        print("tests/sources/pairs: " + line)
     if words == ["--read"] or wrong:
         print("%d pairs, %d texts do not fit" % (len(pairs), len(wrong)))
         return 1 if wrong else 0

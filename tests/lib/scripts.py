@@ -1,7 +1,7 @@
 #!/usr/bin/env python3
 """Prints a script of one kind, of at most so many bytes, that has no fault.
 
-  tests/scripts.py KIND MOST EXTERNAL
+  tests/lib/scripts.py KIND MOST EXTERNAL
 
 If EXTERNAL is 1 the script has the external `stem`; otherwise it is refused after everything else was checked. Kinds:
   names       routines, each declared, defined and called by the next

@@ -1,4 +1,4 @@
-"""What tests/hostile tries without a terminal: how ./snowbench finds its program, what --prove ends with, and streams. Each function returns
+"""What tests/suites/hostile tries without a terminal: how ./snowbench finds its program, what --prove ends with, and streams. Each function returns
 what is wrong."""
 import glob
 import os
@@ -9,7 +9,7 @@ import subprocess
 import tempfile
 import time
 
-TOP = os.path.dirname(os.path.dirname(os.path.realpath(__file__)))
+TOP = os.path.dirname(os.path.dirname(os.path.dirname(os.path.realpath(__file__))))
 SNOWBENCH = os.path.join(TOP, "snowbench")
 # After how many seconds nothing more is awaited. (The machine may be busy.)
 PATIENCE = 60

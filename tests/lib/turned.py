@@ -1,9 +1,9 @@
 #!/usr/bin/env python3
-"""Tries the pairs of tests/turned.d (see tests/turned), which have the form of tests/pairs.d. All are pairs of sbl_resolver. The tool copies
+"""Tries the pairs of tests/sources/turned.d (see tests/sources/turned), which have the form of tests/sources/pairs.d. All are pairs of sbl_resolver. The tool copies
 that crate once for each pair, changes the copy, and makes programs without proofs, each with some of the copies. Such a program judges the scripts
 of all cases by the checks as they are and by each of the copies; a pair is seen by a script that is judged otherwise, since a case shows
 the fault of a script, or that it has none.
-Equations that have no condition are in tests/turned.d/plain, a line each with the reason.
+Equations that have no condition are in tests/sources/turned.d/plain, a line each with the reason.
 """
 import os
 import re
@@ -93,7 +93,7 @@ def equations(path):
 
 def uncovered(pairs):
     """Returns the equations that no pair changes and that are not listed as plain."""
-    with open(os.path.join(TOP, "tests", "turned.d", "plain"), encoding="utf-8") as file:
+    with open(os.path.join(TOP, "tests", "sources", "turned.d", "plain"), encoding="utf-8") as file:
         plain = {line.split(" # ")[0].strip() for line in file if line.strip() and not line.startswith("#")}
     texts = {}
     for pair in pairs:
@@ -173,7 +173,7 @@ def run_program(room, number, pairs, scripts):
     done = subprocess.run(["rt", "try", "--", path], cwd=folder, stdout=subprocess.PIPE, stderr=subprocess.STDOUT, text=True, check=False).stdout
     lines = [line for line in done.split("\n") if line.startswith("judged")]
     if len(lines) != len(scripts):
-        print("tests/turned: program %d judged %d of %d scripts: %s" % (number, len(lines), len(scripts), done[-1500:]))
+        print("tests/sources/turned: program %d judged %d of %d scripts: %s" % (number, len(lines), len(scripts), done[-1500:]))
         return [None] * len(pairs)
     seen = [None] * len(pairs)
     for line, title in zip(lines, scripts.values()):
@@ -189,7 +189,7 @@ def main():
     missing, unknown = uncovered(pairs + read_pairs())
     wrong += ["no pair changes the equation " + head for head in missing] + ["there is no equation " + head for head in unknown]
     for line in wrong:
-        print("tests/turned: " + line)
+        print("tests/sources/turned: " + line)
     if wrong or sys.argv[1:] == ["--read"]:
         print("%d pairs, %d faults" % (len(pairs), len(wrong)))
         return 1 if wrong else 0

@@ -1,13 +1,13 @@
 #!/usr/bin/env python3
 """Tries wrong bodies of crates several at a time: edits of different functions in one check.
 
-  python3 tests/grouped TOP JOBS CRATE[/EDIT]..         TOP: a copy of the repository in which these crates were checked
-  python3 tests/grouped TOP JOBS --sample N COMMIT      tries N edits of all crates, which the commit chooses
+  python3 tests/sources/grouped TOP JOBS CRATE[/EDIT]..         TOP: a copy of the repository in which these crates were checked
+  python3 tests/sources/grouped TOP JOBS --sample N COMMIT      tries N edits of all crates, which the commit chooses
 
 What no group settles is tried again in a smaller group, without the edits that are settled, and in the end alone. Edits of texts outside
 of bodies are tried alone from the start. That an edit is accepted is said only of a check of that edit alone.
 
-The edits of tests/grouped/controls/CRATE mean the same as the code. They are tried in the same groups, and none may be refused; that its
+The edits of tests/sources/grouped/controls/CRATE mean the same as the code. They are tried in the same groups, and none may be refused; that its
 goals have other names may be said of one.
 
 A line is printed of each edit that is not refused for its meaning. The last line is 'N refused, N renamed, N by a name, N accepted', and

@@ -1,6 +1,6 @@
 """Tests of what is said of a check's output: of stored output in samples/, and of single messages.
 
-  python3 -m unittest discover -s tests/grouped
+  python3 -m unittest discover -s tests/sources/grouped
 """
 from __future__ import annotations
 
