@@ -15,3 +15,4 @@ pub mod Replacing
 pub mod Reruns
 pub mod Bringing
 pub mod Undoing
+pub mod WordFaults

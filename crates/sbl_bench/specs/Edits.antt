@@ -7,7 +7,6 @@ use Rattle.std.specs.Str.{bytes_eq}
 use Rattle.sbl_script.specs.declared.edit_fault.EditFault as declared
 use Rattle.sbl_script.specs.declared.edit_fault.EditFault.TheVariants as script
 use Rattle.sbl_script.specs.Edits.{ScriptEdit, body, among, terms, IsEdited, IsEditFault}
-use Rattle.sbl_ast.specs.Source.{Source}
 use Rattle.sbl_script.specs.Reading.{IsScriptOf, IsFaultOf}
 use Rattle.sbl_text.specs.declared.fault.ScriptFault.{ScriptFault}
 use Rattle.sbl_semantics.specs.Limit.{max_word_length}
@@ -17,7 +16,6 @@ use Rattle.sbl_bench.specs.Vocabulary.{is_word, without}
 use Rattle.sbl_machine.specs.BuiltFrom.{meets_one}
 use Rattle.sbl_semantics.specs.Differs.{differs}
 use Rattle.sbl_semantics.specs.Outcome.{used_of}
-use Rattle.sbl_semantics.specs.TouchedItems.{Item'}
 use Rattle.sbl_machine.specs.EditedItem.{edited_item}
 use Rattle.sbl_bench.specs.declared.fault.EditFault.{EditFault}
 use Rattle.sbl_bench.specs.declared.fault.EditFault.TheVariants as fault

@@ -15,12 +15,14 @@ mod last_run;
 pub mod laws;
 mod open;
 mod pairs;
+mod refusal;
 mod script_diff;
 mod traces;
 mod word_hash;
 
 pub use bench::{Bench, MAX_LIMIT, MAX_WORDS};
 pub use fault::EditFault;
+pub use refusal::word_fault;
 pub use sbl_rows::{ChangedRow, Class, Row};
 pub use sbl_run_state::MAX_WORD_LENGTH;
 pub use sbl_script::ScriptFault;

@@ -15,12 +15,12 @@ ghost use Rattle.sbl_rows.specs.Setting.{under};
 use crate::bench::{Bench, MAX_WORDS};
 use crate::fault::EditFault;
 use crate::last_run::{LastRun, SharedLists};
+use crate::refusal::word_fault;
 use crate::traces::{Traces, has_word};
 use crate::word_hash::WordKeys;
 use indexmap::IndexMap;
 use indexmap::map::{Entry, OccupiedEntry};
 use sbl_machine::{DEFAULT_LIMIT, Machine, Meter, Table};
-use sbl_run_state::MAX_WORD_LENGTH;
 use sbl_script::Script;
 use std::alloc::Global;
 
@@ -134,14 +134,12 @@ fn take_word(
     ensures ok { OnOk result (word_fault (words_in traces.old.entries) word.items ≡ None) }
     ensures fault { IfErr result (λ f. IsFaultOrMemory (word_fault (words_in traces.old.entries) word.items) f) }
 {
-    if word.len() > MAX_WORD_LENGTH {
-        return Err(EditFault::WordTooLong);
+    let text = word.as_slice();
+    if let Some(fault) = word_fault(text, has_no_room(traces, text)) {
+        return Err(fault);
     }
     if word.is_empty() {
         return Ok(());
-    }
-    if has_no_room(traces, word.as_slice()) {
-        return Err(EditFault::Full);
     }
     let Ok(entry) = traces.entry(word) else {
         return Err(EditFault::OutOfMemory);

@@ -1,5 +1,5 @@
 -- The lines of one more integer variable.
-use Rattle.std.proofs.Common.{◌≡◌, ◌∙◌, ◌++◌, ◌∷◌, ◌+◌, ◌<◌, ℕ, ℤ, suc, List, ap, sym, append_assoc, length, drop, arith}
+use Rattle.std.proofs.Common.{◌≡◌, ◌∙◌, ◌++◌, ◌+◌, ◌<◌, ℕ, ℤ, suc, List, ap, sym, append_assoc, length, drop, arith}
 use Rattle.std.specs.Prelude.{slice_index_or}
 use Rattle.std.proofs.Math.Seq.{drop-cons}
 use Rattle.sbl_io.specs.Records.{record_line, records_text}

@@ -24,38 +24,13 @@ use Rattle.sbl_input.proofs.WordListFacts.{any_is_word, skips}
 skipped-is : (keys : List (Vec ℕ Global)) (word : List ℕ) → nat_eq (length word) 0 ≡ false → is_skipped word (texts_of keys) ≡ list_any (λ k. bytes_eq word k.items) keys
 skipped-is keys word some = skips word (texts_of keys) some ∙ sym (any_is_word keys word)
 
-short-word : (word : List ℕ) → length word ≤ 255 → nat_lt 255 (length word) ≡ false
-short-word word short = grind (arith, tests, short)
-
 -- a repeat
-pub repeat-fine : (keys : List (Vec ℕ Global)) (word : List ℕ) → length word ≤ 255 → nat_eq (length word) 0 ≡ false → list_any (λ k. bytes_eq word k.items) keys ≡ true → word_fault (texts_of keys) word ≡ None
-repeat-fine keys word short some there = rw (short-word word short, skipped-is keys word some ∙ there) refl
-
 pub repeat-skipped : (keys : List (Vec ℕ Global)) (word : List ℕ) → nat_eq (length word) 0 ≡ false → list_any (λ k. bytes_eq word k.items) keys ≡ true → texts_of keys ≡ with_word (texts_of keys) word
 repeat-skipped keys word some there = rw (skipped-is keys word some ∙ there) refl
 
 -- a new word
-pub new-full : (keys : List (Vec ℕ Global)) (word : List ℕ) → length word ≤ 255 → nat_eq (length word) 0 ≡ false → list_any (λ k. bytes_eq word k.items) keys ≡ false → 100000 ≤ length keys → word_fault (texts_of keys) word ≡ Some fault.Full
-new-full keys word short some new full =
-    let all : nat_le 100000 (length (texts_of keys)) ≡ true = rw (length-map keys (λ (w : Vec ℕ Global). w.items)) (grind (arith, tests, full)) in
-    rw (short-word word short, skipped-is keys word some ∙ new, all) refl
-
-pub new-fine : (keys : List (Vec ℕ Global)) (word : List ℕ) → length word ≤ 255 → nat_eq (length word) 0 ≡ false → list_any (λ k. bytes_eq word k.items) keys ≡ false → length keys < 100000 → word_fault (texts_of keys) word ≡ None
-new-fine keys word short some new few =
-    let room : nat_le 100000 (length (texts_of keys)) ≡ false = rw (length-map keys (λ (w : Vec ℕ Global). w.items)) (grind (arith, tests, few)) in
-    rw (short-word word short, skipped-is keys word some ∙ new, room) refl
-
 pub new-last : (keys : List (Vec ℕ Global)) (word : List ℕ) → nat_eq (length word) 0 ≡ false → list_any (λ k. bytes_eq word k.items) keys ≡ false → with_word (texts_of keys) word ≡ texts_of keys ++ word ∷ []
 new-last keys word some new = rw (skipped-is keys word some ∙ new) refl
-
--- an empty word
-pub empty-fine : (words : List (List ℕ)) (w : List ℕ) → nat_eq (length w) 0 ≡ true → word_fault words w ≡ None
-empty-fine words [] empty = refl
-empty-fine words (c ∷ w) empty = absurd (grind (arith, tests, empty))
-
--- a word that is too long
-pub long-fault : (words : List (List ℕ)) (w : List ℕ) → 255 < length w → word_fault words w ≡ Some fault.WordTooLong
-long-fault words w long = let too : nat_lt 255 (length w) ≡ true = grind (arith, tests, long) in rw too refl
 
 -- one more row
 pub rows-more : (s : Source) (words : List (List ℕ)) (w : List ℕ) → text_of_rows s words ++ record_line (row_fields (row_of (under s default_limit) w)) ≡ text_of_rows s (words ++ w ∷ [])

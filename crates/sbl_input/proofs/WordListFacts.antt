@@ -1,5 +1,5 @@
 -- What one more word does to the words that are kept while a vocabulary is read.
-use Rattle.std.proofs.Common.{◌≡◌, ◌∙◌, ◌++◌, ℕ, Bool, true, false, List, [], ◌∷◌, length, Option, Some, None, Result, Ok, Err, is_some, refl, sym, ap, subst, suc, nat_eq, true≢false, arith, tests, not, ◌+◌, ◌≤◌, ◌<◌, nat_lt, nat_le}
+use Rattle.std.proofs.Common.{◌&&◌, ◌≡◌, ◌∙◌, ◌++◌, ℕ, Bool, true, false, List, [], ◌∷◌, length, Option, Some, None, Result, Ok, Err, is_some, refl, sym, ap, subst, suc, nat_eq, true≢false, arith, tests, not, ◌+◌, ◌≤◌, ◌<◌, nat_lt, nat_le}
 use Rattle.std.specs.Option.{option_map, option_or}
 use Rattle.std.specs.Str.{bytes_eq}
 use Rattle.std.specs.List.{list_any}
@@ -145,25 +145,6 @@ any_is_word (k ∷ keys) word = by (bytes_eq word k.items) refl (any_is_word key
     by true h rest = rw h refl
     by false h rest = rw h rest
 
--- a full vocabulary refuses a word that it does not have
-pub full_fault : (keys : List (Vec ℕ Global)) (word : List ℕ) → length word ≤ 255 → 0 < length word → 100000 ≤ length keys
-    → not (list_any (λ k. bytes_eq word k.items) keys) ≡ is_some (word_fault (texts_of keys) word)
-full_fault keys word short some full = by (list_any (λ k. bytes_eq word k.items) keys) refl
-  where
-    long : nat_lt 255 (length word) ≡ false
-    long = grind (arith, tests, short)
-
-    one : nat_eq (length word) 0 ≡ false
-    one = grind (arith, tests, some)
-
-    all : nat_le 100000 (length (texts_of keys)) ≡ true
-    all = rw (length-map keys (λ (w : Vec ℕ Global). w.items)) (grind (arith, tests, full))
-
-    by : (b : Bool) → list_any (λ k. bytes_eq word k.items) keys ≡ b
-        → not (list_any (λ k. bytes_eq word k.items) keys) ≡ is_some (word_fault (texts_of keys) word)
-    by true h = rw (h, long, skips word (texts_of keys) one ∙ sym (any_is_word keys word) ∙ h) refl
-    by false h = rw (h, long, skips word (texts_of keys) one ∙ sym (any_is_word keys word) ∙ h, all) refl
-
 pub none_of : (o : Option EditFault) → is_some o ≡ false → o ≡ None
 none_of None h = refl
 none_of (Some x) h = cc
@@ -185,7 +166,7 @@ insert-some keys word some = by (list_any (λ k. bytes_eq word.items k.items) ke
     by true h = rw (h, skipped true h) refl
     by false h = rw (h, skipped false h) (map-append {A = Vec ℕ Global} (λ w. w.items) keys (word ∷ []))
 
--- fewer words than a vocabulary can have refuse only a word that is too long
+-- fewer words than a vocabulary can have leave room for one more
 with-length : (words : List (List ℕ)) (w : List ℕ) → length (with_word words w) ≤ suc (length words)
 with-length words w = by (is_skipped w words) refl
   where
@@ -197,21 +178,15 @@ all-length : (words ws : List (List ℕ)) → length (with_all words ws) ≤ len
 all-length words [] = omega arith
 all-length words (w ∷ ws) = let one = with-length words w in let rest = all-length (with_word words w) ws in omega (arith, one, rest)
 
-pub room_fault : (list : List (Vec ℕ Global)) (w : List ℕ) → length list < 100000
-    → nat_lt 255 (length w) ≡ is_some (word_fault (vocabulary (texts_of list)) w)
-room_fault list w few = by (nat_lt 255 (length w)) (is_skipped w (vocabulary (texts_of list))) refl refl
+pub room_for : (list : List (Vec ℕ Global)) (w : List ℕ) → length list < 100000
+    → false ≡ (nat_le 100000 (length (vocabulary (texts_of list))) && not (is_word w (vocabulary (texts_of list))))
+room_for list w few = rw all refl
   where
     all : nat_le 100000 (length (vocabulary (texts_of list))) ≡ false
     all =
         let most = all-length [] (texts_of list) in
         let same = length-map list (λ (word : Vec ℕ Global). word.items) in
         grind (arith, tests, most, same, few)
-
-    by : (long skipped : Bool) → nat_lt 255 (length w) ≡ long → is_skipped w (vocabulary (texts_of list)) ≡ skipped
-        → nat_lt 255 (length w) ≡ is_some (word_fault (vocabulary (texts_of list)) w)
-    by true skipped h s = rw h refl
-    by false true h s = rw (h, s) refl
-    by false false h s = rw (h, s, all) refl
 
 pub room-distinct : (words : KeptWords) → HasRoom words → AreDistinct words
 room-distinct (Plain words) room = tt

@@ -14,8 +14,9 @@ ghost use Rattle.sbl_reports.specs.RowRecords.{row_fields};
 ghost use Rattle.sbl_script.specs.ParsedScript.{source_of};
 ghost use Rattle.sbl_machine.specs.MachineOf.{IsLinkedMachineOf};
 
+use crate::word_list::has_no_room;
 use indexmap::IndexSet;
-use sbl_bench::{EditFault, MAX_WORD_LENGTH, MAX_WORDS, Row, WordKeys};
+use sbl_bench::{EditFault, MAX_WORDS, Row, WordKeys, word_fault};
 use sbl_machine::{DEFAULT_LIMIT, Machine, Meter, Table};
 use sbl_reports::RecordWriter;
 use sbl_script::Script;
@@ -52,17 +53,15 @@ impl VocabularyRows {
         ensures ok { OnOk result (word_fault (texts_of self.old.words.keys) word.items ≡ None) }
         ensures fault { IfErr result (λ f. IsFaultOrMemory (word_fault (texts_of self.old.words.keys) word.items) f) }
     {
-        if word.len() > MAX_WORD_LENGTH {
-            return Err(EditFault::WordTooLong);
+        let text = word.as_slice();
+        if let Some(fault) = word_fault(text, has_no_room(&self.words, text)) {
+            return Err(fault);
         }
         if word.is_empty() {
             return Ok(());
         }
         if self.words.contains(word.as_slice()) {
             return Ok(());
-        }
-        if self.words.len() >= MAX_WORDS {
-            return Err(EditFault::Full);
         }
         write_row(
             self.alloc,

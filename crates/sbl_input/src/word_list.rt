@@ -1,11 +1,11 @@
 //! The words of a vocabulary while they are read.
-ghost use Rattle.std.specs.Prelude.{◌≡◌, ◌∷◌, ◌++◌, [], ℕ, List, None, map, is_some, OnOk, IfOk};
-ghost use Rattle.sbl_bench.specs.Contents.{word_fault};
-ghost use Rattle.sbl_bench.specs.Vocabulary.{vocabulary, with_word};
+ghost use Rattle.std.specs.Prelude.{◌≡◌, ◌∷◌, ◌++◌, ◌&&◌, [], ℕ, List, None, length, map, is_some, nat_le, not, OnOk, IfOk};
+ghost use Rattle.sbl_bench.specs.Contents.{max_words, word_fault};
+ghost use Rattle.sbl_bench.specs.Vocabulary.{is_word, vocabulary, with_word};
 ghost use Rattle.sbl_input.specs.WordLists.{AreDistinct, AreKept, HasRoom, HoldsWords, KeepsWord, OpensAs, texts_in, texts_of};
 
 use indexmap::IndexSet;
-use sbl_bench::{MAX_WORD_LENGTH, MAX_WORDS, WordKeys};
+use sbl_bench::{MAX_WORDS, WordKeys, word_fault};
 use std::alloc::{AllocError, Global};
 use std::mem;
 
@@ -97,8 +97,8 @@ impl KeptWords {
         ensures { HasRoom self.now → result ≡ is_some (word_fault (vocabulary (texts_in self.now)) word.now) }
     {
         match self {
-            KeptWords::Plain(_) => word.len() > MAX_WORD_LENGTH,
-            KeptWords::Distinct(words) => is_refused(words, word),
+            KeptWords::Plain(_) => word_fault(word, false).is_some(),
+            KeptWords::Distinct(words) => word_fault(word, has_no_room(words, word)).is_some(),
         }
     }
 
@@ -153,15 +153,9 @@ fn insert(set: &mut IndexSet<Vec<char>, WordKeys>, word: Vec<char>) -> Result<()
     }
 }
 
-/// Returns whether a bench refuses a word after those of a set. Does not allocate.
-fn is_refused(set: &IndexSet<Vec<char>, WordKeys>, word: &[char]) -> bool
-    ensures { result ≡ is_some (word_fault (texts_of set.now.keys) word.now) }
+/// Returns whether a set has as many words as a vocabulary can have, and not this word. Does not allocate.
+pub(crate) fn has_no_room(set: &IndexSet<Vec<char>, WordKeys>, word: &[char]) -> bool
+    ensures { result ≡ (nat_le max_words (length (texts_of set.now.keys)) && not (is_word word.now (texts_of set.now.keys))) }
 {
-    if word.len() > MAX_WORD_LENGTH {
-        return true;
-    }
-    if word.is_empty() || set.len() < MAX_WORDS {
-        return false;
-    }
-    !set.contains(word)
+    set.len() >= MAX_WORDS && !set.contains(word)
 }

@@ -1,4 +1,4 @@
-use Rattle.std.proofs.Common.{inl, refl, sym, subst}
+use Rattle.std.proofs.Common.{refl, sym, subst}
 use Rattle.std.proofs.lemmas.Result.{err_from_is_err_and}
 use Rattle.sbl_script.specs.ParsedScript.{source_of}
 use Rattle.sbl_bench.specs.inside.Changes.{Brings, IsExchange, affected_of}

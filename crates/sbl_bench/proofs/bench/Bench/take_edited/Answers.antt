@@ -1,4 +1,4 @@
-use Rattle.std.proofs.Common.{map, inl, ap, sym, refl, subst}
+use Rattle.std.proofs.Common.{map, ap, sym, refl, subst}
 use Rattle.std.proofs.lemmas.Result.{err_from_is_err_and}
 use Rattle.sbl_script.specs.ParsedScript.{source_of}
 use Rattle.sbl_semantics.specs.TouchedItems.{item_of}

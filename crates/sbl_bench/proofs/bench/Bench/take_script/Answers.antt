@@ -1,4 +1,4 @@
-use Rattle.std.proofs.Common.{◌≡◌, List, All, Ok, Err, inl, length, ap, sym, refl, subst, arith}
+use Rattle.std.proofs.Common.{◌≡◌, List, All, Ok, Err, length, ap, sym, refl, subst, arith}
 use Rattle.std.proofs.lemmas.List.{length-map}
 use Rattle.std.proofs.lemmas.Result.{err_from_is_err_and}
 use Rattle.sbl_script.specs.ParsedScript.{ParsedScript, source_of}

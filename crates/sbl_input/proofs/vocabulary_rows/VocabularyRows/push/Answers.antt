@@ -9,7 +9,7 @@ use Rattle.sbl_reports.specs.RowRecords.{row_fields}
 use Rattle.sbl_reports.specs.RowWriter.{HasWritten}
 use Rattle.sbl_input.specs.VocabularyRows.{text_of_rows}
 use Rattle.sbl_input.specs.WordLists.{texts_of}
-use Rattle.sbl_input.proofs.VocabularyFacts.{repeat-fine, repeat-skipped, new-full, new-last, rows-more}
+use Rattle.sbl_input.proofs.VocabularyFacts.{repeat-skipped, new-last, rows-more}
 use Rattle.sbl_input.proofs.WordListFacts.{insert-some}
 use Rattle.sbl_input.proofs.vocabulary_rows.VocabularyRows.push.Goals as goal
 use Rattle.sbl_input.proofs.vocabulary_rows.VocabularyRows.push.Goals.{in-Ok, in-Err}
@@ -21,25 +21,6 @@ returns-then-contains-clause-words c =
     let some : nat_eq (length word) 0 ≡ false = ap (λ (n : ℕ). nat_eq n 0) (sym c.args.word.ok.0) ∙ sym c.is_empty.ensures ∙ c.if-is_empty.false in
     let there : list_any (λ k. bytes_eq word k.items) keys ≡ true = search rules in
     repeat-skipped keys word some there
-
-pub returns-then-contains-clause-ok : goal.returns-then-contains-clause-ok
-returns-then-contains-clause-ok c =
-    let word = c.args.word.items in
-    let keys = c.args.self.now.words.keys in
-    let some : nat_eq (length word) 0 ≡ false = ap (λ (n : ℕ). nat_eq n 0) (sym c.args.word.ok.0) ∙ sym c.is_empty.ensures ∙ c.if-is_empty.false in
-    let short : length word ≤ 255 = grind (arith, tests, c.args.word.ok.0, c.len.ensures, c.if-len-gt-MAX_WORD_LENGTH.false) in
-    let there : list_any (λ k. bytes_eq word k.items) keys ≡ true = search rules in
-    repeat-fine keys word short some there
-
-pub returns-then-len-ge-MAX_WORDS-clause-fault : goal.returns-then-len-ge-MAX_WORDS-clause-fault
-returns-then-len-ge-MAX_WORDS-clause-fault c =
-    let word = c.args.word.items in
-    let keys = c.args.self.now.words.keys in
-    let some : nat_eq (length word) 0 ≡ false = ap (λ (n : ℕ). nat_eq n 0) (sym c.args.word.ok.0) ∙ sym c.is_empty.ensures ∙ c.if-is_empty.false in
-    let short : length word ≤ 255 = grind (arith, tests, c.args.word.ok.0, c.len.ensures, c.if-len-gt-MAX_WORD_LENGTH.false) in
-    let new : list_any (λ k. bytes_eq word k.items) keys ≡ false = search rules in
-    let full : 100000 ≤ length keys = omega (arith, c.len-2.ensures.len, c.if-len-ge-MAX_WORDS.true) in
-    new-full keys word short some new full
 
 pub returns-clause-words : goal.returns-clause-words
 returns-clause-words c =
