@@ -1,6 +1,6 @@
 #!/usr/bin/env python3
-"""Tries the pairs of tests/sources/turned.d (see tests/sources/turned), which have the form of tests/sources/pairs.d. All are pairs of sbl_resolver. The tool copies
-that crate once for each pair, changes the copy, and makes programs without proofs, each with some of the copies. Such a program judges the scripts
+"""Tries the pairs of tests/sources/turned.d (see tests/sources/turned), which have the form of tests/sources/pairs.d. All are pairs of
+sbl_resolver. The tool copies that crate once for each pair, changes the copy, and makes programs without proofs, each with some of the copies. Such a program judges the scripts
 of all cases by the checks as they are and by each of the copies; a pair is seen by a script that is judged otherwise, since a case shows
 the fault of a script, or that it has none.
 Equations that have no condition are in tests/sources/turned.d/plain, a line each with the reason.
