@@ -1,17 +1,16 @@
 -- What one more word does to a vocabulary and to the text of its rows.
-use Rattle.std.proofs.Common.{◌≡◌, ◌∙◌, ◌++◌, ℕ, true, false, List, [], ◌∷◌, length, Some, None, Result, Ok, Err, map, refl, sym, ap, subst, nat_eq, arith, tests, ◌≤◌, ◌<◌, nat_lt, nat_le}
+use Rattle.std.proofs.Common.{◌≡◌, ◌∙◌, ◌++◌, ℕ, true, false, List, [], ◌∷◌, length, Result, Ok, Err, map, refl, sym, ap, subst, nat_eq}
 use Rattle.std.specs.Str.{bytes_eq}
 use Rattle.std.specs.List.{list_any}
 use Rattle.std.specs.declared.vec.Vec.{Vec}
 use Rattle.std.specs.declared.alloc.Global.{Global}
-use Rattle.std.proofs.lemmas.List.{flat_map_more, length-map, map-append}
+use Rattle.std.proofs.lemmas.List.{flat_map_more, map-append}
 use Rattle.sbl_ast.specs.Source.{Source}
-use Rattle.sbl_bench.specs.Contents.{IsFaultOrMemory, word_fault}
+use Rattle.sbl_bench.specs.Contents.{IsFaultOrMemory}
 use Rattle.sbl_rows.specs.Rows.{row_of}
 use Rattle.sbl_rows.specs.Setting.{under}
 use Rattle.sbl_bench.specs.Vocabulary.{is_skipped, with_word}
 use Rattle.sbl_bench.specs.declared.fault.EditFault.{EditFault}
-use Rattle.sbl_bench.specs.declared.fault.EditFault.TheVariants as fault
 use Rattle.sbl_io.specs.Records.{record_line, records_text}
 use Rattle.sbl_semantics.specs.Limit.{default_limit}
 use Rattle.sbl_reports.specs.RowRecords.{row_fields}

@@ -1,5 +1,5 @@
 -- What one more word does to the words that are kept while a vocabulary is read.
-use Rattle.std.proofs.Common.{◌&&◌, ◌≡◌, ◌∙◌, ◌++◌, ℕ, Bool, true, false, List, [], ◌∷◌, length, Option, Some, None, Result, Ok, Err, is_some, refl, sym, ap, subst, suc, nat_eq, true≢false, arith, tests, not, ◌+◌, ◌≤◌, ◌<◌, nat_lt, nat_le}
+use Rattle.std.proofs.Common.{◌&&◌, ◌≡◌, ◌∙◌, ◌++◌, ℕ, Bool, true, false, List, [], ◌∷◌, length, Option, Some, None, Result, Ok, Err, is_some, refl, sym, ap, subst, suc, nat_eq, true≢false, arith, tests, not, ◌+◌, ◌≤◌, ◌<◌, nat_le}
 use Rattle.std.specs.Option.{option_map, option_or}
 use Rattle.std.specs.Str.{bytes_eq}
 use Rattle.std.specs.List.{list_any}
@@ -144,6 +144,21 @@ any_is_word (k ∷ keys) word = by (bytes_eq word k.items) refl (any_is_word key
         → list_any (λ k. bytes_eq word k.items) (k ∷ keys) ≡ is_word word (texts_of (k ∷ keys))
     by true h rest = rw h refl
     by false h rest = rw h rest
+
+-- whether a vocabulary is full and does not have a word, by the keys of a set
+pub full_room : (keys : List (Vec ℕ Global)) (w : List ℕ) → 100000 ≤ length keys
+    → not (list_any (λ k. bytes_eq w k.items) keys) ≡ (nat_le 100000 (length (texts_of keys)) && not (is_word w (texts_of keys)))
+full_room keys w full = rw all (ap not (any_is_word keys w))
+  where
+    all : nat_le 100000 (length (texts_of keys)) ≡ true
+    all = rw (length-map keys (λ (w : Vec ℕ Global). w.items)) (grind (arith, tests, full))
+
+pub few_room : (keys : List (Vec ℕ Global)) (w : List ℕ) → length keys < 100000
+    → false ≡ (nat_le 100000 (length (texts_of keys)) && not (is_word w (texts_of keys)))
+few_room keys w few = rw none refl
+  where
+    none : nat_le 100000 (length (texts_of keys)) ≡ false
+    none = rw (length-map keys (λ (w : Vec ℕ Global). w.items)) (grind (arith, tests, few))
 
 pub none_of : (o : Option EditFault) → is_some o ≡ false → o ≡ None
 none_of None h = refl

@@ -13,7 +13,7 @@ use Rattle.sbl_sessions.specs.declared.replies.Reply.TheVariants as reply
 -- a line that names a part was kept, or an allocation for it failed; none is kept if the line is bad
 abbrev pub KeepsLine : Result (Option (String Global)) AllocError → List ℕ → Type 0
 KeepsLine (Ok None) line = command.target_of line ≡ None
-KeepsLine (Ok (Some kept)) line = string_bytes kept ≡ line
+KeepsLine (Ok (Some kept)) line = (string_bytes kept ≡ line) × (is_some (command.target_of line) ≡ true)
 KeepsLine (Err e) line = is_some (command.target_of line) ≡ true
 
 abbrev pub IsReply : Reply → List ℕ → Type 0

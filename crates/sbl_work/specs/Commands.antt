@@ -22,7 +22,7 @@ pub data WorkCommand : Type 0 where
   EditPart : ScriptEdit → List ℕ → WorkCommand
   -- these bytes replace the whole script
   EditWhole : List ℕ → WorkCommand
-  -- takes the last edit of the script back
+  -- takes back the last edit that undo can take back: one of the script, or a limit
   Undo : WorkCommand
   -- makes the edit again that was taken back last
   Redo : WorkCommand

@@ -19,6 +19,6 @@ pub returns-in-Ok-Some : goal.returns-in-Ok-Some
 returns-in-Ok-Some c = λ line lines keeps holds.
     let s = contents_of c.args.bench.now in
     let t = contents_of c.edit_named.new.bench in
-    let kept : string_bytes c.in-Ok-Some.line ≡ line = kept_as c.args.kept (Ok (Some c.in-Ok-Some.line)) line (search rules) keeps in
+    let kept : string_bytes c.in-Ok-Some.line ≡ line = (kept_as c.args.kept (Ok (Some c.in-Ok-Some.line)) line (search rules) keeps).0 in
     let given : c.as_str.result.now ≡ string_bytes c.in-Ok-Some.line = search rules in
     subst (λ (x : List ℕ). IsTextAnswer s (block_command x lines) c.edit_named.result.now t) (given ∙ kept) (c.edit_named.ensures lines holds)

@@ -13,7 +13,7 @@ returns-in-Ok-Some c = λ line lines keeps holds.
     let t = contents_of c.edit_named.new.bench in
     let d = state_of c.args.desk.now in
     let e = state_of c.edit_named.new.desk in
-    let kept : string_bytes c.in-Ok-Some.line ≡ line = kept_as c.args.kept (Ok (Some c.in-Ok-Some.line)) line (search rules) keeps in
+    let kept : string_bytes c.in-Ok-Some.line ≡ line = (kept_as c.args.kept (Ok (Some c.in-Ok-Some.line)) line (search rules) keeps).0 in
     let given : c.as_str.result.now ≡ string_bytes c.in-Ok-Some.line = search rules in
     subst (λ (x : List ℕ). IsWorkAnswer s d (part_edit x lines) c.edit_named.result t e) (given ∙ kept) (c.edit_named.ensures lines holds)
 
