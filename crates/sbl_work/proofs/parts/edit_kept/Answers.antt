@@ -2,6 +2,7 @@ use Rattle.std.proofs.Common.{rules, ◌≡◌, ◌∙◌, Err, List, None, Ok, 
 use Rattle.sbl_bench.specs.KeptRuns.{contents_of}
 use Rattle.sbl_history.specs.Desks.{state_of}
 use Rattle.sbl_sessions.proofs.CommandFacts.{kept_as}
+use Rattle.sbl_sessions.specs.Commands.{target_of}
 use Rattle.sbl_work.specs.Answering.{part_edit}
 use Rattle.sbl_work.specs.ReplyViews.{IsWorkAnswer}
 use Rattle.sbl_work.proofs.ReplyFacts.{part_bad, part_unkept}
@@ -19,7 +20,8 @@ returns-in-Ok-Some c = λ line lines keeps holds.
 
 pub returns-in-Ok-None : goal.returns-in-Ok-None
 returns-in-Ok-None c = λ line lines keeps holds.
-    part_bad (contents_of c.args.bench.now) (state_of c.args.desk.now) line lines _ (kept_as c.args.kept (Ok None) line (search rules) keeps) (search rules)
+    let none : target_of line ≡ None = kept_as c.args.kept (Ok None) line (search rules) keeps in
+    search (rules, part_bad)
 
 pub returns-in-Err : goal.returns-in-Err
 returns-in-Err c = λ line lines keeps holds.

@@ -22,4 +22,4 @@ returns-in-Some c = λ lines holds.
 pub returns-in-None : goal.returns-in-None
 returns-in-None c = λ lines holds.
     let none : target_of c.args.line.now ≡ None = sym c.part_of.ensures ∙ ap (option_map view_part) c.in-None.is in
-    part_bad (contents_of c.args.bench.now) (state_of c.args.desk.now) c.args.line.now lines _ none (search rules)
+    search (rules, part_bad)
