@@ -1,0 +1,118 @@
+#!/usr/bin/env python3
+"""Tries wrong bodies of crates several at a time: edits of different functions in one check.
+
+  python3 tests/sources/grouped TOP JOBS CRATE[/EDIT]..         TOP: a copy of the repository in which these crates were checked
+  python3 tests/sources/grouped TOP JOBS --sample N COMMIT      tries N edits of all crates, which the commit chooses
+
+What no group settles is tried again in a smaller group, without the edits that are settled, and in the end alone. Edits of texts outside
+of bodies are tried alone from the start. That an edit is accepted is said only of a check of that edit alone.
+
+The edits of tests/sources/grouped/controls/CRATE mean the same as the code. They are tried in the same groups, and none may be refused; that its
+goals have other names may be said of one.
+
+A line is printed of each edit that is not refused for its meaning. The last line is 'N refused, N renamed, N by a name, N accepted', and
+goes on ', N not tried' if some were not. The status is 0 if all are refused, and no control is. GROUPED_KEEPS names a folder for what each
+check said.
+"""
+from __future__ import annotations
+
+import os
+import sys
+
+sys.dont_write_bytecode = True
+
+from edits import Edit, Sources, edit_files, read_edit
+from judging import Kind, Verdict
+from kit import Kit
+from sample import Sample
+from trial import NotProved, Trial
+
+CONTROLS = f"{os.path.dirname(os.path.abspath(__file__))}/controls"
+COUNTED = (Kind.REFUSED, Kind.RENAMED, Kind.NAME, Kind.ACCEPTED)
+
+
+class Tally:
+    """How many edits are of each kind, and how many controls are refused."""
+
+    def __init__(self) -> None:
+        self.counts = dict.fromkeys(Kind, 0)
+        self.refused_controls = 0
+
+    def add(self, edit: Edit, verdict: Verdict) -> None:
+        if edit.is_control:
+            if verdict.kind not in (Kind.ACCEPTED, Kind.RENAMED):
+                self.refused_controls += 1
+                print(f"CONTROL {verdict.kind.value} {edit.label}: {verdict.why[:400]}", flush=True)
+            return
+        self.counts[verdict.kind] += 1
+        if verdict.kind is not Kind.REFUSED:
+            of = ", ".join(edit.paths) or edit.alone
+            print(f"{verdict.kind.value} {edit.label} ({of}): {verdict.why[:400]}", flush=True)
+
+    def line(self) -> str:
+        told = ", ".join(f"{self.counts[it]} {it.value}" for it in COUNTED)
+        other = sum(self.counts.values()) - sum(self.counts[it] for it in COUNTED)
+        return told + (f", {other} not tried" if other else "")
+
+    def is_well(self) -> bool:
+        return sum(self.counts.values()) == self.counts[Kind.REFUSED] and not self.refused_controls
+
+
+def edits_of(kit: Kit, crate: str, sources: Sources) -> list[Edit]:
+    """Returns the edits of a crate and its controls."""
+    folder = kit.folder(crate)
+    files = edit_files(f"{folder}/must-fail") + edit_files(f"{folder}/wrong-bodies")
+    edits = [read_edit(kit, sources, crate, it) for it in files]
+    return edits + [read_edit(kit, sources, crate, it, True) for it in edit_files(f"{CONTROLS}/{crate}")]
+
+
+def edits_by_crate(names: list[str]) -> dict[str, set[str]]:
+    """Returns the crates that are named, each with the edits that are named; with none if all are meant."""
+    found: dict[str, set[str]] = {}
+    for name in names:
+        crate, _, edit = name.partition("/")
+        found.setdefault(crate, set()).update([edit] if edit else [])
+    return found
+
+
+def try_crate(kit: Kit, crate: str, wanted: set[str], jobs: int, tally: Tally) -> bool:
+    """Tries the edits of a crate, and returns whether it is proved itself."""
+    sources = Sources(kit.folder(crate))
+    edits = [it for it in edits_of(kit, crate, sources) if it.is_control or not wanted or it.name in wanted]
+    trial = Trial(kit, crate, sources, edits, jobs)
+    if all(it.is_control for it in edits):
+        return True
+    try:
+        trial.run()
+    except NotProved as error:
+        print(f"{crate}: {error}", flush=True)
+        return False
+    own = Tally()
+    for edit in edits:
+        tally.add(edit, trial.verdicts[edit.label])
+        own.counts[trial.verdicts[edit.label].kind] += not edit.is_control
+    print(f"{crate}: {own.line()}; {trial.checks} checks, {trial.minutes:.1f} minutes", flush=True)
+    return True
+
+
+def try_sample(kit: Kit, jobs: int, number: int, commit: str, tally: Tally) -> None:
+    """Tries so many edits of all crates."""
+    sources = {it: Sources(kit.folder(it)) for it in kit.crates}
+    edits = [edit for it in kit.crates for edit in edits_of(kit, it, sources[it]) if not edit.is_control]
+    for edit, verdict in Sample(kit, sources, edits).run(number, commit, jobs):
+        tally.add(edit, verdict)
+
+
+def main(top: str, jobs: str, *names: str) -> int:
+    kit, tally, is_proved = Kit(top), Tally(), True
+    if names[0] == "--sample":
+        try_sample(kit, int(jobs), int(names[1]), names[2], tally)
+    else:
+        for crate, wanted in edits_by_crate(list(names)).items():
+            is_proved &= try_crate(kit, crate, wanted, int(jobs), tally)
+    print(tally.line())
+    return 0 if tally.is_well() and is_proved else 1
+
+
+if __name__ == "__main__":
+    sys.exit(main(*sys.argv[1:]))
