@@ -123,9 +123,9 @@ IsRest tables n others exits rest =
     GoesOn (flow p levels tables exits.fail.value) m n slots stop →
     Agree n slots ys →
     GoesOn (flow p levels tables rest.next.value) m (suc n) ys
-      (λ s. after (others_run p levels m (slice_index_or ys n no_cursor) others (Signals true s)) go stop) ×
+    (λ s. after (others_run p levels m (slice_index_or ys n no_cursor) others (Signals true s)) go stop) ×
     GoesOn (flow p levels tables rest.fail.value) m (suc n) ys
-      (λ s. after (others_run p levels m (slice_index_or ys n no_cursor) others (Signals false s)) go stop)
+    (λ s. after (others_run p levels m (slice_index_or ys n no_cursor) others (Signals false s)) go stop)
 
 -- for each command instructions that perform it
 abbrev pub ArePerformed : (ℕ → Listing) → List Node → ℕ → Exits → List GroupCode → Type 0

@@ -101,7 +101,10 @@ fn item_ref<'n>(names: &'n Names, touch: Touch) -> ItemRef<'n>
     match touch {
         Touch::Entered(routine) => ItemRef::Routine(name_at(&names.routines, routine as usize)),
         Touch::Searched(routine, among) => {
-            ItemRef::Among(name_at(&names.routines, routine as usize), u64::from(among) + 1)
+            ItemRef::Among(
+                name_at(&names.routines, routine as usize),
+                u64::from(among) + 1,
+            )
         }
         Touch::Tested(grouping) => {
             ItemRef::Grouping(name_at(&names.groupings, grouping as usize))

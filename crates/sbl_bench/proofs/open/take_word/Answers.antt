@@ -46,7 +46,7 @@ returns-in_ok-last-in-Vacant-clause-kept c =
     let new = sym (found_word c.args.word.items old) ∙ ap is_some none in
     let some : nat_eq (length c.args.word.items) 0 ≡ false = ap (λ (n : ℕ). nat_eq n 0) (sym c.args.word.ok.0) ∙ sym c.is_empty.ensures ∙ c.if-is_empty.false in
     let fine : word_fault (words_in old) c.args.word.items ≡ None =
-        ap (λ (w : List ℕ). word_fault (words_in old) w) (sym c.as_slice-text.ensures.value) ∙ sym (c.word_fault.ensures (words_in old) c.has_no_room.ensures) ∙ none_unless _ c.in_default.not-Some in
+    ap (λ (w : List ℕ). word_fault (words_in old) w) (sym c.as_slice-text.ensures.value) ∙ sym (c.word_fault.ensures (words_in old) c.has_no_room.ensures) ∙ none_unless _ c.in_default.not-Some in
     let few = room_of (words_in old) c.args.word.items fine new some in
     let room : length old < 100000 = grind (arith, tests, few, length-map) in
     let sound : IsWord c.args.word.items = (grind (arith, tests, some), short_of (words_in old) c.args.word.items fine) in
