@@ -27,6 +27,12 @@ class Added:
         elif word in self.words:
             self.words.remove(word)
 
+    def note_read(self):
+        """Notes that the vocabulary is that of the file of words now. Returns the words that were added and are gone."""
+        dropped = self.lacking(self.path)
+        self.words = []
+        return dropped
+
     def missing(self):
         """Returns the words that no file has."""
         there = lines_of(self.path) | self.kept if self.words else set()

@@ -9,8 +9,8 @@ from plain import cut, named
 from rows import rows_of
 from warn import read
 
-PLAIN = "stems classes script runs reload undo redo mark changes stats unused help quit".split()
-ONE_LINE = "add append remove class trace why tests events integers limit largest show save echo".split()
+PLAIN = "stems classes script runs reload undo redo mark changes stats unused counts words help quit".split()
+ONE_LINE = "add append remove class trace why tests events integers limit largest uses find stem show save approve echo".split()
 BLOCKS = "routine among grouping replace families".split()
 # What `show` does not show, and what does.
 VARIABLES = {"integer": " integers WORD shows its value at the end of a run.", "string": "", "boolean": ""}
@@ -64,6 +64,8 @@ class Advice:
         return ["%s is not in the vocabulary.%s%s" % (in_quotes(argument), question, add)]
 
     def lines_45(self, word, argument, command):
+        if word == "uses":
+            return [self.no_part(argument)]
         return [self.no_name(word, argument, "routine", ("routine", "external"))]
 
     def lines_53(self, word, argument, command):
@@ -92,6 +94,13 @@ class Advice:
             return "%sit is declared, but not defined: add its define to the script." % begin
         question = meant(name, there)
         return "%sthere is no %s of this name.%s" % (begin, what, question or " The script has %s." % (listed(there, "and") if there else "none"))
+
+    def no_part(self, argument):
+        """The sentence for a name of which the script has nothing that `uses` could ask about."""
+        name, _, rest = argument.partition(" ")
+        if rest and name in self.names().of("grouping"):
+            return "uses %s: this is a grouping, and has no among. Use \"uses %s\"." % (cut(name), cut(name))
+        return self.no_name("uses", name, "routine or grouping", ("routine", "external", "grouping"))
 
     def lines_46(self, word, argument, command):
         return [self.amongs_of(argument.partition(" ")[0])]
@@ -125,6 +134,10 @@ class Advice:
             return "among needs a name and a number: among NAME K, then an among, then a line with a single point." + (
                 " " + self.amongs_of(name) if known else ""
             )
+        if word == "uses":
+            return "uses needs a name, then perhaps a number and a string: uses NAME, uses NAME K, or uses NAME K STRING."
+        if word == "find":
+            return "find needs a text: find TEXT."
         if word in PLAIN:
             return "%s takes nothing after it." % word
         if line.strip() == ".":
@@ -144,7 +157,11 @@ class Advice:
     def lines_57(self, word, argument, command):
         if word == "save":
             return [self.cannot_save(argument)]
-        path = argument or self.desk.script
+        if word == "approve":
+            return [self.cannot_approve(argument)]
+        if word == "words" and not self.desk.words:
+            return ["There is no file of words: add WORD adds a word."]
+        path = self.desk.words if word == "words" else argument or self.desk.script
         keeps = ". The script that was read is in force: save FILE keeps it." if word == "reload" else ""
         return ["%s cannot be read: %s%s" % (named(path), why_unreadable(path), keeps)]
 
@@ -160,15 +177,38 @@ class Advice:
             return "%s has the script now, but its folder could not be flushed to the disk. Save to it again." % named(path)
         if self.desk.files.is_script(path) and os.access(path, os.W_OK) and self.desk.files.seen != read(path):
             return "%s has changed since it was read, and was not overwritten. Enter reads it again; save to another file to keep both." % named(path)
-        if not os.path.isdir(folder):
-            return "%s cannot be written: there is no folder %s." % (named(path), named(folder))
-        if os.path.isdir(path):
-            return "%s cannot be written: it is a folder. Name a file in it." % named(path)
-        if os.access(path if os.path.exists(path) else folder, os.W_OK):
-            return "%s cannot be written: perhaps the disk is full.%s" % (named(path), " It has its former text." if os.path.exists(path) else "")
-        return "%s cannot be written: you may not write there. Save to another file." % named(path)
+        return why_unwritten(path, folder, "Save to another file.")
+
+    def cannot_approve(self, path):
+        if not path:
+            return "approve needs a file: approve FILE."
+        if self.desk.files.is_script(path):
+            return "%s has the script, and approve does not overwrite it: name another file." % named(path)
+        return why_unwritten(path, os.path.dirname(path) or ".", "Name another file.")
+
+    def lines_67(self, word, argument, command):
+        refused = [row[0] for row in rows_of(self.desk.query(["stems"]) or []) if row[1] == "refused"]
+        if not refused:
+            return ["A stem has a line feed, or ends in a carriage return, and is not one line. Nothing was written."]
+        more = " and of %d more" % (len(refused) - 1) if len(refused) > 1 else ""
+        return ["The run of %s%s is refused, so there is no stem to write: why %s shows where. Nothing was written." % (in_quotes(refused[0]), more, cut(refused[0]))]
+
+    def lines_74(self, word, argument, command):
+        lines, words = count_lines(read(argument) or b""), len(self.words())
+        return ["%s has %d lines, and the vocabulary has %d words: it needs a line for each word. The mark stays." % (named(argument), lines, words)]
+
+    def lines_58(self, word, argument, command):
+        name, _, rest = argument.partition(" ")
+        k, _, string = rest.partition(" ")
+        return ["Among %s of %s has no string '%s'. counts lists the strings." % (k, cut(name), cut(string))]
+
+    def lines_59(self, word, argument, command):
+        if argument in self.words():
+            return ["No word has the stem %s. It is a word: why %s shows its stem." % (in_quotes(argument), cut(argument))]
+        return ["No word has the stem %s. find %s shows the words and stems that have it in them." % (in_quotes(argument), cut(argument))]
 
     def lines_75(self, word, argument, command):
+        argument = self.desk.words if word == "words" else argument
         end = replacing(argument) if argument else "OLD > NEW"
         return ["%s is not UTF-8. If it is Latin-1: iconv -f latin1 -t utf-8 %s" % (named(argument or "The text"), end)]
 
@@ -248,6 +288,21 @@ def folded(word):
 
 def amount(count):
     return "1 among" if count == 1 else "%d amongs" % count if count else "no among"
+
+
+def count_lines(text):
+    return text.count(b"\n") + (text[-1:] not in (b"", b"\n"))
+
+
+def why_unwritten(path, folder, what_to_do):
+    """Returns the sentence on a file that cannot be written."""
+    if not os.path.isdir(folder):
+        return "%s cannot be written: there is no folder %s." % (named(path), named(folder))
+    if os.path.isdir(path):
+        return "%s cannot be written: it is a folder. Name a file in it." % named(path)
+    if os.access(path if os.path.exists(path) else folder, os.W_OK):
+        return "%s cannot be written: perhaps the disk is full.%s" % (named(path), " It has its former text." if os.path.exists(path) else "")
+    return "%s cannot be written: you may not write there. %s" % (named(path), what_to_do)
 
 
 def why_unreadable(path):

@@ -106,13 +106,14 @@ def lay_out_stats(answer):
 
 
 def lay_out_families(answer):
-    """Lays out families that have several stems, stems that several families have, and the pairs of words."""
-    *rows, (_, within, apart, across, joined) = rows_of(answer)
+    """Lays out families that have several stems, stems that several families have, the pairs of words, and the number of words that are unknown."""
+    *rows, (_, within, apart, across, joined), (_, unknown) = rows_of(answer)
+    lacks = [] if unknown == "0" else [counted(int(unknown), "word is", "words are") + " not in the vocabulary"]
     if within == across == "0":
-        return ["the vocabulary has no two words of these families with a stem"]
+        return ["the vocabulary has no two words of these families with a stem"] + lacks
     under = ["  understemmed  %s: %s" % (named(row[1]), stems(row[2:])) for row in rows if row[0] == "under"]
     over = ["  overstemmed   %s: %s" % (stem(row[1]), ", ".join(map(named, row[2:]))) for row in rows if row[0] == "over"]
     return under + over + [
         "different stems: %s of %s within a family" % (apart, counted(int(within), "pair", "pairs")),
         "the same stem:   %s of %s across families" % (joined, counted(int(across), "pair", "pairs")),
-    ]
+    ] + lacks

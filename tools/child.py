@@ -16,7 +16,7 @@ from keys import Interrupts, let_interrupt, open_terminal, set_keys
 from warn import BOM, read
 
 # The accepted commands that change what the program has.
-KEPT = "add remove mark limit reload undo redo routine among grouping replace".split()
+KEPT = "add remove words mark limit reload undo redo routine among grouping replace".split()
 # After how many seconds a sentence says that an edit still runs.
 PATIENCE = 2
 LONG = 'This takes long. %sIf the script loops, "limit 1000" lets each run end sooner.'
@@ -30,10 +30,10 @@ class Child:
         self.script, self.paths = script, [path for path in (script, words) if path]
         self.command = [program, "work", "--text", *options]
         self.mark = "end of answer %d-%s" % (os.getpid(), os.urandom(8).hex())
-        # The accepted commands, each with the bytes that `reload` read.
+        # The accepted commands, each with the bytes of the file that it read.
         self.accepted = []
-        # The script of a program that was started anew.
-        self.copy = None
+        # The script, and the words, of a program that was started anew.
+        self.copy = self.copy_of_words = None
         self.terminal = open_terminal()
         self.interrupts = Interrupts(self.terminal)
         # Ctrl-C rings it.
@@ -170,11 +170,13 @@ class Child:
                 self.wait()
 
     def run(self, lines, say, text=None):
-        """Does as `query`, and notes what is accepted. Ctrl-C breaks it off: then the result is false. `text` is what `reload` reads."""
-        if lines[0] == "reload" and self.copy is not None:
+        """Does as `query`, and notes what is accepted. Ctrl-C breaks it off: then the result is false. `text` is what the command reads from a
+        file: `reload`, `words`, or `mark` with a file."""
+        copy = {"reload": self.copy, "words": self.copy_of_words}.get(lines[0])
+        if copy is not None:
             if text is None:
                 return ["no 57 NoFile"]
-            fill(self.copy, text)
+            fill(copy, text)
         if lines[0] == "reload":
             self.last_script = text
         if not self.send(lines):
@@ -249,19 +251,27 @@ class Child:
         if None in self.first:
             return False
         files = [memory_file(data) for data in self.first]
-        if self.copy is not None:
-            os.close(self.copy)
-        self.copy = files[0]
+        for copy in (self.copy, self.copy_of_words):
+            if copy is not None:
+                os.close(copy)
+        self.copy, self.copy_of_words = [*files, None][:2]
         self.start(["/dev/fd/%d" % file for file in files], files)
         # (now it has read them)
         is_there = self.answers([["echo"]]) == [[""]]
         for lines, text in self.accepted:
-            if text is not None:
-                fill(self.copy, text)
-            is_there = is_there and self.answers([lines]) == [["ok"]]
-        for file in files[1:]:
-            os.close(file)
+            is_there = is_there and self.repeat(lines, text) == ["ok"]
         return is_there
+
+    def repeat(self, lines, text):
+        """Sends an accepted command again, with what it read from a file then. Returns the lines of its answer."""
+        if lines[0].startswith("mark "):
+            file = memory_file(text)
+            answer = self.answers([["mark /proc/%d/fd/%d" % (os.getpid(), file)]])[0]
+            os.close(file)
+            return answer
+        if text is not None:
+            fill(self.copy_of_words if lines[0] == "words" else self.copy, text)
+        return self.answers([lines])[0]
 
 
 def memory_file(data):

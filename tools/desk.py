@@ -38,11 +38,21 @@ REFUSAL = re.compile(r"^no (\d\d) ([A-Za-z0-9]+)$")
 # What is shown for replies without a row.
 EMPTY = {
     "unused": "some word uses each routine, among, grouping and string",
+    "uses": "no word uses it",
+    "find": "no word and no stem has it",
     "stems": "there are no words: add WORD",
     "classes": "there are no classes",
 }
 # The most bytes of a line.
 LONGEST = 65536
+
+
+def dropped_sentence(words):
+    """Returns the line on the added words that are gone after `words`, if there are any."""
+    if not words:
+        return []
+    names = list(map(named, words[:4])) + ["%d more" % (len(words) - 4)] * (len(words) > 4)
+    return ["Gone, since the file lacks %s: %s." % ("it" if len(words) == 1 else "them", listed(names, "and"))]
 
 
 class Lost(Exception):
@@ -52,6 +62,7 @@ class Lost(Exception):
 LOST = {
     "reload": "The file was not read: Enter reads it.",
     "save": "The file has its former text or the new one: type save again.",
+    "approve": "The file has its former text or the stems: type approve again.",
     "append": "The file has its former words or the new ones, too: type append again.",
 }
 
@@ -103,7 +114,7 @@ class Desk:
         word, _, argument = lines[0].partition(" ")
         if word != "save" or self.doubted != "save":
             self.doubted = None
-        if word == "save" and not self.may_save(argument):
+        if word == "save" and not self.may_save(argument) or word == "approve" and not self.may_approve(argument):
             return "refused"
         if word == "changes" and argument:
             return self.show_changes(argument)
@@ -122,7 +133,8 @@ class Desk:
 
     def run(self, word, argument, lines, is_edit):
         former, state = (read(argument), state_of(argument)) if word == "save" else (None, None)
-        typed, text = self.before_reload() if word == "reload" else ({}, None)
+        typed, text = self.before_reload() if word == "reload" else ({}, self.text_to_read(word, argument))
+        state_of_words = state_of(self.words) if word == "words" and self.words else None
         replaced = self.definition(argument.partition(" ")[0]) if word in TYPED else None
         if is_edit and self.changes is None:
             self.changes = self.changes_now(self.query(["changes"]))
@@ -149,8 +161,14 @@ class Desk:
         if word in ("add", "remove"):
             self.added.note(word, argument)
             self.changes = None
+        if lines[0] == "words":
+            self.files.note_words_read(text, state_of_words)
+            say(dropped_sentence(self.added.note_read()))
+            self.changes = None
+        if word == "approve":
+            self.files.note_written(argument)
         if word == "mark":
-            self.changes = Changes([], {})
+            self.changes = None if argument else Changes([], {})
         return self.show_edit(lines, typed, replaced, is_edit) if word in EDITS else "ok"
 
     def show_edit(self, lines, typed, replaced, is_edit):
@@ -193,8 +211,9 @@ class Desk:
         return "ok"
 
     def lay_out(self, command, answer):
-        if not answer and command in EMPTY:
-            return [EMPTY[command]]
+        word = command.partition(" ")[0]
+        if not answer and word in EMPTY:
+            return [EMPTY[word]]
         if command == "changes":
             self.changes = self.changes_now(answer)
             return self.changes.lay_out()
@@ -248,6 +267,18 @@ class Desk:
         if why:
             say([why])
         return not why
+
+    def may_approve(self, path):
+        """Whether `approve` may write to a file; otherwise says why not."""
+        why = self.files.refusal(path, "approve")
+        say([why] if why else [])
+        return not why
+
+    def text_to_read(self, word, argument):
+        """Returns what a command reads from a file: `words`, or `mark` with a file."""
+        if word == "words":
+            return read(self.words) if self.words else None
+        return read(argument) if word == "mark" and argument else None
 
     def quit(self):
         """Returns `ok` if no typed edit and no added word would be lost, or if it is asked for again; otherwise says so."""

@@ -1,4 +1,4 @@
-"""The files of the desk: which of them `save` may write."""
+"""The files of the desk: which of them `save` and `approve` may write."""
 import os
 import re
 
@@ -15,7 +15,7 @@ class Files:
         # What `reload` read last, if it was refused.
         self.refused = None
         self.state_of_words = state_of(words) if words else None
-        # What the file of words had at the start, and when it was looked at last.
+        # What the file of words had when it was read, and when it was looked at last.
         self.first_words = self.last_words = read(words) if words else None
         self.look()
 
@@ -28,18 +28,23 @@ class Files:
         return state_of(self.script) not in (None, self.state)
 
     def has_other_words(self):
-        """Returns whether the file of words is another one than at the start."""
+        """Returns whether the file of words is another one than when it was read."""
         return bool(self.words) and state_of(self.words) not in (None, self.state_of_words)
 
     def has_new_words(self):
-        """Returns whether the file of words has another text than at the start and when it was looked at last."""
+        """Returns whether the file of words has another text than when it was read and when it was looked at last."""
         return self.has_other_words() and read(self.words) not in (None, self.first_words, self.last_words)
 
     def note_words(self):
         """Looks at the file of words. Returns the line on it if it has changed since the last look."""
         is_new = self.has_new_words()
         self.last_words = read(self.words) if self.words else None
-        return ["%s has changed, but it is read only at the start. Quit and start again, or type add WORD." % named(self.words)] if is_new else []
+        return ["%s has changed: words reads it again." % named(self.words)] if is_new else []
+
+    def note_words_read(self, text, state):
+        """Notes that the file of words was read again, and had this text and this state."""
+        self.first_words = self.last_words = text
+        self.state_of_words = state
 
     def states(self):
         """Returns the states of the script's file and, if there is one, of the file of words when they were read."""
@@ -48,18 +53,24 @@ class Files:
     def is_script(self, path):
         return is_same(path, self.script)
 
-    def refusal(self, path):
-        """Returns why `save` does not write to a file, or nothing if it may."""
+    def refusal(self, path, command="save"):
+        """Returns why `save` or `approve` does not write to a file, or nothing if it may."""
+        other = "save to %s file" if command == "save" else "name %s file"
         if not os.path.isfile(path) or self.is_script(path):
             return None
         if self.words and is_same(path, self.words):
-            return "%s has the words, and save does not overwrite it. Nothing was written: save to another file." % named(path)
+            return "%s has the words, and %s does not overwrite it. Nothing was written: %s." % (named(path), command, other % "another")
         state = self.written.get(os.path.realpath(path))
         if state is None:
-            return "%s is there already, and save does not overwrite it. Nothing was written: save to a new file." % named(path)
+            return "%s is there already, and %s does not overwrite it. Nothing was written: %s." % (named(path), command, other % "a new")
         if state != state_of(path):
-            return "%s was changed since you saved to it, and save does not overwrite it. Nothing was written: save to a new file." % named(path)
+            saved = "saved to it" if command == "save" else "wrote it"
+            return "%s was changed since you %s, and %s does not overwrite it. Nothing was written: %s." % (named(path), saved, command, other % "a new")
         return None
+
+    def note_written(self, path):
+        """Notes that a file was written that is not the script's."""
+        self.written[os.path.realpath(path)] = state_of(path)
 
     def has_refused(self):
         """Returns whether the script's file has a text that was refused."""
@@ -75,7 +86,7 @@ class Files:
             self.seen, self.refused = read(path), None
             self.look()
         else:
-            self.written[os.path.realpath(path)] = state_of(path)
+            self.note_written(path)
         lost = count_comments(self.seen if former is None else former) - count_comments(read(path))
         return [] if lost <= 0 else ["%s of the parts that you typed %s no longer in %s." % (*amount(lost), named(path))]
 

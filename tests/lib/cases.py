@@ -4,7 +4,8 @@
   tests/lib/cases.py ROOM FILE..
 
 Writes ROOM/N.title, .words (one a line), .in, .out, .err and .status for the Nth case; .launcher if the launcher is tried, .proved if
-the case is not for a program that was compiled without proofs, and .sbl and .voc if it has files.
+the case is not for a program that was compiled without proofs, .sbl and .voc if it has a script or a vocabulary, and the folder .files if it
+has other files.
 """
 import os
 import re
@@ -32,6 +33,7 @@ class Case:
         self.status = b"0"
         self.marks = []
         self.files = {"input": [], "output": [], "errors": []}
+        self.folder = {}
 
     def write(self, base):
         """Writes the files of this case."""
@@ -42,6 +44,11 @@ class Case:
         for suffix, text in parts.items():
             with open(base + suffix, "wb") as file:
                 file.write(text)
+        if self.folder:
+            os.mkdir(base + ".files")
+        for name, lines in self.folder.items():
+            with open(os.path.join(base + ".files", name), "wb") as file:
+                file.write(b"".join(lines))
 
 
 def cases_of(path):
@@ -69,10 +76,12 @@ def cases_of(path):
             cases[-1].marks.append(".proved")
         elif re.fullmatch(rb"status: [0-9]+", line):
             cases[-1].status = line[8:]
+        elif found := re.fullmatch(r"file ([a-z.]+)", line.decode("latin-1")):
+            part = cases[-1].folder.setdefault(found[1], [])
         elif line.decode("latin-1") in SUFFIXES:
             part = cases[-1].files.setdefault(line.decode(), [])
         elif part is None and (repeated or line[:1] in b"|\\"):
-            sys.exit(f"{path}:{number}: text before 'input', 'output' or 'errors'")
+            sys.exit(f"{path}:{number}: text before 'input', 'output', 'errors' or 'file NAME'")
         elif line.startswith(b"|"):
             part.append(line[1:] + b"\n")
         elif line.startswith(b"\\|"):

@@ -2,7 +2,7 @@
 """Tries the pairs of tests/sources/pairs.d (see tests/sources/pairs). A file there has pairs:
 
     == the title of the pair
-    rows: checks.md checks.cases       the files of tests/cases that are tried first; the others follow
+    rows: checks.md checks.cases       the files of tests/cases that are tried first; the other .cases and .md follow
     unit: session_tests                in place of rows: a crate of tests; one of them has to fail
     file: crates/NAME/specs/FILE.antt
     old: a text of the definition, which is there once
@@ -16,6 +16,8 @@ texts are changed, and runs cases until one fails. What was seen is kept in out/
 """
 import glob
 import hashlib
+import importlib.machinery
+import importlib.util
 import os
 import shutil
 import subprocess
@@ -103,8 +105,19 @@ def sum_of(names):
     return total.hexdigest()
 
 
+def load_files():
+    """Returns tests/suites/files as a module: it reads and tries the cases *.folders."""
+    loader = importlib.machinery.SourceFileLoader("files", os.path.join(TOP, "tests", "suites", "files"))
+    module = importlib.util.module_from_spec(importlib.util.spec_from_loader("files", loader))
+    loader.exec_module(module)
+    return module
+
+
+FILES = load_files()
+
+
 class Cases:
-    """All cases, cut into files."""
+    """All cases, cut into files; those of *.folders as tests/suites/files has them."""
 
     def __init__(self, room):
         self.room = os.path.join(room, "cases")
@@ -112,6 +125,7 @@ class Cases:
         self.files = {}
         pages = os.path.join(room, "pages")
         folder = os.path.join(TOP, "tests", "cases")
+        self.folders = {os.path.basename(path): FILES.cases_of(path) for path in sorted(glob.glob(folder + "/*.folders"))}
         for path in sorted(glob.glob(folder + "/*.cases") + glob.glob(folder + "/*.md")):
             name = os.path.basename(path)
             source = path
@@ -127,9 +141,9 @@ class Cases:
             self.files[name] = [os.path.join(part, case) for case in cases if case not in skipped]
 
     def in_order(self, rows):
+        """Yields cases: the name of a case's files, or a case of *.folders."""
         for name in [*rows, *(name for name in self.files if name not in rows)]:
-            for case in self.files[name]:
-                yield name, case
+            yield from self.folders.get(name) or self.files[name]
 
 
 def read(path, default=b""):
@@ -140,15 +154,30 @@ def read(path, default=b""):
         return default
 
 
-def is_right(program, case):
+def run(program, case, room):
+    """Runs a program as a case says, in a copy of the case's folder if it has one."""
     words = read(case + ".words").decode().split("\n")[:-1]
     words += [case + end for end in (".sbl", ".voc") if os.path.exists(case + end)]
+    folder = shutil.copytree(case + ".files", os.path.join(room, "files")) if os.path.isdir(case + ".files") else None
     with open(case + ".in", "rb") as file:
+        return subprocess.run(
+            [program, *words], cwd=folder, stdin=file, stdout=subprocess.PIPE, stderr=subprocess.PIPE, timeout=PATIENCE, check=False
+        )
+
+
+def is_right(program, case):
+    if isinstance(case, FILES.Case):
+        return FILES.difference(program, case) is None
+    with tempfile.TemporaryDirectory() as room:
         try:
-            done = subprocess.run([program, *words], stdin=file, stdout=subprocess.PIPE, stderr=subprocess.PIPE, timeout=PATIENCE, check=False)
+            done = run(program, case, room)
         except subprocess.TimeoutExpired:
             return False
     return (done.returncode, done.stdout, done.stderr) == (int(read(case + ".status")), read(case + ".out"), read(case + ".err"))
+
+
+def title_of(case):
+    return case.title if isinstance(case, FILES.Case) else read(case + ".title").decode().strip()
 
 
 def try_pair(pair, cases, names, sources):
@@ -168,9 +197,9 @@ def try_pair(pair, cases, names, sources):
         if made.returncode or not program:
             return pair, "no program: " + made.stderr[-400:]
         seen = "unseen"
-        for name, case in cases.in_order(pair.rows):
+        for case in cases.in_order(pair.rows):
             if not is_right(program, case):
-                seen = "seen by %s" % read(case + ".title").decode().strip()
+                seen = "seen by %s" % title_of(case)
                 break
     return pair, keep(kept, seen)
 

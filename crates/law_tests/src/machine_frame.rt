@@ -1,14 +1,13 @@
 //! Laws of sbl_machine (specs/Frame.antt), written out.
 
-ghost use Rattle.std.specs.Prelude.{◌≡◌, ℕ, Bool, false, List, map};
+ghost use Rattle.std.specs.Prelude.{◌≡◌, ℕ, Bool, false, List};
 ghost use Rattle.std.specs.List.{list_any};
 ghost use Rattle.std.specs.List.Sorted.{IsStrictlySortedBy};
-ghost use Rattle.sbl_resolver.specs.Checks.{WellDeclared};
 ghost use Rattle.sbl_machine.specs.BuiltFrom.{IsClosed, is_affected_by, affected_by, meets, meets_one};
-ghost use Rattle.sbl_semantics.specs.Outcome.{touches_of};
-ghost use Rattle.sbl_semantics.specs.TouchedItems.{Item', item_cmp, item_of_touch, same_item, touched_items, touches, names_of};
+ghost use Rattle.sbl_semantics.specs.TouchedItems.{Item', item_cmp, same_item, touched_items, touches, names_of};
 ghost use Rattle.sbl_ast.specs.Source.{Source};
 ghost use Rattle.sbl_machine.specs.Frame.{AgreeOutside, RunsAlike, StaysAsItWas};
+ghost use Rattle.law_tests.specs.Scripts.{PassesChecks, TouchesNone};
 
 use sbl_machine::laws::{clear_stay, frame, touches_are_touched, unmet_by_one_stay, unmet_stay};
 
@@ -29,7 +28,7 @@ pub fn needs_frame()
 
 /// Needs the whole of the law `unmet_stay`.
 pub fn needs_unmet_stay()
-    ensures { (x : Item') (s t : Source) → WellDeclared s.items s.external → AgreeOutside (is_affected_by s x) s t → (word : List ℕ) (limit : ℕ) → meets x s word limit ≡ false → StaysAsItWas s t word limit }
+    ensures { (x : Item') (s t : Source) → PassesChecks s → AgreeOutside (is_affected_by s x) s t → (word : List ℕ) (limit : ℕ) → meets x s word limit ≡ false → StaysAsItWas s t word limit }
 {
     unmet_stay();
 }
@@ -37,14 +36,14 @@ pub fn needs_unmet_stay()
 /// Needs the whole of the law `clear_stay`.
 pub fn needs_clear_stay()
     ensures names { (picked : Item' → Bool) (s t : Source) → AgreeOutside picked s t → names_of t ≡ names_of s }
-    ensures clear { (picked : Item' → Bool) (s t : Source) → IsClosed picked s → AgreeOutside picked s t → (word : List ℕ) (limit : ℕ) → list_any picked (map (item_of_touch (names_of s)) (touches_of s word limit)) ≡ false → StaysAsItWas s t word limit }
+    ensures clear { (picked : Item' → Bool) (s t : Source) → IsClosed picked s → AgreeOutside picked s t → (word : List ℕ) (limit : ℕ) → TouchesNone picked s word limit → StaysAsItWas s t word limit }
 {
     clear_stay();
 }
 
 /// Needs the whole of the law `unmet_by_one_stay`.
 pub fn needs_unmet_by_one_stay()
-    ensures { (xs : List Item') (s t : Source) → WellDeclared s.items s.external → AgreeOutside (affected_by s xs) s t → (word : List ℕ) (limit : ℕ) → meets_one xs s word limit ≡ false → StaysAsItWas s t word limit }
+    ensures { (xs : List Item') (s t : Source) → PassesChecks s → AgreeOutside (affected_by s xs) s t → (word : List ℕ) (limit : ℕ) → meets_one xs s word limit ≡ false → StaysAsItWas s t word limit }
 {
     unmet_by_one_stay();
 }

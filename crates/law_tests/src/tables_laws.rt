@@ -15,7 +15,7 @@ pub fn needs_best_comes_first()
 
 /// Needs the whole of the law `rest_is_its_own`.
 pub fn needs_rest_is_its_own()
-    ensures { (strings : List (List ℕ)) (x : List ℕ) (before rest : List ℕ) (i : ℕ) → fitting strings x ≡ before ++ (i ∷ rest) → (w : List ℕ) × (slice_get strings i ≡ Some w) × (rest ≡ below strings w (length w)) }
+    ensures { (strings : List (List ℕ)) (x before rest : List ℕ) (i : ℕ) → fitting strings x ≡ before ++ (i ∷ rest) → (w : List ℕ) × (slice_get strings i ≡ Some w) × (rest ≡ below strings w (length w)) }
 {
     rest_is_its_own();
 }

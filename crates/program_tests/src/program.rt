@@ -19,6 +19,7 @@ fn verb_of(word: &str) -> Verb {
         "stem" => Verb::Stem,
         "filter" => Verb::Filter,
         "check" => Verb::Check,
+        "compare" => Verb::Compare,
         _ => Verb::Work,
     }
 }
@@ -31,6 +32,8 @@ fn wanted_of(alloc: Global, words: &str) -> Result<Wanted, AllocError> {
         external: String::from_str(alloc, external)?,
         options: Options {
             script: None,
+            old: None,
+            new: None,
             words: None,
             commands: None,
             stems: None,

@@ -75,8 +75,8 @@ fn work_over(
 /// among the commands, and some commands are after `quit`; the end of input ends the work, too. A block without end has no reply. If
 /// the reader fails, the whole requests that were read have their replies. A comment has no reply, nor has a line that is too long.
 const ROWS: &str =
-    ">|add undo¶stems¶families¶undo do¶.¶runs¶quit¶stems¶||> ok¶> undo,stem,do¶> pairs,0,0,0,0¶> 1¶> ||0|stems
-|add undo¶stems¶families¶undo do¶.¶runs¶quit¶stems¶||ok¶undo,stem,do¶pairs,0,0,0,0¶1¶||0|stems
+    ">|add undo¶stems¶families¶undo do¶.¶runs¶quit¶stems¶||> ok¶> undo,stem,do¶> pairs,0,0,0,0¶unknown,1¶> 1¶> ||0|stems
+|add undo¶stems¶families¶undo do¶.¶runs¶quit¶stems¶||ok¶undo,stem,do¶pairs,0,0,0,0¶unknown,1¶1¶||0|stems
 >|add undo¶stems||> ok¶> undo,stem,do¶> ||0|
 >|add undo¶families¶undo¶stems¶||> ok¶> |snowbench: 73 Cut¶|1|
 |add undo¶stems¶families¶undo do¶.¶runs¶quit¶stems¶|20|ok¶undo,stem,do¶|snowbench: 70 Read¶|1|
@@ -107,7 +107,7 @@ fn work_replies_to_its_input_and_ends(rt: HostRuntime) -> Result<(), Fail> {
 /// Commands, and what is written for them at a terminal.
 const INPUT: &[u8] = b"add undo\nstems\nfamilies\nundo do\n.\nruns\nquit\nstems\n";
 
-const AT_TERMINAL: &[u8] = b"> ok\n> undo,stem,do\n> pairs,0,0,0,0\n> 1\n> ";
+const AT_TERMINAL: &[u8] = b"> ok\n> undo,stem,do\n> pairs,0,0,0,0\nunknown,1\n> 1\n> ";
 
 // A prefix of the text is written.
 #[test]

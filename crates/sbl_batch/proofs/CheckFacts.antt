@@ -4,7 +4,7 @@ use Rattle.std.proofs.lemmas.Bool.Decides.{nat_tests}
 use Rattle.std.proofs.lemmas.Grind.{flat_map-append}
 use Rattle.std.proofs.lemmas.List.{append-nil, length-append}
 use Rattle.std.proofs.KnownBytes.{Appends-nil, Appends-trans}
-use Rattle.std.specs.Str.{chars, is_utf8}
+use Rattle.std.specs.Str.{chars}
 use Rattle.std.specs.Io.KnownBytes.{Appends}
 use Rattle.std.specs.declared.vec.Vec.{Vec}
 use Rattle.std.specs.declared.alloc.Global.{Global}
@@ -12,7 +12,8 @@ use Rattle.sbl_ast.specs.Source.{Source}
 use Rattle.sbl_semantics.specs.Limit.{default_limit}
 use Rattle.sbl_semantics.specs.Outcome.{Outcome', run_of}
 use Rattle.sbl_batch.specs.Checking.{Progress, ComparesPair, IsRow, count}
-use Rattle.sbl_batch.specs.Differences.{Got, Refused, IsChecked, all_differences, difference, differences, ending, line_fault, made_of, of_outcome, pair_fault, row_of}
+use Rattle.sbl_batch.specs.Differences.{Got, Refused, IsChecked, all_differences, difference, differences, ending, made_of, of_outcome, pair_fault, row_of}
+use Rattle.sbl_input.specs.FileWords.{line_fault}
 use Rattle.sbl_io.specs.LinesOf.{lines_of}
 use Rattle.sbl_io.specs.Records.{record_line, records_text}
 use Rattle.sbl_io.specs.declared.faults.ServeFault.{ServeFault}
@@ -25,17 +26,6 @@ made_too_long script word long = let test : nat_lt 255 (length word) ≡ true = 
 
 pub made_by_run : (script : Source) (word : List ℕ) (o : Outcome') → length word ≤ 255 → o ≡ run_of script word default_limit → of_outcome o ≡ made_of script word
 made_by_run script word o fits is = let test : nat_lt 255 (length word) ≡ false = grind (arith, nat_tests) in rw test (ap of_outcome is)
-
--- ---- one line
-
-pub line_fits : (line : List ℕ) → length line ≤ 65536 → is_utf8 line ≡ true → line_fault line ≡ None
-line_fits line fits text = let test : nat_lt 65536 (length line) ≡ false = grind (arith, nat_tests) in rw (test, text) refl
-
-pub line_no_text : (line : List ℕ) → length line ≤ 65536 → is_utf8 line ≡ false → line_fault line ≡ Some fault.NotText
-line_no_text line fits text = let test : nat_lt 65536 (length line) ≡ false = grind (arith, nat_tests) in rw (test, text) refl
-
-pub line_too_long : (line : List ℕ) → 65536 < length line → line_fault line ≡ Some fault.LineTooLong
-line_too_long line long = let test : nat_lt 65536 (length line) ≡ true = grind (arith, nat_tests) in rw test refl
 
 -- ---- two lines
 

@@ -4,3 +4,6 @@ pub mod FilterFacts
 pub mod ToEndFacts
 pub mod LawFacts
 pub mod OneFilter
+pub mod CompareFacts
+pub mod OneComparison
+pub mod OpenFacts

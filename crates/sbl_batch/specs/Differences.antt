@@ -2,14 +2,15 @@
 use Rattle.std.specs.Prelude.{◌≡◌, ℕ, ◌+◌, Bool, false, List, [], ◌∷◌, ◌++◌, Option, Some, None, Result, Ok, Err}
 use Rattle.std.specs.Prelude.{codes, decimal, length, take, nat_lt, if◌then◌else◌}
 use Rattle.std.specs.Option.{option_or}
-use Rattle.std.specs.Str.{bytes_eq, chars, encode_utf8_all, is_utf8}
+use Rattle.std.specs.Str.{bytes_eq, chars, encode_utf8_all}
 use Rattle.std.specs.Io.KnownBytes.{Appends}
 use Rattle.sbl_ast.specs.Source.{Source}
 use Rattle.sbl_semantics.specs.Names.{name_of}
 use Rattle.sbl_semantics.specs.Outcome as machine
 use Rattle.sbl_semantics.specs.Limit.{default_limit, max_word_length}
 use Rattle.sbl_semantics.specs.Outcome.{Outcome', run_of}
-use Rattle.sbl_io.specs.LinesOf.{lines_of, max_line}
+use Rattle.sbl_input.specs.FileWords.{line_fault}
+use Rattle.sbl_io.specs.LinesOf.{lines_of}
 use Rattle.sbl_io.specs.Records.{records_text}
 use Rattle.sbl_io.specs.declared.faults.ServeFault.{ServeFault}
 use Rattle.sbl_io.specs.declared.faults.ServeFault.TheVariants as fault
@@ -53,12 +54,6 @@ unfoldable pub difference : Source → ℕ → List ℕ → List ℕ → List (L
 difference script n word expected = row_of n word expected (made_of script (chars word))
 
 -- ---- two lists
-
--- why a line can't be taken: it has more bytes than it may, or it is not UTF-8
-abbrev pub line_fault : List ℕ → Option ServeFault
-line_fault line =
-    if nat_lt max_line (length line) then Some fault.LineTooLong
-    else (if is_utf8 line then None else Some fault.NotText)
 
 -- of two lines with one number the word's comes first
 abbrev pub pair_fault : List ℕ → List ℕ → Option ServeFault

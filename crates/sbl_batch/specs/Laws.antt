@@ -2,6 +2,8 @@
 use Rattle.std.specs.Prelude.{◌≡◌, ◌++◌, ◌&&◌, ℕ, false, List, [], ◌∷◌, Option, Some, Result, Ok, Err, ⊤}
 use Rattle.sbl_bench.specs.Contents.{Contents, opening_contents}
 use Rattle.sbl_bench.specs.Vocabulary.{is_word, vocabulary}
+use Rattle.sbl_batch.specs.Compare.{Compares}
+use Rattle.sbl_batch.specs.declared.bench_pair.CompareInput.{CompareInput}
 use Rattle.sbl_batch.specs.Filter.{Filters, IsFiltered, filter_output, is_filled}
 use Rattle.sbl_batch.specs.ToEnd.{FiltersToEnd, without_line}
 use Rattle.sbl_batch.specs.declared.word_fault.WordFault.{WordFault}
@@ -60,3 +62,9 @@ FilteringIsOne =
     (bytes external : List ℕ) (a b : Option (List ℕ)) (text other : List ℕ) (r q : Result (Unit {0}) LoadFault) → IsToldByBytes r → IsToldByBytes q
     → IsFiltered (Some bytes) a external (Some []) (Some text) r → IsFiltered (Some bytes) b external (Some []) (Some other) q
     → (r ≡ q) × (text ≡ other)
+
+-- A comparison that writes all rows writes one text, and returns one number of changed words.
+abbrev pub ComparingIsOne : Type 0
+ComparingIsOne =
+    (input : CompareInput) (text other : List ℕ) (m n : ℕ) → Compares input (Some []) (Some text) (Ok m)
+    → Compares input (Some []) (Some other) (Ok n) → (m ≡ n) × (text ≡ other)

@@ -2,7 +2,10 @@
 pub mod Differences
 pub mod Filter
 pub mod ToEnd
+pub mod Compare
 pub mod Laws
 -- what the functions inside the crate promise each other: nothing in these need be believed
 pub mod Checking
 pub mod LineWriter
+pub mod Comparing
+pub mod Opening

@@ -1,5 +1,5 @@
 //! Compares stems with the expected stems.
-ghost use Rattle.std.specs.Prelude.{◌≡◌, None, Some, IfOk, IfErr, OnOk, string_bytes};
+ghost use Rattle.std.specs.Prelude.{◌≡◌, IfOk, IfErr, OnOk, string_bytes};
 ghost use Rattle.std.specs.Str.{chars};
 ghost use Rattle.sbl_machine.specs.MachineOf.{IsLinkedMachineOf};
 ghost use Rattle.sbl_ast.specs.Source.{Source};
@@ -10,7 +10,8 @@ ghost use Rattle.sbl_batch.specs.Differences as spec;
 
 use csv::ByteRecord;
 use sbl_bench::MAX_WORD_LENGTH;
-use sbl_io::{MAX_LINE, ServeFault, Sink, first_line, record_line, text_of, write_all};
+use sbl_input::text_line;
+use sbl_io::{ServeFault, Sink, first_line, record_line, text_of, write_all};
 use sbl_machine::{DEFAULT_LIMIT, Machine, Meter, Outcome, RunTrace, Table};
 use sbl_script::Script;
 use std::alloc::{AllocError, Global};
@@ -99,20 +100,6 @@ fn row_of(
         ],
     )?;
     Ok(Some(record_line(alloc, &record)?))
-}
-
-/// Returns a line as text. Returns `LineTooLong` if it has more than 65,536 bytes, `NotText` if it is not UTF-8.
-fn text_line(line: &[u8]) -> Result<&str, ServeFault>
-    ensures text { IfOk result (λ text. (text.now ≡ line.now) × (spec.line_fault line.now ≡ None)) }
-    ensures fault { IfErr result (λ fault. spec.line_fault line.now ≡ Some fault) }
-{
-    if line.len() > MAX_LINE {
-        return Err(ServeFault::LineTooLong);
-    }
-    match str::from_utf8(line) {
-        Ok(text) => Ok(text),
-        Err(_) => Err(ServeFault::NotText),
-    }
 }
 
 /// Compares the lines of a word and its expected stem. If they differ, writes a row and returns `true`.

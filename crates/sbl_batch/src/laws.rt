@@ -1,4 +1,4 @@
-//! Laws of the rows that a filter writes.
+//! Laws of the rows that a filter and a comparison write.
 ghost use Rattle.sbl_batch.specs.Laws as spec;
 
 use sbl_input::laws::loading_is_one;
@@ -33,6 +33,14 @@ pub fn inputs_are_one()
 /// allocation fails or the reader or the writer stops.
 pub fn filtering_is_one()
     ensures { spec.FilteringIsOne }
+{
+    one_reading();
+}
+
+/// A comparison of the same files always writes the same rows and returns the same number of changed words, unless it ends with a
+/// fault.
+pub fn comparing_is_one()
+    ensures { spec.ComparingIsOne }
 {
     one_reading();
 }

@@ -6,8 +6,10 @@ pub mod TouchFacts
 pub mod PairFacts
 pub mod Following
 pub mod ClassFacts
+pub mod ClassOfStem
 pub mod ChangeFacts
 pub mod Meeting
+pub mod MeetingRows
 pub mod Tracing
 pub mod LastChanges
 pub mod OneVerdict
@@ -16,3 +18,4 @@ pub mod Reruns
 pub mod Bringing
 pub mod Undoing
 pub mod WordFaults
+pub mod Listing

@@ -10,11 +10,11 @@ use Rattle.std.specs.Map.{keys_of, lookup, lookup_key, remove_entry}
 use Rattle.std.proofs.lemmas.Slice.Eq.{bytes_eq-Decides}
 use Rattle.sbl_rows.specs.Setting.{Setting}
 use Rattle.sbl_machine.specs.declared.outcome.RunTrace.{RunTrace}
-use Rattle.sbl_semantics.specs.Outcome.{outcome_of}
 use Rattle.sbl_bench.specs.declared.fault.EditFault.{EditFault}
 use Rattle.sbl_bench.specs.KeptRuns.{KeptWord, words_in, AreFresh, IsFresh, IsWord, IsKept}
 use Rattle.sbl_bench.specs.inside.Pairs.{IsOneMore, Text, find}
-use Rattle.sbl_rows.specs.Rows.{Row, rows_of}
+pub use Rattle.sbl_bench.specs.inside.ShownRows.{row_shown}
+use Rattle.sbl_rows.specs.Rows.{rows_of}
 use Rattle.sbl_bench.specs.Vocabulary.{is_word, without}
 
 bytes_eq-back : (x y : List ℕ) → bytes_eq x y ≡ bytes_eq y x
@@ -50,7 +50,7 @@ pub words-push : (es : List KeptWord) (e : KeptWord) → words_in (es ++ e ∷ [
 words-push [] e = refl
 words-push (x ∷ es) e = ap (λ (ws : List (List ℕ)). x.0.items ∷ ws) (words-push es e)
 
-fresh-push : (script : Setting) (es : List KeptWord) (e : KeptWord) → AreFresh script es → IsFresh script e.0.items e.1 → AreFresh script (es ++ e ∷ [])
+pub fresh-push : (script : Setting) (es : List KeptWord) (e : KeptWord) → AreFresh script es → IsFresh script e.0.items e.1 → AreFresh script (es ++ e ∷ [])
 fresh-push script [] e h p = (p, tt)
 fresh-push script (x ∷ es) e h p = (h.0, fresh-push script es e h.1 p)
 
@@ -62,10 +62,6 @@ kept-push script es e h word room ran = record {
   sound = subst (All IsWord) (sym (words-push es e)) (All-push IsWord (words_in es) e.0.items h.sound word);
   room = rw (length-append es (e ∷ [])) (omega (arith, room));
 }
-
--- the row that an entry shows
-abbrev pub row_shown : KeptWord → Row
-row_shown e = record { word = e.0.items; outcome = outcome_of e.1.outcome }
 
 -- fresh entries show the rows of their words
 pub rows_shown : (script : Setting) (es : List KeptWord) → AreFresh script es → map row_shown es ≡ rows_of script (words_in es)

@@ -7,7 +7,7 @@ use Rattle.sbl_script.specs.OneReading.{FaultIsOne, ScriptIsOne, ScriptOrFault}
 use Rattle.sbl_rows.specs.Setting.{Setting}
 use Rattle.sbl_bench.specs.declared.fault.EditFault.{EditFault}
 use Rattle.sbl_bench.specs.declared.fault.EditFault.TheVariants as fault
-use Rattle.sbl_bench.specs.Edits.{Edit, Add, Remove, Replace, Whole, Limit, IsAccepted, IsMeterFull, IsRefused, IsSettingAfter, IsVerdict, fault_of_script}
+use Rattle.sbl_bench.specs.Edits.{Edit, Add, Remove, Words, Replace, Whole, Limit, IsAccepted, IsMeterFull, IsRefused, IsSettingAfter, IsVerdict, fault_of_script}
 use Rattle.sbl_bench.specs.inside.ProofNames.{contents_after, lacks_counts}
 use Rattle.sbl_bench.specs.Contents.{Contents}
 
@@ -27,6 +27,7 @@ both a b = λ i. record { script = a i; limit = b i }
 setting_is_one : Facts → (s : Contents) (e : Edit) (p q : Setting) → IsSettingAfter s e p → IsSettingAfter s e q → p ≡ q
 setting_is_one k s (Add word) p q h j = h.1 ∙ sym j.1
 setting_is_one k s (Remove word) p q h j = h.1 ∙ sym j.1
+setting_is_one k s (Words ws) p q h j = h.1 ∙ sym j.1
 setting_is_one k s (Replace what text) p q h j = both (k.script s.setting.script what text p.script q.script h.0 j.0) (h.1 ∙ sym j.1)
 setting_is_one k s (Whole bytes) p q h j = both (k.read bytes s.setting.script.external p.script q.script h.0 j.0) (h.1 ∙ sym j.1)
 setting_is_one k s (Limit n) p q h j = both (h.1 ∙ sym j.1) (h.2 ∙ sym j.2)
@@ -34,6 +35,7 @@ setting_is_one k s (Limit n) p q h j = both (h.1 ∙ sym j.1) (h.2 ∙ sym j.2)
 refusal_is_one : Facts → (s : Contents) (e : Edit) (f g : EditFault) → IsRefused s e f → IsRefused s e g → f ≡ g
 refusal_is_one k s (Add word) f g h j = same_Some f g (sym h ∙ j)
 refusal_is_one k s (Remove word) f g h j = h.1 ∙ sym j.1
+refusal_is_one k s (Words ws) f g h j = same_Some f g (sym h ∙ j)
 refusal_is_one k s (Replace what text) f g h j = h.2 ∙ ap fault_of_script (k.fault s.setting.script what text h.0 j.0 h.1 j.1) ∙ sym j.2
 refusal_is_one k s (Whole bytes) f g h j = h.2 ∙ ap fault.Script (k.unread bytes s.setting.script.external h.0 j.0 h.1 j.1) ∙ sym j.2
 refusal_is_one k s (Limit n) f g h j = h.1 ∙ sym j.1
@@ -41,6 +43,7 @@ refusal_is_one k s (Limit n) f g h j = h.1 ∙ sym j.1
 script_or_refusal : Facts → (s : Contents) (e : Edit) (p : Setting) (f : EditFault) → IsSettingAfter s e p → IsRefused s e f → ⊥
 script_or_refusal k s (Add word) p f h j = none-some f (sym h.0 ∙ j)
 script_or_refusal k s (Remove word) p f h j = cc
+script_or_refusal k s (Words ws) p f h j = none-some f (sym h.0 ∙ j)
 script_or_refusal k s (Replace what text) p f h j = k.either s.setting.script what text p.script j.0 h.0 j.1
 script_or_refusal k s (Whole bytes) p f h j = k.read_either bytes s.setting.script.external p.script j.0 h.0 j.1
 script_or_refusal k s (Limit n) p f h j = cc (sym h.0 ∙ j.0)

@@ -11,7 +11,7 @@ use Rattle.sbl_bench.specs.Vocabulary.{is_word, with_word}
 abbrev pub Traces : Type 0
 Traces = HashMap (Vec ℕ Global) RunTrace WordKeys
 
-abbrev same_word : Vec ℕ Global → Vec ℕ Global → Bool
+abbrev pub same_word : Vec ℕ Global → Vec ℕ Global → Bool
 same_word x y = bytes_eq x.items y.items
 
 -- what holds of the entries that are left by an entry of the map holds of the map's, once its borrow has ended

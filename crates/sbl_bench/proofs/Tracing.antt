@@ -23,7 +23,7 @@ fresh_found script word (e ∷ es) t fresh is = by (bytes_eq word e.0.items) ref
     by false other is rest = rest is
 
 -- a word with an entry is in the vocabulary
-is_there : (word : List ℕ) (es : List KeptWord) (t : RunTrace) → Some t ≡ find word es → is_word word (words_in es) ≡ true
+pub is_there : (word : List ℕ) (es : List KeptWord) (t : RunTrace) → Some t ≡ find word es → is_word word (words_in es) ≡ true
 is_there word es t is = sym (found_word word es) ∙ ap is_some (sym is)
 
 -- so it is not absent
@@ -32,7 +32,7 @@ not_absent word es t words is same absent =
     let yes = ap (is_word word) (sym same) ∙ is_there word es t is in
     cc (sym yes ∙ absent)
 
-not_there : (word : List ℕ) (es : List KeptWord) → None ≡ find word es → is_word word (words_in es) ≡ false
+pub not_there : (word : List ℕ) (es : List KeptWord) → None ≡ find word es → is_word word (words_in es) ≡ false
 not_there word es is = sym (found_word word es) ∙ ap is_some (sym is)
 
 -- the items of its touches are its trace

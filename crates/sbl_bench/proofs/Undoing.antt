@@ -11,7 +11,7 @@ use Rattle.sbl_semantics.specs.Outcome.{touches_of}
 use Rattle.sbl_semantics.specs.TouchedItems.{Item', item_of_touch, names_of}
 use Rattle.sbl_rows.specs.Classes.{classes_of}
 use Rattle.sbl_bench.specs.Contents.{Contents}
-use Rattle.sbl_bench.specs.Edits.{Edit, Add, Remove, Replace, Whole, Limit, IsSettingAfter, is_of_script, runs_needed}
+use Rattle.sbl_bench.specs.Edits.{Edit, Add, Remove, Words, Replace, Whole, Limit, IsSettingAfter, is_of_script, runs_needed}
 use Rattle.sbl_bench.specs.inside.ProofNames.{meets_listed}
 use Rattle.sbl_bench.specs.EqualScripts.{EqualScriptRunsNothing}
 use Rattle.sbl_rows.specs.Rows.{rows_of}
@@ -35,6 +35,7 @@ shows v s words same stay = record {
 limit_stays : (s : Contents) (e : Edit) (t : Setting) → is_of_script e ≡ true → IsSettingAfter s e t → t.limit ≡ s.setting.limit
 limit_stays s (Add word) t is h = absurd (true≢false (sym is))
 limit_stays s (Remove word) t is h = absurd (true≢false (sym is))
+limit_stays s (Words ws) t is h = absurd (true≢false (sym is))
 limit_stays s (Replace what text) t is h = h.1
 limit_stays s (Whole bytes) t is h = h.1
 limit_stays s (Limit n) t is h = absurd (true≢false (sym is))

@@ -19,6 +19,8 @@ impl Bench {
     ghost use Rattle.sbl_bench.specs.KeptRuns.{setting_of};
     ghost use Rattle.sbl_rows.specs.Rows.{rows_of};
     ghost use Rattle.sbl_rows.specs.Classes.{class_of, classes_of};
+    ghost use Rattle.std.specs.List.{find};
+    ghost use Rattle.std.specs.Str.{bytes_eq};
 
     /// Returns the classes, by stem in code point order; a prefix comes first. A word whose run is refused is in no class, and
     /// no class is empty. Returns `AllocError` if an allocation fails.
@@ -64,6 +66,18 @@ impl Bench {
             }
             Outcome::Refused(_) => Ok(None),
         }
+    }
+
+    /// Returns the class of a stem; `None` if no word has it. Returns `AllocError` if an allocation fails.
+    pub fn class_with(&self, stem: &[char]) -> Result<Option<Class>, AllocError>
+        ensures { IfOk result (λ class. option_map view_class class ≡ find (λ c. bytes_eq stem.now c.stem) (classes_of (rows_of (setting_of self.now) self.now.words))) }
+    {
+        let words = words_of_stem(self.alloc, stem, &self.pairs, &self.traces)?;
+        if words.is_empty() {
+            return Ok(None);
+        }
+        let stem = Vec::from_slice(self.alloc, stem)?;
+        Ok(Some(Class { stem, words }))
     }
 }
 

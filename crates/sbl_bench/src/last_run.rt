@@ -1,6 +1,7 @@
 //! The last run of a word. Runs with equal touches share one list of them.
 
 ghost use Rattle.std.specs.Prelude.{◌≡◌, IfOk, IfSome};
+ghost use Rattle.sbl_semantics.specs.Outcome.{outcome_of};
 
 use sbl_machine::{Meter, Outcome, RunTrace, Touch};
 use std::alloc::{AllocError, Global};
@@ -52,6 +53,21 @@ impl LastRun {
         })
     }
 
+    /// Returns a copy, which shares the list of touches. Returns `AllocError` if an allocation fails.
+    pub(crate) fn copy(&self, alloc: Global) -> Result<LastRun, AllocError>
+        ensures outcome { IfOk result (λ run. outcome_of run.outcome ≡ outcome_of self.now.outcome) }
+        ensures touches { IfOk result (λ run. run.touches.items ≡ self.now.touches.items) }
+        ensures used { IfOk result (λ run. run.used ≡ self.now.used) }
+    {
+        let outcome = copy_outcome(alloc, &self.outcome)?;
+        let touches = self.touches.clone()?;
+        Ok(LastRun {
+            outcome,
+            touches,
+            used: self.used,
+        })
+    }
+
     /// Returns the outcome. Does not allocate.
     pub(crate) fn outcome(&self) -> &Outcome
         ensures { result.now ≡ self.now.outcome }
@@ -83,6 +99,16 @@ impl LastRun {
         ensures { result ≡ self.now.used }
     {
         self.used
+    }
+}
+
+/// Returns a copy of an outcome. Returns `AllocError` if an allocation fails.
+fn copy_outcome(alloc: Global, outcome: &Outcome) -> Result<Outcome, AllocError>
+    ensures { IfOk result (λ copy. outcome_of copy ≡ outcome_of outcome.now) }
+{
+    match outcome {
+        Outcome::Stem(stem) => Ok(Outcome::Stem(Vec::from_slice(alloc, stem.as_slice())?)),
+        Outcome::Refused(fault) => Ok(Outcome::Refused(*fault)),
     }
 }
 

@@ -1,12 +1,18 @@
 -- What the instructions made of a command do: what the command does, and then what the instructions after it do.
 use Rattle.std.specs.Prelude.{◌≡◌, ℕ, suc, ◌+◌, ◌<◌, Bool, true, false, List, [], ◌∷◌, slice_set, length, slice_index_or}
 use Rattle.sbl_program.specs.AmongStrings.{Listing}
+use Rattle.sbl_program.specs.Actions.{test_grouping}
 use Rattle.sbl_program.specs.Chains.{JoinedView}
-use Rattle.sbl_program.specs.ProgramOf.{view_node}
+use Rattle.sbl_program.specs.ProgramOf.{view_next_command, view_node, view_nodes, view_number}
+use Rattle.sbl_program.specs.Terms.{class_at}
+use Rattle.sbl_program.specs.declared.action.Arithmetic.{Arithmetic}
+use Rattle.sbl_program.specs.declared.node.JoinedNode.{JoinedNode}
 use Rattle.sbl_program.specs.declared.node.Node.{Node}
 use Rattle.sbl_program.specs.Rows.{pays, others_run}
-use Rattle.sbl_program.specs.Run.{runs}
+use Rattle.sbl_program.specs.Run.{all_run, group_runs, runs}
 use Rattle.sbl_program.specs.Program as programs
+use Rattle.sbl_semantics.specs.Choices.{choice}
+use Rattle.sbl_semantics.specs.Control.{pay_first}
 use Rattle.sbl_semantics.specs.State.{State, Ending, Doing, Signals, after, then_on, saved_cursor, put_back}
 use Rattle.sbl_semantics.specs.declared.cursor.SavedCursor.{SavedCursor}
 use Rattle.sbl_ast.specs.declared.mode.Mode.{Mode}
@@ -14,7 +20,8 @@ use Rattle.sbl_code.specs.declared.instruction.Instruction.{Instruction}
 use Rattle.sbl_code.specs.declared.instruction.GroupCode.{GroupCode, out-GroupCode}
 use Rattle.sbl_code.specs.declared.assembler.Exits.{Exits}
 use Rattle.sbl_code.specs.declared.assembler.Place.{Place}
-use Rattle.sbl_code.specs.Flow.{Flow, flow, alone}
+use Rattle.sbl_code.specs.declared.assembler.Way.{Way}
+use Rattle.sbl_code.specs.Flow.{Flow, flow, alone, counted_of, limited_of, way_does, wrapped_of}
 use Rattle.sbl_code.specs.Slots.{no_cursor}
 
 -- the first n slots hold the same
@@ -29,6 +36,37 @@ GoesOn f m n slots go = (ys : List SavedCursor) → Agree n slots ys → (s : St
 -- what a command does in a program, if this many levels are left
 abbrev pub Meaning : Type 0
 Meaning = programs.Program → ℕ → Doing
+
+-- the test of a character for a grouping, or for what is not in it
+abbrev pub class_test : Bool → ℕ → Meaning
+class_test wanted g p levels = test_grouping wanted (class_at p.groupings g) g
+
+-- a command after its own steps
+abbrev pub with_steps : ℕ → Meaning → Meaning
+with_steps own meaning p levels m s = then_on (pays own s) (meaning p levels m)
+
+-- `tables` has the strings of each table
+module _ (tables : ℕ → Listing) where
+  -- `loop AE C`, and `atleast AE C` if it repeats
+  abbrev pub counted_node : Bool → Arithmetic → Node → Meaning
+  counted_node repeats count inner p levels = pay_first (counted_of repeats (view_number count) (runs p levels (view_node tables inner)))
+
+  -- `setlimit C1 for C2`, where instructions do C2
+  abbrev pub limit_node : Node → Instruction → Meaning
+  limit_node first second p levels = pay_first (limited_of (runs p levels (view_node tables first)) (alone (flow p levels tables second)))
+
+  -- a command that saves the cursor before the command in it
+  abbrev pub wrapped_node : Way → Way → Node → Meaning
+  wrapped_node after_t after_f inner p levels =
+      pay_first (wrapped_of (way_does after_t) (way_does after_f) (runs p levels (view_node tables inner)))
+
+  -- what an among does before the command of its group, and then that command
+  abbrev pub among_node : List Node → Meaning → Meaning
+  among_node before chosen p levels = pay_first (λ m s. after (all_run p levels (view_nodes tables before) m s) (chosen p levels m) (Signals false))
+
+  -- the command of the chosen group
+  abbrev pub chosen_node : ℕ → List Node → Meaning
+  chosen_node among bodies p levels m s = group_runs p levels (view_nodes tables bodies) (choice among s) m s
 
 -- From `entry` on, a run uses some steps, does what a command means, and goes on with `next` after t and with `fail` after
 -- f. The cursors that are saved in the first n slots stay.
@@ -65,6 +103,12 @@ Tests tables meaning cost next stay x =
     flow p levels tables x m slots s
     ≡ then_on (pays cost s) (λ u. after (meaning p levels m u) (flow p levels tables next m slots)
     (λ f. then_on (put_back m (saved_cursor u) f) (flow p levels tables stay m slots)))
+
+-- whatever the instructions for the chosen group of an among do, from `entry` on a run does it after what the among does before
+abbrev pub PerformsAmong : (ℕ → Listing) → List Node → ℕ → ℕ → Exits → Instruction → Instruction → Type 0
+PerformsAmong tables before cost n exits choose entry =
+    (chosen : Meaning) → PerformsWithExits tables chosen 0 n exits choose
+    → PerformsWithExits tables (among_node tables before chosen) cost n exits entry
 
 abbrev pub PerformsAtWithExits : (ℕ → Listing) → Meaning → ℕ → ℕ → Exits → Instruction → Type 0
 PerformsAtWithExits tables meaning cost n exits entry = PerformsAt tables meaning cost n exits.next.value exits.fail.value entry
@@ -104,6 +148,15 @@ IsPlaced true cost own slot exits place =
 abbrev pub IsPlace : ℕ → ℕ → ℕ → Exits → Place → Type 0
 IsPlace cost own slot exits place = (place.slot < 4) × (0 < own) × IsPlaced place.nested cost own slot exits place
 
+-- If a command is performed at its place by instructions that save the cursor there and go on with `inner`, from `entry` on a run
+-- performs it after its own steps.
+abbrev pub PerformsSaved : (ℕ → Listing) → ℕ → Exits → Place → Instruction → Instruction → Type 0
+PerformsSaved tables cost exits place inner entry =
+    (meaning : Meaning) (own slot : ℕ) → IsPlace cost own slot exits place
+    → ((saving : Instruction) → Saves place.cost place.slot inner saving
+    → PerformsWithExits tables meaning place.cost place.slot place.exits saving)
+    → PerformsWithExits tables (with_steps own meaning) cost slot exits entry
+
 -- what follows a command in it, in which the cursor is saved in slot n
 abbrev pub Leaves : (ℕ → Listing) → ℕ → Instruction → Instruction → Instruction → (Mode → SavedCursor → State → Ending) → Type 0
 Leaves tables n next fail own on =
@@ -127,6 +180,12 @@ IsRest tables n others exits rest =
     GoesOn (flow p levels tables rest.fail.value) m (suc n) ys
     (λ s. after (others_run p levels m (slice_index_or ys n no_cursor) others (Signals false s)) go stop)
 
+-- if a row goes on at `rest` after a command, it goes on at `whole` before it
+abbrev pub IsRestBefore : (ℕ → Listing) → ℕ → JoinedNode → Exits → Exits → Type 0
+IsRestBefore tables n other rest whole =
+    (exits : Exits) (others : List JoinedView) → IsRest tables n others exits rest
+    → IsRest tables n (view_next_command tables other ∷ others) exits whole
+
 -- for each command instructions that perform it
 abbrev pub ArePerformed : (ℕ → Listing) → List Node → ℕ → Exits → List GroupCode → Type 0
 ArePerformed tables nodes n exits [] = nodes ≡ []
@@ -134,3 +193,9 @@ ArePerformed tables [] n exits (x ∷ xs) = ⊥
 ArePerformed tables (node ∷ nodes) n exits (x ∷ xs) =
     PerformsWithExits tables (λ p levels. runs p levels (view_node tables node)) 0 n exits (out-GroupCode x).first.value
     × ArePerformed tables nodes n exits xs
+
+-- whatever commands the instructions of the groups perform, from `entry` on a run performs that of the chosen group
+abbrev pub PerformsChosen : (ℕ → Listing) → ℕ → List GroupCode → ℕ → Exits → Instruction → Type 0
+PerformsChosen tables among groups cost exits entry =
+    (nodes : List Node) (n : ℕ) → ArePerformed tables nodes n exits groups
+    → PerformsWithExits tables (chosen_node tables among nodes) cost n exits entry

@@ -1,14 +1,12 @@
 //! Makes the code of a program.
 
-ghost use Rattle.std.specs.Prelude.{◌≡◌, ◌+◌, ◌≤◌, ℕ, false, length, drop, IfOk};
+ghost use Rattle.std.specs.Prelude.{◌≡◌, ◌+◌, ◌≤◌, ℕ, length, drop, IfOk};
 ghost use Rattle.sbl_program.specs.AmongStrings.{Listing};
 ghost use Rattle.sbl_program.specs.ProgramOf.{view_node, view_nodes, view_routine};
-ghost use Rattle.sbl_semantics.specs.Choices.{choice};
-ghost use Rattle.sbl_program.specs.Run.{runs, all_run, group_runs};
+ghost use Rattle.sbl_program.specs.Run.{runs, all_run};
 ghost use Rattle.sbl_semantics.specs.Control.{pay_first};
-ghost use Rattle.sbl_code.specs.Performs.{Meaning, PerformsWithExits, Runs};
+ghost use Rattle.sbl_code.specs.Performs.{PerformsAmong, PerformsWithExits, Runs, chosen_node};
 ghost use Rattle.sbl_code.specs.Flow.{fail_of};
-ghost use Rattle.sbl_semantics.specs.State.{Signals, after};
 ghost use Rattle.sbl_code.specs.CodeOf.{IsCodeOf, AreCodeOf};
 
 // Makes an instruction that goes on with the exits of a command.
@@ -273,7 +271,7 @@ impl Assembler {
         slot: usize,
         exits: &Exits,
     ) -> Result<Rc<Instruction>, AllocError>
-        ensures { IfOk result (λ made. (tables : ℕ → Listing) (chosen : Meaning) → PerformsWithExits tables chosen 0 slot exits.now choose.value → PerformsWithExits tables (λ p levels. pay_first (λ m s. after (all_run p levels (view_nodes tables before.now) m s) (chosen p levels m) (Signals false))) cost slot exits.now made.value) }
+        ensures { IfOk result (λ made. (tables : ℕ → Listing) → PerformsAmong tables before.now cost slot exits.now choose.value made.value) }
     {
         let own = Exits {
             next: choose,
@@ -291,7 +289,7 @@ impl Assembler {
         exits: &Exits,
         bodies: &[Node],
     ) -> Result<Rc<Instruction>, AllocError>
-        ensures { IfOk result (λ made. (tables : ℕ → Listing) → PerformsWithExits tables (λ p levels m t. group_runs p levels (view_nodes tables bodies.now) (choice among t) m t) 0 slot exits.now made.value) }
+        ensures { IfOk result (λ made. (tables : ℕ → Listing) → PerformsWithExits tables (chosen_node tables among bodies.now) 0 slot exits.now made.value) }
     {
         let mut entries = Vec::new(self.alloc);
         for body in bodies {

@@ -3,7 +3,7 @@ use Rattle.std.specs.Prelude.{◌≡◌, ◌⊎◌, Bool, true, false, List, [],
 use Rattle.clap.specs.Words.{App, Rule, Text, first_of, new_app, new_rule, one_of, subcommand_of, with_rule, with_subcommand}
 use Rattle.clap.specs.declared.builder.action.ArgAction.TheVariants.{SetTrue}
 use Rattle.sbl_command_line.specs.declared.command_line.Verb.{Verb}
-use Rattle.sbl_command_line.specs.declared.command_line.Verb.TheVariants.{Session, Stem, Filter, Check, Work}
+use Rattle.sbl_command_line.specs.declared.command_line.Verb.TheVariants.{Session, Stem, Filter, Check, Compare, Work}
 
 -- `--external NAME`: an option with one value, by default `stem`
 abbrev pub external : Rule
@@ -44,6 +44,12 @@ check_app =
     with_rule (with_rule (with_rule (with_rule (verb_app (codes "check")) (new_rule (codes "SCRIPT"))) (new_rule (codes "WORDS")))
     (new_rule (codes "STEMS"))) (flag (codes "places"))
 
+-- `compare` has three files, and a flag
+abbrev pub compare_app : App
+compare_app =
+    with_rule (with_rule (with_rule (with_rule (verb_app (codes "compare")) (required_rule (codes "OLD"))) (required_rule (codes "NEW")))
+    (required_rule (codes "WORDS"))) (flag (codes "rows"))
+
 -- `work` has two files, and the faces of its answers
 abbrev pub work_app : App
 work_app =
@@ -59,9 +65,9 @@ abbrev pub asking : App
 asking = record top { top = record top.top { subcommand_required = true; arg_required_else_help = true } }
 
 abbrev pub program : App
-program = with_subcommand (with_subcommand (with_subcommand (with_subcommand (with_subcommand (with_subcommand
+program = with_subcommand (with_subcommand (with_subcommand (with_subcommand (with_subcommand (with_subcommand (with_subcommand
     asking
-    run_app.top) session_app.top) stem_app.top) filter_app.top) check_app.top) work_app.top
+    run_app.top) session_app.top) stem_app.top) filter_app.top) check_app.top) compare_app.top) work_app.top
 
 -- whether a subcommand of this name does what the verb says: `run` is a session over files
 abbrev pub IsVerb : Text → Verb → Type 0
@@ -69,6 +75,7 @@ IsVerb name Session = (name ≡ codes "run") ⊎ (name ≡ codes "session")
 IsVerb name Stem = name ≡ codes "stem"
 IsVerb name Filter = name ≡ codes "filter"
 IsVerb name Check = name ≡ codes "check"
+IsVerb name Compare = name ≡ codes "compare"
 IsVerb name Work = name ≡ codes "work"
 
 -- the subcommand in these words, and the value of its option
@@ -83,12 +90,15 @@ value_in id words = option_and_then (λ p. first_of id p.1) (subcommand_of progr
 abbrev pub flag_in : Text → List Text → Option Text
 flag_in id words = option_and_then (λ p. one_of id p.1) (subcommand_of program words)
 
--- the option is given; it is not, though the subcommand has it
+-- the option is given; it is not, though the subcommand has it; the subcommand has no such option
 abbrev pub IsGiven : Text → List Text → Type 0
 IsGiven id words = flag_in id words ≡ Some (codes "true")
 
 abbrev pub IsMissing : Text → List Text → Type 0
 IsMissing id words = flag_in id words ≡ Some (codes "false")
+
+abbrev pub LacksFlag : Text → List Text → Type 0
+LacksFlag id words = flag_in id words ≡ None
 
 -- whether this is the truth of an option without a value: it is false if the subcommand has no such option
 pub record IsFlag (text : Option Text) (is : Bool) : Type 0 where

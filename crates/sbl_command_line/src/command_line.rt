@@ -3,7 +3,7 @@ ghost use Rattle.std.specs.Prelude.{◌≡◌, IfOk, None, Some, codes, false, m
 ghost use Rattle.std.specs.String.{string_bytes};
 ghost use Rattle.clap.specs.Walk.{rule_of};
 ghost use Rattle.clap.specs.Words.{Text, app_of, first_value, found_of, new_rule, one_text};
-ghost use Rattle.sbl_command_line.specs.CommandLine.{IsFlag, IsGiven, IsMissing, IsVerb, check_app, flag, flag_in, program, required_rule, run_app, session_app, stem_app, filter_app, value_in, verb_app, verb_and_external, work_app};
+ghost use Rattle.sbl_command_line.specs.CommandLine.{IsFlag, IsGiven, IsMissing, IsVerb, LacksFlag, check_app, compare_app, flag, flag_in, program, required_rule, run_app, session_app, stem_app, filter_app, value_in, verb_app, verb_and_external, work_app};
 
 use clap::error::ErrorKind;
 use clap::{Arg, ArgAction, ArgMatches, Command, Error};
@@ -20,11 +20,13 @@ pub enum Verb {
     Filter,
     /// Compares stems with the expected stems.
     Check,
+    /// Compares two scripts over words.
+    Compare,
     /// Works on a script and words in files.
     Work,
 }
 
-/// The face of the answers of `work`.
+/// The face of the answers of `work` and `compare`.
 #[derive(Clone, Copy, Debug, PartialEq, Eq)]
 pub enum Face {
     /// Rows for programs.
@@ -49,6 +51,10 @@ pub struct Wanted {
 pub struct Options {
     /// The file of the script; `run` and `work` have one, and `filter` and `check` may.
     pub script: Option<String>,
+    /// The file of the old script, if `compare` has one.
+    pub old: Option<String>,
+    /// The file of the new script, if `compare` has one.
+    pub new: Option<String>,
     /// The file of the words, if there is one.
     pub words: Option<String>,
     /// The file of the commands, if `run` has one.
@@ -59,7 +65,7 @@ pub struct Options {
     pub is_strict: bool,
     /// Whether the place of a fault is shown.
     pub shows_places: bool,
-    /// The face of the answers, if `work` has one.
+    /// The face of the answers, if `work` or `compare` has one.
     pub face: Option<Face>,
 }
 
@@ -173,6 +179,31 @@ writes
 
 To read on: docs/SESSION.md.";
 
+/// The first lines of the help of `compare`.
+const ABOUT_COMPARE: &str = "Writes what a change of a script changes";
+
+/// The last lines of the help of `compare`.
+const HELP_COMPARE: &str = "\
+In:   the old script, the new script, and words (one a line), each from a file. One of the files
+      may be '-', which is standard input.
+Out:  a row for each routine, among or grouping that differs, then the rows of 'changes', and at
+      the end 'words,N,M': there are N words, and M of them have another outcome. At a terminal
+      it is text for people, unless you give --rows.
+Status: 0 if no word has another outcome, 1 if one has, 2 if a file cannot be read or has a fault.
+
+Example:
+  printf '%s\\n' 'externals ( stem )' \"define stem as ( [ 'un' ] delete )\" > old.sbl
+  printf '%s\\n' 'externals ( stem )' \"define stem as ( [ 're' ] delete )\" > new.sbl
+  printf '%s\\n' undo > my.words
+  snowbench compare --rows old.sbl new.sbl my.words
+writes
+  differs,routine,stem
+  changed,undo,stem,do,stem,undo
+  renamed,do,undo
+  words,1,1
+
+To read on: docs/SESSION.md.";
+
 /// The first lines of the help of `work`.
 const ABOUT_WORK: &str = "Answers commands over a script and words in files";
 
@@ -196,6 +227,9 @@ const SCRIPT_HELP: &str = "The file of the script";
 
 /// The help of an argument.
 const WORDS_HELP: &str = "The file of the words, one on each line";
+
+/// The help of an argument.
+const ROWS_HELP: &str = "Answers in rows, for programs";
 
 /// The help of an argument.
 const STRICT_HELP: &str = "Ends with status 1 if a command was refused";
@@ -300,6 +334,17 @@ fn check_command<'a>(alloc: Global) -> Result<Command<'a>, AllocError>
         .arg(flag_arg(alloc, "places", PLACES_HELP))
 }
 
+/// Returns the definition of `compare`: a subcommand with the files OLD, NEW and WORDS, and the flag `--rows`.
+fn compare_command<'a>(alloc: Global) -> Result<Command<'a>, AllocError>
+    ensures { IfOk result (λ c. app_of c ≡ compare_app) }
+{
+    verb_command(alloc, "compare", ABOUT_COMPARE, HELP_COMPARE)?
+        .arg(required_file(alloc, "OLD", "The file of the old script"))?
+        .arg(required_file(alloc, "NEW", "The file of the new script"))?
+        .arg(required_file(alloc, "WORDS", WORDS_HELP))?
+        .arg(flag_arg(alloc, "rows", ROWS_HELP))
+}
+
 /// Returns the definition of `work`: a subcommand with the files SCRIPT and WORDS, and the flags `--rows` and `--text`.
 fn work_command<'a>(alloc: Global) -> Result<Command<'a>, AllocError>
     ensures { IfOk result (λ c. app_of c ≡ work_app) }
@@ -307,7 +352,7 @@ fn work_command<'a>(alloc: Global) -> Result<Command<'a>, AllocError>
     verb_command(alloc, "work", ABOUT_WORK, HELP_WORK)?
         .arg(required_file(alloc, "SCRIPT", SCRIPT_HELP))?
         .arg(file_arg(alloc, "WORDS", WORDS_HELP))?
-        .arg(flag_arg(alloc, "rows", "Answers in rows, for programs"))?
+        .arg(flag_arg(alloc, "rows", ROWS_HELP))?
         .arg(flag_arg(alloc, "text", "Answers in text, for people"))
 }
 
@@ -333,6 +378,7 @@ fn face_of(options: &ArgMatches) -> Option<Face>
     ensures rows { one_text (found_of options.now) (codes "rows") ≡ Some (codes "true") → result ≡ Some Face.Rows }
     ensures text { one_text (found_of options.now) (codes "rows") ≡ Some (codes "false") → one_text (found_of options.now) (codes "text") ≡ Some (codes "true") → result ≡ Some Face.Text }
     ensures neither { one_text (found_of options.now) (codes "rows") ≡ Some (codes "false") → one_text (found_of options.now) (codes "text") ≡ Some (codes "false") → result ≡ None }
+    ensures rows_alone { one_text (found_of options.now) (codes "rows") ≡ Some (codes "false") → one_text (found_of options.now) (codes "text") ≡ None → result ≡ None }
     ensures other { one_text (found_of options.now) (codes "rows") ≡ None → one_text (found_of options.now) (codes "text") ≡ None → result ≡ None }
 {
     if options.get_flag("rows") {
@@ -344,7 +390,7 @@ fn face_of(options: &ArgMatches) -> Option<Face>
     None
 }
 
-/// Returns the definition of the command line, with six subcommands.
+/// Returns the definition of the command line, with seven subcommands.
 fn make_program<'a>(alloc: Global) -> Result<Command<'a>, AllocError>
     ensures { IfOk result (λ c. app_of c ≡ program) }
 {
@@ -359,11 +405,12 @@ fn make_program<'a>(alloc: Global) -> Result<Command<'a>, AllocError>
         .subcommand(stem_command(alloc)?)?
         .subcommand(filter_command(alloc)?)?
         .subcommand(check_command(alloc)?)?
+        .subcommand(compare_command(alloc)?)?
         .subcommand(work_command(alloc)?)
 }
 
-/// Parses the words of a command line: the name of the program, one of the subcommands `run`,
-/// `session`, `stem`, `filter`, `check` and `work`, the value of its option `--external`, by default `stem`, its files, and its flags.
+/// Parses the words of a command line: the name of the program, one of the subcommands `run`, `session`, `stem`, `filter`,
+/// `check`, `compare` and `work`, the value of its option `--external`, by default `stem`, its files, and its flags.
 /// `clap` does the parsing.
 ///
 /// # Errors
@@ -374,6 +421,8 @@ fn make_program<'a>(alloc: Global) -> Result<Command<'a>, AllocError>
 pub fn read_words<'a>(alloc: Global, words: &'a [String]) -> Result<Wanted, Error>
     ensures subcommand { IfOk result (λ wanted. (name : Text) × (verb_and_external (map string_bytes words.now) ≡ Some (name, string_bytes wanted.external)) × IsVerb name wanted.verb) }
     ensures script { IfOk result (λ wanted. option_map string_bytes wanted.options.script ≡ value_in (codes "SCRIPT") (map string_bytes words.now)) }
+    ensures old { IfOk result (λ wanted. option_map string_bytes wanted.options.old ≡ value_in (codes "OLD") (map string_bytes words.now)) }
+    ensures new { IfOk result (λ wanted. option_map string_bytes wanted.options.new ≡ value_in (codes "NEW") (map string_bytes words.now)) }
     ensures words { IfOk result (λ wanted. option_map string_bytes wanted.options.words ≡ value_in (codes "WORDS") (map string_bytes words.now)) }
     ensures commands { IfOk result (λ wanted. option_map string_bytes wanted.options.commands ≡ value_in (codes "COMMANDS") (map string_bytes words.now)) }
     ensures stems { IfOk result (λ wanted. option_map string_bytes wanted.options.stems ≡ value_in (codes "STEMS") (map string_bytes words.now)) }
@@ -382,6 +431,7 @@ pub fn read_words<'a>(alloc: Global, words: &'a [String]) -> Result<Wanted, Erro
     ensures rows { IfOk result (λ wanted. IsGiven (codes "rows") (map string_bytes words.now) → wanted.options.face ≡ Some Face.Rows) }
     ensures text { IfOk result (λ wanted. IsMissing (codes "rows") (map string_bytes words.now) → IsGiven (codes "text") (map string_bytes words.now) → wanted.options.face ≡ Some Face.Text) }
     ensures neither { IfOk result (λ wanted. IsMissing (codes "rows") (map string_bytes words.now) → IsMissing (codes "text") (map string_bytes words.now) → wanted.options.face ≡ None) }
+    ensures rows_alone { IfOk result (λ wanted. IsMissing (codes "rows") (map string_bytes words.now) → LacksFlag (codes "text") (map string_bytes words.now) → wanted.options.face ≡ None) }
 {
     let matches = make_program(alloc)?.try_get_matches_from(words)?;
     let Some((name, options)) = matches.subcommand() else {
@@ -393,6 +443,7 @@ pub fn read_words<'a>(alloc: Global, words: &'a [String]) -> Result<Wanted, Erro
         "stem" => Verb::Stem,
         "filter" => Verb::Filter,
         "check" => Verb::Check,
+        "compare" => Verb::Compare,
         "work" => Verb::Work,
         _ => {
             return Err(make_program(alloc)?.error(
@@ -405,6 +456,8 @@ pub fn read_words<'a>(alloc: Global, words: &'a [String]) -> Result<Wanted, Erro
         return Err(make_program(alloc)?.error(ErrorKind::MissingRequiredArgument, "no external")?);
     };
     let script = text_of(alloc, options, "SCRIPT")?;
+    let old = text_of(alloc, options, "OLD")?;
+    let new = text_of(alloc, options, "NEW")?;
     let list = text_of(alloc, options, "WORDS")?;
     let commands = text_of(alloc, options, "COMMANDS")?;
     let stems = text_of(alloc, options, "STEMS")?;
@@ -416,6 +469,8 @@ pub fn read_words<'a>(alloc: Global, words: &'a [String]) -> Result<Wanted, Erro
         external: String::from_str(alloc, external)?,
         options: Options {
             script,
+            old,
+            new,
             words: list,
             commands,
             stems,

@@ -34,4 +34,5 @@ RoutineIsItsOwn =
 abbrev pub ClassesAreTheirTerms : Type 0
 ClassesAreTheirTerms =
     (items : List Item) (external n : List ℕ) (c : ℕ) →
-    class_at (numbered_items items external).groupings (number_of (names_in items).groupings n) c ≡ char_class_of (classes_after (in_order items) []) n c
+    class_at (numbered_items items external).groupings (number_of (names_in items).groupings n) c
+    ≡ char_class_of (classes_after (in_order items) []) n c

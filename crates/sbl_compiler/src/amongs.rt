@@ -1,12 +1,12 @@
 //! Lists the amongs of a script in the order of their words `among`.
 
-ghost use Rattle.std.specs.Prelude.{◌≡◌, ◌∷◌, ◌++◌, [], List, map, length, OnOk, IfOk};
+ghost use Rattle.std.specs.Prelude.{◌≡◌, ◌∷◌, ◌++◌, [], List, map, OnOk, IfOk};
 ghost use Rattle.sbl_ast.specs.Order.{view_in_mode};
 ghost use Rattle.sbl_ast.specs.View.{view_command, view_rows, view_row, view_others, view_among, view_groups, view_entry, view_name, view_plain};
 ghost use Rattle.sbl_ast.specs.Tree as trees;
 ghost use Rattle.sbl_compiler.specs.NumberedAmongs as spec;
 ghost use Rattle.sbl_program.specs.FoundView.{texts};
-ghost use Rattle.sbl_compiler.specs.NumberedView.{Finds, view_found, view_names};
+ghost use Rattle.sbl_compiler.specs.NumberedView.{AddsGroups, Finds, found_row, view_found, view_names};
 ghost use Rattle.sbl_semantics.specs.Regions.{mode_under as spec_mode_after};
 
 use crate::names::SymbolTable;
@@ -112,7 +112,7 @@ fn add_group_entries(
     groups: &Vec<Group>,
     entries: &mut Vec<Candidate>,
 ) -> Result<(), AllocError>
-    ensures { OnOk result ((bare : List trees.Entry) → spec.entries_in (view_names names.now) (length groups.now.items) bare entries.new.items ≡ spec.entries_after (view_names names.now) 0 (view_groups groups.now.items bare) entries.old.items) }
+    ensures { OnOk result (AddsGroups (view_names names.now) groups.now.items entries.old.items entries.new.items) }
 {
     for (number, group) in groups.iter().enumerate() {
         add_entry(names, number, &group.first, entries)?;
@@ -223,7 +223,7 @@ impl<'a> Finder<'a> {
 
     #[cycle(finding)]
     fn find_row(&self, row: &RowOfCommands, all: &mut Vec<AmongStrings>) -> Result<(), AllocError>
-        ensures { OnOk result (Finds all.old.items all.new.items (λ fs. spec.found_others (view_names self.now.names.now) self.now.first self.now.mode (view_row row.now).1 (spec.found_command (view_names self.now.names.now) self.now.first self.now.mode (view_row row.now).0 fs))) }
+        ensures { OnOk result (Finds all.old.items all.new.items (found_row (view_names self.now.names.now) self.now.first self.now.mode (view_row row.now))) }
     {
         self.find(&row.first, all)?;
         self.find_others(&row.others, all)

@@ -4,8 +4,7 @@ ghost use Rattle.std.specs.Prelude.{◌≡◌, List, map, OnOk, IfOk};
 ghost use Rattle.sbl_ast.specs.View.{view_argument, view_command, view_rows, view_row, view_others, view_among, view_groups, view_expression, view_literal};
 ghost use Rattle.sbl_ast.specs.Tree as trees;
 ghost use Rattle.sbl_compiler.specs.NumberedItems as spec;
-ghost use Rattle.sbl_compiler.specs.NumberedView.{joined_in, names_in, node_in, place_in};
-ghost use Rattle.sbl_compiler.specs.NumberedNames.{number_of as spec_number_of};
+ghost use Rattle.sbl_compiler.specs.NumberedView.{expression_in, integer_in, joined_in, names_in, node_in, numbered_before, numbered_row, place_in};
 ghost use Rattle.sbl_compiler.specs.NumberedNumbers.{expression as spec_expression, text as spec_text};
 ghost use Rattle.sbl_program.specs.Program as programs;
 ghost use Rattle.sbl_program.specs.Chains.{join_all};
@@ -185,7 +184,7 @@ impl Compiler<'_> {
         assignment: Assignment,
         number: &Expression,
     ) -> CompileResult<Action>
-        ensures { IfOk result (λ a. view_action a ≡ programs.assign (spec_number_of (names_in self.now).integers name.now) (spec.change_of assignment) (spec_expression (names_in self.now) (view_expression number.now))) }
+        ensures { IfOk result (λ a. view_action a ≡ programs.assign (integer_in self.now name.now) (spec.change_of assignment) (expression_in self.now number.now)) }
     {
         let change = match assignment {
             Assignment::Equals => Change::Becomes,
@@ -204,7 +203,7 @@ impl Compiler<'_> {
         comparison: Comparison,
         number: &Expression,
     ) -> CompileResult<Action>
-        ensures { IfOk result (λ a. view_action a ≡ programs.compare (programs.integer (spec_number_of (names_in self.now).integers name.now)) (spec.relation_of comparison) (spec_expression (names_in self.now) (view_expression number.now))) }
+        ensures { IfOk result (λ a. view_action a ≡ programs.compare (programs.integer (integer_in self.now name.now)) (spec.relation_of comparison) (expression_in self.now number.now)) }
     {
         Ok(Action::Compare(
             Arithmetic::Integer(self.names.integers.number_of(name)),
@@ -219,7 +218,7 @@ impl Compiler<'_> {
         comparison: Comparison,
         second: &Expression,
     ) -> CompileResult<Action>
-        ensures { IfOk result (λ a. view_action a ≡ programs.compare (spec_expression (names_in self.now) (view_expression first.now)) (spec.relation_of comparison) (spec_expression (names_in self.now) (view_expression second.now))) }
+        ensures { IfOk result (λ a. view_action a ≡ programs.compare (expression_in self.now first.now) (spec.relation_of comparison) (expression_in self.now second.now)) }
     {
         Ok(Action::Compare(
             self.number_of_expression(first)?,
@@ -301,7 +300,7 @@ impl Compiler<'_> {
     /// Compiles a row, and moves `place` to the position after it. Returns `AllocError` if an allocation fails.
     #[cycle(commands)]
     pub fn row_of(&self, row: &RowOfCommands, place: &mut CommandPosition) -> CompileResult<Node>
-        ensures made { IfOk result (λ n. node_in self.now n ≡ spec.numbered_others (names_in self.now) (view_row row.now).1 (spec.past (view_row row.now).0 (place_in self.now place.old)) (spec.numbered_command (names_in self.now) (view_row row.now).0 (place_in self.now place.old))) }
+        ensures made { IfOk result (λ n. node_in self.now n ≡ numbered_row (names_in self.now) (view_row row.now) (place_in self.now place.old)) }
         ensures following { OnOk result (place_in self.now place.new ≡ spec.past_others (view_row row.now).1 (spec.past (view_row row.now).0 (place_in self.now place.old))) }
     {
         let first = self.node_of(&row.first, place)?;
@@ -355,7 +354,7 @@ impl Compiler<'_> {
     // chosen group. Returns `AllocError` if an allocation fails.
     #[cycle(commands)]
     fn before_of(&self, among: &Among, place: &mut CommandPosition) -> CompileResult<Vec<Node>>
-        ensures made { IfOk result (λ ns. map (node_in self.now) ns.items ≡ spec.search_first (place_in self.now place.old) (spec.numbered_starter (names_in self.now) (view_among among.now).0 (spec.inside (place_in self.now place.old)))) }
+        ensures made { IfOk result (λ ns. map (node_in self.now) ns.items ≡ numbered_before (names_in self.now) (view_among among.now).0 (place_in self.now place.old)) }
         ensures following { OnOk result (place_in self.now place.new ≡ spec.past_starter (view_among among.now).0 (spec.inside (place_in self.now place.old))) }
     {
         let beginning = *place;

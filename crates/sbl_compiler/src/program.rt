@@ -1,13 +1,13 @@
 //! Compiles a script to its program.
 
-ghost use Rattle.std.specs.Prelude.{◌≡◌, [], false, map, OnOk, IfOk, string_bytes};
+ghost use Rattle.std.specs.Prelude.{◌≡◌, [], map, OnOk, IfOk, string_bytes};
 ghost use Rattle.sbl_ast.specs.Order.{in_order, view_in_mode};
 ghost use Rattle.sbl_ast.specs.View.{view_items, view_plain, view_row};
 ghost use Rattle.sbl_semantics.specs.Items.{known_in};
 ghost use Rattle.sbl_ast.specs.declared.tree.DeclarationKind.TheVariants as kinds;
 ghost use Rattle.sbl_compiler.specs.NumberedItems as spec;
 ghost use Rattle.sbl_program.specs.FoundView.{strings_at};
-ghost use Rattle.sbl_compiler.specs.NumberedView.{names_in, place_in, routine_in, view_found, view_names};
+ghost use Rattle.sbl_compiler.specs.NumberedView.{at_start, names_in, place_in, routine_in, routines_in, view_found, view_names};
 ghost use Rattle.sbl_program.specs.ProgramOf.{program_of};
 
 use crate::amongs::amongs_of;
@@ -44,7 +44,7 @@ impl Compiler<'_> {
         place: &mut CommandPosition,
         routines: &mut Vec<Routine>,
     ) -> CompileResult<()>
-        ensures made { OnOk result (map (routine_in self.now) routines.new.items ≡ spec.with_routine (names_in self.now) (view_plain plain.now) (place_in self.now place.old) (map (routine_in self.now) routines.old.items)) }
+        ensures made { OnOk result (routines_in self.now routines.new.items ≡ spec.with_routine (names_in self.now) (view_plain plain.now) (place_in self.now place.old) (routines_in self.now routines.old.items)) }
         ensures following { OnOk result (place_in self.now place.new ≡ spec.past_plain (view_plain plain.now) (place_in self.now place.old)) }
     {
         if let Plain::Routine { name: _, body } = plain {
@@ -55,7 +55,7 @@ impl Compiler<'_> {
     }
 
     fn routines_of(&self, items: &[ItemInMode]) -> CompileResult<Vec<Routine>>
-        ensures { IfOk result (λ v. map (routine_in self.now) v.items ≡ spec.routines_after (names_in self.now) (map view_in_mode items.now) (place_in self.now (record { next = 0; following = 0; waits = false })) []) }
+        ensures { IfOk result (λ v. routines_in self.now v.items ≡ spec.routines_after (names_in self.now) (map view_in_mode items.now) (place_in self.now at_start) []) }
     {
         let mut place = CommandPosition {
             next: 0,

@@ -17,3 +17,7 @@ pub mod RowWords
 pub mod UnusedLines
 pub mod Unions
 pub mod Loops
+pub mod TakeFacts
+pub mod UserFacts
+pub mod Defined
+pub mod AskedFacts

@@ -1,5 +1,5 @@
 -- Sets of items, and of strings with their amongs: what one more adds, and what they have.
-use Rattle.std.proofs.Common.{◌≡◌, ◌∙◌, ◌&&◌, ◌||◌, ℕ, Bool, true, false, List, [], ◌∷◌, map, refl, sym, ap, ap₂, subst}
+use Rattle.std.proofs.Common.{◌≡◌, ◌∙◌, ◌&&◌, ◌||◌, ℕ, Bool, List, [], ◌∷◌, map, refl, sym, ap, ap₂, subst}
 use Rattle.std.specs.BTreeMap.{is_at}
 use Rattle.std.specs.BTreeSet.{insert_key}
 use Rattle.std.specs.Cmp.Lexicographic.{slice_cmp}
@@ -11,49 +11,19 @@ use Rattle.std.proofs.lemmas.Map.Lookups.{exact_bytes}
 use Rattle.std.specs.Cmp.{unsigned_tied}
 use Rattle.std.proofs.lemmas.Map.Text.{is_eq-slice_cmp}
 use Rattle.sbl_rows.proofs.PairFacts.{then_eq}
-use Rattle.sbl_machine.proofs.Order.{map_insert_key}
-use Rattle.sbl_machine.proofs.TouchedOrder.{item_exact}
-use Rattle.sbl_semantics.specs.TouchedItems.{Item', Routine, Among, Grouping, item_cmp, item_of, same_item}
-use Rattle.sbl_semantics.specs.contracts.item.ItemOrd.TheImpl.{cmp-value}
-use Rattle.sbl_semantics.specs.declared.item.Item.{Item}
-use Rattle.sbl_semantics.specs.declared.item.Item.TheVariants as code
+use Rattle.sbl_machine.proofs.Order.{map_insert_ref, same_ref_order}
+use Rattle.sbl_machine.proofs.TouchedOrder.{any_inserted, item_exact, or_again, or_swap, then_equal}
+use Rattle.sbl_machine.specs.ItemRefs.{item_of_ref}
+use Rattle.sbl_machine.specs.contracts.item_ref.ItemRefOrd.TheImpl.{cmp-value}
+use Rattle.sbl_machine.specs.declared.item_ref.ItemRef.{ItemRef}
+use Rattle.sbl_semantics.specs.TouchedItems.{Item', Routine, Among, Grouping, item_cmp, same_item}
 use Rattle.sbl_explain.specs.Unused.{Take, same_take}
 use Rattle.sbl_explain.specs.UnusedViews.{Key, take_of}
 
 -- ---- items
 
-or_again : (a b : Bool) → (a || b) ≡ (a || (a || b))
-or_again true b = refl
-or_again false b = refl
-
-or_swap : (a b c : Bool) → (a || (b || c)) ≡ (b || (a || c))
-or_swap true true c = refl
-or_swap true false c = refl
-or_swap false b c = refl
-
-any_inserted : (test : Item' → Bool) (xs : List Item') (k : Item') → list_any test (insert_key item_cmp xs k) ≡ (test k || list_any test xs)
-any_inserted test [] k = refl
-any_inserted test (x ∷ xs) k = by (item_cmp k x) refl (any_inserted test xs k)
-  where
-    by : (o : Ordering) → item_cmp k x ≡ o → list_any test (insert_key item_cmp xs k) ≡ (test k || list_any test xs)
-        → list_any test (match_ordering (item_cmp k x) (k ∷ x ∷ xs) (x ∷ xs) (x ∷ insert_key item_cmp xs k)) ≡ (test k || (test x || list_any test xs))
-    by Less h rest = rw h refl
-    by Equal h rest = rw h (subst (λ (y : Item'). (test x || list_any test xs) ≡ (test y || (test x || list_any test xs))) (sym (item_exact k x h)) (or_again (test x) (list_any test xs)))
-    by Greater h rest = rw h (ap (λ (b : Bool). test x || b) rest ∙ or_swap (test x) (test k) (list_any test xs))
-
-pub item_added : (ks : List Item) (k : Item) (test : Item' → Bool) → list_any test (map item_of (insert_key cmp-value.it ks k)) ≡ (test (item_of k) || list_any test (map item_of ks))
-item_added ks k test = ap (list_any test) (map_insert_key ks k) ∙ any_inserted test (map item_of ks) (item_of k)
-
-pub same_order : (x y : Item) → cmp-value.it x y ≡ item_cmp (item_of x) (item_of y)
-same_order (code.Routine m) (code.Routine n) = refl
-same_order (code.Routine m) (code.Among n l) = refl
-same_order (code.Routine m) (code.Grouping n) = refl
-same_order (code.Among m k) (code.Routine n) = refl
-same_order (code.Among m k) (code.Among n l) = refl
-same_order (code.Among m k) (code.Grouping n) = refl
-same_order (code.Grouping m) (code.Routine n) = refl
-same_order (code.Grouping m) (code.Among n l) = refl
-same_order (code.Grouping m) (code.Grouping n) = refl
+pub item_added : (ks : List ItemRef) (k : ItemRef) (test : Item' → Bool) → list_any test (map item_of_ref (insert_key cmp-value.it ks k)) ≡ (test (item_of_ref k) || list_any test (map item_of_ref ks))
+item_added ks k test = ap (list_any test) (map_insert_ref ks k) ∙ any_inserted test (map item_of_ref ks) (item_of_ref k)
 
 -- the order finds two items equal exactly if they are the same
 item_cmp_eq : (x y : Item') → is_eq (item_cmp x y) ≡ same_item x y
@@ -67,10 +37,10 @@ item_cmp_eq (Grouping m) (Routine n) = refl
 item_cmp_eq (Grouping m) (Among n l) = refl
 item_cmp_eq (Grouping m) (Grouping n) = is_eq-slice_cmp m n
 
-at_item : (q k : Item) → is_eq (cmp-value.it q k) ≡ same_item (item_of q) (item_of k)
-at_item q k = ap is_eq (same_order q k) ∙ item_cmp_eq (item_of q) (item_of k)
+at_item : (q k : ItemRef) → is_eq (cmp-value.it q k) ≡ same_item (item_of_ref q) (item_of_ref k)
+at_item q k = ap is_eq (same_ref_order q k) ∙ item_cmp_eq (item_of_ref q) (item_of_ref k)
 
-pub item_held : (q : Item) (ks : List Item) → list_any (is_at (cmp-value.it q)) ks ≡ list_any (same_item (item_of q)) (map item_of ks)
+pub item_held : (q : ItemRef) (ks : List ItemRef) → list_any (is_at (cmp-value.it q)) ks ≡ list_any (same_item (item_of_ref q)) (map item_of_ref ks)
 item_held q [] = refl
 item_held q (k ∷ ks) = ap₂ (λ (a b : Bool). a || b) (at_item q k) (item_held q ks)
 
@@ -79,15 +49,10 @@ item_held q (k ∷ ks) = ap₂ (λ (a b : Bool). a || b) (at_item q k) (item_hel
 abbrev pub key_order : Key → Key → Ordering
 key_order p q = ordering_then (cmp-value.it p.0 q.0) (slice_cmp nat_cmp p.1.items q.1.items)
 
-both_equal : (o p : Ordering) → ordering_then o p ≡ Equal → (o ≡ Equal) × (p ≡ Equal)
-both_equal Less p h = let never : Less ≡ Equal = h in absurd cc
-both_equal Equal p h = (refl, h)
-both_equal Greater p h = let never : Greater ≡ Equal = h in absurd cc
-
 take_exact : (p q : Key) → key_order p q ≡ Equal → take_of p ≡ take_of q
 take_exact p q h =
-    let both = both_equal (cmp-value.it p.0 q.0) (slice_cmp nat_cmp p.1.items q.1.items) h in
-    ap₂ (λ (x : Item') (s : List ℕ). (x, s)) (item_exact (item_of p.0) (item_of q.0) (sym (same_order p.0 q.0) ∙ both.0)) (exact_bytes p.1.items q.1.items both.1)
+    let both = then_equal (cmp-value.it p.0 q.0) (slice_cmp nat_cmp p.1.items q.1.items) h in
+    ap₂ (λ (x : Item') (s : List ℕ). (x, s)) (item_exact (item_of_ref p.0) (item_of_ref q.0) (sym (same_ref_order p.0 q.0) ∙ both.0)) (exact_bytes p.1.items q.1.items both.1)
 
 pub take_added : (ks : List Key) (k : Key) (test : Take → Bool) → list_any test (map take_of (insert_key key_order ks k)) ≡ (test (take_of k) || list_any test (map take_of ks))
 take_added [] k test = refl

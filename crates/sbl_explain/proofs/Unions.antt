@@ -44,7 +44,7 @@ any_popped f test (y ∷ ys) x rest =
 pub word_first : (w : List ℕ) (words : List (List ℕ)) → is_word w (w ∷ words) ≡ true
 word_first w words = ap (λ (b : Bool). b || is_word w words) ((bytes_eq-Decides w w).1 refl)
 
-met_one : (s : Setting) (x : Item') (w : List ℕ) → list_any (is_affected_by s.script x) (touched_items s.script w s.limit) ≡ meets x s.script w s.limit
+pub met_one : (s : Setting) (x : Item') (w : List ℕ) → list_any (is_affected_by s.script x) (touched_items s.script w s.limit) ≡ meets x s.script w s.limit
 unfolding meets touched_items
 met_one s x w = any_ordered (is_affected_by s.script x) (map (item_of_touch (names_of s.script)) (touches_of s.script w s.limit))
 

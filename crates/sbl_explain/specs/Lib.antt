@@ -5,7 +5,11 @@ pub mod Integers
 pub mod RoutineAmongs
 pub mod Searches
 pub mod Parts
+pub mod Used
 pub mod Unused
+pub mod Uses
+pub mod Counts
+pub mod UsesLaws
 -- what the functions inside the crate promise each other: nothing in these need be believed
 pub mod OpenSearches
 pub mod EventViews
@@ -13,3 +17,5 @@ pub mod Places
 pub mod GatheredGroups
 pub mod TakesRows
 pub mod UnusedViews
+pub mod TakeNumbers
+pub mod UsableViews

@@ -1,46 +1,23 @@
 -- What no word of a vocabulary uses.
-use Rattle.std.specs.Prelude.{ℕ, suc, Bool, ◌&&◌, List, [], ◌∷◌, ◌++◌, Some, codes, decimal, slice_index_or, if◌then◌else◌}
-use Rattle.std.specs.List.{flat_map, list_any}
-use Rattle.std.specs.Str.{bytes_eq, encode_utf8_all}
+use Rattle.std.specs.Prelude.{ℕ, Bool, List, [], ◌∷◌, ◌++◌, codes, decimal, if◌then◌else◌}
+use Rattle.std.specs.List.{flat_map}
+use Rattle.std.specs.Str.{encode_utf8_all}
 use Rattle.sbl_rows.specs.Setting.{Setting}
-use Rattle.sbl_machine.specs.BuiltFrom.{meets}
-use Rattle.sbl_semantics.specs.TouchedItems.{Item', Routine, Among, Grouping, names_of, same_item}
-use Rattle.sbl_semantics.specs.Outcome.{events_of}
+use Rattle.sbl_semantics.specs.TouchedItems.{Item', Routine, Among, Grouping}
 use Rattle.sbl_io.specs.Records.{records_text}
-use Rattle.sbl_semantics.specs.Events.{Event', Finds}
 use Rattle.sbl_explain.specs.Parts.{Part, parts_of}
-use Rattle.sbl_explain.specs.Moments.{Moment, after, at_start, routine_of, string_taken}
+use Rattle.sbl_explain.specs.Used.{Entry, Whole, is_used}
+pub use Rattle.sbl_explain.specs.Used.{Take, same_take, takes_at, takes_from, takes_of}
 
--- ---- what the runs of the words use
+-- ---- what some word uses
 
 -- some word's run touches the item or, if it is a grouping, one that is built from it
 abbrev pub is_met : Setting → List (List ℕ) → Item' → Bool
-is_met s words x = list_any (λ w. meets x s.script w s.limit) words
-
--- an among, and a string that a search of it takes
-abbrev pub Take : Type 0
-Take = Item' × List ℕ
-
-abbrev pub same_take : Take → Take → Bool
-same_take t u = same_item t.0 u.0 && bytes_eq t.1 u.1
-
--- what the event at a moment takes, given the names of routines
-abbrev pub takes_at : List (List ℕ) → Moment → Event' → List Take
-takes_at names m (Finds k (Some n)) = (Among (slice_index_or names (routine_of m) []) (suc k), string_taken n m) ∷ []
-takes_at names m e = []
-
--- what events take, in order
-abbrev pub takes_from : List (List ℕ) → Moment → List Event' → List Take
-takes_from names m [] = []
-takes_from names m (e ∷ events) = takes_at names m e ++ takes_from names (after e m) events
-
--- what the run of a word takes, up to its end or to where it is refused
-abbrev pub takes_of : Setting → List ℕ → List Take
-takes_of s word = takes_from (names_of s.script).routines (at_start word) (events_of s.script word s.limit)
+is_met s words x = is_used s words (Whole x)
 
 -- some word's run takes this string at this among
 abbrev pub is_taken : Setting → List (List ℕ) → Take → Bool
-is_taken s words t = list_any (λ w. list_any (same_take t) (takes_of s w)) words
+is_taken s words t = is_used s words (Entry t)
 
 -- ---- the rows
 

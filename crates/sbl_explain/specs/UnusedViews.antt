@@ -7,8 +7,9 @@ use Rattle.std.specs.Global.{Vec}
 use Rattle.std.specs.List.{list_any}
 use Rattle.sbl_rows.specs.Setting.{Setting}
 use Rattle.sbl_machine.specs.BuiltFrom.{built_on}
-use Rattle.sbl_semantics.specs.TouchedItems.{Item', Grouping, item_of, items_in, same_item, touched_items}
-use Rattle.sbl_semantics.specs.declared.item.Item.{Item}
+use Rattle.sbl_machine.specs.ItemRefs.{item_of_ref, items_of_refs}
+use Rattle.sbl_machine.specs.declared.item_ref.ItemRef.{ItemRef}
+use Rattle.sbl_semantics.specs.TouchedItems.{Item', Grouping, same_item, touched_items}
 use Rattle.sbl_ast.specs.Tree.{Groups, Plain, grouping}
 use Rattle.sbl_ast.specs.View.{view_among}
 use Rattle.sbl_ast.specs.declared.tree.Among.{Among}
@@ -22,16 +23,16 @@ view_amongs amongs = map (λ a. (view_among a.now).1) amongs
 abbrev pub texts_of : List (Bor (List ℕ)) → List (List ℕ)
 texts_of texts = map (λ t. t.now) texts
 
-abbrev pub part_of : Item → List (Bor (List ℕ)) → Part
-part_of item strings = (item_of item, texts_of strings)
+abbrev pub part_of : ItemRef → List (Bor (List ℕ)) → Part
+part_of item strings = (item_of_ref item, texts_of strings)
 
-abbrev pub view_part : Item × Vec (Bor (List ℕ)) → Part
+abbrev pub view_part : ItemRef × Vec (Bor (List ℕ)) → Part
 view_part e = part_of e.0 e.1.items
 
-abbrev pub view_parts : List (Item × Vec (Bor (List ℕ))) → List Part
+abbrev pub view_parts : List (ItemRef × Vec (Bor (List ℕ))) → List Part
 view_parts entries = map view_part entries
 
-abbrev pub parts_in : BTreeMap Item (Vec (Bor (List ℕ))) → List Part
+abbrev pub parts_in : BTreeMap ItemRef (Vec (Bor (List ℕ))) → List Part
 parts_in parts = view_parts parts.entries
 
 -- the words of a vocabulary
@@ -40,10 +41,10 @@ Words = List (List ℕ)
 
 -- an among and a string that it takes
 abbrev pub Key : Type 0
-Key = Item × Vec ℕ
+Key = ItemRef × Vec ℕ
 
 abbrev pub take_of : Key → Take
-take_of k = (item_of k.0, k.1.items)
+take_of k = (item_of_ref k.0, k.1.items)
 
 abbrev pub takes_in : BTreeSet Key → List Take
 takes_in set = map take_of set.keys
@@ -57,8 +58,8 @@ abbrev pub touched_by : Setting → List ℕ → List Item'
 touched_by s word = touched_items s.script word s.limit
 
 -- the items are those that the runs of the words touch
-abbrev pub AreTouched : Setting → List (List ℕ) → BTreeSet Item → Type 0
-AreTouched s words items = (test : Item' → Bool) → list_any test (items_in items) ≡ list_any (λ w. list_any test (touched_by s w)) words
+abbrev pub AreTouched : Setting → List (List ℕ) → BTreeSet ItemRef → Type 0
+AreTouched s words items = (test : Item' → Bool) → list_any test (items_of_refs items) ≡ list_any (λ w. list_any test (touched_by s w)) words
 
 -- Whether an item is touched after what a definition adds: if it is a touched grouping, the groupings that its terms name
 -- count as touched.
@@ -67,8 +68,8 @@ and_terms (grouping r a ts) touched x = (touched (Grouping r) && built_on (λ k.
 and_terms p touched x = touched x
 
 -- the items are those that the words meet
-abbrev pub HasMet : Setting → List (List ℕ) → BTreeSet Item → Type 0
-HasMet s words met = (x : Item') → list_any (same_item x) (items_in met) ≡ is_met s words x
+abbrev pub HasMet : Setting → List (List ℕ) → BTreeSet ItemRef → Type 0
+HasMet s words met = (x : Item') → list_any (same_item x) (items_of_refs met) ≡ is_met s words x
 
 -- the strings are those that the words take
 abbrev pub HasTaken : Setting → List (List ℕ) → BTreeSet Key → Type 0

@@ -20,7 +20,11 @@ use sbl_run_state::Event;
 use std::alloc::{AllocError, Global};
 
 /// Appends a number to a record, as one field. Returns `AllocError` if an allocation fails.
-fn push_number(alloc: Global, csv_record: &mut ByteRecord, number: usize) -> Result<(), AllocError>
+pub(crate) fn push_number(
+    alloc: Global,
+    csv_record: &mut ByteRecord,
+    number: usize,
+) -> Result<(), AllocError>
     requires { partial_of csv_record.old ≡ [] }
     ensures fields { OnOk result (fields_of csv_record.new ≡ fields_of csv_record.old ++ decimal number ∷ []) }
     ensures partial { OnOk result (partial_of csv_record.new ≡ []) }

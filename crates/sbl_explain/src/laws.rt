@@ -1,6 +1,7 @@
-//! Laws of the searches of a run.
+//! Laws of the searches of a run, and of what words use.
 
 ghost use Rattle.sbl_explain.specs.Searches.{EachSearchTakesFirst, PlainTakesLongest, PlainTakesOne, SearchesTakeFirst};
+ghost use Rattle.sbl_explain.specs.UsesLaws.{NumbersAreOfRows, UnusedHaveNumberZero, UsesAgreeWithTraces};
 
 /// A search takes the first of the strings of its among that fit between the cursor and the limit, the longest first, that
 /// has no condition or whose condition signals t. It takes none if each of them has a condition that signals f. It calls
@@ -19,4 +20,20 @@ pub fn each_search_takes_first()
 pub fn plain_searches_take_longest()
     ensures longest { PlainTakesLongest }
     ensures one { PlainTakesOne }
+{}
+
+/// The number of words that use a part of the script, as `counts` has it, is the number of their rows, as `uses` has them.
+pub fn counts_are_of_uses()
+    ensures { NumbersAreOfRows }
+{}
+
+/// `unused` has the routines, amongs and groupings with the number 0 in `counts`, and then the strings with the number 0 of the
+/// other amongs.
+pub fn unused_have_number_zero()
+    ensures { UnusedHaveNumberZero }
+{}
+
+/// A word uses a routine, an among or a grouping exactly if `trace` has it or, for a grouping, one that is built from it.
+pub fn uses_agree_with_traces()
+    ensures { UsesAgreeWithTraces }
 {}

@@ -3,19 +3,25 @@
 
 mod amongs;
 mod bench_words;
+mod counts;
 mod event_rows;
 mod integers;
 pub mod laws;
 mod moment;
 mod slices;
+mod take_counts;
 mod takes;
 mod touched_items;
 mod unused;
 mod usable_parts;
+mod usables;
+mod uses;
 mod why;
 
+pub use counts::counts_text;
 pub use integers::integers_text;
 pub use moment::Moment;
 pub use slices::first;
 pub use unused::unused_text;
+pub use uses::{Question, UsesFault, uses_text};
 pub use why::why_text;

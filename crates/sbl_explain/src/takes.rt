@@ -3,7 +3,7 @@
 ghost use Rattle.std.specs.Prelude.{◌≡◌, ◌||◌, Bool, List, ℕ, map, OnOk, IfOk};
 ghost use Rattle.std.specs.List.{list_any};
 ghost use Rattle.sbl_bench.specs.KeptRuns.{setting_of};
-ghost use Rattle.sbl_semantics.specs.TouchedItems.{item_of};
+ghost use Rattle.sbl_machine.specs.ItemRefs.{item_of_ref};
 ghost use Rattle.sbl_semantics.specs.Events.{event_of};
 ghost use Rattle.sbl_explain.specs.Unused.{Take, same_take, takes_at, takes_from, takes_of};
 ghost use Rattle.sbl_explain.specs.UnusedViews.{HasTaken, IsUnion, takes_in, texts_of};
@@ -12,18 +12,22 @@ ghost use Rattle.sbl_explain.specs.Moments.{at_start};
 
 use crate::moment::Moment;
 use sbl_bench::Bench;
-use sbl_machine::Item;
+use sbl_machine::ItemRef;
 use sbl_run_state::Event;
 use std::alloc::{AllocError, Global};
 use std::collections::BTreeSet;
 
 /// Amongs, each with a string that is taken there.
-pub(crate) type Takes = BTreeSet<(Item, Vec<char>)>;
+pub(crate) type Takes<'a> = BTreeSet<(ItemRef<'a>, Vec<char>)>;
 
 /// Adds an among and a string. Returns `AllocError` if an allocation fails.
 #[tactic(auto, using(crate::proofs::Sets::take_added))]
-fn add_take(takes: &mut Takes, among: Item, string: Vec<char>) -> Result<(), AllocError>
-    ensures { OnOk result ((test : Take → Bool) → list_any test (takes_in takes.new) ≡ (test (item_of among, string.items) || list_any test (takes_in takes.old))) }
+fn add_take<'a>(
+    takes: &mut Takes<'a>,
+    among: ItemRef<'a>,
+    string: Vec<char>,
+) -> Result<(), AllocError>
+    ensures { OnOk result ((test : Take → Bool) → list_any test (takes_in takes.new) ≡ (test (item_of_ref among.entry, string.items) || list_any test (takes_in takes.old))) }
 {
     takes.insert((among, string))?;
     Ok(())
@@ -31,10 +35,10 @@ fn add_take(takes: &mut Takes, among: Item, string: Vec<char>) -> Result<(), All
 
 /// Adds what an event takes. Returns `AllocError` if an allocation fails, or if the number of an among is above `u64::MAX`: no
 /// routine has so many.
-fn add_event(
+fn add_event<'a>(
     alloc: Global,
-    takes: &mut Takes,
-    bench: &Bench,
+    takes: &mut Takes<'a>,
+    bench: &'a Bench,
     moment: &Moment,
     event: &Event,
 ) -> Result<(), AllocError>
@@ -46,16 +50,16 @@ fn add_event(
     let Some(number) = (*among as u64).checked_add(1) else {
         return Err(AllocError);
     };
-    let name = String::from_str(alloc, bench.routine_name(moment.routine()))?;
+    let name = bench.routine_name(moment.routine());
     let string = Vec::from_slice(alloc, moment.string_taken(*length))?;
-    add_take(takes, Item::Among(name, number), string)
+    add_take(takes, ItemRef::Among(name, number), string)
 }
 
 /// Adds what the events of a run on a word take. Returns `AllocError` as `add_event` does.
-fn add_events(
+fn add_events<'a>(
     alloc: Global,
-    takes: &mut Takes,
-    bench: &Bench,
+    takes: &mut Takes<'a>,
+    bench: &'a Bench,
     word: &[char],
     events: &[Event],
 ) -> Result<(), AllocError>
@@ -70,10 +74,10 @@ fn add_events(
 }
 
 /// Adds what the run of a word takes. Returns `AllocError` as `add_event` does, or if the word cannot be run.
-fn add_word(
+fn add_word<'a>(
     alloc: Global,
-    takes: &mut Takes,
-    bench: &Bench,
+    takes: &mut Takes<'a>,
+    bench: &'a Bench,
     word: &[char],
 ) -> Result<(), AllocError>
     ensures { OnOk result (IsUnion (takes_in takes.new) (takes_of (setting_of bench.now) word.now) (takes_in takes.old)) }
@@ -85,11 +89,11 @@ fn add_word(
 }
 
 /// Returns what the runs of some words take. Returns `AllocError` as `add_word` does.
-pub(crate) fn takes_by_words(
+pub(crate) fn takes_by_words<'a>(
     alloc: Global,
-    bench: &Bench,
+    bench: &'a Bench,
     words: &[&[char]],
-) -> Result<Takes, AllocError>
+) -> Result<Takes<'a>, AllocError>
     ensures { IfOk result (HasTaken (setting_of bench.now) (texts_of words.now)) }
 {
     let mut takes = BTreeSet::new(alloc);
@@ -99,27 +103,16 @@ pub(crate) fn takes_by_words(
     Ok(takes)
 }
 
-/// Returns a copy of an item. Returns `AllocError` if an allocation fails.
-fn item_copy(alloc: Global, item: &Item) -> Result<Item, AllocError>
-    ensures { IfOk result (λ copy. item_of copy ≡ item_of item.now) }
-{
-    match item {
-        Item::Routine(name) => Ok(Item::Routine(String::from_str(alloc, name)?)),
-        Item::Among(name, number) => Ok(Item::Among(String::from_str(alloc, name)?, *number)),
-        Item::Grouping(name) => Ok(Item::Grouping(String::from_str(alloc, name)?)),
-    }
-}
-
 /// Returns whether a string is taken at an among. Returns `AllocError` if an allocation fails.
 #[tactic(auto, using(crate::proofs::Sets::take_held))]
-pub(crate) fn has_take(
+pub(crate) fn has_take<'a>(
     alloc: Global,
-    takes: &Takes,
-    among: &Item,
+    takes: &Takes<'a>,
+    among: &ItemRef<'a>,
     string: &[char],
 ) -> Result<bool, AllocError>
-    ensures { IfOk result (λ b. b ≡ list_any (same_take (item_of among.now, string.now)) (takes_in takes.now)) }
+    ensures { IfOk result (λ b. b ≡ list_any (same_take (item_of_ref among.now, string.now)) (takes_in takes.now)) }
 {
-    let key = (item_copy(alloc, among)?, Vec::from_slice(alloc, string)?);
+    let key = (*among, Vec::from_slice(alloc, string)?);
     Ok(takes.contains(&key))
 }

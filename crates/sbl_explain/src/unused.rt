@@ -5,7 +5,7 @@ ghost use Rattle.std.specs.List.{flat_map};
 ghost use Rattle.csv.specs.Records.{fields_of, partial_of};
 ghost use Rattle.sbl_bench.specs.KeptRuns.{setting_of};
 ghost use Rattle.sbl_rows.specs.Setting.{Setting};
-ghost use Rattle.sbl_semantics.specs.TouchedItems.{item_of};
+ghost use Rattle.sbl_machine.specs.ItemRefs.{item_of_ref};
 ghost use Rattle.sbl_io.specs.Records.{record_line};
 ghost use Rattle.sbl_io.specs.Reports.{TakesMore};
 ghost use Rattle.sbl_explain.specs.TakesRows.{TakesRows};
@@ -19,19 +19,23 @@ use crate::usable_parts::{Parts, parts_of};
 use csv::ByteRecord;
 use sbl_bench::Bench;
 use sbl_io::{Report, ReportLength, ReportText, text_of};
-use sbl_machine::Item;
+use sbl_machine::ItemRef;
 use std::alloc::{AllocError, Global};
 use std::collections::BTreeSet;
 
 /// Appends the name of an item or of its routine, and the number of an among. Returns `AllocError` if an allocation fails.
-fn push_place(alloc: Global, csv_record: &mut ByteRecord, item: &Item) -> Result<(), AllocError>
+pub(crate) fn push_place(
+    alloc: Global,
+    csv_record: &mut ByteRecord,
+    item: &ItemRef<'_>,
+) -> Result<(), AllocError>
     requires { partial_of csv_record.old ≡ [] }
-    ensures fields { OnOk result (fields_of csv_record.new ≡ fields_of csv_record.old ++ spec.place_fields (item_of item.now)) }
+    ensures fields { OnOk result (fields_of csv_record.new ≡ fields_of csv_record.old ++ spec.place_fields (item_of_ref item.now)) }
     ensures partial { OnOk result (partial_of csv_record.new ≡ []) }
 {
     match item {
-        Item::Routine(name) | Item::Grouping(name) => csv_record.push_field(name.as_bytes()),
-        Item::Among(name, number) => {
+        ItemRef::Routine(name) | ItemRef::Grouping(name) => csv_record.push_field(name.as_bytes()),
+        ItemRef::Among(name, number) => {
             let digits = format!(in alloc; "{number}")?;
             csv_record.push_field(name.as_bytes())?;
             csv_record.push_field(digits.as_bytes())
@@ -40,19 +44,19 @@ fn push_place(alloc: Global, csv_record: &mut ByteRecord, item: &Item) -> Result
 }
 
 /// Returns the name of the kind of an item.
-fn kind(item: &Item) -> &'static str
-    ensures { result.now ≡ spec.kind_field (item_of item.now) }
+pub(crate) fn kind(item: &ItemRef<'_>) -> &'static str
+    ensures { result.now ≡ spec.kind_field (item_of_ref item.now) }
 {
     match item {
-        Item::Routine(_) => "routine",
-        Item::Among(_, _) => "among",
-        Item::Grouping(_) => "grouping",
+        ItemRef::Routine(_) => "routine",
+        ItemRef::Among(_, _) => "among",
+        ItemRef::Grouping(_) => "grouping",
     }
 }
 
 /// Appends the line of an item. Returns `AllocError` if an allocation fails.
-fn push_item<T: Report>(alloc: Global, out: &mut T, item: &Item) -> Result<(), AllocError>
-    ensures { OnOk result (TakesMore T.has_taken out.old out.new (record_line (spec.item_row (item_of item.now)))) }
+fn push_item<T: Report>(alloc: Global, out: &mut T, item: &ItemRef<'_>) -> Result<(), AllocError>
+    ensures { OnOk result (TakesMore T.has_taken out.old out.new (record_line (spec.item_row (item_of_ref item.now)))) }
 {
     let mut csv_record = ByteRecord::new(alloc);
     csv_record.push_field(kind(item).as_bytes())?;
@@ -64,10 +68,10 @@ fn push_item<T: Report>(alloc: Global, out: &mut T, item: &Item) -> Result<(), A
 fn push_entry<T: Report>(
     alloc: Global,
     out: &mut T,
-    among: &Item,
+    among: &ItemRef<'_>,
     string: &[char],
 ) -> Result<(), AllocError>
-    ensures { OnOk result (TakesMore T.has_taken out.old out.new (record_line (spec.entry_row (item_of among.now, string.now)))) }
+    ensures { OnOk result (TakesMore T.has_taken out.old out.new (record_line (spec.entry_row (item_of_ref among.now, string.now)))) }
 {
     let mut csv_record = ByteRecord::new(alloc);
     csv_record.push_field(b"entry")?;
@@ -78,13 +82,13 @@ fn push_entry<T: Report>(
 }
 
 /// Appends the line of an item, unless a word meets it. Returns `AllocError` if an allocation fails.
-fn push_unmet<T: Report>(
+fn push_unmet<'a, T: Report>(
     alloc: Global,
     out: &mut T,
-    met: &BTreeSet<Item>,
-    item: &Item,
+    met: &BTreeSet<ItemRef<'a>>,
+    item: &ItemRef<'a>,
 ) -> Result<(), AllocError>
-    ensures { (s : Setting) (words : Words) → HasMet s words met.now → OnOk result (TakesRows T.has_taken out.old out.new (spec.item_rows s words (item_of item.now))) }
+    ensures { (s : Setting) (words : Words) → HasMet s words met.now → OnOk result (TakesRows T.has_taken out.old out.new (spec.item_rows s words (item_of_ref item.now))) }
 {
     if has_item(met, item) {
         Ok(())
@@ -94,14 +98,14 @@ fn push_unmet<T: Report>(
 }
 
 /// Appends the line of a string of an among, unless a word takes it there. Returns `AllocError` if an allocation fails.
-fn push_untaken<T: Report>(
+fn push_untaken<'a, T: Report>(
     alloc: Global,
     out: &mut T,
-    taken: &Takes,
-    among: &Item,
+    taken: &Takes<'a>,
+    among: &ItemRef<'a>,
     string: &[char],
 ) -> Result<(), AllocError>
-    ensures { (s : Setting) (words : Words) → HasTaken s words taken.now → OnOk result (TakesRows T.has_taken out.old out.new (spec.string_rows s words (item_of among.now, string.now))) }
+    ensures { (s : Setting) (words : Words) → HasTaken s words taken.now → OnOk result (TakesRows T.has_taken out.old out.new (spec.string_rows s words (item_of_ref among.now, string.now))) }
 {
     if has_take(alloc, taken, among, string)? {
         Ok(())
@@ -111,14 +115,14 @@ fn push_untaken<T: Report>(
 }
 
 /// Appends the lines of the strings of an among that no word takes there. Returns `AllocError` if an allocation fails.
-fn push_strings<T: Report>(
+fn push_strings<'a, T: Report>(
     alloc: Global,
     out: &mut T,
-    taken: &Takes,
-    among: &Item,
+    taken: &Takes<'a>,
+    among: &ItemRef<'a>,
     strings: &[&[char]],
 ) -> Result<(), AllocError>
-    ensures { (s : Setting) (words : Words) → HasTaken s words taken.now → OnOk result (TakesRows T.has_taken out.old out.new (spec.untaken_rows s words (item_of among.now) (texts_of strings.now))) }
+    ensures { (s : Setting) (words : Words) → HasTaken s words taken.now → OnOk result (TakesRows T.has_taken out.old out.new (spec.untaken_rows s words (item_of_ref among.now) (texts_of strings.now))) }
 {
     for string in strings {
         push_untaken(alloc, out, taken, among, string)?;
@@ -127,11 +131,11 @@ fn push_strings<T: Report>(
 }
 
 /// Appends the lines of the items that no word meets. Returns `AllocError` if an allocation fails.
-fn push_items<T: Report>(
+fn push_items<'a, T: Report>(
     alloc: Global,
     out: &mut T,
-    met: &BTreeSet<Item>,
-    parts: &Parts<'_>,
+    met: &BTreeSet<ItemRef<'a>>,
+    parts: &Parts<'a>,
 ) -> Result<(), AllocError>
     ensures { (s : Setting) (words : Words) → HasMet s words met.now → OnOk result (TakesRows T.has_taken out.old out.new (spec.unmet_rows s words (parts_in parts.now))) }
 {
@@ -142,12 +146,12 @@ fn push_items<T: Report>(
 }
 
 /// Appends the lines of the strings of one part, if a word meets it. Returns `AllocError` if an allocation fails.
-fn push_part<T: Report>(
+fn push_part<'a, T: Report>(
     alloc: Global,
     out: &mut T,
-    met: &BTreeSet<Item>,
-    taken: &Takes,
-    item: &Item,
+    met: &BTreeSet<ItemRef<'a>>,
+    taken: &Takes<'a>,
+    item: &ItemRef<'a>,
     strings: &[&[char]],
 ) -> Result<(), AllocError>
     ensures { (s : Setting) (words : Words) → HasMet s words met.now → HasTaken s words taken.now → OnOk result (TakesRows T.has_taken out.old out.new (spec.entry_rows s words (part_of item.now strings.now))) }
@@ -159,12 +163,12 @@ fn push_part<T: Report>(
 }
 
 /// Appends the lines of the strings that no word takes. Returns `AllocError` if an allocation fails.
-fn push_entries<T: Report>(
+fn push_entries<'a, T: Report>(
     alloc: Global,
     out: &mut T,
-    met: &BTreeSet<Item>,
-    taken: &Takes,
-    parts: &Parts<'_>,
+    met: &BTreeSet<ItemRef<'a>>,
+    taken: &Takes<'a>,
+    parts: &Parts<'a>,
 ) -> Result<(), AllocError>
     ensures { (s : Setting) (words : Words) → HasMet s words met.now → HasTaken s words taken.now → OnOk result (TakesRows T.has_taken out.old out.new (flat_map (spec.entry_rows s words) (parts_in parts.now))) }
 {
@@ -175,12 +179,12 @@ fn push_entries<T: Report>(
 }
 
 /// Appends the lines of what no word uses. Returns `AllocError` if an allocation fails.
-fn push_rows<T: Report>(
+fn push_rows<'a, T: Report>(
     alloc: Global,
     out: &mut T,
-    met: &BTreeSet<Item>,
-    taken: &Takes,
-    parts: &Parts<'_>,
+    met: &BTreeSet<ItemRef<'a>>,
+    taken: &Takes<'a>,
+    parts: &Parts<'a>,
 ) -> Result<(), AllocError>
     ensures { (s : Setting) (words : Words) → HasMet s words met.now → HasTaken s words taken.now → OnOk result (TakesRows T.has_taken out.old out.new (spec.rows_of_parts s words (parts_in parts.now))) }
 {
@@ -204,5 +208,5 @@ pub fn unused_text(alloc: Global, bench: &Bench) -> Result<Vec<u8>, AllocError>
     push_rows(alloc, &mut length, &met, &taken, &parts)?;
     let mut out = ReportText::with_length(alloc, &length)?;
     push_rows(alloc, &mut out, &met, &taken, &parts)?;
-    Ok(out.into_bytes())
+    out.into_bytes()
 }

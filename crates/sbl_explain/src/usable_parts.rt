@@ -2,7 +2,8 @@
 
 ghost use Rattle.std.specs.Prelude.{◌≡◌, [], OnOk, IfOk};
 ghost use Rattle.std.specs.BTreeMap.{insert_entry};
-ghost use Rattle.sbl_semantics.specs.TouchedItems.{item_cmp, item_of};
+ghost use Rattle.sbl_machine.specs.ItemRefs.{item_of_ref};
+ghost use Rattle.sbl_semantics.specs.TouchedItems.{item_cmp};
 ghost use Rattle.sbl_script.specs.ParsedScript.{source_of};
 ghost use Rattle.sbl_ast.specs.View.{view_plain};
 ghost use Rattle.sbl_explain.specs.Parts as spec;
@@ -10,22 +11,22 @@ ghost use Rattle.sbl_explain.specs.UnusedViews.{texts_of, view_amongs, view_part
 
 use crate::amongs::{amongs_of, strings_in};
 use sbl_ast::{Among, Plain, items_in_order};
-use sbl_machine::Item;
+use sbl_machine::ItemRef;
 use sbl_script::Script;
 use std::alloc::{AllocError, Global};
 use std::collections::BTreeMap;
 
 /// Items in their order; each among with its strings.
-pub(crate) type Parts<'a> = BTreeMap<Item, Vec<&'a [char]>>;
+pub(crate) type Parts<'a> = BTreeMap<ItemRef<'a>, Vec<&'a [char]>>;
 
 /// Puts a part at its place. Returns `AllocError` if an allocation fails.
 #[tactic(auto, using(crate::proofs::PartFacts::put_viewed))]
 fn put_part<'a>(
     parts: &mut Parts<'a>,
-    item: Item,
+    item: ItemRef<'a>,
     strings: Vec<&'a [char]>,
 ) -> Result<(), AllocError>
-    ensures { OnOk result (view_parts parts.new.entries ≡ insert_entry item_cmp (view_parts parts.old.entries) (item_of item) (texts_of strings.entry.items)) }
+    ensures { OnOk result (view_parts parts.new.entries ≡ insert_entry item_cmp (view_parts parts.old.entries) (item_of_ref item.entry) (texts_of strings.entry.items)) }
 {
     parts.insert(item, strings)?;
     Ok(())
@@ -35,14 +36,17 @@ fn put_part<'a>(
 fn put_amongs<'a>(
     alloc: Global,
     parts: &mut Parts<'a>,
-    name: &str,
+    name: &'a str,
     amongs: &[&'a Among],
 ) -> Result<(), AllocError>
     ensures { OnOk result (view_parts parts.new.entries ≡ spec.put_in_order (view_parts parts.old.entries) (spec.amongs_from 1 name.now (view_amongs amongs.now))) }
 {
     for (i, among) in amongs.iter().enumerate() {
-        let item = Item::Among(String::from_str(alloc, name)?, i as u64 + 1);
-        put_part(parts, item, strings_in(alloc, among)?)?;
+        put_part(
+            parts,
+            ItemRef::Among(name, i as u64 + 1),
+            strings_in(alloc, among)?,
+        )?;
     }
     Ok(())
 }
@@ -53,13 +57,11 @@ fn put_plain<'a>(alloc: Global, parts: &mut Parts<'a>, plain: &'a Plain) -> Resu
 {
     match plain {
         Plain::Routine { name, body } => {
-            let routine = Item::Routine(String::from_str(alloc, name)?);
-            put_part(parts, routine, Vec::new(alloc))?;
+            put_part(parts, ItemRef::Routine(name), Vec::new(alloc))?;
             put_amongs(alloc, parts, name, &amongs_of(alloc, body)?)
         }
         Plain::Grouping(grouping) => {
-            let grouping = Item::Grouping(String::from_str(alloc, &grouping.name)?);
-            put_part(parts, grouping, Vec::new(alloc))
+            put_part(parts, ItemRef::Grouping(&grouping.name), Vec::new(alloc))
         }
         Plain::Declaration(_, _)
         | Plain::StringEscapes(_, _)

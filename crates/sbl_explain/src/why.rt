@@ -63,7 +63,7 @@ fn run_lines(alloc: Global, bench: &Bench, word: &[char], why: &Why) -> Result<V
     push_run(alloc, &mut length, bench, word, why)?;
     let mut out = ReportText::with_length(alloc, &length)?;
     push_run(alloc, &mut out, bench, word, why)?;
-    Ok(out.into_bytes())
+    out.into_bytes()
 }
 
 /// Returns the rows that tell why a word has its stem, be it in the vocabulary or not: a row for each of the first 10,000 events

@@ -1,16 +1,17 @@
 //! A desk: what is kept beside a bench at work, so that its edits can be undone and its rows compared with those at a mark.
-ghost use Rattle.std.specs.Prelude.{◌≡◌, ℕ, List, [], IfOk, IfSome, OnErr, OnOk, None, Some, map, string_bytes, true};
+ghost use Rattle.std.specs.Prelude.{◌≡◌, ℕ, List, [], IfOk, IfSome, OnErr, OnOk, None, Some, length, map, string_bytes, true};
 ghost use Rattle.sbl_bench.specs.Contents.{rows_now};
 ghost use Rattle.sbl_bench.specs.Edits.{Whole};
 ghost use Rattle.sbl_bench.specs.KeptRuns.{contents_of};
 ghost use Rattle.sbl_print.specs.Canonical.{canonical};
 ghost use Rattle.sbl_rows.specs.Rows.{view_row};
+ghost use Rattle.sbl_rows.specs.StemRows.{rows_with};
 ghost use Rattle.sbl_history.specs.Desks.{Redoes, Undoes, state_of, text_in, view_text};
 ghost use Rattle.sbl_history.specs.{Editing.NotesLimit, Editing.Remembers, Editing.Replaces, Editing.ReplacesPart, Splicing.IsTextIn, Splicing.Reads};
 ghost use Rattle.sbl_script.specs.Parts.{view_part};
 
 use crate::history::{HistoryFault, text_of, turn};
-use crate::marks::{MarkedRow, copy_rows, views_of};
+use crate::marks::{MarkedRow, copy_rows, rows_of_stems, views_of};
 use crate::splice::{SplicedText, splice};
 use crate::steps::{History, Step};
 use sbl_bench::{Bench, EditFault, Row};
@@ -75,6 +76,20 @@ impl Desk {
         ensures kept { OnErr result (state_of self.new ≡ state_of self.old) }
     {
         self.marked = copy_rows(self.alloc, bench)?;
+        Ok(())
+    }
+
+    /// Sets the mark to the words of the bench with these stems, one for each word, in the order of the vocabulary.
+    ///
+    /// # Errors
+    ///
+    /// Returns `AllocError` if an allocation fails; then the desk is unchanged.
+    pub fn mark_stems(&mut self, bench: &Bench, stems: &[Vec<char>]) -> Result<(), AllocError>
+        requires { length stems.now ≡ length (contents_of bench.now).words }
+        ensures marked { OnOk result (state_of self.new ≡ record (state_of self.old) { marked = rows_with (contents_of bench.now).words (map (λ s. s.items) stems.now) }) }
+        ensures kept { OnErr result (state_of self.new ≡ state_of self.old) }
+    {
+        self.marked = rows_of_stems(self.alloc, bench, stems)?;
         Ok(())
     }
 

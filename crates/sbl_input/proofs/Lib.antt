@@ -3,3 +3,4 @@ pub mod WordListFacts
 pub mod InputFacts
 pub mod OneLoading
 pub mod VocabularyFacts
+pub mod FileFacts

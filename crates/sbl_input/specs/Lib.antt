@@ -3,6 +3,7 @@ pub mod Faults
 pub mod Loading
 pub mod LoadedRows
 pub mod OneLoading
+pub mod FileWords
 -- what the functions inside the crate promise each other: nothing in these need be believed
 pub mod WordLists
 pub mod VocabularyRows

@@ -12,7 +12,7 @@ use Rattle.sbl_semantics.specs.Limit.{default_limit}
 use Rattle.sbl_input.specs.Loading.{IsInput, IsLoaded}
 use Rattle.sbl_reports.specs.RowRecords.{row_fields}
 use Rattle.sbl_reports.specs.Listings.{stems_text}
-use Rattle.sbl_reports.specs.RowWriter.{HasWritten}
+use Rattle.sbl_io.specs.RecordsWritten.{HasWritten}
 use Rattle.sbl_input.specs.WordLists.{HoldsWords, texts_of}
 use Rattle.sbl_input.specs.declared.loading.ParsedInput.{ParsedInput}
 use Rattle.sbl_script.specs.ParsedScript.{source_of}

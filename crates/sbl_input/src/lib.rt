@@ -2,10 +2,12 @@
 #![tactic(auto)]
 
 mod faults;
+mod file_words;
 pub mod laws;
 mod loading;
 mod vocabulary_rows;
 mod word_list;
 
 pub use faults::LoadFault;
+pub use file_words::{text_line, without_mark, words_in};
 pub use loading::{load, load_rows, load_with_keys, read_script};

@@ -6,7 +6,7 @@ ghost use Rattle.sbl_rows.specs.Rows.{row_of};
 ghost use Rattle.sbl_semantics.specs.Limit.{default_limit, max_word_length};
 ghost use Rattle.sbl_bench.specs.Contents.{IsFaultOrMemory, word_fault};
 ghost use Rattle.sbl_rows.specs.Setting.{under};
-ghost use Rattle.sbl_reports.specs.RowWriter.{HasWritten, Writes};
+ghost use Rattle.sbl_io.specs.RecordsWritten.{HasWritten, Writes};
 ghost use Rattle.sbl_input.specs.WordLists.{texts_of};
 ghost use Rattle.std.specs.Prelude.{◌≡◌, ◌≤◌, [], List, ℕ, None, length, map, IfOk, IfErr, OnOk};
 ghost use Rattle.sbl_bench.specs.Vocabulary.{with_word};

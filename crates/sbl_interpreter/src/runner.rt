@@ -1,17 +1,14 @@
 //! Runs code.
 
-ghost use Rattle.std.specs.Prelude.{◌<◌, ◌≤◌, false, suc, IfOk};
+ghost use Rattle.std.specs.Prelude.{◌<◌, ◌≤◌, IfOk};
 ghost use Rattle.sbl_program.specs.ProgramOf.{program_of, view_number};
-ghost use Rattle.sbl_program.specs.Arithmetic.{value};
 ghost use Rattle.sbl_run_state.specs.Endings.{Follows, Leads};
 ghost use Rattle.sbl_program.specs.Rows.{pays};
 ghost use Rattle.sbl_program.specs.Run.{calls};
-ghost use Rattle.sbl_semantics.specs.Control.{times, count_of, seeks};
-ghost use Rattle.sbl_semantics.specs.Numbers.{continue_with};
-ghost use Rattle.sbl_semantics.specs.State.{Signals, after, pay, then_on};
+ghost use Rattle.sbl_semantics.specs.State.{pay, then_on};
 ghost use Rattle.sbl_code.specs.Slots.{no_cursors};
-ghost use Rattle.sbl_code.specs.Flow.{flow, alone, turns_of, backwards_of, limited_of};
-ghost use Rattle.sbl_interpreter.specs.Inner.{inner_of};
+ghost use Rattle.sbl_code.specs.Flow.{flow, loop_of, at_least_of, turns_of, seek_of, backwards_of, limited_of};
+ghost use Rattle.sbl_interpreter.specs.Inner.{alone_in, inner_of};
 
 mod searching;
 
@@ -296,7 +293,7 @@ impl<'a, T: Tables> Runner<'a, T> {
     #[cycle(run)]
     #[inline(never)]
     fn run_turns(&self, body: &Instruction, state: &mut State) -> Result<(), Halt>
-        ensures leads { Leads result state.new (turns_of (alone (flow (program_of (T.listed self.now.tables.now) self.now.code.now) self.now.levels (T.listed self.now.tables.now) body.now)) self.now.mode state.old) }
+        ensures leads { Leads result state.new (turns_of (alone_in T.listed self.now body.now) self.now.mode state.old) }
         ensures no_more { IfOk result (λ _. state.new.steps ≤ state.old.steps) }
     {
         let mut left = state.steps();
@@ -322,7 +319,7 @@ impl<'a, T: Tables> Runner<'a, T> {
         body: &Instruction,
         state: &mut State,
     ) -> Result<bool, Halt>
-        ensures follows { Follows result state.new (continue_with (value (view_number count.now) self.now.mode state.old) state.old (λ z. times (count_of z) (alone (flow (program_of (T.listed self.now.tables.now) self.now.code.now) self.now.levels (T.listed self.now.tables.now) body.now)) self.now.mode state.old)) }
+        ensures follows { Follows result state.new (loop_of (view_number count.now) (alone_in T.listed self.now body.now) self.now.mode state.old) }
         ensures no_more { IfOk result (λ _. state.new.steps ≤ state.old.steps) }
     {
         let number = state.value(self.mode, count)?;
@@ -345,7 +342,7 @@ impl<'a, T: Tables> Runner<'a, T> {
         body: &Instruction,
         state: &mut State,
     ) -> Result<bool, Halt>
-        ensures follows { Follows result state.new (after (continue_with (value (view_number count.now) self.now.mode state.old) state.old (λ z. times (count_of z) (alone (flow (program_of (T.listed self.now.tables.now) self.now.code.now) self.now.levels (T.listed self.now.tables.now) body.now)) self.now.mode state.old)) (turns_of (alone (flow (program_of (T.listed self.now.tables.now) self.now.code.now) self.now.levels (T.listed self.now.tables.now) body.now)) self.now.mode) (Signals false)) }
+        ensures follows { Follows result state.new (at_least_of (view_number count.now) (alone_in T.listed self.now body.now) self.now.mode state.old) }
         ensures no_more { IfOk result (λ _. state.new.steps ≤ state.old.steps) }
     {
         if !self.run_times(count, body, state)? {
@@ -360,7 +357,7 @@ impl<'a, T: Tables> Runner<'a, T> {
     #[cycle(run)]
     #[inline(never)]
     fn run_tries(&self, past: bool, body: &Instruction, state: &mut State) -> Result<bool, Halt>
-        ensures follows { Follows result state.new (seeks (suc state.old.steps) past (alone (flow (program_of (T.listed self.now.tables.now) self.now.code.now) self.now.levels (T.listed self.now.tables.now) body.now)) self.now.mode state.old) }
+        ensures follows { Follows result state.new (seek_of past (alone_in T.listed self.now body.now) self.now.mode state.old) }
         ensures no_more { IfOk result (λ _. state.new.steps ≤ state.old.steps) }
     {
         let mut left = state.steps();
@@ -387,7 +384,7 @@ impl<'a, T: Tables> Runner<'a, T> {
     #[cycle(run)]
     #[inline(never)]
     fn run_backwards(&self, body: &Instruction, state: &mut State) -> Result<bool, Halt>
-        ensures follows { Follows result state.new (backwards_of (alone (flow (program_of (T.listed self.now.tables.now) self.now.code.now) self.now.levels (T.listed self.now.tables.now) body.now)) self.now.mode state.old) }
+        ensures follows { Follows result state.new (backwards_of (alone_in T.listed self.now body.now) self.now.mode state.old) }
         ensures no_more { IfOk result (λ _. state.new.steps ≤ state.old.steps) }
     {
         state.begin_backwards()?;
@@ -411,7 +408,7 @@ impl<'a, T: Tables> Runner<'a, T> {
         second: &Instruction,
         state: &mut State,
     ) -> Result<bool, Halt>
-        ensures follows { Follows result state.new (limited_of (alone (flow (program_of (T.listed self.now.tables.now) self.now.code.now) self.now.levels (T.listed self.now.tables.now) first.now)) (alone (flow (program_of (T.listed self.now.tables.now) self.now.code.now) self.now.levels (T.listed self.now.tables.now) second.now)) self.now.mode state.old) }
+        ensures follows { Follows result state.new (limited_of (alone_in T.listed self.now first.now) (alone_in T.listed self.now second.now) self.now.mode state.old) }
         ensures no_more { IfOk result (λ _. state.new.steps ≤ state.old.steps) }
     {
         let from = state.saved_cursor();

@@ -1,8 +1,9 @@
 -- The input that is left of a `Lines`: the bytes in its buffer, and then the bytes left in its reader.
-use Rattle.std.specs.Prelude.{◌≡◌, ◌≢◌, ◌⊎◌, ◌<◌, ◌≤◌, ◌++◌, ℕ, true, false, List, [], ◌∷◌, Option, Some, None, Result, Err, IfErr, IfSome, OnOk, ⊤, if◌then◌else◌, slice_range, length, min, ◌+◌, ◌*◌, ◌-◌}
+use Rattle.std.specs.Prelude.{◌≡◌, ◌≢◌, ◌⊎◌, ◌<◌, ◌≤◌, ◌+◌, ◌*◌, ◌-◌, min, ℕ, true, false, if◌then◌else◌, ⊤, List, [], ◌∷◌, ◌++◌}
+use Rattle.std.specs.Prelude.{length, slice_range, Option, Some, None, Result, Err, IfErr, IfSome, MatchOption, OnOk}
 use Rattle.std.specs.List.{AllByRecursion}
 use Rattle.std.specs.Option.{option_map}
-use Rattle.std.specs.Io.KnownBytes.{Consumes, IsAtEnd, prepend_known}
+use Rattle.std.specs.Io.KnownBytes.{Consumes, IsAtEnd, Keeps, prepend_known}
 use Rattle.sbl_io.specs.Devices.{Tally, max_count, max_tries}
 use Rattle.sbl_io.specs.Faults.{left_by}
 use Rattle.sbl_io.specs.LinesOf.{AreWhole, lines_of, max_line}
@@ -131,6 +132,10 @@ abbrev pub BeginsLong : Option (List ℕ) → Type 0
 BeginsLong left = IfSome left (λ bytes. (line : List ℕ) × (rest : List (List ℕ)) × (lines_of bytes ≡ line ∷ rest) × (max_line < length line))
 
 -- ---- names for proofs
+
+-- the next byte was taken, or the input was and is at its end
+abbrev pub TakesByte : Option (List ℕ) → Option (List ℕ) → Option ℕ → Type 0
+TakesByte old new byte = MatchOption byte (IsAtEnd new × Keeps old new) (λ b. Consumes old new (b ∷ []))
 
 -- no byte is a line feed
 abbrev pub NoFeed : List ℕ → Type 0

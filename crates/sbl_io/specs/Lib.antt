@@ -5,4 +5,5 @@ pub mod Faults
 pub mod LinesOf
 pub mod HeldInput
 pub mod Records
+pub mod RecordsWritten
 pub mod Reports

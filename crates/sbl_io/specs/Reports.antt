@@ -1,6 +1,7 @@
 -- What takes the records of a report: a count of the bytes of its text, or the text.
 use Rattle.std.specs.Prelude.{◌≡◌, ◌++◌, ◌-◌, ◌^◌, ℕ, List, length, min}
 use Rattle.sbl_io.specs.declared.report.ReportLength.{ReportLength}
+use Rattle.sbl_io.specs.RecordsWritten.{HasWritten}
 use Rattle.sbl_io.specs.declared.report.ReportText.{ReportText}
 
 -- the greatest number that a count of bytes can be
@@ -17,7 +18,7 @@ HasCounted report text = report.bytes ≡ count_of text
 
 -- the text so far is this
 abbrev pub HasText : ReportText → List ℕ → Type 0
-HasText report text = report.bytes.items ≡ text
+HasText report text = HasWritten report.writer text
 
 -- what has taken some text takes this text after it
 abbrev pub TakesMore : {T : Type 0} → (T → List ℕ → Type 0) → T → T → List ℕ → Type 0

@@ -1,5 +1,5 @@
 //! The lines of a reader, in buffers of fixed size.
-ghost use Rattle.std.specs.Prelude.{◌≡◌, ◌≢◌, ◌+◌, ◌≤◌, ◌<◌, ◌⊎◌, ℕ, List, Option, [], ◌∷◌, vec_len, vec_capacity, OnOk, OnErr, IfOk, IfErr, MatchOption, Some, None, Ok, Err, true, false, length, min, IsSome};
+ghost use Rattle.std.specs.Prelude.{◌≡◌, ◌≢◌, ◌+◌, ◌≤◌, ◌<◌, ◌⊎◌, ℕ, List, Option, vec_len, vec_capacity, OnOk, OnErr, IfOk, IfErr, MatchOption, Some, None, Ok, Err, true, false, length, min, IsSome};
 ghost use Rattle.std.specs.Io.KnownBytes.{Consumes, IsAtEnd, Keeps};
 ghost use Rattle.sbl_io.specs.LinesOf.{without_carriage_return, max_line};
 
@@ -49,7 +49,7 @@ pub struct Lines<R> {
 
 impl<R: Source + Drop> Lines<R> {
     ghost use Rattle.sbl_io.specs.Devices.{IsUnused, max_count};
-    ghost use Rattle.sbl_io.specs.HeldInput.{fuel_of, line_of, fault_of, input_of, max_reads, reads_bound, AsksInTime, BeginsLong, BreaksOff, HasCause, InTime, IsDrained, KeepsTime, StaysEnded, TakesFeeds, TakesLine, NoFeed, GivesLine};
+    ghost use Rattle.sbl_io.specs.HeldInput.{fuel_of, line_of, fault_of, input_of, max_reads, reads_bound, AsksInTime, BeginsLong, BreaksOff, HasCause, InTime, IsDrained, KeepsTime, StaysEnded, TakesFeeds, TakesByte, TakesLine, NoFeed, GivesLine};
 
     /// Returns the lines of `reader`, which is read at most 1,099,511,627,776 times. Allocates all buffers. Returns
     /// `AllocError` if an allocation fails.
@@ -143,7 +143,7 @@ impl<R: Source + Drop> Lines<R> {
 
     /// Returns the next byte, or `None` at the end of input. Returns `Read` if the reader fails or a limit is reached.
     fn next_byte(&mut self) -> Result<Option<u8>, LineFault>
-        ensures byte { IfOk result (λ o. MatchOption o (IsAtEnd (input_of R.left self.new) × Keeps (input_of R.left self.old) (input_of R.left self.new)) (λ b. Consumes (input_of R.left self.old) (input_of R.left self.new) (b ∷ []))) }
+        ensures byte { IfOk result (λ o. TakesByte (input_of R.left self.old) (input_of R.left self.new) o) }
         ensures err { OnErr result (Keeps (input_of R.left self.old) (input_of R.left self.new)) }
         ensures drained { OnErr result (IsDrained self.new) }
         ensures line { line_of self.new ≡ line_of self.old }

@@ -2,12 +2,11 @@
 //! fits is never moved.
 ghost use Rattle.std.specs.Prelude.{◌≡◌, ◌+◌, [], ℕ, IfOk, List, OnOk, length, vec_capacity};
 ghost use Rattle.csv.specs.Records.{fields_of};
-ghost use Rattle.csv.specs.Writing.{escaped, field_text, needs_byte, needs_quotes};
+ghost use Rattle.csv.specs.Writing.{escaped, field_text, needs_byte, needs_quotes, writer_under};
 ghost use Rattle.sbl_io.specs.Records.{flexible, record_line};
 ghost use Rattle.sbl_io.specs.Reports.{HasCounted, HasText, TakesMore, count_of};
 
-use crate::records::push_line;
-use csv::ByteRecord;
+use csv::{ByteRecord, Writer, WriterBuilder};
 use std::alloc::{AllocError, Global};
 
 /// What takes the records of a report, one after another.
@@ -48,8 +47,7 @@ impl Report for ReportLength {
 /// The text of a report.
 #[derive(Drop)]
 pub struct ReportText {
-    alloc: Global,
-    bytes: Vec<u8>,
+    writer: Writer<Vec<u8>>,
 }
 
 impl ReportText {
@@ -57,18 +55,22 @@ impl ReportText {
     /// that is refused.
     pub fn with_length(alloc: Global, length: &ReportLength) -> Result<ReportText, AllocError>
         ensures text { IfOk result (λ report. HasText report []) }
-        ensures room { IfOk result (λ report. (text : List ℕ) → HasCounted length.now text → vec_capacity report.bytes ≡ count_of text) }
+        ensures room { IfOk result (λ report. (text : List ℕ) → HasCounted length.now text → vec_capacity (writer_under report.writer) ≡ count_of text) }
     {
         let bytes = Vec::with_capacity(alloc, length.bytes)?;
-        Ok(ReportText { alloc, bytes })
+        Ok(ReportText {
+            writer: WriterBuilder::new().flexible(true).from_writer(bytes),
+        })
     }
 
-    /// Returns the text.
-    pub fn into_bytes(self) -> Vec<u8>
-        ensures { (text : List ℕ) → HasText self text → result.items ≡ text }
+    /// Returns the text. Returns `AllocError` if an allocation fails: not if the text is as long as was said.
+    pub fn into_bytes(self) -> Result<Vec<u8>, AllocError>
+        ensures { (text : List ℕ) → HasText self text → IfOk result (λ bytes. bytes.items ≡ text) }
     {
-        let ReportText { alloc: _, bytes } = self;
-        bytes
+        match self.writer.into_inner() {
+            Ok(bytes) => Ok(bytes),
+            Err(_) => Err(AllocError),
+        }
     }
 }
 
@@ -76,7 +78,10 @@ impl Report for ReportText {
     ghost has_taken = { λ report text. HasText report text };
 
     fn push(&mut self, csv_record: &ByteRecord) -> Result<(), AllocError> {
-        push_line(self.alloc, &mut self.bytes, csv_record)
+        if self.writer.write_byte_record(csv_record).is_err() {
+            return Err(AllocError);
+        }
+        Ok(())
     }
 }
 

@@ -39,7 +39,7 @@ same_order (code.Grouping m) (code.Grouping n) = refl
 pub map_insert_key : (ks : List Item) (k : Item) → map item_of (insert_key owned.cmp-value.it ks k) ≡ insert_key item_cmp (map item_of ks) (item_of k)
 map_insert_key = inserted_by item_of owned.cmp-value.it same_order
 
-same_ref_order : (x y : ItemRef) → borrowed.cmp-value.it x y ≡ item_cmp (item_of_ref x) (item_of_ref y)
+pub same_ref_order : (x y : ItemRef) → borrowed.cmp-value.it x y ≡ item_cmp (item_of_ref x) (item_of_ref y)
 same_ref_order (ref.Routine m) (ref.Routine n) = refl
 same_ref_order (ref.Routine m) (ref.Among n l) = refl
 same_ref_order (ref.Routine m) (ref.Grouping n) = refl

@@ -9,7 +9,7 @@ use Rattle.std.specs.BTreeSet.{insert_key}
 use Rattle.std.proofs.lemmas.Map.Lookups.{exact_bytes, exact_unsigned}
 use Rattle.sbl_semantics.specs.TouchedItems.{Item', Routine, Among, Grouping, item_cmp, in_item_order}
 
-then_equal : (o p : Ordering) → ordering_then o p ≡ Equal → (o ≡ Equal) × (p ≡ Equal)
+pub then_equal : (o p : Ordering) → ordering_then o p ≡ Equal → (o ≡ Equal) × (p ≡ Equal)
 then_equal Less p h = let never : Less ≡ Equal = h in absurd cc
 then_equal Equal p h = (refl, h)
 then_equal Greater p h = let never : Greater ≡ Equal = h in absurd cc
@@ -28,16 +28,16 @@ item_exact (Among m k) (Among n l) h =
     let both = then_equal (slice_cmp nat_cmp m n) (nat_cmp k l) h in
     ap (λ x. Among x k) (exact_bytes m n both.0) ∙ ap (Among n) (exact_unsigned k l both.1)
 
-or_again : (a b : Bool) → (a || b) ≡ (a || (a || b))
+pub or_again : (a b : Bool) → (a || b) ≡ (a || (a || b))
 or_again true b = refl
 or_again false b = refl
 
-or_swap : (a b c : Bool) → (a || (b || c)) ≡ (b || (a || c))
+pub or_swap : (a b c : Bool) → (a || (b || c)) ≡ (b || (a || c))
 or_swap true true c = refl
 or_swap true false c = refl
 or_swap false b c = refl
 
-any_inserted : (test : Item' → Bool) (xs : List Item') (k : Item') → list_any test (insert_key item_cmp xs k) ≡ (test k || list_any test xs)
+pub any_inserted : (test : Item' → Bool) (xs : List Item') (k : Item') → list_any test (insert_key item_cmp xs k) ≡ (test k || list_any test xs)
 any_inserted test [] k = refl
 any_inserted test (x ∷ xs) k = by (item_cmp k x) refl (any_inserted test xs k)
   where

@@ -4,7 +4,8 @@ use Rattle.std.specs.Prelude.{ℕ, suc, Bool, [], map, None, if◌then◌else◌
 use Rattle.sbl_semantics.specs.TouchedItems.{Item', Routine, Among, Grouping}
 use Rattle.sbl_semantics.specs.Regions.{number_after, number_after_others, number_after_rows, number_after_starter}
 use Rattle.sbl_ast.specs.Source.{Source}
-use Rattle.sbl_ast.specs.Tree.{QuotedText, Plain, Item, bracket, prefixed, counted, setlimit_, among_, no_rows, row, no_others, joined, no_starter, starter, bare, group, entry, written_out, routine, grouping, plain, backward}
+use Rattle.sbl_ast.specs.Tree.{QuotedText, Plain, Item, bracket, prefixed, counted, setlimit_, among_, no_rows, row, no_others, joined}
+use Rattle.sbl_ast.specs.Tree.{no_starter, starter, bare, group, entry, written_out, routine, grouping, plain, backward}
 use Rattle.sbl_ast.specs.Tree as trees
 
 -- an empty among

@@ -33,7 +33,8 @@ text_after text (x ∷ xs) = text_after (text_after_one text x) xs
 -- if a run gives a stem, making its recorded replacements on the word, in order, gives that stem
 abbrev pub PutsGiveTheStem : Type 0
 PutsGiveTheStem =
-    (script : Source) (word : List ℕ) (limit : ℕ) (stem : List ℕ) → run_of script word limit ≡ Stem stem → text_after word (events_of script word limit) ≡ stem
+    (script : Source) (word : List ℕ) (limit : ℕ) (stem : List ℕ) → run_of script word limit ≡ Stem stem
+    → text_after word (events_of script word limit) ≡ stem
 
 -- what is touched after one event: a call touches its routine, a search its among
 abbrev pub touches_after_one : List Touch → Event' → List Touch
@@ -53,4 +54,6 @@ is_no_test x = true
 -- The routines entered and the amongs searched, each once in the order of first occurrence, are what the run touches.
 -- Tests of groupings are no events.
 abbrev pub EventsTouch : Type 0
-EventsTouch = (script : Source) (word : List ℕ) (limit : ℕ) → touches_after [] (events_of script word limit) ≡ filter is_no_test (touches_of script word limit)
+EventsTouch =
+    (script : Source) (word : List ℕ) (limit : ℕ)
+    → touches_after [] (events_of script word limit) ≡ filter is_no_test (touches_of script word limit)

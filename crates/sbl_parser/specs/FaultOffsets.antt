@@ -21,7 +21,8 @@ place_at ts at end = place_of (drop at ts) end
 abbrev pub IsFaultOf : Text → List Token → ℕ → ScriptFault → Type 0
 IsFaultOf t ts end (script.Syntax place) = (at : ℕ) × (place ≡ place_at ts at end) × IsSyntaxAt t (map lexeme_of ts) (map lexeme_of (drop at ts))
 IsFaultOf t ts end (script.TooDeep place) = (at : ℕ) × (place ≡ place_at ts at end) × IsTooDeepAt t (map lexeme_of ts) (map lexeme_of (drop at ts))
-IsFaultOf t ts end (script.OutOfProfile place) = (at : ℕ) × (place ≡ place_at ts at end) × IsOutOfProfileAt t (map lexeme_of ts) (map lexeme_of (drop at ts))
+IsFaultOf t ts end (script.OutOfProfile place) =
+    (at : ℕ) × (place ≡ place_at ts at end) × IsOutOfProfileAt t (map lexeme_of ts) (map lexeme_of (drop at ts))
 IsFaultOf t ts end _ = ⊥
 
 -- the fault of a script for an error of the parser, with its byte offset: the `$` is two tokens before what is no operator

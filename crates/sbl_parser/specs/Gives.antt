@@ -1,5 +1,9 @@
 -- The results of the functions of the parser.
-use Rattle.std.specs.Prelude.{◌≡◌, ℕ, List, ◌++◌, length, Option, None, Some, Result, Ok, Err}
+use Rattle.std.specs.Prelude.{◌≡◌, ℕ, List, [], ◌∷◌, ◌++◌, length, Option, None, Some, Result, Ok, Err}
+use Rattle.sbl_ast.specs.Spelled.{spelled_expression}
+use Rattle.sbl_ast.specs.View.{view_expression}
+use Rattle.sbl_ast.specs.declared.tree.Comparison.{Comparison}
+use Rattle.sbl_ast.specs.declared.tree.Expression.{Expression}
 use Rattle.sbl_parser.specs.declared.cursor.Cursor.{Cursor}
 use Rattle.sbl_parser.specs.declared.cursor.Delimiter.{Delimiter}
 use Rattle.sbl_parser.specs.declared.cursor.Delimiter.TheVariants.{Open, Close, For}
@@ -36,6 +40,14 @@ Fails (errors.OutOfProfile n) found = error_for found ≡ Some (errors.OutOfProf
 abbrev pub Reads : {X : Type 0} → Stack → (X → List Terminal → List Terminal) → List Terminal → Result X ReadError → List Terminal → Type 0
 Reads ss spelled tokens (Ok x) rest = (tokens ≡ spelled x rest) × ((k : Stack) → fault tokens (ss ++ k) ≡ fault rest k)
 Reads ss spelled tokens (Err e) rest = (k : Stack) → Fails e (fault tokens (ss ++ k))
+
+-- ---- the end of a comparison of two values, as `== E )`
+
+abbrev pub comparison_end : ℕ → Stack
+comparison_end d = s.comparison d ∷ s.expression d (s.closing d ∷ [])
+
+abbrev pub spelled_end : Comparison × Expression → List Terminal → List Terminal
+spelled_end x rest = t.compares x.0 ∷ spelled_expression (view_expression x.1) (t.close_ ∷ rest)
 
 -- ---- delimiters
 

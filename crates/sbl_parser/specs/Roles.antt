@@ -2,7 +2,9 @@
 use Rattle.std.specs.Prelude.{List, [], ◌∷◌}
 use Rattle.sbl_parser.specs.declared.role.Role.{Role}
 use Rattle.sbl_parser.specs.declared.role.Role.TheVariants as roles
-use Rattle.sbl_ast.specs.Terminal.{Terminal, additive, among, as_, assigns, backward_mode, base, close_, compares, constant, count, declares, define, dollar, edit, for_, inserts, joiner, len_of, literal, macro_name, move, multiplicative, name, naming, non, number, open_, other, prefix, set_limit, simple, string_def, string_escapes}
+use Rattle.sbl_ast.specs.Terminal.{Terminal, additive, among, as_, assigns, backward_mode, base, close_, compares, constant, count}
+use Rattle.sbl_ast.specs.Terminal.{declares, define, dollar, edit, for_, inserts, joiner, len_of, literal, macro_name, move, multiplicative}
+use Rattle.sbl_ast.specs.Terminal.{name, naming, non, number, open_, other, prefix, set_limit, simple, string_def, string_escapes}
 
 abbrev pub role_as : Terminal → Role
 role_as open_ = roles.Open

@@ -4,9 +4,9 @@
 ghost use Rattle.std.specs.Prelude.{◌≡◌, ◌≤◌, ◌∷◌, []};
 ghost use Rattle.sbl_ast.specs.Places.{max_depth};
 ghost use Rattle.sbl_ast.specs.Terminal as t;
-ghost use Rattle.sbl_ast.specs.Spelled.{spelled_command, spelled_expression};
-ghost use Rattle.sbl_ast.specs.View.{view_command, view_expression};
-ghost use Rattle.sbl_parser.specs.Gives.{ahead, Reads};
+ghost use Rattle.sbl_ast.specs.Spelled.{spelled_command};
+ghost use Rattle.sbl_ast.specs.View.{view_command};
+ghost use Rattle.sbl_parser.specs.Gives.{ahead, comparison_end, spelled_end, Reads};
 ghost use Rattle.sbl_parser.specs.Roles.{role_of};
 ghost use Rattle.sbl_parser.specs.Steps as wanted;
 
@@ -106,7 +106,7 @@ fn values_compared(cursor: &mut Cursor<'_, '_>, depth: u8) -> ReadResult<Command
 /// Parses `== E2 )` and similar ends of a comparison.
 fn right_value(cursor: &mut Cursor<'_, '_>, depth: u8) -> ReadResult<(Comparison, Expression)>
     requires { depth ≤ max_depth }
-    ensures { Reads (wanted.comparison depth ∷ wanted.expression depth (wanted.closing depth ∷ [])) (λ x rest. t.compares x.0 ∷ spelled_expression (view_expression x.1) (t.close_ ∷ rest)) (ahead cursor.old) result (ahead cursor.new) }
+    ensures { Reads (comparison_end depth) spelled_end (ahead cursor.old) result (ahead cursor.new) }
 {
     let operator = comparison(cursor, depth)?;
     let right = expression(cursor, depth)?;

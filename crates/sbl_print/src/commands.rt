@@ -1,12 +1,12 @@
 //! Prints commands.
 
-ghost use Rattle.std.specs.Prelude.{◌≡◌, ◌++◌, ◌∷◌, List, OnOk, map, string_bytes};
+ghost use Rattle.std.specs.Prelude.{◌≡◌, ◌∷◌, OnOk, map, string_bytes};
 ghost use Rattle.sbl_ast.specs.Terminal.{Terminal};
 ghost use Rattle.sbl_ast.specs.Terminal as t;
-ghost use Rattle.sbl_ast.specs.Spelled.{spelled_command, spelled_entries, spelled_entry, spelled_expression, spelled_groups, spelled_others, spelled_rows, spelled_starter};
+ghost use Rattle.sbl_ast.specs.Spelled.{spelled_command, spelled_entries, spelled_entry, spelled_groups, spelled_others, spelled_rows, spelled_starter};
 ghost use Rattle.sbl_ast.specs.Tree as trees;
-ghost use Rattle.sbl_ast.specs.View.{view_among, view_argument, view_command, view_entry, view_expression, view_groups, view_others, view_row, view_rows};
-ghost use Rattle.sbl_print.specs.Adding.{Adds, more, token_text};
+ghost use Rattle.sbl_ast.specs.View.{view_among, view_argument, view_command, view_entry, view_expression, view_others, view_row, view_rows};
+ghost use Rattle.sbl_print.specs.Adding.{Adds, AddsGroups, spelled_dollar, token_text};
 
 use crate::arithmetic::put_expression;
 use crate::tokens::{put, put_argument, put_literal, put_name, put_operations, put_sign, put_word};
@@ -69,7 +69,7 @@ fn put_dollar(
     sign: &str,
     number: &Expression,
 ) -> Result<(), AllocError>
-    ensures { OnOk result ((x : Terminal) → token_text x ≡ sign.now → Adds (string_bytes out.old) (string_bytes out.new) (λ rest. t.dollar ∷ t.name (string_bytes name.now) ∷ x ∷ spelled_expression (view_expression number.now) rest)) }
+    ensures { OnOk result ((x : Terminal) → token_text x ≡ sign.now → Adds (string_bytes out.old) (string_bytes out.new) (spelled_dollar (string_bytes name.now) x (view_expression number.now))) }
 {
     put_sign(out, Sign::Dollar)?;
     put_name(out, name)?;
@@ -192,7 +192,7 @@ fn put_starter(alloc: Global, out: &mut String, among: &Among) -> Result<(), All
 /// Appends groups of an among, which strings without commands may follow. Returns `AllocError` if an allocation fails.
 #[cycle(commands)]
 fn put_groups(alloc: Global, out: &mut String, groups: &Vec<Group>) -> Result<(), AllocError>
-    ensures { OnOk result ((es : List trees.Entry) (rest : List Terminal) → string_bytes out.new ++ more (spelled_entries es rest) ≡ string_bytes out.old ++ more (spelled_groups (view_groups groups.now.items es) rest)) }
+    ensures { OnOk result (AddsGroups (string_bytes out.old) (string_bytes out.new) groups.now.items) }
 {
     for group in groups {
         put_entry(out, &group.first)?;

@@ -6,7 +6,7 @@ ghost use Rattle.sbl_ast.specs.Terminal as t;
 ghost use Rattle.sbl_ast.specs.Places.{placed_plain, tokens};
 ghost use Rattle.sbl_ast.specs.Spelled.{spelled_base, spelled_names, spelled_terms};
 ghost use Rattle.sbl_ast.specs.Tree as trees;
-ghost use Rattle.sbl_ast.specs.View.{view_argument, view_item, view_items, view_literal, view_plain, view_row, view_term};
+ghost use Rattle.sbl_ast.specs.View.{view_item, view_items, view_literal, view_plain, view_row, view_term};
 ghost use Rattle.sbl_print.specs.Canonical.{canonical, item_text, plain_text};
 ghost use Rattle.sbl_print.specs.Adding.{Adds, BeginsLine};
 
@@ -107,7 +107,7 @@ fn begin_routine(
 
 /// Appends the definition of a grouping at the start of a line. Returns `AllocError` if an allocation fails.
 fn begin_grouping(out: &mut String, grouping: &Grouping) -> Result<(), AllocError>
-    ensures { OnOk result (BeginsLine (string_bytes out.old) (string_bytes out.new) (tokens (placed_plain (trees.grouping (string_bytes grouping.now.name) (view_argument grouping.now.first) (map view_term grouping.now.others.items)) []))) }
+    ensures { OnOk result (BeginsLine (string_bytes out.old) (string_bytes out.new) (tokens (placed_plain (view_plain (Plain.Grouping grouping.now)) []))) }
 {
     out.push_str(Word::Define.text())?;
     put_name(out, &grouping.name)?;

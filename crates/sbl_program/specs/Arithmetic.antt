@@ -50,7 +50,8 @@ holds GreaterOrEqual x y = not (int_lt x y)
 -- `$x = AE` and similar commands: the expression first
 abbrev pub assign : ℕ → Change → programs.Arithmetic → Mode → State → Ending
 assign x change a m s =
-    continue_with (with_value (value a m s) (changed_value change (integer_at x s))) s (λ z. Signals true (record s { integers = slice_set s.integers x z }))
+    continue_with (with_value (value a m s) (changed_value change (integer_at x s))) s
+    (λ z. Signals true (record s { integers = slice_set s.integers x z }))
 
 -- a comparison of two expressions
 abbrev pub compare : programs.Arithmetic → Relation → programs.Arithmetic → Mode → State → Ending

@@ -6,11 +6,14 @@ use Rattle.sbl_program.specs.Best.{IsBest}
 
 -- the first of the longest strings that are a prefix of x is the first matching string
 abbrev pub BestComesFirst : Type 0
-BestComesFirst = (strings : List (List ℕ)) (x : List ℕ) (b : ℕ) (r : Option ℕ) → b ≤ suc (length x) → IsBest strings x b r → r ≡ first (below strings x b)
+BestComesFirst =
+    (strings : List (List ℕ)) (x : List ℕ) (b : ℕ) (r : Option ℕ) → b ≤ suc (length x) → IsBest strings x b r → r ≡ first (below strings x b)
 
 -- after a matching string come the shorter strings that are a prefix of it
 abbrev pub RestIsItsOwn : Type 0
-RestIsItsOwn = (strings : List (List ℕ)) (x : List ℕ) (before rest : List ℕ) (i : ℕ) → fitting strings x ≡ before ++ (i ∷ rest) → (w : List ℕ) × (slice_get strings i ≡ Some w) × (rest ≡ below strings w (length w))
+RestIsItsOwn =
+    (strings : List (List ℕ)) (x : List ℕ) (before rest : List ℕ) (i : ℕ) → fitting strings x ≡ before ++ (i ∷ rest)
+    → (w : List ℕ) × (slice_get strings i ≡ Some w) × (rest ≡ below strings w (length w))
 
 -- the i-th string is a prefix of x
 abbrev pub Matches : List (List ℕ) → List ℕ → ℕ → Type 0
@@ -29,4 +32,6 @@ FittingAreMatches = (strings : List (List ℕ)) (x : List ℕ) → AllDiffer str
 
 -- each matching string is longer than the next one
 abbrev pub FittingFall : Type 0
-FittingFall = (strings : List (List ℕ)) (x : List ℕ) (before rest : List ℕ) (i j : ℕ) → fitting strings x ≡ before ++ (i ∷ (j ∷ rest)) → length_at strings j < length_at strings i
+FittingFall =
+    (strings : List (List ℕ)) (x : List ℕ) (before rest : List ℕ) (i j : ℕ) → fitting strings x ≡ before ++ (i ∷ (j ∷ rest))
+    → length_at strings j < length_at strings i

@@ -1,5 +1,6 @@
 -- The rows of a linked table, and the links between them.
-use Rattle.std.specs.Prelude.{◌≡◌, ℕ, zero, suc, ◌<◌, ◌≤◌, true, false, List, length, map, take, nat_eq, Option, Some, None, slice_get, slice_index_or, Vec}
+use Rattle.std.specs.Prelude.{◌≡◌, ℕ, zero, suc, ◌<◌, ◌≤◌, true, false, List, length, map, take, nat_eq}
+use Rattle.std.specs.Prelude.{Option, Some, None, slice_get, slice_index_or, Vec}
 use Rattle.std.specs.Global.{Global}
 use Rattle.std.specs.List.{starts_with}
 use Rattle.std.specs.Ordering.{is_gt, nat_cmp, ordering_then}
@@ -22,7 +23,9 @@ abbrev pub Rise : List (List ℕ) → Type 0
 Rise texts = (j k : ℕ) (u v : List ℕ) → j ≤ k → slice_get texts j ≡ Some u → slice_get texts k ≡ Some v → is_gt (slice_cmp nat_cmp u v) ≡ false
 
 abbrev pub TiesFall : List (List ℕ) → List ℕ → Type 0
-TiesFall texts numbers = (j k a b : ℕ) (u : List ℕ) → j < k → slice_get texts j ≡ Some u → slice_get texts k ≡ Some u → slice_get numbers j ≡ Some a → slice_get numbers k ≡ Some b → b ≤ a
+TiesFall texts numbers =
+    (j k a b : ℕ) (u : List ℕ) → j < k → slice_get texts j ≡ Some u → slice_get texts k ≡ Some u
+    → slice_get numbers j ≡ Some a → slice_get numbers k ≡ Some b → b ≤ a
 
 -- the rows have exactly the strings of the table
 pub record AreRows (strings texts : List (List ℕ)) (numbers : List ℕ) : Type 0 where
@@ -36,7 +39,8 @@ abbrev pub IsLast : List (List ℕ) → List ℕ → ℕ → Option ℕ → Type
 IsLast texts x b None = (j : ℕ) (v : List ℕ) → slice_get texts j ≡ Some v → starts_with nat_eq x v ≡ true → b ≤ length v
 IsLast texts x b (Some r) =
     (w : List ℕ) × (slice_get texts r ≡ Some w) × (starts_with nat_eq x w ≡ true) × (length w < b) ×
-    ((j : ℕ) (v : List ℕ) → slice_get texts j ≡ Some v → starts_with nat_eq x v ≡ true → length v < b → (length v ≤ length w) × (r < j → length v < length w))
+    ((j : ℕ) (v : List ℕ) → slice_get texts j ≡ Some v → starts_with nat_eq x v ≡ true → length v < b
+    → (length v ≤ length w) × (r < j → length v < length w))
 
 -- all strings with fewer than b characters that are a prefix of x are also a prefix of row r, and those in rows after r
 -- are shorter than it
@@ -44,7 +48,8 @@ abbrev pub StandsAt : List (List ℕ) → List ℕ → ℕ → Option ℕ → Ty
 StandsAt texts x b None = IsLast texts x b None
 StandsAt texts x b (Some r) =
     (w : List ℕ) × (slice_get texts r ≡ Some w) ×
-    ((j : ℕ) (v : List ℕ) → slice_get texts j ≡ Some v → starts_with nat_eq x v ≡ true → length v < b → (starts_with nat_eq w v ≡ true) × (r < j → length v < length w))
+    ((j : ℕ) (v : List ℕ) → slice_get texts j ≡ Some v → starts_with nat_eq x v ≡ true → length v < b
+    → (starts_with nat_eq w v ≡ true) × (r < j → length v < length w))
 
 -- each row links to the last row of the longest shorter strings that are a prefix of it; `GoDown`: each link goes to an
 -- earlier row

@@ -10,7 +10,8 @@ use Rattle.sbl_program.specs.Search.{search_all}
 use Rattle.sbl_semantics.specs.State.{State, Ending, Signals, Stops, Doing, after, then_on, saved_cursor, put_back}
 use Rattle.sbl_ast.specs.declared.mode.Mode.{Mode}
 use Rattle.sbl_ast.specs.declared.mode.Mode.TheVariants.{Backward}
-use Rattle.sbl_semantics.specs.Control.{turns, times, count_of, seeks, limits, limit_here, restore_limit, backwards_from, backwards_end, with_group, pay_first, enter, leave}
+use Rattle.sbl_semantics.specs.Control.{turns, times, count_of, seeks, limits, limit_here, restore_limit}
+use Rattle.sbl_semantics.specs.Control.{backwards_from, backwards_end, with_group, pay_first, enter, leave}
 
 abbrev mutual
   -- What a command does after its step is paid, given the classes of the groupings and what a call of each routine

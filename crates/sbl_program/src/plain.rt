@@ -1,9 +1,9 @@
 //! A search that compares each string.
 
-ghost use Rattle.std.specs.Prelude.{◌≡◌, ◌≤◌, ◌++◌, ◌∷◌, [], List, ℕ, IfOk, map, nat_eq, length};
+ghost use Rattle.std.specs.Prelude.{◌≡◌, ◌≤◌, ◌++◌, ◌∷◌, [], IfOk, map, nat_eq, length};
 ghost use Rattle.std.specs.List.{starts_with};
 ghost use Rattle.sbl_semantics.specs.Fitting.{ahead_at, read_as};
-ghost use Rattle.sbl_program.specs.Best.{BestSoFar, IsBest};
+ghost use Rattle.sbl_program.specs.Best.{IsBest, IsNextBest};
 ghost use Rattle.sbl_program.specs.Strings.{entries_of, mode_of, strings_of};
 
 use crate::search::AmongSearch;
@@ -39,7 +39,7 @@ fn better(
     string: &[char],
     best: (Option<usize>, usize),
 ) -> (Option<usize>, usize)
-    ensures { (before : List (List ℕ)) → i ≡ length before → BestSoFar before (read_as direction part.now) below best.0 best.1 → BestSoFar (before ++ (read_as direction string.now ∷ [])) (read_as direction part.now) below result.0 result.1 }
+    ensures { IsNextBest (read_as direction part.now) below i (read_as direction string.now) best result }
 {
     if string.len() < best.1 {
         return best;

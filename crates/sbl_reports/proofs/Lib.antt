@@ -1,5 +1,7 @@
 pub mod BlockFacts
 pub mod WriterFacts
 pub mod RowFacts
+pub mod FindFacts
 pub mod FamilyFacts
 pub mod RecordFacts
+pub mod StemFacts

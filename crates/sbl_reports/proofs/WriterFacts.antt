@@ -4,7 +4,7 @@ use Rattle.std.specs.declared.vec.Vec.{Vec}
 use Rattle.std.specs.declared.alloc.Global.{Global}
 use Rattle.std.specs.declared.alloc.AllocError.{AllocError}
 use Rattle.csv.specs.declared.writer.Writer.{Writer}
-use Rattle.sbl_reports.specs.RowWriter.{Writes}
+use Rattle.sbl_io.specs.RecordsWritten.{Writes}
 
 -- a record is written, by its fields in another form
 pub writes_same : (r : Result (Unit {0}) AllocError) (fields shown : List (List ℕ)) (old new : Writer (Vec ℕ Global)) → fields ≡ shown → OnOk r (Writes fields old new)

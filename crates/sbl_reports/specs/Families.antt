@@ -2,7 +2,7 @@
 use Rattle.std.specs.Prelude.{ℕ, Bool, true, false, ◌==◌, ◌||◌, List, [], ◌∷◌, codes, decimal, map}
 use Rattle.std.specs.List.{filter, slice_split}
 use Rattle.sbl_bench.specs.Contents.{Contents, rows_now}
-use Rattle.sbl_rows.specs.Families.{FamilyResult, Under, Over, Pairs, family_results}
+use Rattle.sbl_rows.specs.Families.{FamilyResult, Under, Over, Pairs, Unknown, family_results}
 use Rattle.sbl_io.specs.Records.{records_text}
 use Rattle.sbl_reports.specs.RowRecords.{stem_fields}
 
@@ -13,6 +13,7 @@ abbrev pub result_fields : FamilyResult → List (List ℕ)
 result_fields (Under word stems) = codes "under" ∷ stem_fields word stems
 result_fields (Over stem words) = codes "over" ∷ stem_fields stem words
 result_fields (Pairs within apart across joined) = codes "pairs" ∷ decimal within ∷ decimal apart ∷ decimal across ∷ decimal joined ∷ []
+result_fields (Unknown number) = codes "unknown" ∷ decimal number ∷ []
 
 -- a row for each result
 abbrev pub families_text : Contents → List (List (List ℕ)) → List ℕ

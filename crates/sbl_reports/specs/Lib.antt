@@ -2,10 +2,12 @@
 pub mod Block
 pub mod RowRecords
 pub mod ItemRecords
-pub mod RowWriter
 pub mod Blank
 pub mod Listings
+pub mod Lookups
 pub mod Reports
 pub mod Families
+pub mod StemLines
+pub mod StemLinesAreRead
 -- what the functions inside the crate promise each other: nothing in these need be believed
 pub mod FamilyReader

@@ -141,6 +141,10 @@ impl Record for FamilyRow<'_> {
                 push_number(text, csv_record, pairs.across)?;
                 push_number(text, csv_record, pairs.joined)
             }
+            FamilyRow::Unknown(number) => {
+                csv_record.push_field(b"unknown")?;
+                push_number(text, csv_record, *number as u128)
+            }
         }
     }
 }

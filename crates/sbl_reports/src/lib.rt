@@ -4,15 +4,20 @@
 mod block_text;
 mod families;
 mod item_records;
+pub mod laws;
 mod listings;
+mod lookups;
 mod record_writer;
 mod records;
 mod reports;
 mod row_records;
+mod written_stems;
 
 pub use block_text::{BlockFault, BlockText, read_block};
 pub use families::families_text;
 pub use listings::rows_text;
+pub use lookups::{found_text, stem_text};
 pub use record_writer::{RecordWriter, outcome_fields};
 pub use records::{Record, records_text};
 pub use reports::{changes_text, largest_text, stats_text};
+pub use written_stems::{has_stem_lines, stem_lines, stems_in, text_line_count};

@@ -1,7 +1,7 @@
 //! Rows that are written one after another, each as it comes.
 ghost use Rattle.std.specs.Prelude.{◌≡◌, ◌∷◌, [], ℕ, List, IfOk, OnOk, map};
 ghost use Rattle.sbl_reports.specs.RowRecords as spec;
-ghost use Rattle.sbl_reports.specs.RowWriter.{HasWritten, Writes};
+ghost use Rattle.sbl_io.specs.RecordsWritten.{HasWritten, Writes};
 ghost use Rattle.sbl_rows.specs.Rows.{view_row};
 ghost use Rattle.sbl_semantics.specs.Outcome.{outcome_of};
 

@@ -31,7 +31,7 @@ pub fn records_text<T: Record>(alloc: Global, records: &[T]) -> Result<Vec<u8>, 
     push_records(alloc, &mut length, records)?;
     let mut out = ReportText::with_length(alloc, &length)?;
     push_records(alloc, &mut out, records)?;
-    Ok(out.into_bytes())
+    out.into_bytes()
 }
 
 /// Appends the lines of records. Returns `AllocError` if an allocation fails.

@@ -9,6 +9,9 @@ use Rattle.sbl_ast.specs.declared.tree.Prefix.TheVariants as prefixes
 use Rattle.sbl_ast.specs.declared.tree.Simple.{Simple}
 use Rattle.sbl_ast.specs.Tree.{Expression, expression, Sums, no_sums, sum, Product, product, Scales, no_scales, scale, Factor, negated}
 use Rattle.sbl_ast.specs.Tree.{bracketed, numeral, variable, fixed, length_of, Starter, no_starter, starter, Groups, Term, term, simple_}
+use Rattle.sbl_ast.specs.Tree.{Entry}
+use Rattle.sbl_ast.specs.View.{view_groups}
+use Rattle.sbl_ast.specs.declared.tree.Group.{Group}
 use Rattle.sbl_resolver.specs.declared.occurrences.Use.TheVariants as use_as
 use Rattle.sbl_resolver.specs.declared.occurrences.Notice.{Notice}
 use Rattle.sbl_resolver.specs.declared.occurrences.Notice.TheVariants as notices
@@ -36,6 +39,11 @@ view_occurrences ms = map view_occurrence ms
 -- the new occurrences are what a function of the definitions makes of the old ones
 abbrev pub Adds : List Occurrence → List Occurrence → (List spec.Occurrence → List spec.Occurrence) → Type 0
 Adds old new noted = view_occurrences new ≡ noted (view_occurrences old)
+
+-- the occurrences of groups were added: with those of any strings after the groups, they are those of both
+abbrev pub AddsGroups : List Occurrence → List Occurrence → List Group → ℕ → Site → Type 0
+AddsGroups old new groups k p =
+    (bare : List Entry) → spec.noted_entries bare k p (view_occurrences new) ≡ spec.noted_groups (view_groups groups bare) k p (view_occurrences old)
 
 abbrev pub noted_names : DeclarationKind → List (List ℕ) → Site → List spec.Occurrence → List spec.Occurrence
 noted_names k ns p sofar = fold (λ s n. spec.put (spec.declares k n) p s) sofar ns

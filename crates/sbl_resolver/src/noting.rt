@@ -1,12 +1,11 @@
 //! Collects the occurrences of a script, in text order.
 
-ghost use Rattle.std.specs.Prelude.{◌≡◌, List, map, OnOk, IfOk, string_bytes};
+ghost use Rattle.std.specs.Prelude.{◌≡◌, map, OnOk, IfOk, string_bytes};
 ghost use Rattle.sbl_ast.specs.View.{view_argument, view_expression, view_factor, view_product, view_sums, view_scales, view_entry, view_command, view_rows, view_others, view_starter, view_among, view_groups, view_row, view_term, view_plain, view_items};
 ghost use Rattle.sbl_ast.specs.Order.{view_in_mode};
-ghost use Rattle.sbl_ast.specs.Tree as trees;
 ghost use Rattle.sbl_resolver.specs.Occurrences as spec;
 ghost use Rattle.sbl_resolver.specs.OccurrenceView as walk;
-ghost use Rattle.sbl_resolver.specs.OccurrenceView.{Adds, noted_names, view_occurrences};
+ghost use Rattle.sbl_resolver.specs.OccurrenceView.{Adds, AddsGroups, noted_names, view_occurrences};
 
 use crate::occurrences::{Notice, Occurrence, Site, Use};
 use crate::sofar::SoFar;
@@ -261,8 +260,7 @@ impl<'a> SoFar<'a> {
         number: usize,
         site: Site,
     ) -> Result<(), AllocError>
-        ensures { OnOk result ((bare : List trees.Entry) →
-            spec.noted_entries bare number site (view_occurrences self.new) ≡ spec.noted_groups (view_groups groups.now.items bare) number site (view_occurrences self.old)) }
+        ensures { OnOk result (AddsGroups self.old self.new groups.now.items number site) }
     {
         for group in groups {
             self.note_entry(&group.first, number, site)?;

@@ -1,6 +1,6 @@
 -- No row is told exactly if no pair is counted; pairs add up; words have their stems.
-use Rattle.std.proofs.Common.{◌≡◌, ◌∙◌, inl, inr, ◌||◌, ◌++◌, ◌+◌, ◌*◌, Bool, true, false, not, cond, ℕ, List, [], ◌∷◌, map, length, Option, Some, None, if◌then◌else◌, option_to_list, arith, refl, sym, ap, subst}
-use Rattle.std.specs.List.{All, AllByRecursion, cons_option, count_by, filter, filter_map, find}
+use Rattle.std.proofs.Common.{◌≡◌, ◌∙◌, inl, inr, ◌||◌, ◌&&◌, ◌++◌, ◌+◌, ◌*◌, Bool, true, false, not, cond, ℕ, List, [], ◌∷◌, map, length, Option, Some, None, if◌then◌else◌, option_to_list, arith, refl, sym, ap, subst}
+use Rattle.std.specs.List.{All, AllByRecursion, cons_option, count_by, filter, filter_map, find, flat_map, list_any}
 use Rattle.std.specs.Option.{option_map}
 use Rattle.std.specs.declared.cmp.Ordering.{Ordering}
 use Rattle.std.specs.declared.cmp.Ordering.TheVariants.{Less, Equal, Greater}
@@ -12,14 +12,14 @@ use Rattle.std.proofs.lemmas.Map.Lookups.{exact_bytes}
 use Rattle.std.proofs.lemmas.Map.Text.{is_eq-slice_cmp}
 use Rattle.std.proofs.lemmas.Slice.Eq.{bytes_eq-Decides}
 use Rattle.sbl_rows.specs.Classes.{Pair, members_of}
-use Rattle.sbl_rows.specs.Families.{FamilyResult, all_of, any_two, pair_of_word, families_of, family_of, first_with, is_in, other_stem, over, over_rows, pairs_across, pairs_between, pairs_in, pairs_within, same_stem, stems_of, under, under_with, with_stem}
-use Rattle.sbl_rows.specs.FamiliesAreSound.{NoneApartIfNoUnder, NoneJoinedIfNoOver, PairsAddUp, WordsHaveTheirStems}
+use Rattle.sbl_rows.specs.Families.{FamilyResult, all_of, any_two, pair_of_word, families_of, family_of, first_with, is_in, is_unknown, other_stem, over, over_rows, pairs_across, pairs_between, pairs_in, pairs_within, same_stem, stems_of, under, under_with, with_stem}
+use Rattle.sbl_rows.specs.FamiliesAreSound.{NoneApartIfNoUnder, NoneJoinedIfNoOver, PairsAddUp, UnknownHaveNoRow, UnknownRise, WordsHaveTheirStems}
 use Rattle.sbl_semantics.specs.Outcome.{Outcome', Refused, Stem}
 use Rattle.sbl_rows.specs.Rows.{Row}
 use Rattle.sbl_rows.specs.ChangedRows.{outcome_in}
 use Rattle.sbl_rows.proofs.ChangeLaws.{alike_order, none_made}
 use Rattle.sbl_rows.proofs.HeadFacts.{all-first, mem-members, some}
-use Rattle.sbl_rows.proofs.OrderFacts.{any-in_order, text_cmp}
+use Rattle.sbl_rows.proofs.OrderFacts.{any-in_order, in_order-sorted, text_cmp}
 use Rattle.sbl_rows.proofs.PairNumbers.{count-cons, pairs-all, pairs-any, within-either}
 use Rattle.sbl_rows.proofs.Sorting.{mem}
 
@@ -277,3 +277,47 @@ rows_from families h = none_made (λ s. over s (words_with s families)) (stems_o
 
 pub none_joined : NoneJoinedIfNoOver
 none_joined families = (λ e. rows_from families (joined_to families e), λ e. joined_from families (rows_to families e))
+
+-- ---- unknown words
+
+any-filter : (test keep : List ℕ → Bool) (ws : List (List ℕ)) → list_any test (filter keep ws) ≡ list_any (λ w. test w && keep w) ws
+any-filter test keep [] = refl
+any-filter test keep (w ∷ ws) = by (keep w) (any-filter test keep ws)
+  where
+    and_true : (b : Bool) → b ≡ (b && true)
+    and_true true = refl
+    and_true false = refl
+
+    and_false : (b : Bool) → false ≡ (b && false)
+    and_false true = refl
+    and_false false = refl
+
+    by : (b : Bool) → list_any test (filter keep ws) ≡ list_any (λ w. test w && keep w) ws
+        → list_any test (cond b (w ∷ filter keep ws) (filter keep ws)) ≡ ((test w && b) || list_any (λ w. test w && keep w) ws)
+    by true rest = λ i. and_true (test w) i || rest i
+    by false rest = rest ∙ ap (λ (b : Bool). b || list_any (λ w. test w && keep w) ws) (and_false (test w))
+
+any-one : (keep : List ℕ → Bool) (word : List ℕ) (ws : List (List ℕ)) → list_any (λ w. bytes_eq word w && keep w) ws ≡ (is_in ws word && keep word)
+any-one keep word [] = refl
+any-one keep word (w ∷ ws) = by (bytes_eq word w) refl (any-one keep word ws)
+  where
+    absorb : (a b : Bool) → (a || (b && a)) ≡ a
+    absorb true b = refl
+    absorb false true = refl
+    absorb false false = refl
+
+    by : (b : Bool) → bytes_eq word w ≡ b → list_any (λ w. bytes_eq word w && keep w) ws ≡ (is_in ws word && keep word)
+        → ((b && keep w) || list_any (λ w. bytes_eq word w && keep w) ws) ≡ ((b || is_in ws word) && keep word)
+    by true same rest =
+        let one : keep w ≡ keep word = ap keep (sym ((bytes_eq-Decides word w).0 same)) in
+        (λ i. one i || rest i) ∙ absorb (keep word) (is_in ws word)
+    by false other rest = rest
+
+pub unknown_rise : UnknownRise
+unknown_rise rows lists = in_order-sorted (filter (is_unknown rows) (flat_map (λ l. l) lists))
+
+pub unknown_have_no_row : UnknownHaveNoRow
+unknown_have_no_row rows lists word =
+    any-in_order (bytes_eq word) (filter (is_unknown rows) (flat_map (λ l. l) lists))
+    ∙ any-filter (bytes_eq word) (is_unknown rows) (flat_map (λ l. l) lists)
+    ∙ any-one (is_unknown rows) word (flat_map (λ l. l) lists)

@@ -1,6 +1,7 @@
 pub mod PairFacts
 pub mod Exchanges
 pub mod Sorting
+pub mod Putting
 pub mod OrderFacts
 pub mod Ranging
 pub mod GroupFacts

@@ -1,6 +1,6 @@
 -- Texts in order: the same texts have one order, and texts in order stay as they are.
 use Rattle.std.proofs.Common.{◌≡◌, ◌∙◌, ◌||◌, ◌&&◌, Bool, true, false, ℕ, List, [], ◌∷◌, map, cond, refl, sym, ap}
-use Rattle.std.specs.List.{AllByRecursion, filter, list_any}
+use Rattle.std.specs.List.{AllByRecursion, filter, fold, list_any}
 use Rattle.std.specs.List.Sorted.{IsStrictlySortedBy}
 use Rattle.std.specs.Cmp.{IsTotalOrder}
 use Rattle.std.specs.Cmp.Lexicographic.{slice_cmp}
@@ -15,6 +15,8 @@ use Rattle.std.proofs.lemmas.Map.Text.{is_eq-slice_cmp}
 use Rattle.std.proofs.lemmas.Slice.Eq.{bytes_eq-Decides}
 use Rattle.sbl_rows.specs.Classes.{Pair, in_order, members_of}
 use Rattle.sbl_rows.specs.Grouping.{pair_cmp, pairs_in_order}
+use Rattle.sbl_rows.specs.Counting.{put_texts}
+use Rattle.sbl_rows.proofs.Putting.{mem-put, or_false, put-sorted}
 use Rattle.sbl_rows.proofs.Sorting.{any_inserted, first_below, mem, sorted-insert}
 
 pub total : IsTotalOrder pair_cmp
@@ -128,36 +130,21 @@ members-in_order stem pairs =
     sym (in_order-stays (members_of stem (pairs_in_order pairs)) (members_rise stem (pairs_in_order pairs) (sorted-sorted pairs)))
     ∙ members-sorted stem pairs
 
--- ---- pairs that are put in from the first on
+-- ---- pairs, and texts, that are put in from the first on
 
 abbrev pub put_in : List Pair → List Pair → List Pair
-put_in keys [] = keys
-put_in keys (m ∷ pairs) = put_in (insert_key pair_cmp keys m) pairs
+put_in keys more = fold (insert_key pair_cmp) keys more
 
-put_in-sorted : (keys pairs : List Pair) → IsStrictlySortedBy pair_cmp keys → IsStrictlySortedBy pair_cmp (put_in keys pairs)
-put_in-sorted keys [] s = s
-put_in-sorted keys (m ∷ pairs) s = put_in-sorted (insert_key pair_cmp keys m) pairs (sorted-insert pair_cmp total exact keys m s)
-
-mem-put_in : (q : Pair) (keys pairs : List Pair) → mem pair_cmp q (put_in keys pairs) ≡ (mem pair_cmp q pairs || mem pair_cmp q keys)
-mem-put_in q keys [] = refl
-mem-put_in q keys (m ∷ pairs) =
-    mem-put_in q (insert_key pair_cmp keys m) pairs
-    ∙ ap (λ (b : Bool). mem pair_cmp q pairs || b) (any_inserted pair_cmp total exact (λ x. is_eq (pair_cmp q x)) keys m)
-    ∙ or_shift (mem pair_cmp q pairs) (is_eq (pair_cmp q m)) (mem pair_cmp q keys)
-  where
-    or_shift : (a b c : Bool) → (a || (b || c)) ≡ ((b || a) || c)
-    or_shift true true c = refl
-    or_shift true false c = refl
-    or_shift false true c = refl
-    or_shift false false c = refl
-
--- the order in which pairs are put in is all one
+-- the order in which they are put in is all one
 pub put_in-all : (pairs : List Pair) → put_in [] pairs ≡ pairs_in_order pairs
 unfolding IsStrictlySortedBy
 put_in-all pairs =
-    btree_set_from_contains total (record { keys = put_in [] pairs }) (record { keys = pairs_in_order pairs }) (put_in-sorted [] pairs tt) (sorted-sorted pairs)
-    (λ q. mem-put_in q [] pairs ∙ or_false (mem pair_cmp q pairs) ∙ sym (any-sorted (λ x. is_eq (pair_cmp q x)) pairs)) exact
-  where
-    or_false : (a : Bool) → (a || false) ≡ a
-    or_false true = refl
-    or_false false = refl
+    btree_set_from_contains total (record { keys = put_in [] pairs }) (record { keys = pairs_in_order pairs }) (put-sorted pair_cmp total exact [] pairs tt) (sorted-sorted pairs)
+    (λ q. mem-put pair_cmp total exact q [] pairs ∙ or_false (mem pair_cmp q pairs) ∙ sym (any-sorted (λ x. is_eq (pair_cmp q x)) pairs)) exact
+
+pub put_texts-all : (texts : List (List ℕ)) → put_texts [] texts ≡ in_order texts
+unfolding IsStrictlySortedBy
+put_texts-all texts =
+    btree_set_from_contains nat_list_cmp_total (record { keys = put_texts [] texts }) (record { keys = in_order texts })
+    (put-sorted text_cmp nat_list_cmp_total exact_bytes [] texts tt) (in_order-sorted texts)
+    (λ q. mem-put text_cmp nat_list_cmp_total exact_bytes q [] texts ∙ or_false (mem text_cmp q texts) ∙ sym (any-in_order (λ x. is_eq (text_cmp q x)) texts)) exact_bytes

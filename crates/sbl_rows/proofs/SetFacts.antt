@@ -1,5 +1,5 @@
 -- The map of outcomes and the sets of moves and of stems, one insertion after another.
-use Rattle.std.proofs.Common.{◌≡◌, ◌∙◌, ◌||◌, ◌&&◌, ◌++◌, ◌+◌, add-zero, length, arith, ℕ, Bool, true, false, cond, if◌then◌else◌, List, [], ◌∷◌, map, Option, Some, None, refl, sym, ap}
+use Rattle.std.proofs.Common.{◌≡◌, ◌∙◌, ◌||◌, ◌&&◌, ◌++◌, ◌+◌, add-zero, length, arith, ℕ, Bool, true, false, cond, if◌then◌else◌, List, [], ◌∷◌, map, not, Option, Some, None, is_none, is_some, refl, sym, ap}
 use Rattle.std.specs.declared.cmp.Ordering.{Ordering}
 use Rattle.std.specs.declared.cmp.Ordering.TheVariants.{Less, Equal, Greater}
 use Rattle.std.specs.Ordering.{is_eq, match_ordering, nat_cmp, ordering_then}
@@ -23,7 +23,7 @@ use Rattle.sbl_rows.specs.ChangedRows.{outcome_in}
 use Rattle.sbl_rows.specs.KnownOutcomes.{Text, has_text, known_outcome}
 use Rattle.sbl_rows.specs.Grouping.{TextPair, pair_cmp, plain_pair}
 use Rattle.std.proofs.lemmas.Slice.Eq.{bytes_eq-Decides}
-use Rattle.sbl_rows.specs.Counting.{count_in, without}
+use Rattle.sbl_rows.specs.Counting.{Outcomes, count_in, put_texts, unknown_in, without}
 use Rattle.sbl_rows.proofs.OrderFacts.{bytes_eq-back}
 
 -- ---- moves
@@ -112,3 +112,40 @@ stem_counted m n stem v q one put =
     by true false e same = cc e
     by false true e same = cc e
     by false false e same = sym (add-zero (count_in m q))
+
+-- ---- words without an outcome
+
+-- the word past the end
+abbrev pub no_text : Text
+no_text = record { ref_ptr = (0, 0); now = [] }
+
+pub none_seen : (o : Option (Bor Outcome)) → is_none (option_map view_outcome o) ≡ is_none o
+none_seen None = refl
+none_seen (Some outcome) = refl
+
+pub none_is : (o : Option (Bor Outcome)) (b : Bool) → not b ≡ is_some o → is_none o ≡ b
+none_is None true e = refl
+none_is None false e = cc e
+none_is (Some outcome) true e = cc e
+none_is (Some outcome) false e = refl
+
+texts-insert : (keys : List Text) (k : Text) → texts_of (insert_key text_order keys k) ≡ insert_key (slice_cmp nat_cmp) (texts_of keys) k.now
+texts-insert [] k = refl
+texts-insert (x ∷ keys) k = by (text_order k x) (texts-insert keys k)
+  where
+    by : (o : Ordering) → texts_of (insert_key text_order keys k) ≡ insert_key (slice_cmp nat_cmp) (texts_of keys) k.now
+        → texts_of (match_ordering o (k ∷ x ∷ keys) (x ∷ keys) (x ∷ insert_key text_order keys k)) ≡ match_ordering o (k.now ∷ x.now ∷ texts_of keys) (x.now ∷ texts_of keys) (x.now ∷ insert_key (slice_cmp nat_cmp) (texts_of keys) k.now)
+    by Less rest = refl
+    by Equal rest = refl
+    by Greater rest = ap (λ l. x.now ∷ l) rest
+
+-- a word that has no outcome is put in, and one that has an outcome is not
+pub unknown-put : (outcome : Outcomes) (old : List Text) (new : List Text) (w : Text) (words : List (List ℕ)) → is_none (outcome w.now) ≡ true → new ≡ insert_key text_order old w
+    → put_texts (texts_of new) (unknown_in outcome words) ≡ put_texts (texts_of old) (unknown_in outcome (w.now ∷ words))
+unknown-put outcome old new w words none put =
+    ap (λ (l : List (List ℕ)). put_texts l (unknown_in outcome words)) (ap texts_of put ∙ texts-insert old w)
+    ∙ ap (λ (b : Bool). put_texts (texts_of old) (cond b (w.now ∷ unknown_in outcome words) (unknown_in outcome words))) (sym none)
+
+pub known-left : (outcome : Outcomes) (old : List Text) (w : List ℕ) (words : List (List ℕ)) → is_none (outcome w) ≡ false
+    → put_texts (texts_of old) (unknown_in outcome words) ≡ put_texts (texts_of old) (unknown_in outcome (w ∷ words))
+known-left outcome old w words some = ap (λ (b : Bool). put_texts (texts_of old) (cond b (w ∷ unknown_in outcome words) (unknown_in outcome words))) (sym some)

@@ -1,12 +1,13 @@
 -- How families are gone through: words are taken out of the outcomes, and stems are counted.
-use Rattle.std.specs.Prelude.{◌≡◌, ℕ, ⊤, Bool, false, ◌||◌, List, [], ◌∷◌, ◌++◌, map, Option, None, option_to_list, if◌then◌else◌}
-use Rattle.std.specs.List.{AllByRecursion, flat_map}
+use Rattle.std.specs.Prelude.{◌≡◌, ℕ, ⊤, Bool, false, ◌||◌, List, [], ◌∷◌, ◌++◌, map, Option, None, is_none, option_to_list, if◌then◌else◌}
+use Rattle.std.specs.List.{AllByRecursion, filter, flat_map, fold}
 use Rattle.std.specs.Option.{unwrap_or}
 use Rattle.std.specs.declared.cmp.Ordering.TheVariants.{Less}
 use Rattle.std.specs.Ordering.{nat_cmp}
 use Rattle.std.specs.Cmp.Lexicographic.{slice_cmp}
 use Rattle.std.specs.Str.{bytes_eq}
 use Rattle.std.specs.BTreeMap.{BTreeMap, get_by}
+use Rattle.std.specs.BTreeSet.{insert_key}
 use Rattle.std.specs.declared.vec.Vec.{Vec}
 use Rattle.std.specs.declared.alloc.Global.{Global}
 use Rattle.sbl_rows.specs.declared.stem_class.StemPair.{StemPair}
@@ -40,6 +41,14 @@ outcomes_left outcome (word ∷ words) = outcomes_left (without word outcome) wo
 abbrev pub all_taken : Outcomes → List (List (List ℕ)) → List (List Pair)
 all_taken outcome [] = []
 all_taken outcome (words ∷ lists) = pairs_taken outcome words ∷ all_taken (outcomes_left outcome words) lists
+
+-- the words that have no outcome
+abbrev pub unknown_in : Outcomes → List (List ℕ) → List (List ℕ)
+unknown_in outcome words = filter (λ word. is_none (outcome word)) words
+
+-- texts in order, and some more put in one after another
+abbrev pub put_texts : List (List ℕ) → List (List ℕ) → List (List ℕ)
+put_texts texts more = fold (insert_key (slice_cmp nat_cmp)) texts more
 
 -- the pairs whose stem is none of those before, each stem once
 abbrev pub firsts : (List ℕ → Bool) → List Pair → List Pair

@@ -1,6 +1,6 @@
 -- Families: words of which an author says that they belong together, and how far their stems agree with that.
-use Rattle.std.specs.Prelude.{ℕ, ◌+◌, Bool, true, not, List, [], ◌∷◌, ◌++◌, map, Option, Some, None, option_to_list, if◌then◌else◌}
-use Rattle.std.specs.List.{count_by, filter_map, find, flat_map, list_any, sum_by}
+use Rattle.std.specs.Prelude.{ℕ, ◌+◌, Bool, true, not, List, [], ◌∷◌, ◌++◌, length, map, Option, Some, None, is_none, option_to_list, if◌then◌else◌}
+use Rattle.std.specs.List.{count_by, filter, filter_map, find, flat_map, list_any, sum_by}
 use Rattle.std.specs.Option.{option_map}
 use Rattle.std.specs.Str.{bytes_eq}
 use Rattle.std.specs.Borrow.{Bor}
@@ -44,6 +44,7 @@ pub data FamilyResult : Type 0 where
   Under : List ℕ → List (List ℕ) → FamilyResult
   Over : List ℕ → List (List ℕ) → FamilyResult
   Pairs : ℕ → ℕ → ℕ → ℕ → FamilyResult
+  Unknown : ℕ → FamilyResult
 
 -- the stems of a family, in code point order
 abbrev pub stems_of : List Pair → List (List ℕ)
@@ -110,14 +111,23 @@ abbrev pub pairs_row : List (List Pair) → FamilyResult
 pairs_row families =
     Pairs (pairs_within any_two families) (pairs_within other_stem families) (pairs_across any_two families) (pairs_across same_stem families)
 
+-- ---- words that have no row
+
+abbrev pub is_unknown : List Row → List ℕ → Bool
+is_unknown rows word = is_none (outcome_in rows word)
+
+-- the words of the lists that have no row, in code point order, each once
+abbrev pub unknown_words : List Row → List (List (List ℕ)) → List (List ℕ)
+unknown_words rows lists = in_order (filter (is_unknown rows) (flat_map (λ l. l) lists))
+
 -- ---- all together
 
 abbrev pub results_of : List (List Pair) → List FamilyResult
 results_of families = filter_map under families ++ over_rows families ++ pairs_row families ∷ []
 
--- what these lists of words are over these rows
+-- what these lists of words are over these rows, and how many of their words have no row
 abbrev pub family_results : List Row → List (List (List ℕ)) → List FamilyResult
-family_results rows lists = results_of (families_of rows [] lists)
+family_results rows lists = results_of (families_of rows [] lists) ++ Unknown (length (unknown_words rows lists)) ∷ []
 
 -- the lists of words that the code's values represent
 abbrev pub view_words : List (Vec (Bor (List ℕ)) Global) → List (List (List ℕ))
@@ -128,6 +138,7 @@ abbrev pub view_result : FamilyRow → FamilyResult
 view_result (code.Under w ss) = Under w.now (texts_of ss.items)
 view_result (code.Over c) = Over c.stem.now (texts_of c.members.items)
 view_result (code.Pairs n) = Pairs n.within n.apart n.across n.joined
+view_result (code.Unknown n) = Unknown n
 
 abbrev pub view_results : List FamilyRow → List FamilyResult
 view_results rows = map view_result rows

@@ -1,6 +1,7 @@
 -- definitions that the contracts of public functions use
 pub mod Setting
 pub mod Rows
+pub mod StemRows
 pub mod ChangedRows
 pub mod Classes
 pub mod ClassesAreSound

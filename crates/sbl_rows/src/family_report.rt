@@ -10,6 +10,7 @@ use crate::family_rows::{push_over, push_under};
 use crate::outcomes::outcomes_of;
 use crate::row::Row;
 use crate::stem_class::StemClass;
+use crate::unknown_words::count_unknown;
 use std::alloc::{AllocError, Global};
 
 /// A row about families.
@@ -27,6 +28,8 @@ pub enum FamilyRow<'a> {
     Over(StemClass<'a>),
     /// The numbers of pairs of words.
     Pairs(PairCounts),
+    /// The number of words that have no row.
+    Unknown(usize),
 }
 
 /// Numbers of pairs of words.
@@ -44,8 +47,8 @@ pub struct PairCounts {
 
 /// Returns how far stems agree with families, which are lists of words. A word counts if it has a row and a stem, and was not before,
 /// in its family or an earlier one. First the families whose words have two stems or more, in their order; then the stems that words
-/// of two families or more have, in code point order; then the numbers of pairs. Each word has one row; of several the first counts.
-/// Returns `AllocError` if an allocation fails.
+/// of two families or more have, in code point order; then the numbers of pairs; last the number of different words of the lists that
+/// have no row. Each word has one row; of several the first counts. Returns `AllocError` if an allocation fails.
 pub fn families<'a>(
     alloc: Global,
     rows: &[Row<'a>],
@@ -54,11 +57,13 @@ pub fn families<'a>(
     ensures { IfOk result (λ found. view_results found.items ≡ family_results (view_rows rows.now) (view_words lists.now)) }
 {
     let mut outcomes = outcomes_of(alloc, rows)?;
+    let unknown = count_unknown(alloc, &outcomes, lists)?;
     let families = families_of(alloc, &mut outcomes, lists)?;
     let mut found = Vec::new(alloc);
     push_under(alloc, &mut found, &families)?;
     push_over(alloc, &mut found, &families)?;
     let pairs = pairs_row(alloc, &families)?;
     found.push(pairs)?;
+    found.push(FamilyRow::Unknown(unknown))?;
     Ok(found)
 }

@@ -2,7 +2,7 @@
 
 ghost use Rattle.sbl_rows.specs.ClassesAreSound.{ClassesAreOfPairs, ClassesAreOfRows, ClassesOfPairsRise, ClassesRise};
 ghost use Rattle.sbl_rows.specs.LargestAreSound.{LargestAreFirst};
-ghost use Rattle.sbl_rows.specs.FamiliesAreSound.{NoneApartIfNoUnder, NoneJoinedIfNoOver, PairsAddUp, WordsHaveTheirStems};
+ghost use Rattle.sbl_rows.specs.FamiliesAreSound.{NoneApartIfNoUnder, NoneJoinedIfNoOver, PairsAddUp, UnknownHaveNoRow, UnknownRise, WordsHaveTheirStems};
 ghost use Rattle.sbl_rows.specs.ChangesAreSound.{EqualListsHaveNoChanges, ExchangedListsTurnChanges, NoClassIsSplitAndRenamed};
 
 /// The stems of the classes are in strictly ascending code point order, a prefix first, and so are the words of each class.
@@ -31,12 +31,15 @@ pub fn classes_of_pairs_are_sound()
 
 /// No two words of one family have different stems exactly if there is no row of a family with several stems. No two words of two families
 /// share a stem exactly if there is no row of a stem of several families. The pairs within families and across them are all pairs of the words
-/// that count; the pairs within share a stem or are apart. Each word that counts has the stem of its row.
+/// that count; the pairs within share a stem or are apart. Each word that counts has the stem of its row. The unknown words are those of the
+/// lists that have no row, each once.
 pub fn families_are_sound()
     ensures apart { NoneApartIfNoUnder }
     ensures joined { NoneJoinedIfNoOver }
     ensures sum { PairsAddUp }
     ensures stems { WordsHaveTheirStems }
+    ensures rise { UnknownRise }
+    ensures unknown { UnknownHaveNoRow }
 {}
 
 /// The largest classes and some others are all classes of the rows, each once, and each class is before all that come after it: it has

@@ -20,6 +20,7 @@ mod outcomes;
 mod pairs;
 mod row;
 mod stem_class;
+mod unknown_words;
 mod words;
 
 pub use change::ChangeRow;

@@ -22,6 +22,18 @@ pub record Folder : Type 0 where
   pub failed : Option SaveStep
   pub is_left : Bool
 
+-- a file before the first step: the target has these bytes on the disk, or there is none
+abbrev pub folder_with : Option (List ℕ) → Folder
+folder_with target = record {
+  target = target;
+  draft = None;
+  is_flushed = false;
+  now = Exactly target ∷ [];
+  ever = Exactly target ∷ [];
+  failed = None;
+  is_left = false;
+}
+
 -- ---- steps
 
 -- the new file is made, and has no bytes
@@ -78,8 +90,24 @@ without_draft f = record f { draft = None }
 -- The target has the text, also after a stop of the machine. At no moment anything else could be found there than before, or the
 -- text. No step failed.
 abbrev pub with_text : List ℕ → Folder → Folder
-with_text text f = record { target = Some text; draft = None; is_flushed = true; now = Exactly (Some text) ∷ []; ever = f.ever ++ Exactly (Some text) ∷ []; failed = None; is_left = false }
+with_text text f = record {
+  target = Some text;
+  draft = None;
+  is_flushed = true;
+  now = Exactly (Some text) ∷ [];
+  ever = f.ever ++ Exactly (Some text) ∷ [];
+  failed = None;
+  is_left = false;
+}
 
 -- the same, but the names could not be flushed: after a stop of the machine it may be as before
 abbrev pub with_unsettled_text : List ℕ → Folder → Folder
-with_unsettled_text text f = record { target = Some text; draft = None; is_flushed = true; now = f.now ++ Exactly (Some text) ∷ []; ever = f.ever ++ Exactly (Some text) ∷ []; failed = Some step.FlushNames; is_left = false }
+with_unsettled_text text f = record {
+  target = Some text;
+  draft = None;
+  is_flushed = true;
+  now = f.now ++ Exactly (Some text) ∷ [];
+  ever = f.ever ++ Exactly (Some text) ∷ [];
+  failed = Some step.FlushNames;
+  is_left = false;
+}

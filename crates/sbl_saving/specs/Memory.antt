@@ -15,4 +15,12 @@ view_find (find.Exactly file) = Exactly (view_file file)
 view_find find.Anything = Anything
 
 abbrev pub view_memory : MemoryFolder → Folder
-view_memory m = record { target = view_file m.target; draft = view_file m.draft; is_flushed = m.is_flushed; now = map view_find m.finds_now.items; ever = map view_find m.finds_ever.items; failed = m.failed; is_left = m.is_left }
+view_memory m = record {
+  target = view_file m.target;
+  draft = view_file m.draft;
+  is_flushed = m.is_flushed;
+  now = map view_find m.finds_now.items;
+  ever = map view_find m.finds_ever.items;
+  failed = m.failed;
+  is_left = m.is_left;
+}

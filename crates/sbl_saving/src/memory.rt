@@ -1,6 +1,6 @@
 //! A folder in memory, for tests: one of its steps fails. It knows what it has, so its contracts say it.
-ghost use Rattle.std.specs.Prelude.{◌≡◌, [], ◌∷◌, Err, IfOk, None, OnErr, OnOk, Some, false};
-ghost use Rattle.sbl_saving.specs.Folders.{Exactly, after_failed, after_no_draft, after_no_remove, found_of};
+ghost use Rattle.std.specs.Prelude.{◌≡◌, [], ◌∷◌, Err, IfOk, OnErr, OnOk, Some};
+ghost use Rattle.sbl_saving.specs.Folders.{after_failed, after_no_draft, after_no_remove, folder_with, found_of};
 ghost use Rattle.sbl_saving.specs.Memory.{view_file, view_find, view_memory};
 
 use crate::folder::{Failed, Folder, SaveStep};
@@ -63,7 +63,7 @@ impl MemoryFolder {
         target: Option<Vec<u8>>,
         fails_at: u32,
     ) -> Result<MemoryFolder, AllocError>
-        ensures { IfOk result (λ m. view_memory m ≡ record { target = view_file target; draft = None; is_flushed = false; now = Exactly (view_file target) ∷ []; ever = Exactly (view_file target) ∷ []; failed = None; is_left = false }) }
+        ensures { IfOk result (λ m. view_memory m ≡ folder_with (view_file target)) }
     {
         let now = only(alloc, Find::Exactly(copy_of(alloc, &target)?))?;
         let ever = only(alloc, Find::Exactly(copy_of(alloc, &target)?))?;

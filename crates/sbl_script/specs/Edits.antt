@@ -1,5 +1,6 @@
 -- What an edit may replace in a script, the script after the edit, and the faults of an edit.
-use Rattle.std.specs.Prelude.{◌≡◌, ℕ, ◌+◌, Bool, true, false, List, [], ◌∷◌, ◌++◌, length, map, Option, Some, None, Result, Ok, Err, nat_eq, if◌then◌else◌}
+use Rattle.std.specs.Prelude.{◌≡◌, ℕ, ◌+◌, nat_eq, Bool, true, false, if◌then◌else◌, List, [], ◌∷◌, ◌++◌, length, map}
+use Rattle.std.specs.Prelude.{Option, Some, None, Result, Ok, Err}
 use Rattle.std.specs.List.{before_first, enumerate_from, filter, find, fold, list_any}
 use Rattle.std.specs.Option.{ok_or, option_map}
 use Rattle.std.specs.Str.{bytes_eq, chars}

@@ -19,7 +19,8 @@ use Rattle.sbl_script.specs.declared.edit_fault.EditFault.TheVariants as edits
 use Rattle.sbl_ast.specs.Source.{Source}
 use Rattle.sbl_resolver.specs.Checks.{WellDeclared}
 use Rattle.sbl_script.specs.Reading.{HasTokens, IsFaultIn, first_left_out, lexemes}
-use Rattle.sbl_script.specs.Edits.{ScriptEdit, body, among, terms, changes, is_routine_named, is_grouping_named, escapes_after, plains_with, items_with}
+use Rattle.sbl_script.specs.Edits.{ScriptEdit, body, among, terms, changes, is_routine_named, is_grouping_named}
+use Rattle.sbl_script.specs.Edits.{escapes_after, plains_with, items_with}
 
 -- a search of trees found nothing, or a tree with this view
 abbrev pub Finds : {A : Type 0} → (A → Plain) → Option A → Option Plain → Type 0

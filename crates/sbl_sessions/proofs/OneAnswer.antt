@@ -1,7 +1,7 @@
 -- What is answered, and the bench after it, are one.
 use Rattle.std.proofs.Common.{◌≡◌, ◌∙◌, ◌++◌, ℕ, List, [], ◌∷◌, Option, Some, None, sym, ap, subst}
 use Rattle.sbl_bench.specs.Contents.{Contents}
-use Rattle.sbl_bench.specs.Edits.{Edit, Add, Remove, Replace, Whole, Limit}
+use Rattle.sbl_bench.specs.Edits.{Edit, Add, Remove, Words, Replace, Whole, Limit}
 use Rattle.sbl_bench.specs.OneVerdict.{VerdictIsOne}
 use Rattle.sbl_bench.specs.declared.fault.EditFault.{EditFault}
 use Rattle.sbl_bench.specs.declared.fault.EditFault.TheVariants as fault
@@ -17,6 +17,7 @@ edit-one one s Enough e f g t u p q = one s e f g t u p q
 edit-one one s BlockRefused (Replace what text) f g t u p q = (p.0 ∙ sym q.0, p.1 ∙ sym q.1)
 edit-one one s BlockRefused (Add word) f g t u p q = absurd p
 edit-one one s BlockRefused (Remove word) f g t u p q = absurd p
+edit-one one s BlockRefused (Words ws) f g t u p q = absurd p
 edit-one one s BlockRefused (Whole bytes) f g t u p q = absurd p
 edit-one one s BlockRefused (Limit n) f g t u p q = absurd p
 edit-one one s (RefusedAfter n) e f g t u p q = (p.0 ∙ sym q.0, p.1 ∙ sym q.1)

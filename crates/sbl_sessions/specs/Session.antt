@@ -1,15 +1,17 @@
 -- A session: what is written, and the bench after it, by the bytes of the input.
 use Rattle.std.specs.Prelude.{◌≡◌, ◌≢◌, ◌⊎◌, ℕ, List, [], ◌∷◌, Option, Some, Result, Ok, Err, ⊤, take}
-use Rattle.std.specs.Io.KnownBytes.{Appends, IsAtEnd}
+use Rattle.std.specs.Io.KnownBytes.{Appends, IsAtEnd, Keeps}
 use Rattle.sbl_bench.specs.Contents.{Contents}
 use Rattle.sbl_bench.specs.KeptRuns.{KeptRuns, contents_of}
 use Rattle.sbl_sessions.specs.Answers.{Answers, IsReplyTo, Memory}
 use Rattle.sbl_reports.specs.Block.{Breaks}
 use Rattle.sbl_sessions.specs.Commands.{command_of}
 use Rattle.sbl_io.specs.Devices.{HasStopped, Tally}
+use Rattle.sbl_io.specs.Faults.{serve_fault_of}
 use Rattle.sbl_io.specs.HeldInput.{HasCause, TookWhole, fault_of, input_of}
 use Rattle.sbl_sessions.specs.Requests.{IsOpen, Request, TookRequests}
 use Rattle.sbl_io.specs.declared.lines.Lines.{Lines}
+use Rattle.sbl_io.specs.declared.faults.LineFault.{LineFault}
 use Rattle.sbl_io.specs.declared.faults.LineFault.TheVariants as line
 use Rattle.sbl_io.specs.declared.faults.ServeFault.{ServeFault}
 use Rattle.sbl_io.specs.declared.faults.ServeFault.TheVariants as fault
@@ -56,6 +58,11 @@ pub record IsSession (old new : Moment) (result : Result (Unit {0}) ServeFault) 
   pub ends : result ≡ Ok tt → Replies old new × IsAtEnd new.input
   pub writer_stops : result ≡ Err fault.Write → CutsReply old new
   pub input_stops : (f : ServeFault) → result ≡ Err f → f ≢ fault.Write → CutsRequest old new f
+
+-- The lines have returned this fault before: the session returns it again, and does nothing.
+abbrev pub ReturnsAgain : LineFault → Moment → Moment → Result (Unit {0}) ServeFault → Type 0
+ReturnsAgain f old new result =
+    (result ≡ Err (serve_fault_of f)) × (new.bench ≡ old.bench) × Keeps old.held new.held × Keeps old.input new.input
 
 -- Why a session may end. A fault of reading or writing is caused by the device or a bound, or the lines returned it before. A
 -- line that is too long, or a block that the end of input cuts off, is in the input, as defined above.

@@ -1,15 +1,15 @@
 //! A session: each request gets its reply before the next line is read.
 ghost use Rattle.std.specs.Prelude.{◌≡◌, ◌≤◌, None, Some, Err, IfOk, IfErr, OnOk};
-ghost use Rattle.std.specs.Io.KnownBytes.{IsAtEnd, Keeps};
+ghost use Rattle.std.specs.Io.KnownBytes.{IsAtEnd};
 ghost use Rattle.sbl_bench.specs.KeptRuns.{contents_of};
 ghost use Rattle.sbl_sessions.specs.CommandViews.{IsAnswer};
 ghost use Rattle.sbl_sessions.specs.inside.RequestViews.{BreaksBlock, IsAnswered};
 ghost use Rattle.sbl_sessions.specs.Commands.{line_command};
 ghost use Rattle.sbl_io.specs.Devices.{WritesInTime};
-ghost use Rattle.sbl_io.specs.Faults.{left_by, serve_fault_of};
+ghost use Rattle.sbl_io.specs.Faults.{left_by};
 ghost use Rattle.sbl_io.specs.declared.faults.LineFault.{LineFault};
 ghost use Rattle.sbl_io.specs.HeldInput.{IsDrained, KeepsTime, Reading, fault_of, input_of, line_of, reads_bound};
-ghost use Rattle.sbl_sessions.specs.Session.{Ends, IsSession, moment};
+ghost use Rattle.sbl_sessions.specs.Session.{Ends, IsSession, ReturnsAgain, moment};
 
 use crate::replies::{BAD_COMMAND, Reply, edit_text, report, write_reply};
 use crate::reports::{
@@ -100,8 +100,7 @@ pub fn serve<R: Source + Drop, W: Sink>(
     ensures whole { OnOk result (IsAtEnd (input_of R.left lines.new)) }
     ensures drained { result ≡ Err ServeFault.Read → fault_of lines.old ≡ None → IsDrained lines.new }
     ensures remembered { fault_of lines.new ≡ left_by result }
-    ensures again { (fault : LineFault) → fault_of lines.old ≡ Some fault → (result ≡ Err (serve_fault_of fault)) × (contents_of bench.new ≡ contents_of bench.old)
-        × Keeps (W.held writer.old) (W.held writer.new) × Keeps (input_of R.left lines.old) (input_of R.left lines.new) }
+    ensures again { (fault : LineFault) → fault_of lines.old ≡ Some fault → ReturnsAgain fault (moment R.left W.held lines.old writer.old bench.old) (moment R.left W.held lines.new writer.new bench.new) result }
     ensures bound { reads_bound R.tally lines.new ≡ reads_bound R.tally lines.old }
     ensures reads_in_time { KeepsTime R.tally lines.old lines.new }
     ensures writes_in_time { WritesInTime W.tally writer.old writer.new }

@@ -1,6 +1,7 @@
 -- The tokens of a part of a script, and the text cut before the first of them and after the last. A text has parts if it has
 -- tokens, whether or not they form a tree.
-use Rattle.std.specs.Prelude.{◌≡◌, ◌⊎◌, ℕ, ◌+◌, ◌-◌, Bool, true, false, not, ◌&&◌, if◌then◌else◌, nat_eq, nat_le, List, [], ◌∷◌, ◌++◌, length, Option, Some, None, option_and_then}
+use Rattle.std.specs.Prelude.{◌≡◌, ◌⊎◌, ℕ, ◌+◌, ◌-◌, nat_eq, nat_le, Bool, true, false, not, ◌&&◌, if◌then◌else◌}
+use Rattle.std.specs.Prelude.{List, [], ◌∷◌, ◌++◌, length, Option, Some, None, option_and_then}
 use Rattle.std.specs.Option.{option_map, option_or}
 use Rattle.std.specs.Str.{bytes_eq, chars}
 use Rattle.sbl_token.specs.declared.words.Word.TheVariants as words

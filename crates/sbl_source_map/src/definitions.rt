@@ -146,7 +146,7 @@ fn first_in<'a>(plains: &'a [Plain], name: &str) -> Option<&'a Plain>
 }
 
 /// Returns the first definition of this name, in text order; `None` if there is none.
-fn definition_of<'a>(items: &'a [ScriptItem], name: &str) -> Option<&'a Plain>
+pub fn definition_of<'a>(items: &'a [ScriptItem], name: &str) -> Option<&'a Plain>
     ensures { homes.Finds (λ x. view_plain x.now) result (edits.first_of (spec.defines_name name.now) (view_items items.now)) }
 {
     for item in items {

@@ -11,7 +11,7 @@ mod positions;
 mod subject_tokens;
 
 pub use block_places::offset_in_block;
-pub use definitions::{definition_text, without_head};
+pub use definitions::{definition_of, definition_text, without_head};
 pub use fault_places::{FaultPlace, offset_of_fault, place_of_fault};
 pub use parts::{Excerpt, begins_item, cut_at_part};
 pub use positions::{Position, position_of};

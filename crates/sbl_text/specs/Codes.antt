@@ -1,9 +1,12 @@
 -- Characters written as numbers.
-use Rattle.std.specs.Prelude.{ℕ, ◌+◌, ◌*◌, Bool, true, false, ◌&&◌, ◌||◌, nat_le, nat_lt, if◌then◌else◌, List, []}
-use Rattle.std.specs.Prelude.{◌∷◌, length, filter, fold, Option, Some, None, option_map, option_and_then}
+use Rattle.std.specs.Prelude.{◌≡◌, ◌⊎◌, ℕ, ◌+◌, ◌*◌, Bool, true, false, ◌&&◌, ◌||◌, nat_le, nat_lt, if◌then◌else◌, List, []}
+use Rattle.std.specs.Prelude.{◌∷◌, length, filter, fold, Option, Some, None, option_map, option_and_then, Result, MatchResult}
+use Rattle.std.specs.Global.{Vec}
 use Rattle.std.specs.List.{list_all, slice_split}
 use Rattle.std.specs.Char.{digit_value}
 use Rattle.sbl_text.specs.Classes.{is_white}
+use Rattle.sbl_text.specs.declared.fault.ScriptFault.{ScriptFault}
+use Rattle.sbl_text.specs.declared.fault.ScriptFault.TheVariants as fault
 
 -- the number that the digits write in this base, after digits that write n
 abbrev pub value_in : ℕ → ℕ → List ℕ → ℕ
@@ -35,6 +38,12 @@ all_codes base most (ds ∷ more) = option_and_then (λ c. option_map (λ cs. c 
 abbrev pub codes_of : Bool → List ℕ → Option (List ℕ)
 codes_of true cs = all_codes 16 6 (numbers_in cs)
 codes_of false cs = all_codes 10 7 (numbers_in cs)
+
+-- the characters if there are some, and otherwise `BadCode` at this byte offset; or an allocation failed
+abbrev pub GivesCharacters : Option (List ℕ) → ℕ → Result (Vec ℕ) ScriptFault → Type 0
+GivesCharacters characters place result =
+    MatchResult result (λ v. characters ≡ Some v.items)
+    (λ f. (f ≡ fault.OutOfMemory) ⊎ ((characters ≡ None) × (f ≡ fault.BadCode place)))
 
 -- ---- a name for a part of these definitions, which only proofs use
 

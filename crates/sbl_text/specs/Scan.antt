@@ -15,7 +15,7 @@ use Rattle.sbl_text.specs.Classes.{is_white, is_letter, is_digit, is_word, line_
 use Rattle.sbl_text.specs.Skip.{past}
 use Rattle.sbl_token.specs.SignCuts.{sign_prefix}
 use Rattle.sbl_text.specs.Escapes.{opens, closes}
-use Rattle.sbl_text.specs.Pieces.{Setting, IsPiece, NoPiece}
+use Rattle.sbl_text.specs.Pieces.{Setting, IsPiece, NoPiece, is_gap}
 
 abbrev pub start_of : ℕ → Start
 start_of c =
@@ -98,3 +98,7 @@ IsCutFrom e text (Some p) = (x : List ℕ) × (text ≡ x ++ p.1) × IsPiece e p
 -- the text begins with a piece, the longest there, and the rest follows
 abbrev pub Piece_at : Setting → Shape → List ℕ → List ℕ → Type 0
 Piece_at e k text rest = (x : List ℕ) × (text ≡ x ++ rest) × IsPiece e k x rest
+
+-- the same, and the piece is a token
+abbrev pub Token_at : Setting → Shape → List ℕ → List ℕ → Type 0
+Token_at e k text rest = is_gap k ≡ false × Piece_at e k text rest

@@ -1,6 +1,7 @@
 -- The tokens of a text, and its first fault.
 use Rattle.std.specs.Prelude.{◌≡◌, ◌⊎◌, ℕ, ◌<◌, ◌≤◌, ◌+◌, ◌-◌, ◌*◌, Bool, true, ◌&&◌, ◌==◌, if◌then◌else◌, List, [], ◌∷◌, ◌++◌}
-use Rattle.std.specs.Prelude.{encode_utf8_all, filter_map, fold, drop, Option, Some, None, MatchOption, option_map, Result, Ok, Err}
+use Rattle.std.specs.Prelude.{encode_utf8_all, filter_map, fold, drop, Option, Some, None, MatchOption, option_map, Result, Ok, Err, MatchResult}
+use Rattle.std.specs.Str.{chars}
 use Rattle.std.specs.List.{cons_option}
 use Rattle.std.specs.Option.{option_map_or}
 use Rattle.sbl_token.specs.declared.signs.Sign.{Sign}
@@ -9,7 +10,9 @@ use Rattle.sbl_text.specs.declared.pieces.Shape.{Shape}
 use Rattle.sbl_text.specs.declared.pieces.Shape.TheVariants as shape
 use Rattle.sbl_text.specs.declared.fault.ScriptFault.{ScriptFault}
 use Rattle.sbl_text.specs.declared.fault.ScriptFault.TheVariants as fault
+use Rattle.sbl_token.specs.declared.token.Kind.{Kind}
 use Rattle.sbl_token.specs.declared.token.Token.{Token}
+use Rattle.sbl_token.specs.declared.token.Value.{Value}
 use Rattle.sbl_token.specs.Signs.{sign_text}
 use Rattle.sbl_token.specs.Words.{word_of}
 use Rattle.sbl_text.specs.declared.pieces.Expectation.{Expectation}
@@ -18,6 +21,7 @@ use Rattle.sbl_text.specs.Pieces.{IsPiece, NoPiece, AfterGaps, is_gap}
 use Rattle.sbl_text.specs.Directives.{Directives, start, setting_of, value_for, after}
 use Rattle.sbl_text.specs.Literals.{byte_length, Means, FirstWrong}
 use Rattle.sbl_token.specs.Lexemes.{Lexeme, word, sign, name, number, literal, inserts, macro_name, lexeme_of, SaysFitting}
+use Rattle.sbl_token.specs.Lexemes.{fits, lexeme_by}
 use Rattle.sbl_text.specs.Classes.{quote, slash, star, begins_with}
 
 -- the number that the digits write
@@ -229,3 +233,14 @@ pair_fault text place = fault_at wanted.Inserts text place
 
 abbrev pub token_fault : List ℕ → ℕ → ScriptFault
 token_fault text place = fault_at wanted.Token text place
+
+-- a token of this kind, with these bytes and this value, has the meaning of its text
+abbrev pub HasMeaning : Directives → Shape → Kind → List ℕ → Value → Type 0
+HasMeaning s k kind text value = IsLexeme s k (chars text) (lexeme_by kind text value) × (fits kind value ≡ true)
+
+-- The state after a token at this byte offset. If there is a fault, the state is as before: `BadCode` if the token gives no value to
+-- its macro, or an allocation failed.
+abbrev pub AfterToken : Directives → Lexeme → ℕ → Result (Unit {0}) ScriptFault → Directives → Type 0
+AfterToken old l place result new =
+    MatchResult result (λ _. HasValue old l × (new ≡ after old l))
+    (λ f. (new ≡ old) × ((f ≡ fault.OutOfMemory) ⊎ (LacksValue old l × (f ≡ fault.BadCode place))))

@@ -1,6 +1,6 @@
 //! Characters written as numbers, for `stringdef` and `U+`.
 
-ghost use Rattle.std.specs.Prelude.{◌+◌, ◌∷◌, drop, ◌≡◌, ◌≤◌, ◌<◌, ◌⊎◌, MatchResult, Some, None, true, false, length};
+ghost use Rattle.std.specs.Prelude.{◌+◌, ◌∷◌, drop, ◌≡◌, ◌≤◌, ◌<◌, true, false, length};
 ghost use Rattle.std.specs.List.{position};
 ghost use Rattle.sbl_text.specs.Classes.{is_white};
 ghost use Rattle.sbl_text.specs.Codes as spec;
@@ -67,7 +67,7 @@ fn split_run(chars: &[char]) -> (&[char], &[char])
 pub fn codes(alloc: Global, base: u32, most: usize, mut chars: &[char], place: usize) -> Characters
     requires low { 2 ≤ base }
     requires high { base ≤ 16 }
-    ensures { MatchResult result (λ v. spec.all_codes base most (spec.numbers_in chars.entry.now) ≡ Some v.items) (λ f. (f ≡ ScriptFault.OutOfMemory) ⊎ ((spec.all_codes base most (spec.numbers_in chars.entry.now) ≡ None) × (f ≡ ScriptFault.BadCode place))) }
+    ensures { spec.GivesCharacters (spec.all_codes base most (spec.numbers_in chars.entry.now)) place result }
 {
     let mut value = Vec::new(alloc);
     while let [_, following @ ..] = chars {
@@ -91,7 +91,7 @@ pub fn codes(alloc: Global, base: u32, most: usize, mut chars: &[char], place: u
 /// Returns `BadCode` at 0 if anything else is found (Snowball manual, "stringdef"; the limits are our own choice), and
 /// `OutOfMemory` if an allocation fails.
 pub fn read_codes(alloc: Global, hex: bool, chars: &[char]) -> Characters
-    ensures { MatchResult result (λ v. spec.codes_of hex chars.now ≡ Some v.items) (λ f. (f ≡ ScriptFault.OutOfMemory) ⊎ ((spec.codes_of hex chars.now ≡ None) × (f ≡ ScriptFault.BadCode 0))) }
+    ensures { spec.GivesCharacters (spec.codes_of hex chars.now) 0 result }
 {
     if hex {
         codes(alloc, 16, MAX_HEX_DIGITS, chars, 0)

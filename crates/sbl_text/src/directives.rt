@@ -1,8 +1,9 @@
 //! The state of the lexer that earlier tokens have set.
 
-ghost use Rattle.std.specs.Prelude.{◌≡◌, ◌⊎◌, List, ℕ, MatchResult, option_map, Some, None};
+ghost use Rattle.std.specs.Prelude.{◌≡◌, option_map, Some};
 ghost use Rattle.std.specs.Str.{chars};
 ghost use Rattle.sbl_token.specs.Lexemes.{characters_in, inserts_in};
+ghost use Rattle.sbl_text.specs.Codes.{GivesCharacters};
 ghost use Rattle.sbl_text.specs.Escapes.{with_inserts};
 ghost use Rattle.sbl_text.specs.Directives as spec;
 
@@ -66,7 +67,7 @@ fn with_coding<'a>(defining: Option<Defining<'a>>, coding: Coding) -> Option<Def
 /// Returns `BadCode` at `place` if the literal should have codes and has anything else, and `OutOfMemory` if an
 /// allocation fails. The value may have any number of characters.
 pub fn macro_value(alloc: Global, coding: Coding, characters: &[char], place: usize) -> Characters
-    ensures { MatchResult result (λ v. spec.value_for_macro coding characters.now ≡ Some v.items) (λ f. (f ≡ ScriptFault.OutOfMemory) ⊎ ((spec.value_for_macro coding characters.now ≡ None) × (f ≡ ScriptFault.BadCode place))) }
+    ensures { GivesCharacters (spec.value_for_macro coding characters.now) place result }
 {
     match coding {
         Coding::Plain => match Vec::from_slice(alloc, characters) {
@@ -100,7 +101,7 @@ fn inserts_of(value: &Value<'_>) -> (char, char)
 
 impl<'a> Directives<'a> {
     ghost use Rattle.sbl_token.specs.Lexemes.{lexeme_of};
-    ghost use Rattle.sbl_text.specs.Tokens.{HasValue, LacksValue};
+    ghost use Rattle.sbl_text.specs.Tokens.{AfterToken};
 
     /// Returns the state at the start of a text.
     pub fn new(escapes: Escapes) -> Directives<'a>
@@ -187,7 +188,7 @@ impl<'a> Directives<'a> {
         characters: &[char],
         place: usize,
     ) -> Result<(), ScriptFault>
-        ensures { MatchResult result (λ _. (w : List ℕ) × (spec.value_for self.old.defining characters.now ≡ Some w) × (self.new ≡ spec.no_directive (spec.defined_by self.old.escapes self.old.defining characters.now))) (λ f. (self.new ≡ self.old) × ((f ≡ ScriptFault.OutOfMemory) ⊎ ((spec.value_for self.old.defining characters.now ≡ None) × (f ≡ ScriptFault.BadCode place)))) }
+        ensures { spec.AfterLiteral self.old characters.now place result self.new }
     {
         match self.defining {
             None => {
@@ -206,7 +207,7 @@ impl<'a> Directives<'a> {
     /// Updates the state after a token. Returns `BadCode` at the start of the token if it is the literal of a macro and
     /// gives it no value, and `OutOfMemory` if an allocation fails. On an error the state is unchanged.
     pub fn after_token(&mut self, alloc: Global, token: &Token<'a>) -> Result<(), ScriptFault>
-        ensures { MatchResult result (λ _. HasValue self.old (lexeme_of token.now) × (self.new ≡ spec.after self.old (lexeme_of token.now))) (λ f. (self.new ≡ self.old) × ((f ≡ ScriptFault.OutOfMemory) ⊎ (LacksValue self.old (lexeme_of token.now) × (f ≡ ScriptFault.BadCode token.now.start)))) }
+        ensures { AfterToken self.old (lexeme_of token.now) token.now.start result self.new }
     {
         match token.kind {
             Kind::Word(word) => self.after_word(word),

@@ -1,11 +1,11 @@
 //! The lexer: returns the tokens of a text one at a time.
 
-ghost use Rattle.std.specs.Prelude.{◌≡◌, ◌≤◌, ◌<◌, ◌⊎◌, length, MatchOption, MatchResult, IfOk, IfErr, Some, None, Bool, true, false, ◌∷◌, [], List, ℕ, ◌++◌, map};
+ghost use Rattle.std.specs.Prelude.{◌≡◌, ◌≤◌, ◌<◌, ◌⊎◌, length, MatchOption, MatchResult, IfOk, IfErr, Some, None, Bool, true, ◌∷◌, [], List, ℕ, ◌++◌, map};
 ghost use Rattle.std.specs.Str.{chars};
 ghost use Rattle.sbl_text.specs.Pieces as pieces;
-ghost use Rattle.sbl_text.specs.Scan.{Piece_at};
+ghost use Rattle.sbl_text.specs.Scan.{Token_at};
 ghost use Rattle.sbl_text.specs.Tokens as spec;
-ghost use Rattle.sbl_text.specs.Tokens.{Reading};
+ghost use Rattle.sbl_text.specs.Tokens.{Comes, Reading, Stops};
 ghost use Rattle.std.specs.List.{All};
 ghost use Rattle.sbl_token.specs.Lexemes.{lexeme_of, SaysFitting};
 ghost use Rattle.sbl_text.specs.Directives.{setting_of, start_under};
@@ -41,7 +41,7 @@ impl<'a> Model for Lexer<'a> {
 /// Skips white space and comments. Returns the text after them, and the token there as its shape and the text after it.
 fn cut_after<'a>(state: &Directives<'_>, from: &'a str) -> (&'a str, Option<(Shape, &'a str)>)
     ensures gaps { pieces.AfterGaps (setting_of state.now) (chars from.now) (chars result.0.now) }
-    ensures next { MatchOption result.1 (pieces.NoPiece (setting_of state.now) (chars result.0.now)) (λ p. pieces.is_gap p.0 ≡ false × Piece_at (setting_of state.now) p.0 (chars result.0.now) (chars p.1.now)) }
+    ensures next { MatchOption result.1 (pieces.NoPiece (setting_of state.now) (chars result.0.now)) (λ p. Token_at (setting_of state.now) p.0 (chars result.0.now) (chars p.1.now)) }
 {
     past_gaps(state.escapes().inserts(), state.next_wanted(), from)
 }
@@ -54,7 +54,7 @@ fn token_after<'a>(
     from: &'a str,
 ) -> Result<(Option<Token<'a>>, &'a str), ScriptFault>
     requires { (x : List ℕ) × (chars source.now ≡ x ++ chars from.now) }
-    ensures { MatchResult result (λ p. spec.Comes (chars source.now) state.now (chars from.now) (chars p.1.now) p.0) (λ f. (f ≡ ScriptFault.OutOfMemory) ⊎ spec.Stops (chars source.now) state.now (chars from.now) f) }
+    ensures { MatchResult result (λ p. Comes (chars source.now) state.now (chars from.now) (chars p.1.now) p.0) (λ f. (f ≡ ScriptFault.OutOfMemory) ⊎ Stops (chars source.now) state.now (chars from.now) f) }
 {
     let (at, found) = cut_after(state, from);
     let start = place_of(source, at);

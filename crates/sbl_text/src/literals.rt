@@ -1,6 +1,6 @@
 //! The characters that a literal means.
 
-ghost use Rattle.std.specs.Prelude.{◌≡◌, ◌<◌, ◌+◌, ◌^◌, ◌⊎◌, ◌++◌, ◌∷◌, List, ℕ, MatchOption, MatchResult, Ok, Err, true, false, not, length};
+ghost use Rattle.std.specs.Prelude.{◌≡◌, ◌<◌, ◌+◌, ◌^◌, ◌⊎◌, MatchOption, MatchResult, Ok, Err, true, false, length};
 ghost use Rattle.std.specs.List.{list_all, position};
 ghost use Rattle.std.specs.Str.{chars};
 ghost use Rattle.sbl_text.specs.Classes.{is_white};
@@ -70,7 +70,7 @@ fn insert(
     name: &[char],
     place: usize,
 ) -> Result<(), ScriptFault>
-    ensures { MatchResult result (λ _. (w : List ℕ) × (spec.insertion_value escapes.now name.now ≡ Ok w) × (value.new.items ≡ value.old.items ++ w)) (λ f. (f ≡ ScriptFault.OutOfMemory) ⊎ ((g : spec.Refusal) × (spec.insertion_value escapes.now name.now ≡ Err g) × (f ≡ g place))) }
+    ensures { MatchResult result (λ _. spec.AddsValue escapes.now name.now value.old.items value.new.items) (λ f. (f ≡ ScriptFault.OutOfMemory) ⊎ spec.Refuses escapes.now name.now place f) }
 {
     if is_blank(name) {
         return Ok(());
@@ -92,7 +92,7 @@ fn first_closing(inserts: Option<Inserts>, chars: &[char]) -> Option<usize>
 
 /// Splits the text after an opening insert character into the name, the closing character and the text after it.
 fn split_name(inserts: Option<Inserts>, chars: &[char]) -> Option<(&[char], char, &[char])>
-    ensures { MatchOption result (spec.is_closed inserts true chars.now ≡ false) (λ p. (chars.now ≡ p.0.now ++ p.1 ∷ p.2.now) × (escaping.closes inserts p.1 ≡ true) × (list_all (λ c. not (escaping.closes inserts c)) p.0.now ≡ true) × (spec.is_closed inserts true chars.now ≡ spec.is_closed inserts false p.2.now)) }
+    ensures { MatchOption result (spec.is_closed inserts true chars.now ≡ false) (λ p. spec.IsSplit inserts chars.now p.0.now p.1 p.2.now) }
 {
     let end = first_closing(inserts, chars)?;
     let (name, rest) = chars.split_at(end);

@@ -42,7 +42,7 @@ fn literal<'a>(
 ) -> Result<Value<'a>, ScriptFault>
     requires has { pieces.Has state.now.escapes.inserts Shape.Literal (chars text.now) }
     requires room { place + length text.now < 2 ^ 64 }
-    ensures { MatchResult result (λ v. spec.IsLexeme state.now Shape.Literal (chars text.now) (lexeme_by Kind.Literal text.now v) × (fits Kind.Literal v ≡ true)) (λ f. (f ≡ ScriptFault.OutOfMemory) ⊎ spec.IsRefused state.now Shape.Literal (chars text.now) place f) }
+    ensures { MatchResult result (λ v. spec.HasMeaning state.now Shape.Literal Kind.Literal text.now v) (λ f. (f ≡ ScriptFault.OutOfMemory) ⊎ spec.IsRefused state.now Shape.Literal (chars text.now) place f) }
 {
     let spelling = between_quotes(text);
     let letters: Vec<char> = spelling.chars().collect(alloc)?;
@@ -107,7 +107,7 @@ pub fn meaning<'a>(
     requires token { pieces.is_gap shape ≡ false }
     requires has { pieces.Has state.now.escapes.inserts shape (chars text.now) }
     requires room { place + length text.now < 2 ^ 64 }
-    ensures { MatchResult result (λ p. spec.IsLexeme state.now shape (chars text.now) (lexeme_by p.0 text.now p.1) × (fits p.0 p.1 ≡ true)) (λ f. (f ≡ ScriptFault.OutOfMemory) ⊎ spec.IsRefused state.now shape (chars text.now) place f) }
+    ensures { MatchResult result (λ p. spec.HasMeaning state.now shape p.0 text.now p.1) (λ f. (f ≡ ScriptFault.OutOfMemory) ⊎ spec.IsRefused state.now shape (chars text.now) place f) }
 {
     match shape {
         Shape::Number => match number(text) {

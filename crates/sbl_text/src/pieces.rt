@@ -201,7 +201,7 @@ pub fn past_gaps(
     mut text: &str,
 ) -> (&str, Option<(Shape, &str)>)
     ensures gaps { pieces.AfterGaps (pieces.setting inserts wanted) (chars text.entry.now) (chars result.0.now) }
-    ensures next { MatchOption result.1 (pieces.NoPiece (pieces.setting inserts wanted) (chars result.0.now)) (λ p. pieces.is_gap p.0 ≡ false × spec.Piece_at (pieces.setting inserts wanted) p.0 (chars result.0.now) (chars p.1.now)) }
+    ensures next { MatchOption result.1 (pieces.NoPiece (pieces.setting inserts wanted) (chars result.0.now)) (λ p. spec.Token_at (pieces.setting inserts wanted) p.0 (chars result.0.now) (chars p.1.now)) }
 {
     while let Some((shape, rest)) = piece(inserts, wanted, text) {
         if !is_gap(shape) {

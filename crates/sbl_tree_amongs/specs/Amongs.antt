@@ -1,12 +1,19 @@
 -- The amongs of a tree, in the order of the words `among`, and a tree in which another among replaces one.
 use Rattle.std.specs.Prelude.{◌≡◌, ℕ, ◌+◌, ◌-◌, List, [], ◌∷◌, Option, Some, None, nat_eq, if◌then◌else◌}
-use Rattle.sbl_ast.specs.Tree.{Command, bracket, prefixed, counted, setlimit_, among_, Rows, no_rows, row, Others, no_others, joined, Starter, no_starter, starter, Groups, bare, group}
+use Rattle.sbl_ast.specs.Tree.{Command, bracket, prefixed, counted, setlimit_, among_, Rows, no_rows, row, Others, no_others, joined}
+use Rattle.sbl_ast.specs.Tree.{Starter, no_starter, starter, Groups, bare, group}
 use Rattle.sbl_ast.specs.Places.{placed_command, AreShallow}
 use Rattle.sbl_ast.specs.Counts.{count_amongs, count_in_rows, count_in_others, count_in_starter}
+use Rattle.sbl_ast.specs.View.{view_among}
+use Rattle.sbl_ast.specs.declared.tree.Among.{Among}
 
 -- an among: its depth, its starter and its groups
 abbrev pub AmongContents : Type 0
 AmongContents = ℕ × Starter × Groups
+
+-- the among of a tree in memory, at depth d
+abbrev pub contents_of : ℕ → Among → AmongContents
+contents_of d a = (d, (view_among a).0, (view_among a).1)
 
 -- the amongs of a command at depth d, followed by the list `rest`
 abbrev mutual
@@ -51,12 +58,15 @@ abbrev mutual
   put_among (prefixed p c) k a = prefixed p (put_among c k a)
   put_among (counted n e c) k a = counted n e (put_among c k a)
   put_among (setlimit_ b c) k a = setlimit_ (put_among b k a) (put_among c (k - count_amongs b) a)
-  put_among (among_ s gs) k a = if nat_eq k 1 then among_ a.0 a.1 else among_ (put_in_starter s (k - 1) a) (put_in_groups gs (k - 1 - count_in_starter s) a)
+  put_among (among_ s gs) k a =
+      if nat_eq k 1 then among_ a.0 a.1
+      else among_ (put_in_starter s (k - 1) a) (put_in_groups gs (k - 1 - count_in_starter s) a)
   put_among c k a = c
 
   pub put_in_rows : Rows → ℕ → Starter × Groups → Rows
   put_in_rows no_rows k a = no_rows
-  put_in_rows (row c os rs) k a = row (put_among c k a) (put_in_others os (k - count_amongs c) a) (put_in_rows rs (k - count_amongs c - count_in_others os) a)
+  put_in_rows (row c os rs) k a =
+      row (put_among c k a) (put_in_others os (k - count_amongs c) a) (put_in_rows rs (k - count_amongs c - count_in_others os) a)
 
   pub put_in_others : Others → ℕ → Starter × Groups → Others
   put_in_others no_others k a = no_others

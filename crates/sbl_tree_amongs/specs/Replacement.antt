@@ -28,8 +28,11 @@ pub record IsBetween (k : ℕ) (h : AmongContents) (a : Starter × Groups) (old 
 -- this holds for each number that an among has
 abbrev pub OneIsReplaced : Type 0
 OneIsReplaced =
-    (b : Command × Others) (k : ℕ) (a : Starter × Groups) (h : AmongContents) → nth_held k (amongs_of_body b) ≡ Some h → IsBetween k h a (places_in body b) (places_in body (put_in_body b k a))
+    (b : Command × Others) (k : ℕ) (a : Starter × Groups) (h : AmongContents) → nth_held k (amongs_of_body b) ≡ Some h
+    → IsBetween k h a (places_in body b) (places_in body (put_in_body b k a))
 
 -- if no among has the number, all tokens stay
 abbrev pub NoneIsReplaced : Type 0
-NoneIsReplaced = (b : Command × Others) (k : ℕ) (a : Starter × Groups) → nth_held k (amongs_of_body b) ≡ None → places_in body (put_in_body b k a) ≡ places_in body b
+NoneIsReplaced =
+    (b : Command × Others) (k : ℕ) (a : Starter × Groups) → nth_held k (amongs_of_body b) ≡ None
+    → places_in body (put_in_body b k a) ≡ places_in body b

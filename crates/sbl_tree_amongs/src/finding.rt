@@ -3,8 +3,8 @@
 ghost use Rattle.std.specs.Prelude.{◌≡◌, ◌≤◌, ◌<◌, ◌-◌, List, [], MatchOption, None, Some, nat_eq};
 ghost use Rattle.sbl_tree_amongs.specs.Amongs as spec;
 ghost use Rattle.sbl_ast.specs.Counts.{count_amongs, count_in_among, count_in_groups, count_in_others, count_in_rows};
-ghost use Rattle.sbl_tree_amongs.specs.Amongs.{AmongContents, amongs_of_body, nth_held};
-ghost use Rattle.sbl_tree_amongs.specs.WalkEnds.{Finds};
+ghost use Rattle.sbl_tree_amongs.specs.Amongs.{AmongContents, amongs_of_body, amongs_of_groups, contents_of, nth_held};
+ghost use Rattle.sbl_tree_amongs.specs.WalkEnds.{Finds, among_command, amongs_of_row, placed_row};
 ghost use Rattle.sbl_ast.specs.Places.{placed_command, placed_groups, placed_others, placed_rows, placed_starter, max_depth, AreShallow};
 ghost use Rattle.sbl_ast.specs.Texts.{body, places_in};
 ghost use Rattle.sbl_ast.specs.Tree as trees;
@@ -42,7 +42,7 @@ fn in_command(command: &Command, depth: u8, number: u64) -> WalkEnd<'_>
 /// An among comes before those in its starter, and these come before those in its groups.
 #[cycle(find)]
 fn in_among(among: &Among, depth: u8, number: u64) -> WalkEnd<'_>
-    ensures { AreShallow (placed_command (trees.among_ (view_among among.now).0 (view_among among.now).1) depth []) → Finds result number (λ rest. spec.amongs (trees.among_ (view_among among.now).0 (view_among among.now).1) depth rest) }
+    ensures { AreShallow (placed_command (among_command among.now) depth []) → Finds result number (λ rest. spec.amongs (among_command among.now) depth rest) }
 {
     if number == 1 {
         return WalkEnd::There(depth, among);
@@ -66,7 +66,7 @@ fn in_starter(among: &Among, depth: u8, number: u64) -> WalkEnd<'_>
 
 #[cycle(find)]
 fn in_groups(groups: &Vec<Group>, depth: u8, number: u64) -> WalkEnd<'_>
-    ensures { AreShallow (placed_groups (view_groups groups.now.items []) depth []) → (bare : List trees.Entry) → Finds result number (λ rest. spec.amongs_of_groups (view_groups groups.now.items bare) depth rest) }
+    ensures { AreShallow (placed_groups (view_groups groups.now.items []) depth []) → (bare : List trees.Entry) → Finds result number (λ rest. amongs_of_groups (view_groups groups.now.items bare) depth rest) }
 {
     let mut following = number;
     for group in groups {
@@ -94,7 +94,7 @@ fn in_rows(rows: &Vec<RowOfCommands>, depth: u8, number: u64) -> WalkEnd<'_>
 
 #[cycle(find)]
 fn in_row(row: &RowOfCommands, depth: u8, number: u64) -> WalkEnd<'_>
-    ensures { AreShallow (placed_command (view_row row.now).0 depth (placed_others (view_row row.now).1 depth [])) → Finds result number (λ rest. spec.amongs (view_row row.now).0 depth (spec.amongs_of_others (view_row row.now).1 depth rest)) }
+    ensures { AreShallow (placed_row (view_row row.now) depth []) → Finds result number (λ rest. amongs_of_row (view_row row.now) depth rest) }
 {
     match in_command(&row.first, depth, number) {
         WalkEnd::After(number) => in_others(&row.others, depth, number),
@@ -120,7 +120,7 @@ fn in_others(others: &Vec<NextCommand>, depth: u8, number: u64) -> WalkEnd<'_>
 /// Returns `None` exactly if no among has this number; so for 0. In the body no token is deeper than 64.
 pub fn nth_among(row: &RowOfCommands, number: u64) -> Option<(u8, &Among)>
     requires { AreShallow (places_in body (view_row row.now)) }
-    ensures held { MatchOption result (nth_held number (amongs_of_body (view_row row.now)) ≡ None) (λ x. nth_held number (amongs_of_body (view_row row.now)) ≡ Some (x.0, (view_among x.1.now).0, (view_among x.1.now).1)) }
+    ensures held { MatchOption result (nth_held number (amongs_of_body (view_row row.now)) ≡ None) (λ x. nth_held number (amongs_of_body (view_row row.now)) ≡ Some (contents_of x.0 x.1.now)) }
     ensures depth { MatchOption result (Unit {0}) (λ x. x.0 ≤ max_depth) }
 {
     match in_row(row, 1, number) {

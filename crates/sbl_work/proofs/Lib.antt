@@ -2,3 +2,6 @@ pub mod LineFacts
 pub mod ReplyFacts
 pub mod ServingFacts
 pub mod WholeFacts
+pub mod LookupFacts
+pub mod StemFileFacts
+pub mod WordFileFacts

@@ -1,10 +1,10 @@
 -- The argument of a line, and a line alone.
-use Rattle.std.proofs.Common.{◌≡◌, ◌≢◌, ◌==◌, codes, ◌∙◌, ◌+◌, ◌<◌, ℕ, zero, suc, true, false, List, [], ◌∷◌, Option, Some, length, drop, get_or, refl, sym, ap, arith}
+use Rattle.std.proofs.Common.{◌≡◌, ◌==◌, codes, ◌∙◌, ◌+◌, ◌<◌, ℕ, true, false, List, [], ◌∷◌, Option, length, drop, get_or, refl, sym, ap, arith}
 use Rattle.std.proofs.lemmas.List.Sums.{position_or_len_is}
 use Rattle.std.proofs.lemmas.List.{drop_all}
 use Rattle.std.specs.Str.{bytes_eq, is_utf8}
 use Rattle.sbl_sessions.specs.Commands.{line_command}
-use Rattle.sbl_work.specs.Commands.{Echo, Nothing, Session, alone_command, is_comment, positive, text_command, utf8_command}
+use Rattle.sbl_work.specs.Commands.{Echo, Nothing, Session, alone_command, is_comment, text_command, utf8_command}
 use Rattle.sbl_sessions.specs.Words.{argument, command_word}
 use Rattle.sbl_sessions.specs.inside.SessionParts.{is_space}
 use Rattle.sbl_sessions.proofs.CommandFacts.{NoSpace}

@@ -28,7 +28,7 @@ use Rattle.sbl_work.specs.Answering.{IsWorkAnswered}
 use Rattle.sbl_work.specs.Commands.{asks_work_block, block_command, quit_line}
 use Rattle.sbl_history.specs.Desks.{State}
 use Rattle.sbl_work.specs.ReplyViews.{FindsBlock, IsFileAnswer, IsWorkAnswer}
-use Rattle.sbl_work.specs.Serving.{AreReplies, Choice, HasPartOfReply, IsReplyBy, IsWork, IsWorkRequest, IsOpenWork, IsBegunWork, HasWorkReplies, TookWork, WorkRepliesToInput, dialogue, with_prompt}
+use Rattle.sbl_work.specs.Serving.{AreReplies, Choice, HasPartOfReply, IsReplyBy, IsWork, IsWorkRequest, IsBegunWork, HasWorkReplies, TookWork, WorkRepliesToInput, dialogue, with_prompt}
 use Rattle.sbl_work.specs.declared.requests.BlockRequest.{BlockRequest}
 use Rattle.sbl_work.specs.declared.requests.BlockRequest.TheVariants as blocks
 

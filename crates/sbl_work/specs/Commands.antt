@@ -1,8 +1,9 @@
 -- The commands of work.
 use Rattle.std.specs.Prelude.{ℕ, Bool, false, ◌==◌, ◌||◌, List, [], ◌∷◌, codes, if◌then◌else◌}
 use Rattle.std.specs.Prelude.{length, nat_lt, zero, suc, Option, Some, None, Result, Ok, Err}
-use Rattle.std.specs.Option.{option_and_then}
+use Rattle.std.specs.Option.{is_some, option_and_then, option_map_or}
 use Rattle.std.specs.Str.{bytes_eq, chars, is_utf8}
+use Rattle.sbl_explain.specs.Uses.{Question}
 use Rattle.sbl_io.specs.LinesOf.{lines_of}
 use Rattle.sbl_script.specs.Edits.{ScriptEdit}
 use Rattle.sbl_reports.specs.Block.{made_text, max_script}
@@ -12,6 +13,7 @@ use Rattle.sbl_sessions.specs.Requests.{asks_block}
 use Rattle.sbl_sessions.specs.Words.{argument, command_word}
 use Rattle.sbl_text.specs.declared.fault.ScriptFault.{ScriptFault}
 use Rattle.sbl_text.specs.declared.fault.ScriptFault.TheVariants as fault
+use Rattle.sbl_work.specs.Questions.{question_in}
 
 pub data WorkCommand : Type 0 where
   -- a comment, or `help`
@@ -28,6 +30,12 @@ pub data WorkCommand : Type 0 where
   Redo : WorkCommand
   -- sets the mark
   Mark : WorkCommand
+  -- sets the mark to the words with the stems in these bytes
+  MarkStems : List ℕ → WorkCommand
+  -- the stems were written to a file, or could not be
+  Approve : Bool → WorkCommand
+  -- the vocabulary becomes that of the words in these bytes
+  Words : List ℕ → WorkCommand
   -- what differs from the mark
   Changes : WorkCommand
   -- figures of the bench
@@ -42,6 +50,14 @@ pub data WorkCommand : Type 0 where
   Why : List ℕ → WorkCommand
   -- the integer variables after the run of a word
   Integers : List ℕ → WorkCommand
+  -- the words that use a part of the script
+  Uses : Question → WorkCommand
+  -- how many words use each part
+  Counts : WorkCommand
+  -- the rows that contain a text
+  Find : List ℕ → WorkCommand
+  -- the class of a stem
+  Stem : List ℕ → WorkCommand
   -- the definition of this name
   Show : List ℕ → WorkCommand
   -- a file was written
@@ -82,6 +98,19 @@ abbrev pub append_command : List ℕ → WorkCommand
 append_command [] = NoWords
 append_command (b ∷ lines) = Saved
 
+-- the words that use what a text asks about
+abbrev pub uses_command : List ℕ → WorkCommand
+uses_command text = option_map_or Uses (question_in text) (Session session.Bad)
+
+-- the rows that contain a text, which must not be empty
+abbrev pub find_command : List ℕ → WorkCommand
+find_command [] = Session session.Bad
+find_command (b ∷ text) = Find (chars (b ∷ text))
+
+-- `mark` with the bytes of a file; without a name after the space the line is bad
+abbrev pub mark_command : Option (List ℕ) → List ℕ → WorkCommand
+mark_command file line = if bytes_eq (argument line) [] then Session (session.line_command line) else with_file MarkStems file
+
 -- the command of a line by its command word
 abbrev pub word_command : Option (List ℕ) → List ℕ → WorkCommand
 word_command file line =
@@ -90,10 +119,15 @@ word_command file line =
     else (if bytes_eq (command_word line) (codes "why") then Why (chars (argument line))
     else (if bytes_eq (command_word line) (codes "events") then Why (chars (argument line))
     else (if bytes_eq (command_word line) (codes "integers") then Integers (chars (argument line))
+    else (if bytes_eq (command_word line) (codes "uses") then uses_command (argument line)
+    else (if bytes_eq (command_word line) (codes "find") then find_command (argument line)
+    else (if bytes_eq (command_word line) (codes "stem") then Stem (chars (argument line))
     else (if bytes_eq (command_word line) (codes "show") then Show (argument line)
     else (if bytes_eq (command_word line) (codes "save") then with_file (λ bytes. Saved) file
     else (if bytes_eq (command_word line) (codes "append") then with_file append_command file
-    else Session (session.line_command line))))))))
+    else (if bytes_eq (command_word line) (codes "mark") then mark_command file line
+    else (if bytes_eq (command_word line) (codes "approve") then Approve (is_some file)
+    else Session (session.line_command line)))))))))))))
 
 -- the command of a line that is no comment and no `echo`
 abbrev pub text_command : Option (List ℕ) → List ℕ → WorkCommand
@@ -102,11 +136,13 @@ text_command file line =
     else (if bytes_eq line (codes "undo") then Undo
     else (if bytes_eq line (codes "redo") then Redo
     else (if bytes_eq line (codes "mark") then Mark
+    else (if bytes_eq line (codes "words") then with_file Words file
     else (if bytes_eq line (codes "changes") then Changes
     else (if bytes_eq line (codes "stats") then Stats
     else (if bytes_eq line (codes "unused") then Unused
+    else (if bytes_eq line (codes "counts") then Counts
     else (if bytes_eq line (codes "help") then Nothing
-    else word_command file line)))))))
+    else word_command file line)))))))))
 
 -- whether a line begins with `#`
 abbrev pub is_comment : List ℕ → Bool
@@ -119,9 +155,10 @@ utf8_command file line =
     if bytes_eq (command_word line) (codes "echo") then Echo (argument line)
     else text_command file line
 
--- The command of a line without a block. The file has these bytes: the script's for `reload`, the one that the line names for
--- `families`; for `save` any if it was written, and for `append` the lines that were put at its end; none if it could not be read or
--- written. A line that is not UTF-8 and no comment is a command of a session, where it is bad.
+-- The command of a line without a block. The file has these bytes: the script's for `reload`, that of the words for `words`, the
+-- one that the line names for `families` and `mark`; for `save` and `approve` any if it was written, and for `append` the lines
+-- that were put at its end; none if it could not be read or written. A line that is not UTF-8 and no comment is a command of a
+-- session, where it is bad.
 unfoldable pub alone_command : Option (List ℕ) → List ℕ → WorkCommand
 alone_command file line =
     if is_comment line then Nothing

@@ -1,4 +1,5 @@
 -- definitions that public contracts depend on
+pub mod Questions
 pub mod Commands
 pub mod Replies
 pub mod ReplyViews

@@ -1,8 +1,10 @@
 -- The replies of work: the text of the reply to a command, and the bench and the desk after it.
-use Rattle.std.specs.Prelude.{◌≡◌, ◌⊎◌, ℕ, List, [], codes, if◌then◌else◌, Option, Some, None, Result, Ok, Err}
+use Rattle.std.specs.Prelude.{◌≡◌, ◌⊎◌, ℕ, Bool, ◌==◌, List, [], codes, length, if◌then◌else◌, Option, Some, None, Result, Ok, Err}
+use Rattle.std.specs.Option.{unwrap_or}
 use Rattle.std.specs.Str.{chars, is_utf8}
 use Rattle.sbl_bench.specs.Contents.{Contents, rows_now}
-use Rattle.sbl_bench.specs.Edits.{Whole}
+use Rattle.sbl_bench.specs.Edits as bench
+use Rattle.sbl_bench.specs.Edits.{Edits, Whole}
 use Rattle.sbl_bench.specs.Whys.{refusal_of_why}
 use Rattle.sbl_bench.specs.declared.fault.EditFault.{EditFault}
 use Rattle.sbl_bench.specs.declared.fault.EditFault.TheVariants as edit
@@ -11,16 +13,30 @@ use Rattle.sbl_sessions.specs.Answers.{edit_text, with_line_feed}
 use Rattle.sbl_sessions.specs.CommandViews.{IsTextAnswer}
 use Rattle.sbl_sessions.specs.EditFaults.{fault_in}
 use Rattle.sbl_explain.specs.Unused as unused
+use Rattle.sbl_explain.specs.Counts.{counts_text}
 use Rattle.sbl_explain.specs.Integers as integers
+use Rattle.sbl_explain.specs.Uses.{Question, uses_text}
+use Rattle.sbl_explain.specs.declared.uses.UsesFault.{UsesFault}
+use Rattle.sbl_explain.specs.declared.uses.UsesFault.TheVariants as uses
 use Rattle.sbl_explain.specs.WhyRows as rows
 use Rattle.sbl_work.specs.Commands.{WorkCommand, Nothing, Session, EditPart, EditWhole, Undo, Redo, Mark, Changes, Stats}
-use Rattle.sbl_work.specs.Commands.{Unused, Largest, Families, Why, Integers, Show, Saved, NoWords, NoFile, Echo}
+use Rattle.sbl_work.specs.Commands.{Unused, Largest, Families, Why, Integers, Uses, Counts, Find, Stem, Show, Saved, NoWords, NoFile, Echo}
+use Rattle.sbl_work.specs.Commands.{MarkStems, Approve, Words}
+use Rattle.sbl_input.specs.FileWords.{file_lines, file_words, first_line_fault}
+use Rattle.sbl_io.specs.LinesOf.{lines_of}
+use Rattle.sbl_input.specs.declared.faults.LoadFault.{LoadFault}
+use Rattle.sbl_input.specs.declared.faults.LoadFault.TheVariants as load
+use Rattle.sbl_io.specs.declared.faults.ServeFault.TheVariants as serve
+use Rattle.sbl_rows.specs.Rows.{Row}
+use Rattle.sbl_rows.specs.StemRows.{rows_with}
 use Rattle.sbl_source_map.specs.Definitions.{definition_text}
 use Rattle.sbl_history.specs.Desks.{Redoes, State, Undoes}
 use Rattle.sbl_history.specs.Editing.{IsLimitNoted, Replaces, ReplacesPart}
 use Rattle.sbl_reports.specs.Families.{families_in, families_text}
 use Rattle.sbl_source_map.specs.Heads.{IsWithoutHead}
+use Rattle.sbl_reports.specs.Lookups.{found_text, stem_text}
 use Rattle.sbl_reports.specs.Reports.{changes_text, largest_text, stats_text}
+use Rattle.sbl_reports.specs.StemLines.{are_text, have_lines, stems_in}
 use Rattle.sbl_history.specs.declared.history.HistoryFault.{HistoryFault}
 use Rattle.sbl_history.specs.declared.history.HistoryFault.TheVariants as fault
 
@@ -44,8 +60,20 @@ bad_number_text = with_line_feed (codes "no 56 BadNumber")
 abbrev pub no_file_text : List ℕ
 no_file_text = with_line_feed (codes "no 57 NoFile")
 
+abbrev pub no_string_text : List ℕ
+no_string_text = with_line_feed (codes "no 58 NoString")
+
+abbrev pub no_class_text : List ℕ
+no_class_text = with_line_feed (codes "no 59 NoClass")
+
+abbrev pub refused_text : List ℕ
+refused_text = with_line_feed (codes "no 67 Refused")
+
 abbrev pub no_words_text : List ℕ
 no_words_text = with_line_feed (codes "no 69 NothingToAppend")
+
+abbrev pub lengths_differ_text : List ℕ
+lengths_differ_text = with_line_feed (codes "no 74 LengthsDiffer")
 
 abbrev pub not_text_text : List ℕ
 not_text_text = with_line_feed (codes "no 75 NotText")
@@ -53,6 +81,16 @@ not_text_text = with_line_feed (codes "no 75 NotText")
 -- the reply to families in these bytes
 abbrev pub families_reply_text : Contents → List ℕ → List ℕ
 families_reply_text s bytes = if is_utf8 bytes then families_text s (families_in (chars bytes)) else not_text_text
+
+-- why a file of stems sets no mark: a line of it is not UTF-8, or there is not one line for each word
+abbrev pub mark_refusal : Contents → List ℕ → Option (List ℕ)
+mark_refusal s bytes =
+    if are_text (lines_of bytes) then (if length (lines_of bytes) == length s.words then None else Some lengths_differ_text)
+    else Some not_text_text
+
+-- the reply to what writes the stems to a file: whether they were written, unless a run is refused or a stem is not one line
+abbrev pub approve_text : Contents → Bool → List ℕ
+approve_text s is_written = if have_lines (rows_now s) then (if is_written then edit_text None else no_file_text) else refused_text
 
 -- the rows, or the fault of the word
 abbrev pub rows_or_fault : Option EditFault → List ℕ → List ℕ
@@ -64,6 +102,20 @@ why_reply_text s word = rows_or_fault (refusal_of_why word) (rows.why_text s.set
 
 abbrev pub integers_reply_text : Contents → List ℕ → List ℕ
 integers_reply_text s word = rows_or_fault (refusal_of_why word) (integers.integers_text s.setting word)
+
+-- the rows of the words that use a part of the script, or why there is no such part
+abbrev pub users_or_fault : Result (List ℕ) UsesFault → List ℕ
+users_or_fault (Ok text) = text
+users_or_fault (Err uses.NoRoutine) = edit_text (Some edit.NoRoutine)
+users_or_fault (Err uses.NoAmong) = edit_text (Some edit.NoAmong)
+users_or_fault (Err uses.NoString) = no_string_text
+users_or_fault (Err uses.OutOfMemory) = edit_text (Some edit.OutOfMemory)
+
+abbrev pub uses_reply_text : Contents → Question → List ℕ
+uses_reply_text s q = users_or_fault (uses_text s.setting s.words q)
+
+abbrev pub stem_reply_text : Contents → List ℕ → List ℕ
+stem_reply_text s stem = unwrap_or (stem_text stem s) no_class_text
 
 -- ---- replies
 
@@ -78,6 +130,35 @@ TellsMemory s d text t e = TellsAlone (edit_text (Some edit.OutOfMemory)) s d te
 -- a report is written whole, or an allocation for it fails
 abbrev pub TellsReport : List ℕ → Contents → State → List ℕ → Contents → State → Type 0
 TellsReport report s d text t e = TellsAlone report s d text t e ⊎ TellsMemory s d text t e
+
+-- these rows become those at the mark, or an allocation fails
+abbrev pub SetsMark : List Row → Contents → State → List ℕ → Contents → State → Type 0
+SetsMark rows s d text t e = ((text ≡ edit_text None) × (t ≡ s) × (e ≡ record d { marked = rows })) ⊎ TellsMemory s d text t e
+
+-- the mark becomes the words with the stems in these bytes, unless they are refused
+abbrev pub IsMarkReply : Option (List ℕ) → List ℕ → Contents → State → List ℕ → Contents → State → Type 0
+IsMarkReply None bytes s d text t e = SetsMark (rows_with s.words (stems_in bytes)) s d text t e
+IsMarkReply (Some refusal) bytes s d text t e = TellsReport refusal s d text t e
+
+-- The words in these bytes replace the vocabulary; or a line is no word, the bench refuses the words, or an allocation fails.
+abbrev pub RereadsWords : Result (Unit {0}) LoadFault → List ℕ → Contents → Contents → Type 0
+RereadsWords (Ok u) bytes s t = (first_line_fault (file_lines bytes) ≡ None) × Edits (Ok u) s (bench.Words (file_words bytes)) t
+RereadsWords (Err (load.Open f)) bytes s t = (first_line_fault (file_lines bytes) ≡ None) × Edits (Err f) s (bench.Words (file_words bytes)) t
+RereadsWords (Err (load.Input serve.OutOfMemory)) bytes s t = t ≡ s
+RereadsWords (Err (load.Input f)) bytes s t = (first_line_fault (file_lines bytes) ≡ Some f) × (t ≡ s)
+RereadsWords (Err (load.Script f)) bytes s t = ⊥
+
+-- a line that is longer than lines may be is a word that is too long
+abbrev pub words_text : Result (Unit {0}) LoadFault → List ℕ
+words_text (Ok u) = edit_text None
+words_text (Err (load.Open f)) = edit_text (Some f)
+words_text (Err (load.Input serve.NotText)) = not_text_text
+words_text (Err (load.Input serve.LineTooLong)) = edit_text (Some edit.WordTooLong)
+words_text (Err f) = edit_text (Some edit.OutOfMemory)
+
+abbrev pub IsWordsReply : List ℕ → Contents → State → List ℕ → Contents → State → Type 0
+IsWordsReply bytes s d text t e =
+    (result : Result (Unit {0}) LoadFault) × RereadsWords result bytes s t × (text ≡ words_text result) × (e ≡ d)
 
 -- these bytes replace the whole script, and become its text
 abbrev pub ReplacesWhole : Result (Unit {0}) EditFault → List ℕ → Contents → State → Contents → State → Type 0
@@ -109,7 +190,10 @@ IsWorkReply s d (EditPart what block) text t e = IsPartReply what block s d text
 IsWorkReply s d (EditWhole bytes) text t e = IsWholeReply bytes s d text t e
 IsWorkReply s d Undo text t e = (result : Result (Unit {0}) HistoryFault) × Undoes result s d t e × (text ≡ undo_text result)
 IsWorkReply s d Redo text t e = (result : Result (Unit {0}) HistoryFault) × Redoes result s d t e × (text ≡ redo_text result)
-IsWorkReply s d Mark text t e = ((text ≡ edit_text None) × (t ≡ s) × (e ≡ record d { marked = rows_now s })) ⊎ TellsMemory s d text t e
+IsWorkReply s d Mark text t e = SetsMark (rows_now s) s d text t e
+IsWorkReply s d (MarkStems bytes) text t e = IsMarkReply (mark_refusal s bytes) bytes s d text t e
+IsWorkReply s d (Approve is_written) text t e = TellsReport (approve_text s is_written) s d text t e
+IsWorkReply s d (Words bytes) text t e = IsWordsReply bytes s d text t e
 IsWorkReply s d Changes text t e = TellsReport (changes_text d.marked s) s d text t e
 IsWorkReply s d Stats text t e = TellsReport (stats_text s) s d text t e
 IsWorkReply s d Unused text t e = TellsReport (unused.unused_text s.setting s.words) s d text t e
@@ -117,6 +201,10 @@ IsWorkReply s d (Largest number) text t e = IsLargestReply number s d text t e
 IsWorkReply s d (Families bytes) text t e = TellsReport (families_reply_text s bytes) s d text t e
 IsWorkReply s d (Why word) text t e = TellsReport (why_reply_text s word) s d text t e
 IsWorkReply s d (Integers word) text t e = TellsReport (integers_reply_text s word) s d text t e
+IsWorkReply s d (Uses question) text t e = TellsReport (uses_reply_text s question) s d text t e
+IsWorkReply s d Counts text t e = TellsReport (counts_text s.setting s.words) s d text t e
+IsWorkReply s d (Find part) text t e = TellsReport (found_text part s) s d text t e
+IsWorkReply s d (Stem stem) text t e = TellsReport (stem_reply_text s stem) s d text t e
 IsWorkReply s d (Show name) text t e = IsDefinitionReply (definition_text s.setting.script name) s d text t e
 IsWorkReply s d Saved text t e = TellsReport (edit_text None) s d text t e
 IsWorkReply s d NoWords text t e = TellsAlone no_words_text s d text t e

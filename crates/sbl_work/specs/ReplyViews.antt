@@ -1,6 +1,6 @@
 -- A command and a reply, without memory addresses.
 use Rattle.std.specs.Prelude.{◌≡◌, ◌⊎◌, ◌<◌, ◌≤◌, ℕ, Bool, true, false, List, Option, Result, Ok, Err, codes, length}
-use Rattle.std.specs.Option.{option_map}
+use Rattle.std.specs.Option.{is_some, option_map}
 use Rattle.std.specs.Str.{bytes_eq, chars, is_utf8}
 use Rattle.std.specs.Borrow.{Bor}
 use Rattle.std.specs.declared.alloc.Global.{Global}
@@ -17,7 +17,8 @@ use Rattle.sbl_sessions.specs.Requests.{asks_block}
 use Rattle.sbl_sessions.specs.declared.replies.Reply.{Reply}
 use Rattle.sbl_text.specs.declared.fault.ScriptFault.TheVariants as script
 use Rattle.sbl_work.specs.Commands as command
-use Rattle.sbl_work.specs.Commands.{WorkCommand, alone_command, append_command, count_in, families_in_file, is_replace, with_file}
+use Rattle.sbl_work.specs.Commands.{WorkCommand, alone_command, append_command, count_in, families_in_file, find_command, is_replace, uses_command}
+use Rattle.sbl_work.specs.Commands.{with_file}
 use Rattle.sbl_history.specs.Desks.{State, state_of}
 use Rattle.sbl_history.specs.declared.desk.Desk.{Desk}
 use Rattle.sbl_history.specs.Editing.{ReplacesPart}
@@ -39,6 +40,9 @@ view_request file line variants.Reload = with_file command.EditWhole file
 view_request file line variants.Undo = command.Undo
 view_request file line variants.Redo = command.Redo
 view_request file line variants.Mark = command.Mark
+view_request file line (variants.MarkStems path) = with_file command.MarkStems file
+view_request file line (variants.Approve path) = command.Approve (is_some file)
+view_request file line variants.Words = with_file command.Words file
 view_request file line variants.Changes = command.Changes
 view_request file line variants.Stats = command.Stats
 view_request file line variants.Unused = command.Unused
@@ -46,6 +50,10 @@ view_request file line (variants.Largest number) = command.Largest (count_in num
 view_request file line (variants.Families path) = with_file families_in_file file
 view_request file line (variants.Why word) = command.Why (chars word.now)
 view_request file line (variants.Integers word) = command.Integers (chars word.now)
+view_request file line (variants.Uses text) = uses_command text.now
+view_request file line variants.Counts = command.Counts
+view_request file line (variants.Find text) = find_command text.now
+view_request file line (variants.Stem text) = command.Stem (chars text.now)
 view_request file line (variants.Show name) = command.Show name.now
 view_request file line (variants.Save path) = with_file (λ bytes. command.Saved) file
 view_request file line (variants.Append path) = with_file append_command file

@@ -10,12 +10,15 @@ ghost use Rattle.sbl_history.specs.Desks.{State, state_of};
 ghost use Rattle.sbl_reports.specs.Reports as reports;
 ghost use Rattle.sbl_work.specs.ReplyViews.{IsWorkAnswer, view_file};
 
+use crate::lookups::{counts_reply, find_reply, stem_reply, uses_reply};
 use crate::parts::families_reply;
 use crate::replies::{
     BAD_NUMBER, NO_FILE, NOTHING_TO_APPEND, edit_reply, memory_reply, redo_reply, undo_reply,
 };
 use crate::requests::{Request, count_in, request_of};
+use crate::stem_files::{approve_reply, mark_stems};
 use crate::whys::{integers_reply, why_reply};
+use crate::word_files::words_reply;
 use sbl_bench::{Bench, EditFault};
 use sbl_explain::unused_text;
 use sbl_history::Desk;
@@ -198,9 +201,9 @@ fn session(alloc: Global, desk: &mut Desk, bench: &mut Bench, line: &[u8]) -> Re
 
 /// Makes the edit or the report that a line without a block asks for, and returns the reply.
 ///
-/// `file` has the bytes of the file that the line needs: of the script's for `reload`, of the one that `families` names. It is
-/// `None` if the file could not be read. For `save` it has any bytes if the file was written, and for `append` the lines that were put at
-/// the file's end; it is `None` if the file was not written. Other commands do not look at it.
+/// `file` has the bytes of the file that the line needs: of the script's for `reload`, of that of the words for `words`, of the one that
+/// `families` or `mark` names. It is `None` if the file could not be read. For `save` and `approve` it has any bytes if the file was written, and for `append` the lines
+/// that were put at the file's end; it is `None` if the file was not written. Other commands do not look at it.
 ///
 /// If an allocation fails, the reply is `no 49 OutOfMemory`.
 pub(crate) fn answer_line(
@@ -218,6 +221,9 @@ pub(crate) fn answer_line(
         Request::Undo => undo(desk, bench),
         Request::Redo => redo(desk, bench),
         Request::Mark => mark(desk, bench),
+        Request::MarkStems(_) => mark_stems(alloc, desk, bench, file),
+        Request::Approve(_) => approve_reply(bench, file.is_some()),
+        Request::Words => words_reply(alloc, bench, file),
         Request::Changes => changes(alloc, desk, bench),
         Request::Stats => stats(alloc, bench),
         Request::Unused => unused_reply(alloc, bench),
@@ -225,6 +231,10 @@ pub(crate) fn answer_line(
         Request::Families(_) => families(alloc, bench, file),
         Request::Why(word) => why(alloc, bench, word),
         Request::Integers(word) => integers(alloc, bench, word),
+        Request::Uses(text) => uses_reply(alloc, bench, text),
+        Request::Counts => counts_reply(alloc, bench),
+        Request::Find(text) => find_reply(alloc, bench, text),
+        Request::Stem(text) => stem_reply(alloc, bench, text),
         Request::Show(name) => show(alloc, bench, name),
         Request::Save(_) => save_reply(bench, file),
         Request::Append(_) => append_reply(bench, file),

@@ -1,8 +1,8 @@
 //! The words that were added, and the lines by which a file of words gets those that it lacks.
 
-use crate::file_words::without_mark;
 use sbl_bench::Bench;
 use sbl_history::has_crlf;
+use sbl_input::without_mark;
 use sbl_io::first_line;
 use std::alloc::{AllocError, Global};
 use std::collections::BTreeSet;
@@ -25,11 +25,16 @@ impl Added {
         }
     }
 
-    /// Returns whether a line removes a word that was added.
-    pub(crate) fn is_removed_by(&self, bench: &Bench, line: &[u8]) -> bool {
-        let Some(word) = line.strip_prefix(b"remove ".as_slice()) else {
-            return false;
-        };
+    /// Returns whether a line removes a word that was not added, if it removes one.
+    pub(crate) fn is_of_start(&self, bench: &Bench, line: &[u8]) -> bool {
+        match line.strip_prefix(b"remove ".as_slice()) {
+            Some(word) => !self.has(bench, word),
+            None => false,
+        }
+    }
+
+    /// Returns whether a word was added.
+    fn has(&self, bench: &Bench, word: &[u8]) -> bool {
         for at in self.first..bench.len() {
             if let Some(row) = bench.row(at) {
                 if is_text_of(row.word, word) {
@@ -43,6 +48,11 @@ impl Added {
     /// Notes that a word of the start was removed.
     pub(crate) fn note_removed(&mut self) {
         self.first = self.first.saturating_sub(1);
+    }
+
+    /// Notes that the vocabulary is that of the file of words, and has this number of words.
+    pub(crate) fn note_read(&mut self, count: usize) {
+        self.first = count;
     }
 
     /// Returns the words that were added and not removed since, in their order. Returns `AllocError` if an allocation fails.

@@ -4,10 +4,10 @@ ghost use Rattle.sbl_bench.specs.KeptRuns.{contents_of};
 ghost use Rattle.sbl_work.specs.WholeWork.{IsOpened};
 
 use crate::appending::{Added, lines_to_append};
-use crate::file_words::words_in;
 use sbl_bench::{Bench, WordKeys};
 use sbl_history::{has_crlf, push_crlf};
-use sbl_input::LoadFault;
+use sbl_input::{LoadFault, words_in};
+use sbl_reports::stem_lines;
 use sbl_saving::{Former, ReadFault, SaveFault, is_same_file, read_file, save_file};
 use sbl_script::Script;
 use std::alloc::{AllocError, Global};
@@ -144,6 +144,27 @@ pub(crate) fn save<F: Files + AllocGlobal>(
         *seen = text;
     }
     saved
+}
+
+/// Writes the stems of the words to a file, one a line, in vocabulary order. Writes nothing if a run is refused, or a stem is not one
+/// line.
+///
+/// # Errors
+///
+/// Returns the faults of `save_file`, and `NotWritten` also for the files of the script and of the words.
+pub(crate) fn approve<F: Files + AllocGlobal>(
+    files: &F,
+    paths: &Paths,
+    bench: &Bench,
+    path: &str,
+) -> Result<(), SaveFault> {
+    let Some(text) = stem_lines(files.alloc(), bench)? else {
+        return Ok(());
+    };
+    if is_words(files, paths, path) || is_same_file(files, path, paths.script.as_str()) {
+        return Err(SaveFault::NotWritten);
+    }
+    save_file(files, path, &text, Former::Any)
 }
 
 /// Returns whether `append` may put words into a file that is there: the file of words, or one that it has made.

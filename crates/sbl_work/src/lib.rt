@@ -3,13 +3,15 @@
 
 mod answers;
 mod appending;
-mod file_words;
 mod files;
+mod lookups;
 mod parts;
 mod replies;
 mod requests;
 mod serving;
+mod stem_files;
 mod whys;
+mod word_files;
 
 pub use files::Paths;
 pub use requests::{BlockRequest, block_request};

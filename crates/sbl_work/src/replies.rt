@@ -22,10 +22,22 @@ pub(crate) const BAD_NUMBER: &str = "no 56 BadNumber\n";
 /// The reply if a file cannot be read or written.
 pub(crate) const NO_FILE: &str = "no 57 NoFile\n";
 
+/// The reply to `uses` if the among has no such string.
+pub(crate) const NO_STRING: &str = "no 58 NoString\n";
+
+/// The reply to `stem` if no word has the stem.
+pub(crate) const NO_CLASS: &str = "no 59 NoClass\n";
+
+/// The reply to `approve` if a run is refused, or a stem is not one line.
+pub(crate) const REFUSED: &str = "no 67 Refused\n";
+
 /// The reply to `append` if the file has each word that was added.
 pub(crate) const NOTHING_TO_APPEND: &str = "no 69 NothingToAppend\n";
 
-/// The reply if the bytes of families are not UTF-8.
+/// The reply to `mark` if the file has not one line for each word.
+pub(crate) const LENGTHS_DIFFER: &str = "no 74 LengthsDiffer\n";
+
+/// The reply if the bytes of families, or of stems, are not UTF-8.
 pub(crate) const NOT_TEXT: &str = "no 75 NotText\n";
 
 /// Returns the reply to an edit.

@@ -25,6 +25,12 @@ pub(crate) enum Request<'a> {
     Append(&'a str),
     /// Sets the mark.
     Mark,
+    /// Sets the mark to the words with the stems of a file.
+    MarkStems(&'a str),
+    /// Writes the stems to a file.
+    Approve(&'a str),
+    /// Replaces the vocabulary by what its file has now.
+    Words,
     /// Reports what differs from the mark.
     Changes,
     /// Reports figures of the rows and classes.
@@ -39,6 +45,14 @@ pub(crate) enum Request<'a> {
     Integers(&'a str),
     /// Reports what no word uses.
     Unused,
+    /// Reports the words that use a part of the script.
+    Uses(&'a str),
+    /// Reports how many words use each part of the script.
+    Counts,
+    /// Reports the rows that contain a text.
+    Find(&'a str),
+    /// Reports the class of a stem.
+    Stem(&'a str),
     /// Reports a definition.
     Show(&'a str),
     /// Writes a text.
@@ -147,28 +161,54 @@ fn text_request(line: &str) -> Request<'_>
         "undo" => Request::Undo,
         "redo" => Request::Redo,
         "mark" => Request::Mark,
+        "words" => Request::Words,
         "changes" => Request::Changes,
         "stats" => Request::Stats,
         "unused" => Request::Unused,
+        "counts" => Request::Counts,
         "help" => Request::Help,
         _ => word_request(line),
     }
+}
+
+/// Returns the text of a line before its first space, and the text after that space.
+fn split_text(line: &str) -> (&str, &str)
+    ensures word { result.0.now ≡ words.command_word line.now }
+    ensures argument { result.1.now ≡ words.argument line.now }
+{
+    line.split_once(' ').unwrap_or((line, ""))
 }
 
 /// Returns what a line that is UTF-8 asks for by its command word.
 fn word_request(line: &str) -> Request<'_>
     ensures { (file : Option (List ℕ)) → view_request file line.now result ≡ spec.word_command file line.now }
 {
-    let (word, argument) = line.split_once(' ').unwrap_or((line, ""));
+    let (word, argument) = split_text(line);
     match word {
         "largest" => Request::Largest(argument),
         "families" => Request::Families(argument),
         "why" | "events" => Request::Why(argument),
         "integers" => Request::Integers(argument),
+        "uses" => Request::Uses(argument),
+        "find" => Request::Find(argument),
+        "stem" => Request::Stem(argument),
         "show" => Request::Show(argument),
         "save" => Request::Save(argument),
         "append" => Request::Append(argument),
+        "mark" => mark_request(argument),
+        "approve" => Request::Approve(argument),
         _ => Request::Session,
+    }
+}
+
+/// Returns what `mark` asks for with a file; without its name the line is bad.
+fn mark_request(path: &str) -> Request<'_>
+    ensures { (file : Option (List ℕ)) (line : List ℕ) → words.argument line ≡ path.now → view_request file line result ≡ spec.mark_command file line }
+{
+    if path.is_empty() {
+        Request::Session
+    } else {
+        Request::MarkStems(path)
     }
 }
 

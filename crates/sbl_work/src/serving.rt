@@ -19,6 +19,8 @@ use crate::files::{OpenFault, Paths, append, open, save};
 use crate::parts::answer_block;
 use crate::replies::edit_reply;
 use crate::requests::{Request, block_request, is_quit, request_of};
+use crate::stem_files::{approve_by_file, mark_by_file};
+use crate::word_files::words_by_file;
 use sbl_bench::{Bench, EditFault};
 use sbl_history::Desk;
 use sbl_input::LoadFault;
@@ -97,6 +99,15 @@ fn answer_alone<F: Files + AllocGlobal>(
             Err(SaveFault::OutOfMemory) => edit_reply(Err(EditFault::OutOfMemory)),
             Err(_) => answer_line(alloc, desk, bench, line, None),
         },
+        Request::MarkStems(path) => mark_by_file(folder.files, alloc, desk, bench, path),
+        Request::Approve(path) => approve_by_file(folder.files, folder.paths, bench, path),
+        Request::Words => words_by_file(
+            folder.files,
+            folder.paths,
+            &mut folder.added,
+            alloc,
+            bench,
+        ),
         _ => answer_line(alloc, desk, bench, line, None),
     }
 }
@@ -112,9 +123,9 @@ fn answer_noted<F: Files + AllocGlobal>(
     ensures { IsFileAnswer (contents_of bench.old) (state_of desk.old) line.now result (contents_of bench.new) (state_of desk.new) }
 {
     let before = bench.len();
-    let is_added = folder.added.is_removed_by(bench, line);
+    let is_of_start = folder.added.is_of_start(bench, line);
     let reply = answer_alone(folder, desk, bench, alloc, line);
-    if bench.len() < before && !is_added {
+    if bench.len() < before && is_of_start {
         folder.added.note_removed();
     }
     reply

@@ -13,7 +13,7 @@ use sbl_sessions::Reply;
 use std::alloc::{AllocError, Global};
 
 /// Returns the characters of a text. Returns `AllocError` if an allocation fails.
-fn characters_of(alloc: Global, text: &str) -> Result<Vec<char>, AllocError>
+pub(crate) fn characters_of(alloc: Global, text: &str) -> Result<Vec<char>, AllocError>
     ensures { IfOk result (λ characters. characters.items ≡ chars text.now) }
 {
     let mut characters = Vec::with_capacity(alloc, text.chars().count())?;

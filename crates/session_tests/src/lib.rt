@@ -1,4 +1,4 @@
-//! Tests of lines, sessions, filters and checks. This crate has only tests.
+//! Tests of lines, sessions, filters, checks and comparisons. This crate has only tests.
 #![tactic(auto)]
 
 #[cfg(test)]
@@ -6,9 +6,13 @@ mod benches;
 #[cfg(test)]
 mod checks;
 #[cfg(test)]
+mod compares;
+#[cfg(test)]
 mod cuts;
 #[cfg(test)]
 mod devices;
+#[cfg(test)]
+mod edit_replies;
 #[cfg(test)]
 mod filters;
 #[cfg(test)]

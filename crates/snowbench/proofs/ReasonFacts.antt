@@ -4,7 +4,8 @@ use Rattle.std.specs.Prelude.{IfErr, if◌then◌else◌, nat_lt}
 use Rattle.std.specs.Option.{option_or}
 use Rattle.std.specs.Str.{is_utf8}
 use Rattle.sbl_bench.specs.Contents.{Contents}
-use Rattle.sbl_batch.specs.Differences.{IsChecked, ending, line_fault, pair_fault}
+use Rattle.sbl_batch.specs.Differences.{IsChecked, ending, pair_fault}
+use Rattle.sbl_input.specs.FileWords.{line_fault}
 use Rattle.sbl_ast.specs.Source.{Source}
 use Rattle.sbl_input.specs.Loading as load
 use Rattle.sbl_input.specs.Loading.{AfterSource, IsLoaded, ReadsScript, WordLines}

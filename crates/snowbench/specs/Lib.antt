@@ -4,6 +4,7 @@ pub mod WholeSession
 pub mod WholeCheck
 pub mod Program
 pub mod WholeFilter
+pub mod WholeCompare
 -- what the functions inside the crate promise each other: nothing in these need be believed
 pub mod Answering
 pub mod Filtering

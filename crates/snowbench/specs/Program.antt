@@ -3,7 +3,7 @@ use Rattle.std.specs.Prelude.{◌≡◌, ◌⊎◌, ◌+◌, ◌++◌, ◌==◌,
 use Rattle.std.specs.Prelude.{Err, IfErr, codes, if◌then◌else◌, min, string_bytes, take}
 use Rattle.std.specs.Io.KnownBytes.{Appends, Keeps}
 use Rattle.sbl_command_line.specs.declared.command_line.Verb.{Verb}
-use Rattle.sbl_command_line.specs.declared.command_line.Verb.TheVariants.{Session, Stem, Filter, Check, Work}
+use Rattle.sbl_command_line.specs.declared.command_line.Verb.TheVariants.{Session, Stem, Filter, Check, Compare, Work}
 use Rattle.sbl_command_line.specs.declared.command_line.Wanted.{Wanted}
 use Rattle.sbl_input.specs.declared.faults.LoadFault.{LoadFault}
 use Rattle.sbl_input.specs.declared.faults.LoadFault.TheVariants.{Input}
@@ -19,7 +19,7 @@ use Rattle.snowbench.specs.WholeSession.{IsWholeSession}
 -- ---- what is written
 
 -- What a subcommand with this external writes for an input, and the number of differences or the fault; only `check` has
--- differences. `work` has an entry of its own: here it reads and writes nothing.
+-- differences. `compare` and `work` have entries of their own: here they read and write nothing.
 abbrev pub IsAnswer : Verb → List ℕ → Option (List ℕ) → Option (List ℕ) → Option (List ℕ) → Option (List ℕ) → Result ℕ LoadFault → Type 0
 IsAnswer Session external input left held new_held (Ok n) = IsWholeSession input left external held new_held (Ok tt) × (n ≡ 0)
 IsAnswer Session external input left held new_held (Err f) = IsWholeSession input left external held new_held (Err f)
@@ -28,6 +28,7 @@ IsAnswer Stem external input left held new_held (Err f) = IsStemmed input left e
 IsAnswer Filter external input left held new_held (Ok n) = IsFiltered input left external held new_held (Ok tt) × (n ≡ 0)
 IsAnswer Filter external input left held new_held (Err f) = IsFiltered input left external held new_held (Err f)
 IsAnswer Check external input left held new_held result = IsWholeCheck input left external held new_held result
+IsAnswer Compare external input left held new_held result = (result ≡ Ok 0) × Keeps input left × Appends held new_held []
 IsAnswer Work external input left held new_held result = (result ≡ Ok 0) × Keeps input left × Appends held new_held []
 
 -- ---- why it ends with a fault

@@ -1,13 +1,15 @@
 //! The program over readers and writers: sessions, the stems of a vocabulary, and the comparison of stems with the expected stems.
 #![tactic(auto)]
 
+mod comparison;
 mod file_filter;
 pub mod laws;
 mod program;
 
+pub use comparison::{CompareEnd, run_compare};
 pub use file_filter::{FilterEnd, run_filter};
 pub use program::{run, run_with};
-pub use sbl_batch::check;
+pub use sbl_batch::{CompareFault, CompareInput, check};
 pub use sbl_bench::WordKeys;
 pub use sbl_command_line::{Face, Options, Verb, Wanted, read_words};
 pub use sbl_input::{LoadFault, load};

@@ -45,7 +45,8 @@ const MAX_FAULT_LINE: usize = 96;
 /// `session` loads a bench and answers the commands after it. `stem` writes the row of each word of a vocabulary. `filter`
 /// writes the row of each word before it reads the next.
 /// `check` reads a script block, a block of words and the expected stems up to the end of input, all before it runs
-/// anything, and then writes a row for each difference. `work` reads files, and has an entry of its own: here it reads and writes nothing.
+/// anything, and then writes a row for each difference. `compare` and `work` read files, and have entries of their own: here they read
+/// and write nothing.
 pub fn run<R: Source + Drop, W: Sink, E: Sink>(
     alloc: Global,
     wanted: &Wanted,
@@ -140,8 +141,8 @@ fn answer<R: Source + Drop, W: Sink>(
             Ok(0)
         }
         Verb::Check => check_input(lines, external, writer),
-        // `work` reads files, and has an entry of its own.
-        Verb::Work => Ok(0),
+        // `compare` and `work` read files, and have entries of their own.
+        Verb::Compare | Verb::Work => Ok(0),
     }
 }
 

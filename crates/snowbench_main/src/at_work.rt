@@ -31,6 +31,8 @@ pub(crate) fn start_work(rt: &HostRuntime, wanted: Wanted) -> u8 {
     } = wanted;
     let Options {
         script,
+        old: _,
+        new: _,
         words,
         commands: _,
         stems: _,

@@ -4,11 +4,11 @@ use crate::blocks::{after_point, long_line, overlong_line, point_line};
 use crate::file_names::{FileNames, STANDARD_INPUT, file_name};
 use crate::messages::count_and_word;
 use crate::run_result::RunResult;
-use sbl_bench::MAX_WORD_LENGTH;
+use sbl_bench::{EditFault, MAX_WORD_LENGTH};
 use sbl_diagnostics::{fault_of, offset_of_byte, push_conversion, push_named, script_fault_text};
-use sbl_input::read_script;
+use sbl_input::{read_script, without_mark};
 use sbl_source_map::position_of;
-use snowbench::{Device, Lines, Verb, Wanted};
+use snowbench::{Device, Lines, LoadFault, ServeFault, Verb, Wanted};
 use std::alloc::{AllocError, Global};
 
 /// The line of an input that is cut inside a block.
@@ -113,6 +113,44 @@ pub(crate) fn word_fault_text(
         push_long_line(&mut shown, InputPart::Words)?;
     } else {
         return Ok(None);
+    }
+    Ok(Some(shown))
+}
+
+/// Returns which line of a file of words has the fault, and what to do. `name` is the name of the file.
+pub(crate) fn words_fault_text(
+    alloc: Global,
+    name: &str,
+    words: &[u8],
+    fault: LoadFault,
+) -> Result<Option<String>, AllocError> {
+    let words = without_mark(words);
+    let mut shown = String::new(alloc);
+    push_named(&mut shown, name)?;
+    match fault {
+        LoadFault::Input(ServeFault::NotText) => {
+            let offset = offset_of_byte(words).unwrap_or(0);
+            let line = position_of(words, offset).line;
+            let place = format!(in alloc; ":{line}: not UTF-8. ")?;
+            shown.push_str(place.as_str())?;
+            push_conversion(&mut shown, words, name)?;
+        }
+        LoadFault::Input(ServeFault::LineTooLong) => {
+            let line = overlong_line(words).unwrap_or(1);
+            let place = format!(in alloc; ":{line}: ")?;
+            shown.push_str(place.as_str())?;
+            push_long_line(&mut shown, InputPart::Words)?;
+        }
+        LoadFault::Open(EditFault::WordTooLong) => {
+            let line = long_line(words).unwrap_or(1);
+            let place = format!(in alloc; ":{line}: ")?;
+            shown.push_str(place.as_str())?;
+            push_long_word(&mut shown)?;
+        }
+        LoadFault::Open(EditFault::Full) => {
+            shown.push_str(": more than 100,000 words, which no vocabulary may have")?;
+        }
+        _ => return Ok(None),
     }
     Ok(Some(shown))
 }

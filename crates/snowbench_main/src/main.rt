@@ -3,6 +3,8 @@
 
 mod at_work;
 mod blocks;
+mod compared_words;
+mod comparisons;
 mod fault_texts;
 mod file_names;
 mod messages;
@@ -13,6 +15,7 @@ mod talk;
 mod watching;
 
 use crate::at_work::start_work;
+use crate::comparisons::start_compare;
 use crate::file_names::{FileNames, reads_twice};
 use crate::messages::{NO_MEMORY, REFUSED, fail_memory, print_text};
 use crate::sessions::{run_check, run_filter, run_input, run_session};
@@ -74,6 +77,9 @@ fn refuse_line(rt: &HostRuntime, error: &clap::Error) -> u8 {
 fn start(rt: &HostRuntime, wanted: Wanted) -> u8 {
     if wanted.verb == Verb::Work {
         return start_work(rt, wanted);
+    }
+    if wanted.verb == Verb::Compare {
+        return start_compare(rt, &wanted);
     }
     match &wanted.options.script {
         None => run_input(rt, &wanted),

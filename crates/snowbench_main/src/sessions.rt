@@ -16,10 +16,10 @@ use std::io::{IsTerminal, Read};
 use std::{fs, io};
 
 /// The exit status after the reader of a pipe has closed it, as of a program that the signal ends.
-const CLOSED_PIPE: u8 = 141;
+pub(crate) const CLOSED_PIPE: u8 = 141;
 
 /// How many bytes the line of a fault has at most.
-const MAX_FAULT_LINE: usize = 96;
+pub(crate) const MAX_FAULT_LINE: usize = 96;
 
 /// Runs what the command line asks for over the lines of a reader.
 fn run_lines<R: Source + Drop>(
@@ -88,7 +88,7 @@ fn status_of(wanted: &Wanted, ended: &RunResult) -> u8 {
 }
 
 /// Prints the line of a fault.
-fn print_said(rt: &HostRuntime, ended: &RunResult) {
+pub(crate) fn print_said(rt: &HostRuntime, ended: &RunResult) {
     if let Ok(said) = str::from_utf8(ended.said.as_slice()) {
         let _ = eprint!(rt; "{said}");
     }
@@ -158,7 +158,7 @@ fn print_hint(rt: &HostRuntime, verb: Verb, input: &[u8]) {
 
 /// Returns the bytes of a file, or of standard input if its name is `-`. If it cannot be read, prints why and returns the exit
 /// status. `what` are its lines.
-fn read_named(rt: &HostRuntime, path: &str, what: &str) -> Result<Vec<u8>, u8> {
+pub(crate) fn read_named(rt: &HostRuntime, path: &str, what: &str) -> Result<Vec<u8>, u8> {
     if path == "-" {
         return read_input(rt, what);
     }

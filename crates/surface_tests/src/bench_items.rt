@@ -105,6 +105,7 @@ const DIFFERING: &str = "PLURALS|PLURALS|
 PLURALS|PREFIXES|more
 PREFIXES|externals ( stem ) define stem as ( [ among ( 'un' () 'in' () ) ] delete )|stem 1;
 PREFIXES|externals ( stem ) define stem as ( [ among ( 'un' () 're' () ) ] )|stem;
+externals ( stem ) define stem as setlimit among ( 'a' ) for among ( 'b' )|externals ( stem ) define stem as setlimit among ( 'a' ) for among ( 'c' )|stem 2;
 GROUPINGS|groupings ( v w ) externals ( stem ) define v 'aei' define w v + 'y' define stem as true|v;stem;";
 
 #[test]

@@ -6,6 +6,8 @@ the other functions of the crate: these rt ci has proved.
 from __future__ import annotations
 
 import hashlib
+import os
+import re
 from concurrent.futures import ThreadPoolExecutor
 
 from edits import Edit, Sources, find_functions
@@ -21,11 +23,22 @@ def choose(edits: list[Edit], number: int, commit: str) -> list[Edit]:
     return order[:number]
 
 
-def name_paths(edit: Edit) -> None:
+def home_of(owner: str, file: str, sources: Sources) -> str:
+    """Returns the file that defines a type, or the given one if no other does: a check names a method by the module of its type."""
+    for folder, _, names in os.walk(f"{sources.folder}/src"):
+        for name in sorted(names):
+            path = os.path.relpath(f"{folder}/{name}", sources.folder)
+            if name.endswith(".rt") and re.search(rf"\b(struct|enum|union) {owner}\b", sources.text(path)):
+                return path
+    return file
+
+
+def name_paths(edit: Edit, sources: Sources) -> None:
     """Names the functions of an edit as a check does."""
     for it in edit.functions:
+        module = module_of(home_of(it.owner, it.file, sources) if it.owner else it.file)
         owner = f"::{it.owner}" if it.owner else ""
-        edit.paths.append(f"{edit.crate}{module_of(it.file)}{owner}::{it.name}")
+        edit.paths.append(f"{edit.crate}{module}{owner}::{it.name}")
 
 
 def groups_by_crate(edits: list[Edit]) -> list[list[Edit]]:
@@ -51,7 +64,7 @@ class Sample:
             if not edit.misfit and not edit.alone:
                 find_functions(edit, sources[edit.crate])
             if not edit.misfit and not edit.alone:
-                name_paths(edit)
+                name_paths(edit, sources[edit.crate])
                 self.edits.append(edit)
 
     def run(self, number: int, commit: str, jobs: int) -> list[tuple[Edit, Verdict]]:

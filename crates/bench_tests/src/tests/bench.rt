@@ -14,7 +14,7 @@ use std::test::Fail;
 use test_support::{PLURALS, PREFIXES, SameBytes, letters, print_values, text_of, with_line_feeds};
 
 /// The words of a text, which have commas between them.
-fn words_in(alloc: Global, text: &str) -> Result<Vec<Vec<char>>, AllocError> {
+pub(crate) fn words_in(alloc: Global, text: &str) -> Result<Vec<Vec<char>>, AllocError> {
     let mut words = Vec::new(alloc);
     for word in text.split(',') {
         words.push(letters(alloc, word)?)?;

@@ -1,6 +1,6 @@
 //! Edits of a bench, with the rows, the changes and the count of runs after each. Sessions of edits are in tests/cases.
 
-use crate::tests::bench::{bench_of, row_text, rows_shown};
+use crate::tests::bench::{bench_of, row_text, rows_shown, words_in};
 use crate::tests::groupings::GROUPINGS;
 use crate::tests::limits::LIMITS;
 use sbl_bench::{Bench, EditFault, Row};
@@ -12,7 +12,7 @@ use test_support::{field, fits, letters, number, with_line_feeds};
 /// A case has the script, the words with commas between them, and edits one after another, each on a line: the edit, why it is refused
 /// (empty if it is accepted), the rows and the changes after it (`?`: not asked), and the count of runs (empty: not asked). A `¶` is
 /// a line feed in a script. With the among of the first edit, `tail` takes nothing off. All five words run again, and those that end in
-/// `s` get another stem. A word that is added or removed changes no outcome, and a refused edit leaves what there is. A refusal that
+/// `s` get another stem. A word that is added or removed changes no outcome, nor does a list of words, and a refused edit leaves what there is. A refusal that
 /// becomes another one is a change, and one that stays the same is none.
 const CHANGES: &[&str] = &[
     "PLURALS
@@ -22,6 +22,11 @@ add dog|40 Present|?|cats cat;cats cats;boxes box;boxes boxes;cakes cak;cakes ca
 add s||?||11
 routine last true||?|cake cak;cake cake;|
 remove s||?||",
+    "PLURALS
+cats,dog
+words boxes,cats,,boxes||boxes box;cats cat;||3
+words dog,cats||dog dog;cats cat;||4
+words cats,dog||cats cat;dog dog;||4",
     "integers ( x )¶externals ( stem )¶define stem as $x = maxint + 1
 ab
 routine stem $x = 1 / 0||ab 65 Divide;|ab 64 Integer;ab 65 Divide;|2
@@ -35,6 +40,7 @@ fn make_edit(alloc: Global, bench: &mut Bench, edit: &str) -> Result<Result<(), 
     Ok(match verb {
         "add" => bench.add(letters(alloc, rest)?.as_slice()),
         "remove" => bench.remove(letters(alloc, rest)?.as_slice()),
+        "words" => bench.replace_words(words_in(alloc, rest)?.as_slice()),
         "routine" => bench.replace_routine(name, text),
         "among" => {
             let (k, text) = text.split_once(' ').unwrap_or((text, ""));

@@ -200,6 +200,10 @@ fn put_family_row(alloc: Global, text: &mut String, row: &FamilyRow<'_>) -> Resu
             let row = format!(in alloc; "pairs,{within},{apart},{across},{joined}")?;
             text.push_str(row.as_str())
         }
+        FamilyRow::Unknown(number) => {
+            let row = format!(in alloc; "unknown,{number}")?;
+            text.push_str(row.as_str())
+        }
     }
 }
 

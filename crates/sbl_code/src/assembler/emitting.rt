@@ -1,15 +1,11 @@
 //! Instructions of all kinds but the commonest, and their exits.
 
-ghost use Rattle.std.specs.Prelude.{◌≡◌, ℕ, List, true, false, IfOk};
-ghost use Rattle.sbl_program.specs.Terms.{class_at};
-ghost use Rattle.sbl_code.specs.Performs.{PerformsWithExits, Ends, Restores, Saves, ArePerformed};
+ghost use Rattle.std.specs.Prelude.{◌≡◌, ℕ, true, false, IfOk};
+ghost use Rattle.sbl_code.specs.Performs.{PerformsChosen, PerformsWithExits, Ends, Restores, Saves, class_test};
 ghost use Rattle.sbl_program.specs.AmongStrings.{Listing};
 ghost use Rattle.sbl_code.specs.Flow.{flow, alone, seek_of};
-ghost use Rattle.sbl_program.specs.ProgramOf.{view_nodes};
-ghost use Rattle.sbl_program.specs.Run.{group_runs, calls};
-ghost use Rattle.sbl_program.specs.Actions.{test_grouping};
+ghost use Rattle.sbl_program.specs.Run.{calls};
 ghost use Rattle.sbl_program.specs.Search.{search_all};
-ghost use Rattle.sbl_semantics.specs.Choices.{choice};
 ghost use Rattle.sbl_semantics.specs.Control.{pay_first};
 ghost use Rattle.sbl_semantics.specs.State.{Signals};
 
@@ -108,7 +104,7 @@ impl Assembler {
         cost: u32,
         exits: &Exits,
     ) -> Result<Rc<Instruction>, AllocError>
-        ensures { IfOk result (λ made. (tables : ℕ → Listing) (n : ℕ) → PerformsWithExits tables (λ p levels. seek_of past (pay_first (test_grouping wanted (class_at p.groupings grouping) grouping))) cost n exits.now made.value) }
+        ensures { IfOk result (λ made. (tables : ℕ → Listing) (n : ℕ) → PerformsWithExits tables (λ p levels. seek_of past (pay_first (class_test wanted grouping p levels))) cost n exits.now made.value) }
     {
         emit!(
             self,
@@ -142,7 +138,7 @@ impl Assembler {
         cost: u32,
         exits: &Exits,
     ) -> Result<Rc<Instruction>, AllocError>
-        ensures { IfOk result (λ made. (tables : ℕ → Listing) (nodes : List Node) (n : ℕ) → ArePerformed tables nodes n exits.now groups.items → PerformsWithExits tables (λ p levels m t. group_runs p levels (view_nodes tables nodes) (choice among t) m t) cost n exits.now made.value) }
+        ensures { IfOk result (λ made. (tables : ℕ → Listing) → PerformsChosen tables among groups.items cost exits.now made.value) }
     {
         let bodies = Box::new(self.alloc, groups)?;
         emit!(

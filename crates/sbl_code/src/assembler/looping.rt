@@ -2,10 +2,10 @@
 
 ghost use Rattle.sbl_program.specs.AmongStrings.{Listing};
 ghost use Rattle.std.specs.Prelude.{ℕ, IfOk};
-ghost use Rattle.sbl_program.specs.ProgramOf.{view_number, view_node};
+ghost use Rattle.sbl_program.specs.ProgramOf.{view_node};
 ghost use Rattle.sbl_semantics.specs.Control.{pay_first};
-ghost use Rattle.sbl_code.specs.Performs.{PerformsWithExits};
-ghost use Rattle.sbl_code.specs.Flow.{flow, alone, turns_of, counted_of, seek_of, backwards_of, limited_of};
+ghost use Rattle.sbl_code.specs.Performs.{PerformsWithExits, counted_node, limit_node};
+ghost use Rattle.sbl_code.specs.Flow.{turns_of, seek_of, backwards_of};
 ghost use Rattle.sbl_program.specs.Run.{runs};
 
 use crate::assembler::{Assembler, Exits, more};
@@ -94,7 +94,7 @@ impl Assembler {
         cost: u32,
         exits: &Exits,
     ) -> Result<Rc<Instruction>, AllocError>
-        ensures { IfOk result (λ made. (tables : ℕ → Listing) (n : ℕ) → PerformsWithExits tables (λ p levels. pay_first (limited_of (runs p levels (view_node tables first.now)) (alone (flow p levels tables second.value)))) cost n exits.now made.value) }
+        ensures { IfOk result (λ made. (tables : ℕ → Listing) (n : ℕ) → PerformsWithExits tables (limit_node tables first.now second.value) cost n exits.now made.value) }
     {
         let first = self.body(first)?;
         emit!(
@@ -118,7 +118,7 @@ impl Assembler {
         cost: u32,
         exits: &Exits,
     ) -> Result<Rc<Instruction>, AllocError>
-        ensures { IfOk result (λ made. (tables : ℕ → Listing) (n : ℕ) → PerformsWithExits tables (λ p levels. pay_first (counted_of repeats (view_number count.now) (runs p levels (view_node tables inner.now)))) cost n exits.now made.value) }
+        ensures { IfOk result (λ made. (tables : ℕ → Listing) (n : ℕ) → PerformsWithExits tables (counted_node tables repeats count.now inner.now) cost n exits.now made.value) }
     {
         let body = self.body(inner)?;
         let copy = copy_number(self.alloc, count)?;

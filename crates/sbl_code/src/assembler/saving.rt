@@ -1,17 +1,10 @@
 //! Commands that save the cursor.
 
-ghost use Rattle.std.specs.Prelude.{◌<◌, ℕ, List, map, ◌∷◌, IfOk};
+ghost use Rattle.std.specs.Prelude.{◌<◌, ℕ, map, IfOk};
 ghost use Rattle.sbl_program.specs.AmongStrings.{Listing};
-ghost use Rattle.sbl_code.specs.Performs.{Leaves, Meaning, PerformsWithExits, Saves, IsPlace, IsRest};
-ghost use Rattle.sbl_program.specs.Chains.{JoinedView};
-ghost use Rattle.sbl_program.specs.ProgramOf.{view_node, view_next_command};
-ghost use Rattle.sbl_program.specs.Rows.{pays};
-ghost use Rattle.sbl_code.specs.Flow.{way_does, wrapped_of};
-ghost use Rattle.sbl_program.specs.Run.{runs};
-ghost use Rattle.sbl_semantics.specs.Control.{pay_first};
-ghost use Rattle.sbl_semantics.specs.State.{then_on};
-ghost use Rattle.sbl_code.specs.declared.assembler.Exits.{Exits as TheExits};
-ghost use Rattle.sbl_code.specs.declared.instruction.Instruction.{Instruction as TheInstruction};
+ghost use Rattle.sbl_code.specs.Performs.{Leaves, PerformsSaved, PerformsWithExits, IsPlace, IsRest, IsRestBefore, wrapped_node};
+ghost use Rattle.sbl_program.specs.ProgramOf.{view_next_command};
+ghost use Rattle.sbl_code.specs.Flow.{way_does};
 
 use crate::assembler::{Assembler, Exits, Place, Way, more};
 use crate::instruction::{Instruction, SLOTS};
@@ -57,7 +50,7 @@ impl Assembler {
         cost: u32,
         exits: &Exits,
     ) -> Result<Rc<Instruction>, AllocError>
-        ensures { IfOk result (λ made. (tables : ℕ → Listing) (meaning : Meaning) (own slot : ℕ) → IsPlace cost own slot exits.now place.now → ((entry : TheInstruction) → Saves place.now.cost place.now.slot inner.value entry → PerformsWithExits tables meaning place.now.cost place.now.slot place.now.exits entry) → PerformsWithExits tables (λ p levels m s. then_on (pays own s) (meaning p levels m)) cost slot exits.now made.value) }
+        ensures { IfOk result (λ made. (tables : ℕ → Listing) → PerformsSaved tables cost exits.now place.now inner.value made.value) }
     {
         let entry = self.save(place.cost, place.slot, inner)?;
         if place.nested {
@@ -89,7 +82,7 @@ impl Assembler {
         slot: usize,
         exits: &Exits,
     ) -> Result<Rc<Instruction>, AllocError>
-        ensures { IfOk result (λ made. (tables : ℕ → Listing) → PerformsWithExits tables (λ p levels. pay_first (wrapped_of (way_does after_t) (way_does after_f) (runs p levels (view_node tables inner.now)))) cost slot exits.now made.value) }
+        ensures { IfOk result (λ made. (tables : ℕ → Listing) → PerformsWithExits tables (wrapped_node tables after_t after_f inner.now) cost slot exits.now made.value) }
     {
         let place = self.place(cost, 1, slot, exits)?;
         let own = Exits {
@@ -129,7 +122,7 @@ impl Assembler {
         rest: &Exits,
     ) -> Result<Exits, AllocError>
         requires { slot < 4 }
-        ensures { IfOk result (λ made. (tables : ℕ → Listing) (exits : TheExits) (others : List JoinedView) → IsRest tables slot others exits rest.now → IsRest tables slot (view_next_command tables other.now ∷ others) exits made) }
+        ensures { IfOk result (λ made. (tables : ℕ → Listing) → IsRestBefore tables slot other.now rest.now made) }
     {
         let entry = self.inner(&other.command, slot, rest)?;
         let back = self.restore(slot, &entry)?;

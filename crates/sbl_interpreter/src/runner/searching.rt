@@ -1,11 +1,9 @@
 //! Searches the strings of an among.
 
 ghost use Rattle.std.specs.Prelude.{◌≡◌, ◌<◌, ◌≤◌, false, IfOk, slice_get};
-ghost use Rattle.sbl_program.specs.ProgramOf.{program_of};
-ghost use Rattle.sbl_run_state.specs.Endings.{Follows, IsSaved, Tries};
-ghost use Rattle.sbl_program.specs.Run.{calls};
-ghost use Rattle.sbl_program.specs.Search.{search_all, search_strings, try_one};
-ghost use Rattle.sbl_semantics.specs.State.{State as RunState, Ending, saved_cursor};
+ghost use Rattle.sbl_run_state.specs.Endings.{Follows, IsSaved};
+ghost use Rattle.sbl_program.specs.Search.{search_all, search_strings};
+ghost use Rattle.sbl_interpreter.specs.Inner.{TriesOne, calls_in};
 
 use crate::runner::Runner;
 use sbl_code::SearchSite;
@@ -23,7 +21,7 @@ impl<'a, T: Tables> Runner<'a, T> {
         site: &SearchSite,
         state: &mut State,
     ) -> Result<bool, Halt>
-        ensures follows { Follows result state.new (search_all (calls (program_of (T.listed self.now.tables.now) self.now.code.now) self.now.levels) among site.now.entries.items (T.listed self.now.tables.now site.now.table) self.now.mode state.old) }
+        ensures follows { Follows result state.new (search_all (calls_in T.listed self.now) among site.now.entries.items (T.listed self.now.tables.now site.now.table) self.now.mode state.old) }
         ensures no_more { IfOk result (λ _. state.new.steps ≤ state.old.steps) }
     {
         state.touch_among(among, self.mode)?;
@@ -40,7 +38,7 @@ impl<'a, T: Tables> Runner<'a, T> {
         entries: &[Candidate],
         state: &mut State,
     ) -> Result<bool, Halt>
-        ensures follows { Follows result state.new (search_strings (calls (program_of (T.listed self.now.tables.now) self.now.code.now) self.now.levels) among entries.now (T.listed self.now.tables.now table) self.now.mode state.old) }
+        ensures follows { Follows result state.new (search_strings (calls_in T.listed self.now) among entries.now (T.listed self.now.tables.now table) self.now.mode state.old) }
         ensures no_more { IfOk result (λ _. state.new.steps ≤ state.old.steps) }
     {
         let from = state.saved_cursor();
@@ -70,7 +68,7 @@ impl<'a, T: Tables> Runner<'a, T> {
         state: &mut State,
     ) -> Result<bool, Halt>
         requires { IsSaved from }
-        ensures tried { (begun : RunState) (follow : RunState → Ending) → from ≡ saved_cursor begun → Tries result state.new (try_one (calls (program_of (T.listed self.now.tables.now) self.now.code.now) self.now.levels) among (slice_get entries.now i) self.now.mode begun state.old follow) (follow state.new) }
+        ensures tried { TriesOne (calls_in T.listed self.now) among (slice_get entries.now i) self.now.mode from state.old result state.new }
         ensures no_more { IfOk result (λ _. state.new.steps ≤ state.old.steps) }
         ensures fewer { IfOk result (λ b. b ≡ false → state.new.steps < state.old.steps) }
     {

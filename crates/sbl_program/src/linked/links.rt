@@ -164,7 +164,7 @@ fn is_row_after(
 // Returns whether the string has fewer than `below` characters and is a prefix of the text read.
 #[inline(always)]
 fn is_shorter_prefix(direction: Mode, part: &[char], text: &[char], below: usize) -> bool
-    ensures { MatchBool result ((starts_with nat_eq (read_as direction part.now) text.now ≡ true) × (length text.now < below)) (starts_with nat_eq (read_as direction part.now) text.now ≡ true → below ≤ length text.now) }
+    ensures { let starts = starts_with nat_eq (read_as direction part.now) text.now in MatchBool result ((starts ≡ true) × (length text.now < below)) (starts ≡ true → below ≤ length text.now) }
 {
     text.len() < below && common(direction, part, text) == text.len()
 }

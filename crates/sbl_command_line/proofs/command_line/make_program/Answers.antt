@@ -25,5 +25,7 @@ returns c =
     ∙ ap₂ with_subcommand stem (ap (λ (a : App). a.top) c.in_ok-filter_command.ensures) in
     let check = c.in_ok-subcommand-5.ensures.shape (third _ _ _ _ (ap (λ (a : App). a.top.is_plain) c.in_ok-check_command.ensures))
     ∙ ap₂ with_subcommand filter (ap (λ (a : App). a.top) c.in_ok-check_command.ensures) in
-    IfOk-weaker c.subcommand-6.result _ _ (λ r h. h.shape (third _ _ _ _ (ap (λ (a : App). a.top.is_plain) c.in_ok-work_command.ensures))
-    ∙ ap₂ with_subcommand check (ap (λ (a : App). a.top) c.in_ok-work_command.ensures)) c.subcommand-6.ensures
+    let compare = c.in_ok-subcommand-6.ensures.shape (third _ _ _ _ (ap (λ (a : App). a.top.is_plain) c.in_ok-compare_command.ensures))
+    ∙ ap₂ with_subcommand check (ap (λ (a : App). a.top) c.in_ok-compare_command.ensures) in
+    IfOk-weaker c.subcommand-7.result _ _ (λ r h. h.shape (third _ _ _ _ (ap (λ (a : App). a.top.is_plain) c.in_ok-work_command.ensures))
+    ∙ ap₂ with_subcommand compare (ap (λ (a : App). a.top) c.in_ok-work_command.ensures)) c.subcommand-7.ensures

@@ -6,7 +6,7 @@ use Rattle.clap.specs.declared.parser.matches.Found.{Found}
 use Rattle.clap.proofs.WalkLemmas.{first_value-rows, one_text-rows}
 use Rattle.sbl_command_line.specs.CommandLine.{IsVerb, flag_in, program, value_in}
 use Rattle.sbl_command_line.proofs.command_line.read_words.Goals as goal
-use Rattle.sbl_command_line.proofs.command_line.read_words.Goals.{in-run, in-session, in-stem, in-filter, in-check, in-work}
+use Rattle.sbl_command_line.proofs.command_line.read_words.Goals.{in-run, in-session, in-stem, in-filter, in-check, in-compare, in-work}
 
 some_same : {X : Type 0} (x y : X) → Some x ≡ Some y → x ≡ y
 some_same x y e = cc
@@ -34,7 +34,7 @@ returns-clause-subcommand c =
     let options = rows_of (found_of c.in-Some.options.now) in
     let entered_is : subcommand_rows_of c.in_ok-matches.matches ≡ Some (c.in-Some.name.now, options) = both _ _ _ _ _ (sym c.in-Some.ensures.name) (sym c.in-Some.ensures.rows) in
     let found : first_of (codes "external") options ≡ Some c.in-Some-get_str.external.now = sym (first_value-rows (found_of c.in-Some.options.now) (codes "external")) ∙ sym c.in-Some-get_str.ensures in
-    let verb_is : IsVerb c.in-Some.name.now c.match-name.verb = elim c.match-name.branch [ in-run w ↦ search rules | in-session w ↦ search rules | in-stem w ↦ search rules | in-filter w ↦ search rules | in-check w ↦ search rules | in-work w ↦ search rules ] in
+    let verb_is : IsVerb c.in-Some.name.now c.match-name.verb = elim c.match-name.branch [ in-run w ↦ search rules | in-session w ↦ search rules | in-stem w ↦ search rules | in-filter w ↦ search rules | in-check w ↦ search rules | in-compare w ↦ search rules | in-work w ↦ search rules ] in
     let same : string_bytes c.in_ok-from_str.field-0 ≡ c.in-Some-get_str.external.now = c.in_ok-from_str.ensures.ok in
     let texts : option_and_then pick (subcommand_of program words) ≡ Some (c.in-Some.name.now, string_bytes c.in_ok-from_str.field-0) =
     ap (option_and_then pick) (program_is ∙ entered_is) ∙ ap (option_map (λ (name : Text). (c.in-Some.name.now, name))) found ∙ ap (λ (b : Text). Some (c.in-Some.name.now, b)) (sym same) in
@@ -49,6 +49,26 @@ returns-clause-script c =
     let entered_is : subcommand_rows_of c.in_ok-matches.matches ≡ Some (c.in-Some.name.now, rows_of f) = both _ _ _ _ _ (sym c.in-Some.ensures.name) (sym c.in-Some.ensures.rows) in
     let is = program_is ∙ entered_is in
     c.in_ok-script.ensures ∙ value_is words c.in-Some.name.now f (codes "SCRIPT") is
+
+pub returns-clause-old : goal.returns-clause-old
+returns-clause-old c =
+    let words = map string_bytes c.args.words.now in
+    let entered = (c.in_ok-matches.ensures.matches (ap is_simple c.in_ok-make_program.ensures ∙ refl)).1 in
+    let program_is : subcommand_of program words ≡ subcommand_rows_of c.in_ok-matches.matches = sym (entered ∙ ap (λ (a : App). subcommand_of a words) c.in_ok-make_program.ensures) in
+    let f = found_of c.in-Some.options.now in
+    let entered_is : subcommand_rows_of c.in_ok-matches.matches ≡ Some (c.in-Some.name.now, rows_of f) = both _ _ _ _ _ (sym c.in-Some.ensures.name) (sym c.in-Some.ensures.rows) in
+    let is = program_is ∙ entered_is in
+    c.in_ok-old.ensures ∙ value_is words c.in-Some.name.now f (codes "OLD") is
+
+pub returns-clause-new : goal.returns-clause-new
+returns-clause-new c =
+    let words = map string_bytes c.args.words.now in
+    let entered = (c.in_ok-matches.ensures.matches (ap is_simple c.in_ok-make_program.ensures ∙ refl)).1 in
+    let program_is : subcommand_of program words ≡ subcommand_rows_of c.in_ok-matches.matches = sym (entered ∙ ap (λ (a : App). subcommand_of a words) c.in_ok-make_program.ensures) in
+    let f = found_of c.in-Some.options.now in
+    let entered_is : subcommand_rows_of c.in_ok-matches.matches ≡ Some (c.in-Some.name.now, rows_of f) = both _ _ _ _ _ (sym c.in-Some.ensures.name) (sym c.in-Some.ensures.rows) in
+    let is = program_is ∙ entered_is in
+    c.in_ok-new.ensures ∙ value_is words c.in-Some.name.now f (codes "NEW") is
 
 pub returns-clause-words : goal.returns-clause-words
 returns-clause-words c =
@@ -109,6 +129,16 @@ returns-clause-neither c given also =
     let entered_is : subcommand_rows_of c.in_ok-matches.matches ≡ Some (c.in-Some.name.now, rows_of f) = both _ _ _ _ _ (sym c.in-Some.ensures.name) (sym c.in-Some.ensures.rows) in
     let is = program_is ∙ entered_is in
     c.face_of-face.ensures.neither (flag_is words c.in-Some.name.now f (codes "rows") is ∙ given) (flag_is words c.in-Some.name.now f (codes "text") is ∙ also)
+
+pub returns-clause-rows_alone : goal.returns-clause-rows_alone
+returns-clause-rows_alone c given also =
+    let words = map string_bytes c.args.words.now in
+    let entered = (c.in_ok-matches.ensures.matches (ap is_simple c.in_ok-make_program.ensures ∙ refl)).1 in
+    let program_is : subcommand_of program words ≡ subcommand_rows_of c.in_ok-matches.matches = sym (entered ∙ ap (λ (a : App). subcommand_of a words) c.in_ok-make_program.ensures) in
+    let f = found_of c.in-Some.options.now in
+    let entered_is : subcommand_rows_of c.in_ok-matches.matches ≡ Some (c.in-Some.name.now, rows_of f) = both _ _ _ _ _ (sym c.in-Some.ensures.name) (sym c.in-Some.ensures.rows) in
+    let is = program_is ∙ entered_is in
+    c.face_of-face.ensures.rows_alone (flag_is words c.in-Some.name.now f (codes "rows") is ∙ given) (flag_is words c.in-Some.name.now f (codes "text") is ∙ also)
 
 pub returns-clause-strict : goal.returns-clause-strict
 returns-clause-strict c =

@@ -3,7 +3,8 @@ use Rattle.std.specs.Borrow.{Bor}
 use Rattle.std.specs.List.{list_any}
 use Rattle.sbl_bench.specs.KeptRuns.{setting_of}
 use Rattle.sbl_bench.specs.Vocabulary.{is_word}
-use Rattle.sbl_semantics.specs.TouchedItems.{items_in, touched_items}
+use Rattle.sbl_machine.specs.ItemRefs.{items_of_refs}
+use Rattle.sbl_semantics.specs.TouchedItems.{touched_items}
 use Rattle.sbl_explain.specs.UnusedViews.{texts_of}
 use Rattle.sbl_explain.proofs.Loops.{at_index}
 use Rattle.sbl_explain.proofs.Unions.{or_prefix, word_at}
@@ -16,7 +17,7 @@ loop-word-preserved c = λ same test.
     let i = c.loop-word.word-index in
     let run = λ (w : List ℕ). list_any test (touched_items s.script w s.limit) in
     let rest = list_any run (texts_of (drop (i + 1) words)) in
-    let old = list_any test (items_in c.loop-word.items) in
+    let old = list_any test (items_of_refs c.loop-word.items) in
     ap (λ (b : Bool). rest || b)
     (c.in_ok-add_touched.ensures (ap (is_word _) (sym same) ∙ word_at words i _ c.loop-word-test.true) test)
     ∙ or_prefix rest _ old

@@ -4,7 +4,7 @@ use Rattle.sbl_io.specs.Records.{records_text}
 use Rattle.sbl_io.proofs.Taking.{leaves-less, leaves-none, takes-same}
 use Rattle.sbl_explain.specs.Parts.{Part}
 use Rattle.sbl_explain.specs.Unused as spec
-use Rattle.sbl_semantics.specs.TouchedItems.{item_of}
+use Rattle.sbl_machine.specs.ItemRefs.{item_of_ref}
 use Rattle.sbl_explain.specs.UnusedViews.{texts_of, view_parts}
 use Rattle.sbl_explain.proofs.UnusedLines.{text_of_more}
 use Rattle.sbl_explain.proofs.unused.push_entries.Goals as goal
@@ -18,9 +18,9 @@ returns g c = λ s words met taken.
 pub loop-item-preserved : goal.loop-item-preserved
 loop-item-preserved g c = λ s words met taken.
     let rows = spec.entry_rows s words in
-    let part : Part = (item_of c.in-Some.item.now, texts_of c.in-Some.strings.now.items) in
+    let part : Part = (item_of_ref c.in-Some.item.now, texts_of c.in-Some.strings.now.items) in
     leaves-less g.T.Report.has_taken c.args.out.now c.loop-item.out c.push_part.new.out (records_text (rows part))
     (records_text (flat_map rows (view_parts c.next.new.self))) (records_text (flat_map rows (view_parts c.loop-item.item-iterator))) _
     (text_of_more rows part (view_parts c.loop-item.item-iterator) (view_parts c.next.new.self) (ap view_parts c.in-Some.ensures.steps))
     (c.loop-item.invariant s words met taken) (takes-same g.T.Report.has_taken c.loop-item.out c.push_part.new.out _ (records_text (rows part))
-    (ap (λ l. records_text (rows (item_of c.in-Some.item.now, texts_of l))) c.deref.ensures.value) (c.in_ok-push_part.ensures s words met taken))
+    (ap (λ l. records_text (rows (item_of_ref c.in-Some.item.now, texts_of l))) c.deref.ensures.value) (c.in_ok-push_part.ensures s words met taken))

@@ -2,7 +2,7 @@ use Rattle.std.proofs.Common.{◌+◌, List, ℕ, ap, drop}
 use Rattle.std.proofs.Math.ListN.{drop_of_length-le}
 use Rattle.std.specs.Borrow.{Bor}
 use Rattle.std.specs.List.{flat_map}
-use Rattle.sbl_semantics.specs.TouchedItems.{item_of}
+use Rattle.sbl_machine.specs.ItemRefs.{item_of_ref}
 use Rattle.sbl_io.specs.Records.{records_text}
 use Rattle.sbl_io.proofs.Taking.{leaves-all, leaves-less, leaves-none}
 use Rattle.sbl_explain.specs.Unused as spec
@@ -18,7 +18,7 @@ pub loop-string-preserved : goal.loop-string-preserved
 loop-string-preserved g c = λ s words taken.
     let strings = c.args.strings.now in
     let i = c.loop-string.string-index in
-    let rows = λ (q : List ℕ). spec.string_rows s words (item_of c.args.among.now, q) in
+    let rows = λ (q : List ℕ). spec.string_rows s words (item_of_ref c.args.among.now, q) in
     leaves-less g.T.Report.has_taken c.args.out.now c.loop-string.out c.push_untaken.new.out _
     (records_text (flat_map rows (texts_of (drop (i + 1) strings)))) (records_text (flat_map rows (texts_of (drop i strings)))) _
     (text_of_more rows _ (texts_of (drop i strings)) (texts_of (drop (i + 1) strings)) (at_index (λ (t : Bor (List ℕ)). t.now) strings i _ c.loop-string-test.true))
@@ -26,7 +26,7 @@ loop-string-preserved g c = λ s words taken.
 
 pub returns : goal.returns
 returns g c = λ s words taken.
-    let rows = λ (q : List ℕ). spec.string_rows s words (item_of c.args.among.now, q) in
+    let rows = λ (q : List ℕ). spec.string_rows s words (item_of_ref c.args.among.now, q) in
     leaves-none g.T.Report.has_taken c.args.out.now c.loop-string.out _ _
     (ap (λ (l : List (Bor (List ℕ))). records_text (flat_map rows (texts_of l))) (drop_of_length-le c.args.strings.now c.loop-string-test.false))
     (c.loop-string.invariant s words taken)

@@ -1,6 +1,7 @@
 use Rattle.std.proofs.Common.{◌≡◌, ◌∙◌, ◌++◌, [], List, ℕ, ap, subst}
 use Rattle.std.specs.Borrow.{Bor}
 use Rattle.std.specs.List.{flat_map}
+use Rattle.std.specs.Prelude.{IfOk}
 use Rattle.sbl_bench.specs.KeptRuns.{setting_of}
 use Rattle.sbl_io.specs.Records.{records_text}
 use Rattle.sbl_io.specs.Reports.{HasText}
@@ -22,4 +23,4 @@ returns c =
     let parts : view_parts c.in_ok-parts.parts.entries ≡ parts_of s.script = c.in_ok-parts.ensures ∙ ap (λ (p : ParsedScript). parts_of (source_of p)) c.script.ensures in
     let rows = λ (ps : List Part). records_text (flat_map (λ (p : Part). item_rows s words p.0) ps ++ flat_map (entry_rows s words) ps) in
     let text : HasText c.push_rows-2.new.out (rows (view_parts c.in_ok-parts.parts.entries)) = c.in_ok-push_rows-2.ensures s words met taken [] c.in_ok-out.ensures.text in
-    c.into_bytes.ensures (rows (view_parts c.in_ok-parts.parts.entries)) text ∙ ap rows parts
+    subst (λ (t : List ℕ). IfOk c.into_bytes.result (λ bytes. bytes.items ≡ t)) (ap rows parts) (c.into_bytes.ensures (rows (view_parts c.in_ok-parts.parts.entries)) text)

@@ -1,7 +1,9 @@
-use Rattle.std.proofs.Common.{◌≡◌, ◌∙◌, ◌++◌, ◌∷◌, [], List, ap}
-use Rattle.std.specs.List.{filter_map}
+use Rattle.std.proofs.Common.{◌≡◌, ◌∙◌, ◌++◌, ◌∷◌, [], List, length, ap}
+use Rattle.std.specs.List.{filter_map, flat_map}
 use Rattle.std.proofs.lemmas.List.{map-append}
-use Rattle.sbl_rows.specs.Counting.{all_taken, view_families}
+use Rattle.sbl_rows.specs.Classes.{in_order}
+use Rattle.sbl_rows.specs.Counting.{all_taken, unknown_in, view_families}
+use Rattle.sbl_rows.specs.declared.family_report.FamilyRow.TheVariants.{Unknown}
 use Rattle.sbl_rows.specs.Families as spec
 use Rattle.sbl_rows.specs.Families.{FamilyResult, families_of, over_rows, view_result, view_results, view_words}
 use Rattle.sbl_rows.specs.Rows.{Row, view_rows}
@@ -17,6 +19,11 @@ returns c =
     let all-1 : view_families c.deref.result.now ≡ families_of rows [] lists = ap view_families c.deref.ensures.value ∙ all in
     let all-2 : view_families c.deref-2.result.now ≡ families_of rows [] lists = ap view_families c.deref-2.ensures.value ∙ all in
     let all-3 : view_families c.deref-3.result.now ≡ families_of rows [] lists = ap view_families c.deref-3.ensures.value ∙ all in
+    let pairs : view_results c.push.new.self.items ≡ spec.results_of (families_of rows [] lists) =
     three _ _ _ _ _ _ _ (ap view_results c.new-found.ensures.items) c.in_ok-push_under.ensures c.in_ok-push_over.ensures
     (ap view_results c.in_ok-push.ensures.items ∙ map-append view_result _ (c.in_ok-pairs.pairs ∷ []))
-    ∙ (λ i. (filter_map spec.under (all-1 i) ++ over_rows (all-2 i)) ++ ((c.in_ok-pairs.ensures ∙ ap spec.pairs_row all-3) i ∷ []))
+    ∙ (λ i. (filter_map spec.under (all-1 i) ++ over_rows (all-2 i)) ++ ((c.in_ok-pairs.ensures ∙ ap spec.pairs_row all-3) i ∷ [])) in
+    let unknown : c.in_ok-unknown.unknown ≡ length (spec.unknown_words rows lists) =
+    c.in_ok-unknown.ensures ∙ (λ i. length (in_order (unknown_in (c.in_ok-outcomes.ensures i) (flat_map (λ l. l) lists)))) in
+    ap view_results c.in_ok-push-2.ensures.items ∙ map-append view_result c.push.new.self.items (Unknown c.in_ok-unknown.unknown ∷ [])
+    ∙ (λ i. pairs i ++ spec.Unknown (unknown i) ∷ [])

@@ -1,9 +1,13 @@
+use Rattle.std.proofs.Common.{◌≡◌, ◌∙◌, ap}
+use Rattle.std.specs.Option.{is_some}
 use Rattle.std.specs.Str.{chars}
 use Rattle.sbl_bench.specs.KeptRuns.{contents_of}
-use Rattle.sbl_work.specs.Commands.{Echo, Integers, Largest, Saved, Show, Stats, Unused, Why, alone_command, append_command, count_in, families_in_file, with_file}
+use Rattle.sbl_work.specs.Commands.{Approve, Words, Counts, Echo, Integers, Largest, Saved, Show, Stats, Stem, Unused, Why, alone_command, append_command}
+use Rattle.sbl_work.specs.Commands.{count_in, families_in_file, find_command, uses_command, with_file}
 use Rattle.sbl_history.specs.Desks.{state_of}
 use Rattle.sbl_work.specs.ReplyViews.{view_file}
 use Rattle.sbl_work.proofs.ReplyFacts.{same_command}
+use Rattle.sbl_work.proofs.StemFileFacts.{seen_file}
 use Rattle.sbl_work.proofs.answers.answer_line.Goals as goal
 
 pub returns-in-Stats : goal.returns-in-Stats
@@ -42,6 +46,31 @@ returns-in-Integers c =
     let d = state_of c.args.desk.now in
     same_command s s d d (Integers (chars c.in-Integers.word.now)) (alone_command (view_file c.args.file) c.args.line.now) c.integers.result (c.in-Integers.ensures (view_file c.args.file)) (c.integers.ensures d)
 
+pub returns-in-Uses : goal.returns-in-Uses
+returns-in-Uses c =
+    let s = contents_of c.args.bench.now in
+    let d = state_of c.args.desk.now in
+    same_command s s d d (uses_command c.in-Uses.text.now) (alone_command (view_file c.args.file) c.args.line.now) c.uses_reply.result (c.in-Uses.ensures (view_file c.args.file)) (c.uses_reply.ensures d)
+
+pub returns-in-Counts : goal.returns-in-Counts
+returns-in-Counts c =
+    let s = contents_of c.args.bench.now in
+    let d = state_of c.args.desk.now in
+    same_command s s d d (Counts) (alone_command (view_file c.args.file) c.args.line.now) c.counts_reply.result (c.in-Counts.ensures (view_file c.args.file)) (c.counts_reply.ensures d)
+
+pub returns-in-Find : goal.returns-in-Find
+returns-in-Find c =
+    let s = contents_of c.args.bench.now in
+    let d = state_of c.args.desk.now in
+    same_command s s d d (find_command c.in-Find.text.now) (alone_command (view_file c.args.file) c.args.line.now) c.find_reply.result (c.in-Find.ensures (view_file c.args.file)) (c.find_reply.ensures d)
+
+pub returns-in-Stem : goal.returns-in-Stem
+returns-in-Stem c =
+    let s = contents_of c.args.bench.now in
+    let t = contents_of c.stem_reply.new.bench in
+    let d = state_of c.args.desk.now in
+    same_command s t d d (Stem (chars c.in-Stem.text.now)) (alone_command (view_file c.args.file) c.args.line.now) c.stem_reply.result (c.in-Stem.ensures (view_file c.args.file)) (c.stem_reply.ensures d)
+
 pub returns-in-Show : goal.returns-in-Show
 returns-in-Show c =
     let s = contents_of c.args.bench.now in
@@ -65,3 +94,15 @@ returns-in-Echo c =
     let s = contents_of c.args.bench.now in
     let d = state_of c.args.desk.now in
     same_command s s d d (Echo c.in-Echo.text.now) (alone_command (view_file c.args.file) c.args.line.now) c.echo.result (c.in-Echo.ensures (view_file c.args.file)) (c.echo.ensures d)
+
+pub returns-in-Approve : goal.returns-in-Approve
+returns-in-Approve c =
+    let s = contents_of c.args.bench.now in
+    let d = state_of c.args.desk.now in
+    let seen : c.is_some.result ≡ is_some (view_file c.args.file) = c.is_some.ensures ∙ seen_file c.args.file in
+    same_command s s d d (Approve c.is_some.result) (alone_command (view_file c.args.file) c.args.line.now) c.approve_reply.result (ap Approve seen ∙ c.in-Approve.ensures (view_file c.args.file)) (c.approve_reply.ensures d)
+
+pub returns-in-Words : goal.returns-in-Words
+returns-in-Words c =
+    let d = state_of c.args.desk.now in
+    same_command (contents_of c.args.bench.now) (contents_of c.words_reply.new.bench) d d (with_file Words (view_file c.args.file)) (alone_command (view_file c.args.file) c.args.line.now) c.words_reply.result (c.in-Words.ensures (view_file c.args.file)) (c.words_reply.ensures d)

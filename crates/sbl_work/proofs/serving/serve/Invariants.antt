@@ -1,4 +1,4 @@
-use Rattle.std.proofs.Common.{◌≡◌, IsSome}
+use Rattle.std.proofs.Common.{◌≡◌}
 use Rattle.sbl_bench.specs.KeptRuns.{contents_of}
 use Rattle.sbl_io.specs.Devices.{WritesInTime}
 use Rattle.sbl_io.specs.HeldInput.{KeepsTime, TakesFeeds, fault_of, fuel_of, input_of, reads_bound}

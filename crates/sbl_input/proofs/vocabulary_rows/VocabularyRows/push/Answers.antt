@@ -6,7 +6,7 @@ use Rattle.sbl_rows.specs.Setting.{under}
 use Rattle.sbl_io.specs.Records.{record_line}
 use Rattle.sbl_semantics.specs.Limit.{default_limit}
 use Rattle.sbl_reports.specs.RowRecords.{row_fields}
-use Rattle.sbl_reports.specs.RowWriter.{HasWritten}
+use Rattle.sbl_io.specs.RecordsWritten.{HasWritten}
 use Rattle.sbl_input.specs.VocabularyRows.{text_of_rows}
 use Rattle.sbl_input.specs.WordLists.{texts_of}
 use Rattle.sbl_input.proofs.VocabularyFacts.{repeat-skipped, new-last, rows-more}

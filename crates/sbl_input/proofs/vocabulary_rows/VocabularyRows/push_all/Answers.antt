@@ -5,7 +5,7 @@ use Rattle.std.specs.declared.alloc.Global.{Global}
 use Rattle.sbl_bench.specs.Contents.{opening_fault}
 use Rattle.sbl_bench.specs.inside.ProofNames.{with_all}
 use Rattle.sbl_reports.specs.Listings.{stems_text}
-use Rattle.sbl_reports.specs.RowWriter.{HasWritten}
+use Rattle.sbl_io.specs.RecordsWritten.{HasWritten}
 use Rattle.sbl_input.specs.VocabularyRows.{text_of_rows}
 use Rattle.sbl_input.specs.WordLists.{texts_of}
 use Rattle.sbl_input.proofs.vocabulary_rows.VocabularyRows.push_all.Goals as goal

@@ -4,7 +4,7 @@ use Rattle.sbl_bench.specs.Contents.{opening_fault}
 use Rattle.sbl_bench.specs.Vocabulary.{vocabulary}
 use Rattle.sbl_bench.specs.inside.ProofNames.{with_all}
 use Rattle.sbl_machine.specs.MachineOf.{IsLinkedMachineOf}
-use Rattle.sbl_reports.specs.RowWriter.{HasWritten}
+use Rattle.sbl_io.specs.RecordsWritten.{HasWritten}
 use Rattle.sbl_input.specs.VocabularyRows.{IsWriting}
 use Rattle.sbl_input.specs.WordLists.{texts_of}
 use Rattle.sbl_input.proofs.vocabulary_rows.VocabularyRows.push_all.Given as goal

@@ -1,0 +1,24 @@
+"""`python3 client ..`: the client of the repository or of an installed snowbench, whatever the current folder has. Compiled modules are kept
+in the user's cache: compiling them takes longer than the rest of the start. A folder of somebody else is not taken.
+"""
+import os
+import sys
+
+
+def cache() -> str:
+    """Returns the folder for compiled modules; nothing if there is none that is this user's alone."""
+    folder = os.path.join(os.environ.get("XDG_CACHE_HOME") or os.path.join(os.environ.get("HOME") or "/nowhere", ".cache"), "voltizug")
+    try:
+        os.makedirs(folder, mode=0o700, exist_ok=True)
+        state = os.stat(folder)
+    except OSError:
+        return ""
+    return folder if state.st_uid == os.geteuid() and not state.st_mode & 0o022 else ""
+
+
+if cache():
+    sys.pycache_prefix, sys.dont_write_bytecode = cache(), False
+
+from voltizug.terminal import main  # noqa: E402
+
+sys.exit(main(sys.argv[1:]))

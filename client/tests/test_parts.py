@@ -1,0 +1,115 @@
+"""The parts that know no terminal: rows, layouts, loops, near names, warnings, options, what is kept."""
+import os
+import time
+
+from voltizug import layout, loops, near, options, reports, rows, warn
+from voltizug.bench import Edit
+from voltizug.kept import Kept
+from voltizug.places import Places, line_and_column
+from voltizug.program import Reply
+
+from .kit import Case
+
+
+class Layouts(Case):
+    def test_a_line_fits(self):
+        self.assertEqual(layout.broken("  one two three", 9), ["  one two", "      three"])
+        self.assertEqual(layout.broken("Keys    one two three four five", 24), ["Keys    one two three", "        four five"])
+        self.assertEqual([layout.columns(text) for text in ("ab", "漢字", "e\u0301", "\t")], [2, 4, 1, 8])
+        self.assertEqual([layout.cut("漢字漢字", 6), layout.cut("abcdef", 6), layout.cut("abcdefg", 6)], ["漢字..", "abcdef", "abcd.."])
+
+    def test_no_character_reaches_the_terminal_that_it_obeys(self):
+        self.assertEqual(layout.named("a\x1b[2J\u202eb\udcff\t"), "a<U+001B>[2J<U+202E>b<FF>\t")
+
+    def test_kinds_share_the_room(self):
+        self.assertEqual(layout.shares([100, 2, 50], 20), [9, 2, 9])
+        found = rows.read("changes", ["changed,w%d,stem,a,stem,b" % i for i in range(30)] + ["split,a,b,c", "renamed,d,e"])
+        lines = layout.changes(found, {}, 10)
+        self.assertEqual((len(lines), lines[-1]), (10, '  .. and 23 more: "changes" shows all'))
+
+    def test_the_summary(self):
+        found = rows.read("changes", ["changed,w,stem,a,refused,Steps", "changed,v,stem,a,stem,b", "split,a,b,c", "added,x"])
+        self.assertEqual(layout.summary(Edit("routine", Reply("done", ["ok"], []), found)), "2 words, 1 of them refused, 1 split, 1 word added since the mark")
+        aside = Edit("reload", Reply("done", ["ok"], []), [], aside=("long", "r"))
+        self.assertEqual(layout.summary(aside), "no word and no class differs from the mark; put aside: long, r (undo brings them back)")
+
+    def test_families_are_compared(self):
+        pairs = rows.read("families", ["pairs,23854,735,9,121", "pairs,23854,168,9,2"])
+        self.assertEqual(
+            layout.families_line(tuple(pairs)),
+            "families: understemmed 735 -> 168 of 23,854 pairs (0.7 %), overstemmed 121 -> 2 of 9 pairs (22.2 %)",
+        )
+
+
+class Loops(Case):
+    def turn(self, *lines: str):
+        return loops.turn_of(rows.read("events", lines))
+
+    def test_a_loop_over_a_routine(self):
+        part = ["call,1,r", "search,1,r,1", "none,1,r,1", "return,1,r,t"]
+        self.assertEqual(self.turn("call,0,stem", *part * 20, "more,400", "refused,Steps"), (("stem",), False, ("calls r",), 120))
+
+    def test_a_loop_without_events_and_one_that_grows(self):
+        self.assertEqual(self.turn("call,0,stem", "call,1,r", "refused,Steps"), (("r",), False, (), 0))
+        part = ["search,0,stem,2", "taken,0,stem,2,a", "put,0,stem,0,0,a,aa"]
+        self.assertEqual(self.turn("call,0,stem", *part * 5, "refused,Steps"), (("stem",), False, ("searches among 2",), 5))
+
+    def test_routines_that_call_each_other(self):
+        self.assertEqual(self.turn(*("call,%d,%s" % (i, "rs"[i % 2]) for i in range(31)), "refused,Depth"), (("s", "r"), True, (), 15))
+        self.assertIsNone(self.turn("call,0,stem", "refused,Slice"))
+
+
+class Others(Case):
+    def test_near_names(self):
+        found = [near.distance(*pair) for pair in (("substring", "subtring"), ("ab", "ba"), ("", "ab"), ("kitten", "sitting"), ("a", "a"))]
+        self.assertEqual(found, [1, 1, 2, None, 0])
+        begin = time.monotonic()
+        near.near("ab" * 100, ["ba" * 99 + "%02d" % (i % 100) for i in range(200000)])
+        self.assertLess(time.monotonic() - begin, 2)
+
+    def test_a_place(self):
+        text = "\ufeffdefine r as 'é'\n  define s as 'x'\n".encode()
+        found = rows.read("places", ["routine,s,22,37,2,3", "entry,s,1,x,34,37,2,15"])
+        places = Places("my.sbl", text, text, found, [])
+        self.assertEqual([line_and_column(text, 3), places.of("s"), places.of("s", found[1]), places.of("r")], [(1, 1), "my.sbl:2:3", "my.sbl:2:15", ""])
+        self.assertEqual(places.definition("s"), ["  define s as 'x'"])
+        moved = Places("my.sbl", text, b"// new\n" + text, found, [])
+        self.assertEqual((moved.of("s", found[1]), moved.is_typed("s")), ("my.sbl:3:15", False))
+        typed = Places("my.sbl", text, b"define s as 'y'", found, [])
+        self.assertEqual((typed.of("s"), typed.is_typed("s")), ("not in my.sbl: line 1 of s", True))
+
+    def test_a_row_with_a_megabyte(self):
+        self.assertEqual(len(rows.rows_of(["routine," + "x" * 1000000])[0][1]), 1000000)
+
+    def test_why_shows_the_test_that_was_false(self):
+        events = rows.read("events", ["call,0,stem", "call,1,r", "put,1,r,0,1,k,kats", "test,1,r,1,f", "return,1,r,f", "return,0,stem,t", "stem,kats"])
+        found = rows.read("places", ["routine,r,0,20,1,1", "test,r,1,12,15,1,13"])
+        places = Places("my.sbl", b"define r as 'x' and more", b"define r as 'x' and more", found, [])
+        lines = reports.why("cats", events, rows.read("integers", ["steps,5"]), places, {})
+        self.assertEqual(lines[1:3], ["  r     'x' is false   my.sbl:1:13", "  stem  r is false"])
+
+    def test_warnings(self):
+        room = self.room(my_sbl=b"\xef\xbb\xbfexternals\n", my_words="cats \na b\n\tx\n")
+        said = warn.warnings_on(os.path.join(room, "my.sbl"), os.path.join(room, "my.words"))
+        self.assertEqual([line.partition(os.sep + "my.")[2][:46] for line in said], [
+            "sbl:1: a byte order mark, which is left out. T", "words:1: a blank at an end of the word, which ", "words:2: a blank inside the word, which belong",
+        ])
+
+    def test_options(self):
+        found = options.options_of(["--watch", "--external=porter", "--color", "never", "--", "-s", "w"])
+        self.assertEqual((found.script, found.words, found.is_watching, found.color, list(found.passed)), ("-s", "w", True, "never", ["--external", "porter"]))
+        for given in ([], ["--wach", "s"], ["a", "b", "c"], ["--external", "1", "s"], ["--color=blue", "s"], ["--color"]):
+            self.assertRaises(options.Misuse, options.options_of, given)
+
+    def test_what_was_left_behind(self):
+        room = self.room(my_sbl="text")
+        one = Kept(room, os.path.join(room, "my.sbl"))
+        one.note("text", ["routine r"])
+        other = Kept(room, os.path.join(room, "my.sbl"))
+        self.assertEqual(other.left(), [])
+        one.lock.close()
+        self.assertEqual([left.edits for left in other.left()], [["routine r"]])
+        another = Kept(room, os.path.join(room, "another.sbl"))
+        self.assertEqual(another.left(), [])
+        another.lock.close()
+        other.lock.close()

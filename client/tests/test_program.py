@@ -1,0 +1,101 @@
+"""program.py over the program of dist/ and over a fake one."""
+import os
+import signal
+import sys
+import threading
+import time
+
+from voltizug import rows
+from voltizug.program import BROKEN, DONE, ENDED, LATE, Program
+
+from .kit import FAKE, LOOP, PROGRAM, Case, example
+
+
+class OverProgram(Case):
+    def begin(self, script: str, words: str = "", program: str = PROGRAM) -> Program:
+        room = self.room(my_sbl=script, my_words=words)
+        made = Program([program, "work", "--text"], os.path.join(room, "my.sbl"), os.path.join(room, "my.words"), room)
+        self.addCleanup(made.stop)
+        self.reply = made.start()
+        return made
+
+
+class Real(OverProgram):
+    def test_the_start_and_a_report(self):
+        program = self.begin(example("porter.sbl"), example("porter.words"))
+        self.assertEqual([row.count for row in rows.read("stats", self.reply.lines)][:3], ["8", "0", "8"])
+        self.assertEqual(rows.outcomes(program.ask(["stems"]).lines)[0], ("caresses", "stem", "caress"))
+        self.assertEqual(program.now.text, example("porter.sbl").encode())
+
+    def test_a_fault_at_the_start(self):
+        self.begin("externals ( stem )\ndefine stem as nowhere\n")
+        self.assertEqual(self.reply.state, ENDED)
+        self.assertEqual((self.reply.said[0], len(self.reply.said)), ("snowbench: 10 Undeclared in item 2", 4))
+
+    def test_a_refusal(self):
+        program = self.begin(example("porter.sbl"))
+        reply = program.ask(["routine Step_3", "Step_9", "."])
+        self.assertEqual((reply.refusal(), reply.is_done, reply.said[0][:20]), ((48, "Undeclared"), False, "routine Step_3:1:1: "))
+        self.assertEqual(program.ask(["class x"]).refusal(), (41, "Absent"))
+
+    def test_a_command_that_the_program_lacks(self):
+        program = self.begin(example("porter.sbl"))
+        self.assertEqual(program.ask_known("lacking", "runs"), [None, ["0"]])
+        self.assertFalse(program.knows("lacking all"))
+
+    def test_begun_anew_after_a_kill(self):
+        program = self.begin(example("author.sbl"), example("author.words"))
+        self.assertTrue(program.ask(["routine plural", "true", "."]).is_done)
+        program.now = program.now._replace(text=program.text() or b"")
+        before = program.ask(["changes"]).lines
+        os.kill(program.process.pid, signal.SIGKILL)
+        self.assertEqual(program.ask(["stems"]).state, ENDED)
+        self.assertTrue(program.begin_anew())
+        self.assertEqual(program.ask(["changes"]).lines, before)
+        self.assertTrue(program.ask(["undo"]).is_done)
+        self.assertEqual(program.ask(["changes"]).lines, [])
+
+    def test_broken_off_in_a_loop(self):
+        program = self.begin("externals ( stem )\nroutines ( r )\ndefine r as true\ndefine stem as r\n", "".join("w%d\n" % i for i in range(30000)))
+        threading.Timer(0.2, program.break_off).start()
+        begin = time.monotonic()
+        self.assertEqual(program.ask(["routine r", "repeat true", "."]).state, BROKEN)
+        self.assertLess(time.monotonic() - begin, 2)
+        self.assertTrue(program.begin_anew())
+        self.assertEqual(program.ask(["class w1"]).lines, ["w1,w1"])
+
+    def test_a_long_name_on_standard_error(self):
+        program = self.begin(LOOP)
+        reply = program.ask(["routine r", "do " + "x" * 60000, "."], patience=20)
+        self.assertEqual((reply.state, reply.refusal()), (DONE, (48, "Undeclared")))
+
+
+class Fake(OverProgram):
+    def setUp(self):
+        self.program = self.begin(LOOP, "a\n", FAKE)
+
+    def test_the_number_of_the_rows(self):
+        self.assertEqual(self.program.rows, "2")
+
+    def test_megabytes_in_all_directions(self):
+        reply = self.program.ask(["say 1000000 5"], patience=30)
+        self.assertEqual((reply.state, reply.lines, len(reply.said[0])), (DONE, ["rrrrr"], 1000000))
+        reply = self.program.ask(["say 500 500 " + "x" * 500 for _ in range(1000)], patience=60)
+        self.assertEqual((reply.state, len(reply.lines)), (DONE, 1000))
+
+    def test_each_request_has_its_answer(self):
+        replies = self.program.ask_each([["say 0 1"], ["runs"], ["# nothing", "echo"], ["say 1 2"]], patience=30)
+        self.assertEqual([reply.lines for reply in replies], [["r"], ["1"], [""], ["rr"]])
+
+    def test_time_is_up(self):
+        begin = time.monotonic()
+        self.assertEqual(self.program.ask(["sleep"], patience=0.2).state, LATE)
+        self.assertLess(time.monotonic() - begin, 5)
+
+    def test_it_ends_in_the_middle(self):
+        self.assertEqual([reply.state for reply in self.program.ask_each([["say 0 1"], ["die"], ["say 0 1"]])], [DONE, ENDED, ENDED])
+        self.assertTrue(self.program.begin_anew())
+        self.assertEqual(self.program.ask(["say 0 3"]).lines, ["rrr"])
+
+
+assert sys.version_info >= (3, 9)

@@ -1,0 +1,242 @@
+"""`work` at a pseudo-terminal: sessions, and what once hung or lost something."""
+import os
+import signal
+import stat
+import sys
+import time
+import unittest.mock
+
+from voltizug import keys
+
+from .kit import CLIENT, FAKE, LOOP, Case, alive, example
+
+AUTHOR, WORDS = example("author.sbl"), example("author.words")
+
+
+class Sessions(Case):
+    def begin(self, script=AUTHOR, words=WORDS, **options):
+        self.folder = self.room(my_sbl=script, my_words=words)
+        terminal = self.terminal(self.folder, **options)
+        self.start = terminal.got()
+        return terminal
+
+    def test_an_edit_has_its_summary_last(self):
+        terminal = self.begin(lines=8)
+        shown = terminal.enter("routine plural", "true", ".").split("\n")
+        self.assertEqual((self.start.split("\n")[0], shown[-1], len(shown)), ("8 words, 3 classes, 0 refused", "3 words, 3 split since the mark", 7))
+        self.assertRegex(terminal.enter("undo"), "^taken back(: routine plural)?; no word and no class differs from the mark$")
+        self.assertIn("help COMMAND describes one", terminal.enter("help"))
+        self.assertEqual(terminal.enter("help why"), "why WORD: why WORD has its stem. WORD need not be in the vocabulary.")
+
+    def test_places_history_and_definitions(self):
+        terminal = self.begin(program=FAKE)
+        self.assertIn("among 1 takes 'es'   my.sbl:6:42", terminal.enter("why universes"))
+        terminal.enter("routine plural", "true", ".")
+        self.assertEqual(terminal.enter("show plural").split("\n"), ["typed at the prompt (routine plural), not in my.sbl:", "  define plural as true"])
+        terminal.save(AUTHOR + "// new\n")
+        self.assertEqual(terminal.enter(""), "no word and no class differs from the mark; put aside: plural (undo brings it back)")
+        self.assertIn("(plural)", terminal.enter("quit"))
+        self.assertIn("taken back: the script that was read; 3 words", terminal.enter("undo"))
+        self.assertEqual(terminal.enter("save new.sbl"), "saved in new.sbl")
+
+    def test_a_loop_is_located(self):
+        terminal = self.begin(LOOP, "abc\n", program=FAKE)
+        self.assertIn("In the run of abc the repeat of my.sbl:4:18 in stem goes round: it calls r again and again, ", self.start)
+        terminal.save(LOOP.replace("repeat ", ""))
+        terminal.enter("")
+        terminal.save("externals ( stem )\nroutines ( r s )\ndefine r as do s\ndefine s as do r\ndefine stem as do r\n")
+        self.assertIn("call each other (my.sbl:", terminal.enter(""))
+
+    def test_lints(self):
+        script = "externals ( stem )\ndefine stem as ( [ ] among ( 'x' (delete) 'q' (<- 'é') ) )\n"
+        terminal = self.begin(script, "abx\n", program=FAKE)
+        self.assertIn("my.sbl:2:18: the slice is empty here: [substring] is meant, perhaps", self.start)
+        shown = terminal.enter("lint")
+        self.assertIn("my.sbl:2:43: 'q' has q, which no word has and no command puts in", shown)
+        self.assertIn("'é' has a letter beyond ASCII", shown)
+
+    def test_families_are_remembered(self):
+        terminal = self.begin()
+        with open(os.path.join(self.folder, "fam"), "w") as file:
+            file.write("universe universes\nglass glasses\nbell\n")
+        self.assertIn("1 word is not in the vocabulary", terminal.enter("families fam"))
+        self.assertIn("families: understemmed 0 -> 2 of 2 pairs (100.0 %), ", terminal.enter("routine plural", "true", "."))
+
+    def test_several_words_are_asked_about(self):
+        terminal = self.begin()
+        terminal.type("add hundo kato\r", rb"nothing: $")
+        self.assertEqual(terminal.enter("y").split("\n"), ["hundo is added: hundo", "kato is added: kato"])
+        terminal.type("add a b\r", rb"nothing: $")
+        self.assertEqual(terminal.enter(""), "")
+        self.assertIn("kato", terminal.enter("quit"))
+        self.assertEqual(terminal.enter("append"), "2 words are now at the end of my.words.")
+
+    def test_a_report_in_a_file(self):
+        terminal = self.begin()
+        self.assertEqual(terminal.enter("classes > out"), "3 lines in out")
+        self.assertIn("is there already", terminal.enter("classes > out"))
+
+    def test_tab_completes(self):
+        terminal = self.begin()
+        self.assertIn("families ", terminal.type("fam\t", rb"families $", 3))
+        self.assertIn("my.words", terminal.type("my.w\t", rb"my\.words ?$", 3))
+        terminal.type("\x03")
+        self.assertIn("routine plural", terminal.type("routine pl\t", rb"plural ?$", 3))
+        terminal.type("\x03")
+        self.assertIn("ity", terminal.type("uses ending 1 it\t", rb"ity ?$", 3))
+
+    def test_history_over_starts(self):
+        terminal = self.begin()
+        terminal.enter("stats", "quit")
+        self.assertEqual(terminal.ended(), 0)
+        path = os.path.join(self.folder, "state", "voltizug", "history")
+        self.assertEqual(stat.S_IMODE(os.stat(path).st_mode), 0o600)
+        again = self.terminal(self.folder)
+        again.got()
+        self.assertIn("stats", again.type("\x1b[A\x1b[A", rb"stats", 3))
+        self.assertEqual(os.listdir(os.path.join(self.folder, "state", "voltizug", "open")), [os.path.basename(self.open_room())])
+
+    def open_room(self):
+        folder = os.path.join(self.folder, "state", "voltizug", "open")
+        return os.path.join(folder, os.listdir(folder)[0])
+
+    def test_colours_only_where_they_are_wished(self):
+        terminal = self.terminal(self.room(my_sbl=AUTHOR, my_words=WORDS), "--color=always", "my.sbl", "my.words")
+        terminal.got()
+        self.assertIn("\x1b[33m  split ", terminal.enter("routine plural", "true", "."))
+
+    def test_a_fault_in_a_long_line_keeps_its_caret(self):
+        line = "define stem as ( " + "do true " * 40 + "nowhere )\n"
+        self.begin("externals ( stem )\n" + line, columns=60)
+        rows = self.start.split("\n")
+        at = next(i for i, row in enumerate(rows) if "^" in row)
+        self.assertEqual(rows[at - 1][rows[at].index("^") :][:7], "nowhere")
+        self.assertLessEqual(len(rows[at - 1]), 60)
+
+    def test_the_end(self):
+        terminal = self.begin()
+        terminal.send("\x04")
+        self.assertEqual(terminal.ended(), 0)
+        terminal = self.begin("externals ( stem )\n")
+        terminal.send("quit\r")
+        self.assertEqual(terminal.ended(), 1)
+        terminal = self.terminal(self.room(), "none.sbl")
+        self.assertEqual((terminal.ended(), "there is no such file" in terminal.seen.decode()), (1, True))
+
+
+class Traps(Case):
+    """What once hung, was lost, or was drawn wrongly."""
+
+    def begin(self, *words, script=AUTHOR, list=WORDS, **options):
+        self.folder = self.room(my_sbl=script, my_words=list)
+        terminal = self.terminal(self.folder, *(words or ("--watch", "my.sbl", "my.words")), **options)
+        terminal.got()
+        return terminal
+
+    def test_a_save_while_a_line_is_typed(self):
+        terminal = self.begin()
+        terminal.type("class glas", rb"glas$")
+        terminal.save(AUTHOR.replace("'ity' ", ""))
+        self.assertIn("1 word, 1 split since the mark", terminal.got(rb"mark\n(.|\n)*glas$"))
+        self.assertIn("glass: glass, glasses", terminal.type("s\r"))
+
+    def test_ctrl_c_drops_lines_and_none_besides(self):
+        terminal = self.begin()
+        for i in range(15):
+            terminal.send("class nothing%d\x03echo after%d\r" % (i, i))
+            self.assertRegex(terminal.got(rb"\nafter%d\n(.|\n)*> $" % i), "\nafter%d\n" % i)
+
+    def test_a_loop_is_broken_off_while_a_line_is_typed(self):
+        many = "".join("w%d\n" % i for i in range(30000))
+        terminal = self.begin(script=AUTHOR, list=many)
+        terminal.type("class w", rb"w$")
+        terminal.save(AUTHOR.replace("define stem as backwards", "define stem as repeat do backwards"))
+        time.sleep(0.5)
+        begin = time.monotonic()
+        terminal.type("\x03", rb"undo goes back[^\n]*\n(.|\n)*class w$")
+        self.assertLess(time.monotonic() - begin, 8)
+        self.assertIn("w1: w1", terminal.type("1\r"))
+
+    def test_the_program_is_killed(self):
+        terminal = self.begin()
+        terminal.enter("routine plural", "true", ".")
+        for number in terminal.processes()[1:]:
+            os.kill(number, signal.SIGKILL)
+        shown = terminal.enter("why glasses")
+        self.assertIn("ended from outside", shown)
+        self.assertIn("10 steps", shown)
+        self.assertIn("3 words, 3 split since the mark", terminal.enter("changes"))
+        for number in terminal.processes()[1:]:
+            os.kill(number, signal.SIGKILL)
+        self.assertIn("type it again", terminal.enter("limit 10"))
+        self.assertEqual(len(terminal.processes()), 2)
+
+    def test_typed_edits_survive_a_closed_terminal(self):
+        for how in ("close", "HUP", "TERM", "KILL"):
+            with self.subTest(how):
+                terminal = self.begin()
+                terminal.enter("routine plural", "true", ".")
+                terminal.type("why gl", rb"gl$")
+                running = terminal.processes()
+                self.assertEqual(len(running), 2)
+                if how == "close":
+                    os.close(terminal.end)
+                else:
+                    os.kill(terminal.child, getattr(signal, "SIG" + how))
+                end = time.monotonic() + 5
+                while alive(running) and time.monotonic() < end:
+                    time.sleep(0.02)
+                self.assertEqual(alive(running), [])
+                again = self.terminal(self.folder)
+                self.assertIn("rescue brings them back", again.got())
+                self.assertIn("3 words, 3 split", again.enter("rescue"))
+                self.assertIn("plural as true", again.enter("script"))
+                self.assertIn("in no file", again.enter("quit"))
+
+    def test_nothing_is_left_behind_if_nothing_was_typed(self):
+        terminal = self.begin()
+        os.kill(terminal.child, signal.SIGTERM)
+        self.assertEqual(terminal.ended(), 1)
+        self.assertEqual(os.listdir(os.path.join(self.folder, "state", "voltizug", "open")), [])
+
+    def test_pasted_lines(self):
+        terminal = self.begin("my.sbl", "my.words")
+        terminal.send("".join("nonsense line %d\r" % i for i in range(100)))
+        shown = terminal.got(rb"were dropped\.\n> $", 10)
+        self.assertLess(shown.count("is not a command"), 30)
+        self.assertIn("8 words", terminal.enter("stats"))
+        terminal.send("routine plurall\r" + "true\r" * 50 + ".\r")
+        self.assertIn("The 51 lines that came with it were dropped.", terminal.got(rb"dropped\.\n> $", 10))
+        terminal = self.begin("my.sbl", "my.words", term="xterm")
+        terminal.got(rb"> ", 2)
+        terminal.send("\x1b[200~routine plural\rdefine plural as (\r\ttrue\r)\r.\r\x1b[201~\r")
+        self.assertIn("3 words, 3 split since the mark", terminal.got(rb"since the mark"))
+
+    def test_a_name_of_a_megabyte(self):
+        terminal = self.begin()
+        terminal.save("externals ( stem )\ndefine stem as do " + "x" * 900000 + "\n")
+        self.assertIn("Nothing changed.", terminal.got(rb"Nothing changed[^\n]*\n(.|\n)*> $"))
+        self.assertIn("8 words", terminal.enter("stats"))
+
+    def test_stop_and_go_on(self):
+        folder = self.room(my_sbl=AUTHOR, my_words=WORDS)
+        shell = self.terminal(folder, "bash", term="xterm", PS1="$ ")
+        shell.type("%s -s -B %s my.sbl my.words\r" % (sys.executable, CLIENT), rb"0 refused(.|\n)*> ")
+        shell.type("class gla", rb"gla")
+        shell.type("\x1a", rb"Stopped(.|\n)*\$ ")
+        self.assertIn("class gla", shell.type("fg\r", rb"class gla$", 3))
+        self.assertIn("glass: glass, glasses", shell.type("ss\r", rb"words\)"))
+        shell.type("quit\r", rb"\$ $")
+        self.assertIn("intr = ^C", shell.type("stty -a\r", rb"intr = [^;]*;"))
+
+    def test_signals_that_break_the_settings_off(self):
+        calls = []
+
+        def broken_off(*_):
+            calls.append(1)
+            if len(calls) < 3:
+                raise keys.termios.error(4, "Interrupted system call")
+
+        with unittest.mock.patch.object(keys.termios, "tcsetattr", broken_off):
+            keys.set_keys([])
+        self.assertEqual(len(calls), 3)

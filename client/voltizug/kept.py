@@ -1,0 +1,113 @@
+"""What is kept beside the script: the history of lines, and for each `work` that runs a folder with the text in force. If `work` does not
+end by itself, the next one over the same script finds the edits there that were typed and that no file has.
+"""
+import contextlib
+import fcntl
+import os
+import shutil
+import stat
+import tempfile
+import time
+from typing import IO, List, NamedTuple, Optional, Sequence, Tuple
+
+# The largest file that is read; how old a folder is in which a `work` may be just beginning, in seconds.
+LARGEST, YOUNG = 1 << 26, 60
+
+FileState = Optional[Tuple[int, int, int]]
+
+
+class Left(NamedTuple):
+    """Typed edits that were left behind: the folder, the file in it that has the text, and the names of the edits."""
+
+    room: str
+    path: str
+    edits: List[str]
+
+
+class Kept:
+    """The client's folder: `history`, and `open/N` for each `work`, which is locked as long as that runs."""
+
+    def __init__(self, folder: str, script: str):
+        self.folder, self.script = folder, os.path.realpath(script)
+        os.makedirs(os.path.join(folder, "open"), mode=0o700, exist_ok=True)
+        self.room = tempfile.mkdtemp(prefix="%d-" % os.getpid(), dir=os.path.join(folder, "open"))
+        self.lock = locked(self.room)
+        self.history = os.path.join(folder, "history")
+
+    def note(self, file: str, edits: Sequence[str]) -> None:
+        """Notes that a file of the room has typed edits that no other file has; no edits forget it."""
+        about = os.path.join(self.room, "about")
+        with contextlib.suppress(OSError):
+            if edits:
+                with open(about, "w", encoding="utf-8", errors="surrogateescape") as written:
+                    written.write("\n".join([self.script, file, *edits]))
+            elif os.path.exists(about):
+                os.remove(about)
+
+    def has_edits(self) -> bool:
+        return os.path.exists(os.path.join(self.room, "about"))
+
+    def left(self) -> List[Left]:
+        """Returns what was left behind over this script, the oldest first. Folders that have nothing are taken away."""
+        found = []
+        for entry in os.scandir(os.path.join(self.folder, "open")):
+            lock = locked(entry.path) if entry.path != self.room else None
+            if lock is None:
+                continue
+            with lock, contextlib.suppress(OSError, ValueError):
+                with open(os.path.join(entry.path, "about"), encoding="utf-8", errors="surrogateescape") as file:
+                    script, name, *edits = file.read().split("\n")
+                if script == self.script:
+                    found.append((entry.stat().st_mtime, Left(entry.path, os.path.join(entry.path, name), edits)))
+                continue
+            if entry.stat().st_mtime < time.time() - YOUNG:
+                self.forget(entry.path)
+        return [left for _, left in sorted(found)]
+
+    def forget(self, room: str) -> None:
+        shutil.rmtree(room, ignore_errors=True)
+
+
+def locked(room: str) -> Optional[IO[bytes]]:
+    """Locks a folder until the file that is returned is closed, or this process ends. Returns nothing if another process has locked it."""
+    with contextlib.ExitStack() as stack, contextlib.suppress(OSError):
+        file = stack.enter_context(open(os.path.join(room, "lock"), "wb"))
+        fcntl.flock(file, fcntl.LOCK_EX | fcntl.LOCK_NB)
+        stack.pop_all()
+        return file
+    return None
+
+
+def home() -> str:
+    """Returns the client's folder for its state, one of its own if that cannot be written."""
+    base = os.environ.get("XDG_STATE_HOME") or os.path.join(os.path.expanduser("~"), ".local", "state")
+    folder = os.path.join(base, "voltizug")
+    with contextlib.suppress(OSError):
+        os.makedirs(folder, mode=0o700, exist_ok=True)
+        if os.access(folder, os.W_OK):
+            return folder
+    return tempfile.mkdtemp(prefix="voltizug-")
+
+
+def state_of(path: Optional[str]) -> FileState:
+    """Returns what tells one state of a file from another; nothing if there is none."""
+    with contextlib.suppress(OSError, TypeError, ValueError):
+        state = os.stat(path or "")
+        return state.st_mtime_ns, state.st_size, state.st_ino
+    return None
+
+
+def read_file(path: Optional[str]) -> Optional[bytes]:
+    """Returns what a file has; nothing if it cannot be read, is no regular file (a pipe is read once only) or is larger than any script."""
+    with contextlib.suppress(OSError, TypeError, ValueError):
+        state = os.stat(path or "")
+        if stat.S_ISREG(state.st_mode) and state.st_size <= LARGEST:
+            with open(path or "", "rb") as file:
+                return file.read()
+    return None
+
+
+def is_same(path: str, other: Optional[str]) -> bool:
+    with contextlib.suppress(OSError, ValueError):
+        return bool(other) and os.path.samefile(path, other or "")
+    return False

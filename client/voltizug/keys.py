@@ -1,0 +1,280 @@
+"""Line editing by readline, and which keys are signals. A save rings by a signal to the main thread. CPython runs handlers of signals while
+readline waits for a key, so a handler can clear the line that is being typed, show what changed, and have readline draw the line again.
+`readline.redisplay` does not suffice for this: readline believes that the line is still on the screen. What does is reached by ctypes.
+"""
+import collections
+import contextlib
+import ctypes
+import errno
+import os
+import re
+import readline
+import select
+import signal
+import sys
+import termios
+import threading
+import time
+from typing import Any, Callable, Deque, Iterator, List, Optional
+
+HISTORY, INTERRUPT, PAUSE = 2000, b"\x03", 0.1
+POINT = re.compile(rb"[\r\n][ \t]*\.[ \t]*[\r\n]")
+# Of readline's state: its callbacks are installed.
+CALLBACK = 0x80000
+
+
+class Dropped(Exception):
+    """Ctrl-C dropped the line."""
+
+
+class Hangup(BaseException):
+    """The terminal is gone, or somebody ends this process."""
+
+
+class Library:
+    """What the module readline does not offer, from the library that it has loaded. Without that (libedit), a save waits for the next line."""
+
+    def __init__(self) -> None:
+        self.libc = ctypes.CDLL(None)
+        try:
+            library: Any = ctypes.CDLL(readline.__file__)
+            self.clear_line, self.on_new_line = library.rl_clear_visible_line, library.rl_on_new_line
+            self.redisplay, self.prepare, self.restore = library.rl_forced_update_display, library.rl_prep_terminal, library.rl_deprep_terminal
+            self.library = library
+            self.is_whole = True
+        except (OSError, AttributeError):
+            self.is_whole = False
+
+    def clear(self) -> None:
+        """Takes the line that is being typed off the screen, also one that is several rows long."""
+        self.clear_line()
+        self.libc.fflush(None)
+
+    def has_line(self) -> bool:
+        """Whether readline still waits for the end of a line: a signal may be heard only after Enter."""
+        return self.is_whole and bool(ctypes.c_ulong.in_dll(self.library, "rl_readline_state").value & CALLBACK)
+
+    def is_vi(self) -> bool:
+        return self.is_whole and ctypes.c_int.in_dll(self.library, "rl_editing_mode").value == 0
+
+    def draw(self) -> None:
+        """Draws the line again, below what is on the screen."""
+        sys.stdout.flush()
+        self.on_new_line()
+        self.redisplay()
+
+
+def set_keys(settings: List[Any]) -> None:
+    """Has the terminal take these settings. (A signal may break the call off, and Python does not try it again.)"""
+    while True:
+        try:
+            termios.tcsetattr(0, termios.TCSANOW, settings)
+            return
+        except termios.error as why:
+            if why.args[0] != errno.EINTR:
+                raise Hangup from None
+
+
+def with_interrupt(settings: List[Any], character: bytes) -> List[Any]:
+    """Returns settings of the terminal with another character for SIGINT."""
+    return [*settings[:6], [*settings[6][: termios.VINTR], character, *settings[6][termios.VINTR + 1 :]]]
+
+
+class Editor:
+    """Reads lines at the terminal. It alone knows whether readline waits for a key. While a line is typed Ctrl-C is a key and no signal: CPython
+    looks for signals only when one breaks its wait for a key off, so one that comes between two keys would drop a later line. While a command
+    runs it is a signal, and no key is shown."""
+
+    def __init__(self, history: str, complete: Callable[[str, str], List[str]], saved: Callable[[], Any], show_saved: Callable[[], None]):
+        self.library, self.history, self.complete_text, self.saved, self.show_saved = Library(), history, complete, saved, show_saved
+        self.base = termios.tcgetattr(0)
+        self.typing = with_interrupt(self.base, b"\0")
+        self.quiet = with_interrupt([*self.base[:3], self.base[3] & ~(termios.ECHO | termios.ICANON), *self.base[4:]], INTERRUPT)
+        # Whether readline waits for a key; whether a save is shown above a line; whether Ctrl-C came while a command ran.
+        self.is_waiting = self.is_above = self.is_interrupted = False
+        self.pending: Deque[str] = collections.deque()
+        self.found: List[str] = []
+        self.main = threading.main_thread().ident
+        self.on_interrupt: Callable[[], None] = lambda: None
+
+    def begin(self) -> None:
+        """Takes the keys and the signals of the terminal."""
+        for number, handler in (
+            (signal.SIGINT, self.hear_interrupt), (signal.SIGTSTP, self.hear_stop), (signal.SIGCONT, self.hear_continue),
+            (signal.SIGHUP, self.hear_end), (signal.SIGTERM, self.hear_end), (signal.SIGUSR1, self.hear_ring), (signal.SIGQUIT, signal.SIG_IGN),
+        ):
+            signal.signal(number, handler)
+        heard, bell = os.pipe()
+        os.set_blocking(bell, False)
+        signal.set_wakeup_fd(bell, warn_on_full_buffer=False)
+        threading.Thread(target=self.repeat, args=(heard,), daemon=True).start()
+        set_keys(self.quiet)
+        self.open_history()
+
+    def end(self) -> None:
+        """Gives the keys back. A second signal does not break this off."""
+        for number in (signal.SIGHUP, signal.SIGTERM, signal.SIGUSR1):
+            signal.signal(number, signal.SIG_IGN)
+        with contextlib.suppress(Hangup):
+            set_keys(self.base)
+
+    # Signals
+
+    def hear_interrupt(self, *_: object) -> None:
+        self.is_interrupted = True
+        self.on_interrupt()
+
+    def hear_end(self, number: int, _: object) -> None:
+        raise Hangup(number)
+
+    def hear_stop(self, *_: object) -> None:
+        """Ctrl-Z: gives the terminal back, and takes it again after fg."""
+        if self.is_waiting and self.library.is_whole:
+            self.library.restore()
+        print(flush=True)
+        set_keys(self.base)
+        signal.signal(signal.SIGTSTP, signal.SIG_DFL)
+        os.kill(os.getpid(), signal.SIGTSTP)
+        signal.signal(signal.SIGTSTP, self.hear_stop)
+
+    def hear_continue(self, *_: object) -> None:
+        with contextlib.suppress(Hangup):
+            set_keys(self.typing if self.is_waiting else self.quiet)
+        if self.is_waiting and self.library.is_whole:
+            self.library.prepare(1)
+            self.library.draw()
+
+    def repeat(self, heard: int) -> None:
+        """In a thread: rings after each signal. CPython hears one that comes just before readline waits for a key only when another one breaks
+        that wait off."""
+        while True:
+            numbers = os.read(heard, 256)
+            for pause in (0.02, 0.1, 0.5) if any(number != signal.SIGUSR1 for number in numbers) else ():
+                time.sleep(pause)
+                self.ring()
+
+    def ring(self) -> None:
+        """Breaks off the wait for a key. The watching thread does so until a save is read."""
+        if self.is_waiting and self.main:
+            signal.pthread_kill(self.main, signal.SIGUSR1)
+
+    def hear_ring(self, *_: object) -> None:
+        if not self.is_waiting or self.is_above or not self.library.has_line() or not self.saved():
+            return
+        self.is_above, self.is_waiting = True, False
+        now = termios.tcgetattr(0)
+        try:
+            set_keys(with_interrupt(now, INTERRUPT))
+            self.library.clear()
+            self.show_saved()
+            set_keys(now)
+            self.is_interrupted = False
+            self.library.draw()
+        finally:
+            self.is_above, self.is_waiting = False, True
+
+    # Lines
+
+    def read(self, prompt: str) -> Optional[str]:
+        """Returns a line, or nothing at the end. Lines that were pasted together come one by one."""
+        if self.pending:
+            print(prompt + self.pending[0], flush=True)
+            return self.pending.popleft()
+        sys.stdout.flush()
+        set_keys(self.typing)
+        try:
+            self.is_waiting = True
+            text = input(prompt)
+        except EOFError:
+            # (a terminal that is gone ends its input, too)
+            set_keys(self.typing)
+            print(flush=True)
+            return None
+        finally:
+            self.is_waiting = self.is_interrupted = False
+            with contextlib.suppress(Hangup):
+                set_keys(self.quiet)
+        if text.endswith("\x03"):
+            raise Dropped
+        # (an empty line at the end of a paste is no wish to reload)
+        line, *others = (text.rstrip("\n") if "\n" in text else text).split("\n")
+        self.pending.extend(others)
+        return line
+
+    def drop_pasted(self) -> int:
+        """Drops the lines that came together with one that was refused; returns how many. Some terminals do not tell a paste: of what they
+        have sent, all up to a line with a single point is dropped."""
+        rest = b""
+        while not POINT.search(b"\n" + rest) and select.select([0], [], [], PAUSE)[0]:
+            read = os.read(0, 1)
+            if not read:
+                break
+            rest += read
+        count = len(self.pending) + len(re.findall(rb"[\r\n]", rest))
+        self.pending.clear()
+        return count
+
+    @staticmethod
+    def has_key() -> bool:
+        """Whether a key is there already."""
+        return bool(select.select([0], [], [], 0)[0])
+
+    def rows_typed(self, columns: int) -> int:
+        """Returns how many rows more than one the line takes above which a save is shown."""
+        return (len(readline.get_line_buffer()) + 2) // columns if self.is_above else 0
+
+    @contextlib.contextmanager
+    def lent(self) -> Iterator[None]:
+        """Lends the terminal to another process, a pager."""
+        set_keys(self.base)
+        try:
+            yield
+        finally:
+            self.is_interrupted = False
+            with contextlib.suppress(Hangup):
+                set_keys(self.quiet)
+
+    # History and TAB
+
+    def remember(self, line: str) -> None:
+        if line.strip() and "\n" not in line:
+            try:
+                readline.add_history(line)
+            except UnicodeError:
+                # (readline takes the bytes of a line, and in a locale without these letters knows no text)
+                readline.add_history(line.encode("utf-8", "surrogateescape").decode("ascii", "surrogateescape"))
+            with contextlib.suppress(OSError):
+                readline.append_history_file(1, self.history)
+
+    def open_history(self) -> None:
+        readline.set_auto_history(False)
+        readline.set_history_length(HISTORY)
+        with contextlib.suppress(OSError):
+            os.close(os.open(self.history, os.O_CREAT | os.O_RDWR, 0o600))
+            os.chmod(self.history, 0o600)
+            readline.read_history_file(self.history)
+            if readline.get_current_history_length() >= HISTORY:
+                readline.write_history_file(self.history)
+        readline.set_completer(self.complete)
+        readline.set_completer_delims(" \t")
+        for binding in ("tab: complete", "set show-all-if-ambiguous on", "set bell-style none"):
+            readline.parse_and_bind(binding)
+        # Ctrl-C is a key that ends the line with a character of its own. (The last keymap is in force.)
+        keymaps = [("vi-command", "A"), ("vi-insert", r"\eA"), ("emacs", r"\C-e")]
+        for keymap, to_end in keymaps if not self.library.is_vi() else [keymaps[0], keymaps[2], keymaps[1]]:
+            readline.parse_and_bind("set keymap " + keymap)
+            readline.parse_and_bind(r'"\C-c": "%s\C-v\C-c\C-m"' % to_end)
+
+    def complete(self, text: str, state: int) -> Optional[str]:
+        """Returns the state-th completion. A tab among keys that come faster than one types is a tab of a text."""
+        if state == 0:
+            # (a save that rings now would ask the program in the middle of a request)
+            self.is_waiting = False
+            try:
+                is_pasted = self.has_key()
+                self.found = [text + "\t"] if is_pasted else self.complete_text(readline.get_line_buffer()[: readline.get_endidx()], text)
+            except Exception:  # (readline would drop it without a word)
+                self.found = []
+            finally:
+                self.is_waiting = True
+        return self.found[state] if state < len(self.found) else None

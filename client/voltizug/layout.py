@@ -1,0 +1,178 @@
+"""Lines for people, fitted to a window: changes, the summary of an edit, families, and where a text is broken. Nothing is written here."""
+import re
+import unicodedata
+from typing import Any, Dict, List, Optional, Sequence, Tuple
+
+from . import rows
+from .bench import Edit
+
+KINDS = ("added", "removed", "changed", "split", "merged", "renamed")
+COLOURS = {"split": "33", "merged": "35", "renamed": "36", "added": "32", "removed": "31", "refused": "31"}
+# Marks that turn the direction of writing, and characters of no width that end or join lines.
+HIDDEN = set("\u061c\u200b\u200e\u200f\u2028\u2029\u2060\ufeff") | {chr(code) for code in (*range(0x202A, 0x202F), *range(0x2066, 0x206A))}
+# How many characters of a name or a literal a sentence has, and how many columns the words of a list have, at most.
+LONGEST, COLUMN = 60, 24
+# A label at the beginning of a line, as in help.
+LABEL = re.compile(r"\S+( \S+)* {2,}")
+
+
+def named(text: str) -> str:
+    """Returns the text with each character that a terminal obeys, or does not show, as its number. Tabs stay."""
+    if text.isprintable():
+        return text
+    return "".join(name_of(c) if c != "\t" and (c in HIDDEN or unicodedata.category(c) in ("Cc", "Cs")) else c for c in text)
+
+
+def name_of(character: str) -> str:
+    code = ord(character)
+    return "<%02X>" % (code - 0xDC00) if 0xDC80 <= code <= 0xDCFF else "<U+%04X>" % code
+
+
+def short(text: str) -> str:
+    """Returns the text as `named` does, without its middle if it is long."""
+    return named(text) if len(text) <= LONGEST else named(text[:29]) + ".." + named(text[-29:])
+
+
+def columns(text: str) -> int:
+    """Returns how many columns of a terminal a text takes."""
+    if text.isascii():
+        return len(text) + 7 * text.count("\t")
+    wide = (8 if c == "\t" else 0 if unicodedata.category(c) in ("Mn", "Me") else 2 if unicodedata.east_asian_width(c) in "WF" else 1 for c in text)
+    return sum(wide)
+
+
+def padded(text: str, column: int) -> str:
+    return text + " " * max(0, column - columns(text))
+
+
+def broken(line: str, width: int) -> List[str]:
+    """Returns a line as lines that fit: broken at blanks and commas. From the second on they are indented, below a text that follows a label."""
+    if columns(line) <= width:
+        return [line]
+    lines: List[str] = []
+    label = LABEL.match(line)
+    hang = " " * label.end() if label and label.end() <= width // 3 else line[: len(line) - len(line.lstrip())] + "    "
+    row = ""
+    for part in re.split(r"(?<=[ ,])(?! )", line):
+        if row.strip() and columns(row + part.rstrip()) > width:
+            lines, row = lines + [row.rstrip()], hang
+        row += part
+    return lines + [row]
+
+
+def cut(line: str, width: int) -> str:
+    """Returns a line that fits, without its end if it is too long."""
+    if columns(line) <= width:
+        return line
+    while line and columns(line) > width - 2:
+        line = line[: max(len(line) - (columns(line) - width + 2 + 1) // 2, 0)] if columns(line) - width > 4 else line[:-1]
+    return line + ".."
+
+
+def counted(count: int, one: str, many: str = "") -> str:
+    return "{:,} {}".format(count, one if count == 1 else many or one + "s")
+
+
+def listed(names: Sequence[str]) -> str:
+    return ", ".join(named(name) or "(empty)" for name in names)
+
+
+def in_words(names: Sequence[str], last: str, most: int = 20) -> str:
+    """Returns names as a list in words: a, b or c. Of many it has the first ones and their number."""
+    shown = list(map(short, names)) if len(names) <= most else [*map(short, names[: most - 1]), "{:,} more".format(len(names) - most + 1)]
+    return shown[0] if len(shown) == 1 else "%s %s %s" % (", ".join(shown[:-1]), last, shown[-1])
+
+
+def outcome(kind: str, text: str) -> str:
+    return "refused " + text if kind == "refused" else named(text) or "(empty)"
+
+
+def has(row: Any, text: str) -> bool:
+    """Whether a row of `changes` has a text in a word or a stem."""
+    fields = (row.word, row.old, row.new) if row.kind == "changed" else row[1:]
+    return any(text in name for field in fields for name in ((field,) if isinstance(field, str) else field))
+
+
+def change(row: Any, column: int = 0, outcomes: Optional[Dict[str, rows.Outcome]] = None) -> str:
+    """Returns the line of a row of `changes`. A word that was added has its stem, if that is known."""
+    if row.kind == "changed":
+        return "  %s  %s -> %s" % (padded(named(row.word), column), outcome(row.old_kind, row.old), outcome(row.new_kind, row.new))
+    if row.kind in ("added", "removed"):
+        now = (outcomes or {}).get(row.word)
+        return "  %-8s %s%s" % (row.kind, named(row.word), " -> " + outcome(now.kind, now.stem) if now else "")
+    old = (row.old,) if row.kind != "merged" else row.old
+    new = (row.new,) if row.kind != "split" else row.new
+    return "  %-8s %s -> %s" % (row.kind, listed(old), listed(new))
+
+
+def shares(counts: Sequence[int], room: int) -> List[int]:
+    """Returns how many of each kind are shown in so many lines: a kind with few shows all, the others have equal shares."""
+    left, given = room, [0] * len(counts)
+    order = sorted(range(len(counts)), key=lambda i: counts[i])
+    for at, i in enumerate(order):
+        given[i] = min(counts[i], left // (len(counts) - at))
+        left -= given[i]
+    return given
+
+
+def changes(found: Sequence[Any], outcomes: Dict[str, rows.Outcome], room: int = 0) -> List[str]:
+    """Returns the lines of changes, no more than there is room for; all without a room."""
+    kinds = rows.by_kind(found)
+    present = [kinds[kind] for kind in KINDS if kind in kinds]
+    counts = [len(part) for part in present]
+    if room and sum(counts) > room:
+        counts = shares(counts, max(0, room - 1))
+    lines: List[str] = []
+    for part, count in zip(present, counts):
+        column = min(COLUMN, max((columns(named(row.word)) for row in part[:count]), default=0)) if part[0].kind == "changed" else 0
+        lines += [change(row, column, outcomes) for row in part[:count]]
+    more = len(found) - sum(counts)
+    return lines + ['  .. and {:,} more: "changes" shows all'.format(more)] * bool(more)
+
+
+def figures(found: Sequence[Any]) -> str:
+    """Returns what differs from the mark, in numbers."""
+    kinds = {kind: len(part) for kind, part in rows.by_kind(found).items()}
+    refused = sum(row.new_kind == "refused" for row in found if row.kind == "changed")
+    parts = [counted(kinds["changed"], "word")] if "changed" in kinds else []
+    parts += ["{:,} of them refused".format(refused)] if refused else []
+    parts += ["{:,} {}".format(kinds[kind], kind) for kind in ("split", "merged", "renamed") if kind in kinds]
+    parts += [counted(kinds[kind], "word") + " " + kind for kind in ("added", "removed") if kind in kinds]
+    return ", ".join(parts) + " since the mark" if parts else "no word and no class differs from the mark"
+
+
+def summary(edit: Edit) -> str:
+    """Returns the line that stands last after an edit."""
+    text = figures(edit.changes)
+    if edit.was_changed and edit.changes and edit.is_same:
+        text += " (this edit changed none)"
+    if edit.command in ("undo", "redo"):
+        step = "the script that was read" if edit.step == "script" else short(edit.step)
+        text = "%s%s; %s" % ("taken back" if edit.command == "undo" else "made again", ": " + step if step else "", text)
+    if edit.aside is not None:
+        names = ", ".join(map(short, edit.aside)) or "what you typed"
+        text += "; put aside: %s (undo brings %s back)" % (names, "it" if len(edit.aside) < 2 else "them")
+    return text
+
+
+def percent(part: int, whole: int) -> str:
+    return " ({:.1f} %)".format(100 * part / whole) if whole else ""
+
+
+def families_line(pairs: Tuple[Any, ...]) -> str:
+    """Returns the figures of the families before and after an edit."""
+    if not pairs:
+        return ""
+    before, now = pairs
+    parts = []
+    for what, part, whole in (("understemmed", "apart", "within"), ("overstemmed", "joined", "across")):
+        old, new, all_ = int(getattr(before, part)), int(getattr(now, part)), int(getattr(now, whole))
+        parts.append("%s %s{:,} of {:,} pairs%s".format(new, all_) % (what, "" if old == new else "{:,} -> ".format(old), percent(new, all_)))
+    return "families: " + ", ".join(parts)
+
+
+def coloured(line: str) -> str:
+    """Returns a line with the colour of its kind."""
+    word = line.split(" ", 3)[2] if line.startswith("  ") and line.count(" ") > 2 else ""
+    kind = "refused" if "-> refused" in line else word if word in ("split", "merged", "renamed", "added", "removed") else ""
+    return "\x1b[%sm%s\x1b[0m" % (COLOURS[kind], line) if kind else line

@@ -1,0 +1,85 @@
+"""Where things are in the text in force, by the rows of `places` and `tokens`, and where that is in SCRIPT. No script is read here."""
+from typing import Any, Dict, List, NamedTuple, Optional, Sequence, Tuple
+
+from .rows import Token
+
+BOM = b"\xef\xbb\xbf"
+# The words of commands that can go round.
+TURNING = ("repeat", "goto", "gopast", "loop", "atleast")
+
+
+class Spot(NamedTuple):
+    """A word of a script and its place."""
+
+    text: str
+    place: str
+
+
+class Places:
+    """The rows of a text in force; `file_text` is what SCRIPT had when it was read. Without rows nothing has a place."""
+
+    def __init__(self, script: str, text: bytes, file_text: Optional[bytes], rows: Sequence[Any], tokens: Sequence[Token]):
+        self.script, self.text, self.file_text, self.tokens = script, text, file_text, tokens
+        # What is said of a place if SCRIPT has changed since it was read.
+        self.note = ""
+        self.definitions: Dict[str, Any] = {row.name: row for row in rows if row.kind in ("routine", "grouping")}
+        self.amongs: Dict[Tuple[str, str], Any] = {(row.name, row.k): row for row in rows if row.kind == "among"}
+        self.entries: Dict[Tuple[str, str, str], Any] = {(row.name, row.k, row.string): row for row in rows if row.kind == "entry"}
+        self.tests: Dict[Tuple[str, str], Any] = {(row.name, row.n): row for row in rows if row.kind == "test"}
+
+    def of(self, name: str, row: Any = None) -> str:
+        """Returns the place of a row of a definition, or of the definition itself; nothing if it is not known."""
+        home = self.definitions.get(name)
+        row = row or home
+        if home is None or row is None:
+            return ""
+        return self.at(name, int(row.start))
+
+    def at(self, name: str, start: int) -> str:
+        """Returns the place of a byte of the text in force that is in the definition of a name."""
+        home = self.definitions[name]
+        if self.text == self.file_text:
+            return "%s:%d:%d%s" % (self.script, *line_and_column(self.text, start), self.note)
+        first = self.in_file(home)
+        if first is not None and self.file_text is not None:
+            return "%s:%d:%d%s" % (self.script, *line_and_column(self.file_text, first + start - int(home.start)), self.note)
+        return "not in %s: line %d of %s" % (self.script, self.text.count(b"\n", int(home.start), start) + 1, name)
+
+    def in_file(self, home: Any) -> Optional[int]:
+        """Returns where SCRIPT has a definition with the same bytes, once; otherwise nothing."""
+        part, file_text = self.text[int(home.start) : int(home.end)], self.file_text or b""
+        return file_text.find(part) if file_text.count(part) == 1 else None
+
+    def is_typed(self, name: str) -> bool:
+        home = self.definitions.get(name)
+        return home is not None and self.text != self.file_text and self.in_file(home) is None
+
+    def definition(self, name: str) -> List[str]:
+        """Returns the lines of a definition as its author wrote them, with a comment at its end; none if that is not known."""
+        home = self.definitions.get(name)
+        if home is None:
+            return []
+        start = self.text.rfind(b"\n", 0, int(home.start)) + 1
+        indent, end = self.text[start : int(home.start)] if not self.text[start : int(home.start)].strip() else b"", int(home.end)
+        comments = [token.end for token in self.tokens if token.kind == "comment" and token.start > end and not self.text[end : token.start].strip(b" \t")]
+        end = comments[0] if comments else end
+        return (indent + self.text[int(home.start) : end]).decode("utf-8", "surrogateescape").replace("\r\n", "\n").split("\n")
+
+    def slice(self, row: Any) -> str:
+        """Returns the text of a row, on one line."""
+        return " ".join(self.text[int(row.start) : int(row.end)].decode("utf-8", "surrogateescape").split())
+
+    def turning(self, name: str) -> List[Spot]:
+        """Returns the words in a definition that can go round, with their places."""
+        home = self.definitions.get(name)
+        if home is None:
+            return []
+        found = [token for token in self.tokens if token.text in TURNING and int(home.start) <= token.start < int(home.end)]
+        return [Spot(token.text, self.at(name, token.start)) for token in found]
+
+
+def line_and_column(text: bytes, at: int) -> Tuple[int, int]:
+    """Returns the line and the column of a byte, from 1, as an editor counts them: without a byte order mark."""
+    start = text.rfind(b"\n", 0, at) + 1
+    column = len(text[start:at].decode("utf-8", "surrogateescape")) + 1
+    return text.count(b"\n", 0, at) + 1, column - (start == 0 and text.startswith(BOM))

@@ -1,0 +1,88 @@
+"""The rows of replies as named tuples, by the tables of docs/SESSION.md and docs/WORK.md."""
+import csv
+from collections import namedtuple
+from typing import Any, Dict, Iterable, List, NamedTuple, Sequence, Tuple
+
+PLACE = " start end line column"
+# By report the kinds of its rows with their fields; one that begins with a star takes all that is left.
+TABLE: Dict[str, Dict[str, str]] = {
+    "changes": {
+        "added": "word", "removed": "word", "changed": "word old_kind old new_kind new",
+        "split": "old *new", "merged": "new *old", "renamed": "old new",
+    },
+    "figures": {kind: "count" for kind in "added removed changed split merged renamed".split()},
+    "events": {
+        "call": "depth name", "search": "depth name k", "taken": "depth name k string", "none": "depth name k", "test": "depth name n signal",
+        "put": "depth name start end text after", "return": "depth name signal", "more": "count", "stem": "stem", "refused": "name",
+    },
+    "unused": {"routine": "name", "among": "name k", "grouping": "name", "entry": "name k string"},
+    "counts": {"routine": "name count", "among": "name k count", "grouping": "name count", "entry": "name k string count"},
+    "families": {"under": "word *stems", "over": "stem *words", "pairs": "within apart across joined", "unknown": "count"},
+    "integers": {"steps": "count", "integer": "name value"},
+    "stats": {kind: "count" for kind in "words refused classes alone largest unchanged runs".split()},
+    "places": {
+        "routine": "name" + PLACE, "grouping": "name" + PLACE, "among": "name k" + PLACE, "entry": "name k string" + PLACE,
+        "name": "name role" + PLACE, "test": "name n" + PLACE,
+    },
+    "faults": {"fault": "code name" + PLACE + " sentence"},
+    "history": {"done": "command *rest", "undone": "command *rest"},
+}
+KINDS = {
+    report: {kind: namedtuple(kind + "_row", ["kind", *fields.replace("*", "").split()]) for kind, fields in kinds.items()}  # type: ignore
+    for report, kinds in TABLE.items()
+}
+# (a name may have a megabyte)
+csv.field_size_limit(1 << 30)
+
+
+class Outcome(NamedTuple):
+    word: str
+    kind: str
+    stem: str
+
+
+class Class(NamedTuple):
+    stem: str
+    words: Tuple[str, ...]
+
+
+class Token(NamedTuple):
+    kind: str
+    start: int
+    end: int
+    text: str
+
+
+def rows_of(lines: Iterable[str]) -> List[List[str]]:
+    """Returns the rows in lines. A row that has a line feed is several lines."""
+    return list(csv.reader(line + "\n" for line in lines))
+
+
+def read(report: str, lines: Iterable[str]) -> List[Any]:
+    """Returns the rows of a report as tuples with the fields of its table. A row of a kind that is not in the table is left out."""
+    table, kinds = TABLE[report], KINDS[report]
+    return [made(kinds[row[0]], row, "*" in table[row[0]]) for row in rows_of(lines) if row and row[0] in kinds]
+
+
+def made(kind: Any, row: Sequence[str], has_tail: bool) -> Any:
+    size = len(kind._fields)
+    return kind(*row[: size - 1], tuple(row[size - 1 :])) if has_tail else kind(*row[:size])
+
+
+def outcomes(lines: Iterable[str]) -> List[Outcome]:
+    return [Outcome(*row) for row in rows_of(lines)]
+
+
+def classes(lines: Iterable[str]) -> List[Class]:
+    return [Class(row[0], tuple(row[1:])) for row in rows_of(lines)]
+
+
+def tokens(lines: Iterable[str]) -> List[Token]:
+    return [Token(row[0], int(row[1]), int(row[2]), row[3] if len(row) > 3 else "") for row in rows_of(lines)]
+
+
+def by_kind(found: Iterable[Any]) -> Dict[str, List[Any]]:
+    kinds: Dict[str, List[Any]] = {}
+    for row in found:
+        kinds.setdefault(row.kind, []).append(row)
+    return kinds

@@ -1,0 +1,88 @@
+"""What is written to the terminal: broken to its width, with colours if it has any, in a pager if it is longer than the window."""
+import contextlib
+import os
+import shlex
+import subprocess
+import sys
+from typing import List, Sequence
+
+from . import layout
+from .keys import Editor, Hangup
+
+# A terminal that does not tell its size, and the least that is taken as one.
+USUAL, LEAST = os.terminal_size((80, 24)), os.terminal_size((12, 4))
+
+
+def has_colour(wish: str) -> bool:
+    """Whether lines have colours: as --color wishes, by default if nothing speaks against them."""
+    if wish != "auto":
+        return wish == "always"
+    return not os.environ.get("NO_COLOR") and os.environ.get("TERM", "dumb") != "dumb"
+
+
+class Screen:
+    def __init__(self, editor: Editor, color: str, has_pager: bool):
+        self.editor, self.has_colour, self.has_pager = editor, has_colour(color), has_pager
+
+    def size(self) -> os.terminal_size:
+        try:
+            size = os.get_terminal_size(1)
+        except OSError:
+            return USUAL
+        return os.terminal_size((
+            size.columns if size.columns >= LEAST.columns else USUAL.columns, size.lines if size.lines >= LEAST.lines else USUAL.lines
+        ))
+
+    def broken(self, lines: Sequence[str]) -> List[str]:
+        width = self.size().columns
+        return [part for line in lines for part in layout.broken(layout.named(line), width)]
+
+    def write(self, lines: Sequence[str], is_report: bool = False, is_text: bool = False) -> None:
+        """Writes lines; those of a text are an author's, and are not broken. A report may go to the pager. Ctrl-C ends it."""
+        shown = list(map(layout.named, lines)) if is_text else self.broken(lines)
+        if is_report and self.has_pager and not self.editor.is_above and len(shown) >= self.size().lines and self.page(shown):
+            return
+        if self.has_colour and not is_text:
+            shown = list(map(layout.coloured, shown))
+        try:
+            for at in range(0, len(shown), 200):
+                if self.editor.is_interrupted and not self.editor.is_above:
+                    break
+                sys.stdout.write("".join(line + "\n" for line in shown[at : at + 200]))
+                sys.stdout.flush()
+        except OSError:
+            raise Hangup from None
+
+    def say(self, *sentences: str) -> None:
+        self.write([sentence for sentence in sentences if sentence])
+
+    def write_fault(self, lines: Sequence[str]) -> None:
+        """Writes the lines on a fault: that of the script and its carets, which are indented, are not broken."""
+        for line in lines:
+            self.write([line], is_text=line.startswith("    "))
+
+    def page(self, lines: Sequence[str]) -> bool:
+        """Has the pager show lines; returns whether there is one."""
+        pager = os.environ.get("PAGER") or "less"
+        if os.environ.get("TERM", "dumb") == "dumb" or pager == "cat":
+            return False
+        with self.editor.lent():
+            try:
+                process = subprocess.Popen(shlex.split(pager), stdin=subprocess.PIPE, env={"LESS": "FRX", **os.environ})
+            except (OSError, ValueError):
+                return False
+            with contextlib.suppress(BrokenPipeError):
+                process.communicate("".join(line + "\n" for line in lines).encode("utf-8", "replace"))
+            process.wait()
+        return True
+
+    def to_file(self, path: str, lines: Sequence[str]) -> str:
+        """Writes a report to a new file; returns the sentence on it."""
+        try:
+            with open(path, "x", encoding="utf-8", errors="surrogateescape") as file:
+                file.write("".join(line + "\n" for line in lines))
+        except FileExistsError:
+            return "%s is there already, and is not overwritten. Nothing was written: name a new file." % layout.short(path)
+        except OSError as why:
+            return "%s cannot be written: %s." % (layout.short(path), why.strerror)
+        return "%s in %s" % (layout.counted(len(lines), "line"), layout.short(path))

@@ -1,0 +1,33 @@
+//! Laws of sbl_explain (specs/UsesLaws.antt), written out.
+
+ghost use Rattle.std.specs.Prelude.{◌≡◌, ℕ, List, length};
+ghost use Rattle.std.specs.List.{list_any};
+ghost use Rattle.sbl_rows.specs.Setting.{Setting};
+ghost use Rattle.sbl_machine.specs.BuiltFrom.{is_affected_by};
+ghost use Rattle.sbl_semantics.specs.TouchedItems.{Item', touched_items};
+ghost use Rattle.sbl_explain.specs.Unused.{unused_rows};
+ghost use Rattle.sbl_explain.specs.Used.{Usable, Whole, number_using, rows_using, uses};
+ghost use Rattle.law_tests.specs.Uses.{rows_of_zeros};
+
+use sbl_explain::laws::{counts_are_of_uses, unused_have_number_zero, uses_agree_with_traces};
+
+/// Needs the whole of the law `counts_are_of_uses`.
+pub fn needs_counts_are_of_uses()
+    ensures { (s : Setting) (words : List (List ℕ)) (u : Usable) → number_using s words u ≡ length (rows_using s words u) }
+{
+    counts_are_of_uses();
+}
+
+/// Needs the whole of the law `unused_have_number_zero`.
+pub fn needs_unused_have_number_zero()
+    ensures { (s : Setting) (words : List (List ℕ)) → unused_rows s words ≡ rows_of_zeros s words }
+{
+    unused_have_number_zero();
+}
+
+/// Needs the whole of the law `uses_agree_with_traces`.
+pub fn needs_uses_agree_with_traces()
+    ensures { (s : Setting) (w : List ℕ) (x : Item') → uses s w (Whole x) ≡ list_any (is_affected_by s.script x) (touched_items s.script w s.limit) }
+{
+    uses_agree_with_traces();
+}

@@ -1,0 +1,63 @@
+use Rattle.std.proofs.Common.{◌≡◌, ◌<◌, ◌∙◌, ◌+◌, ◌-◌, ◌++◌, ◌∷◌, [], ℕ, List, Result, Ok, Err, OnErr, length, drop, get_or, arith, ap, refl, sym}
+use Rattle.sbl_rows.specs.Classes.{texts_of}
+use Rattle.sbl_rows.specs.KnownOutcomes.{Text}
+use Rattle.sbl_rows.specs.Setting.{under}
+use Rattle.sbl_rows.proofs.Loops.{next, so_far}
+use Rattle.sbl_rows.proofs.SetFacts.{no_text}
+use Rattle.sbl_bench.specs.KeptRuns.{words_in}
+use Rattle.sbl_bench.specs.inside.WordLists.{new_words, runs_of_word}
+use Rattle.sbl_bench.proofs.Listing.{new_after, new_count_at, sound_at}
+use Rattle.sbl_bench.proofs.replace_words.runs_of.Goals as goal
+
+-- the word at a place, and the runs that it and the words after it need
+runs_left : (before : List (List ℕ)) (words : List Text) (i : ℕ) → i < length words
+    → length (new_words before (texts_of (drop i words))) ≡ runs_of_word before (get_or words i no_text).now + length (new_words before (texts_of (drop (i + 1) words)))
+runs_left before words i below = new_count_at before (texts_of (drop i words)) (texts_of (drop (i + 1) words)) (get_or words i no_text).now (next (λ (t : Text). t.now) words i no_text (get_or words i no_text) below refl)
+
+on_err : {T E P : Type 0} (r : Result T E) → P → OnErr r P
+on_err (Ok v) p = tt
+on_err (Err e) p = p
+
+pub run_of-requires-clause-sound : goal.run_of-requires-clause-sound
+run_of-requires-clause-sound c = sound_at (λ (t : Text). t.now) c.args.words.now c.loop-word.word-index _ c.requires.sound c.loop-word-test.true
+
+pub run_of-requires-clause-room : goal.run_of-requires-clause-room
+run_of-requires-clause-room c =
+    let left = runs_left (words_in c.args.before.now.entries) c.args.words.now c.loop-word.word-index c.loop-word-test.true in
+    let so = c.loop-word.invariant.counted in
+    let room = c.requires.room in
+    omega arith
+
+pub put-requires : goal.put-requires
+put-requires c = new_after (λ (t : Text). t.now) c.args.words.now c.loop-word.word-index no_text (words_in c.loop-word.traces.entries) c.requires.distinct c.loop-word-test.true c.loop-word.invariant.words
+
+pub loop-word-preserved : goal.loop-word-preserved
+loop-word-preserved c =
+    let es = words_in c.args.before.now.entries in
+    let i = c.loop-word.word-index in
+    let below = c.loop-word-test.true in
+    let left = runs_left es c.args.words.now i below in
+    let one = c.in_ok-last.ensures.counted in
+    record {
+      words = c.in_ok-put.ensures.words ∙ ap (λ (ws : List (List ℕ)). ws ++ (get_or c.args.words.now i no_text).now ∷ []) c.loop-word.invariant.words ∙ sym (so_far (λ (t : Text). t.now) c.args.words.now i no_text below);
+      fresh = λ s made old. c.in_ok-put.ensures.kept (under s c.args.limit) (c.loop-word.invariant.fresh s made old) (c.in_ok-last.ensures.fresh s made old);
+      counted = (let so = c.loop-word.invariant.counted in omega arith);
+      more = (let so = c.loop-word.invariant.more in omega arith);
+    }
+
+pub returns-in_err-last-clause-some : goal.returns-in_err-last-clause-some
+returns-in_err-last-clause-some c =
+    let left = runs_left (words_in c.args.before.now.entries) c.args.words.now c.loop-word.word-index c.loop-word-test.true in
+    let so = c.loop-word.invariant.counted in
+    let more = c.loop-word.invariant.more in
+    let few = c.in_err-last.ensures.some.1 in
+    let is = c.in_err-last.ensures.some.2 in
+    on_err c.from_residual-in_err-last.result (c.run_of.new.meter - c.args.meter.now, omega arith, omega arith)
+
+pub returns-in_err-put-clause-some : goal.returns-in_err-put-clause-some
+returns-in_err-put-clause-some c =
+    let left = runs_left (words_in c.args.before.now.entries) c.args.words.now c.loop-word.word-index c.loop-word-test.true in
+    let so = c.loop-word.invariant.counted in
+    let more = c.loop-word.invariant.more in
+    let is = c.in_ok-last.ensures.counted in
+    on_err c.from_residual-in_err-put.result (c.run_of.new.meter - c.args.meter.now, omega arith, omega arith)

@@ -1,0 +1,126 @@
+//! How many words use each part of a script.
+
+ghost use Rattle.std.specs.Prelude.{◌≡◌, ◌++◌, ◌∷◌, [], decimal, map, true, OnOk, IfOk};
+ghost use Rattle.csv.specs.Records.{fields_of, partial_of};
+ghost use Rattle.sbl_bench.specs.KeptRuns.{setting_of};
+ghost use Rattle.sbl_explain.specs.Counts as spec;
+ghost use Rattle.sbl_explain.specs.TakeNumbers.{KeepsNumbers};
+ghost use Rattle.sbl_explain.specs.UsableViews.{AreDefined, Defines, next_row, number_for, number_row, number_rows, row_for, view_usable, view_usables};
+
+use crate::bench_words::words_of;
+use crate::event_rows::push_number;
+use crate::take_counts::{TakeCounts, counts_by_words, number_taking};
+use crate::unused::{kind, push_place};
+use crate::usables::{Usable, own_item, usables_of};
+use csv::ByteRecord;
+use sbl_bench::Bench;
+use sbl_io::push_text;
+use sbl_reports::{Record, records_text};
+use std::alloc::{AllocError, Global};
+
+/// A part of a script, and the number of words whose runs use it.
+#[derive(Clone, Copy, Debug)]
+pub(crate) struct Count<'a> {
+    usable: Usable<'a>,
+    words: usize,
+}
+
+impl Record for Count<'_> {
+    ghost fields = { λ count. number_row count };
+
+    fn fill(&self, text: &mut String, csv_record: &mut ByteRecord) -> Result<(), AllocError> {
+        push_usable(text, csv_record, &self.usable)?;
+        push_number(*text.allocator(), csv_record, self.words)
+    }
+}
+
+/// Appends the fields of a part of a script. Returns `AllocError` if an allocation fails.
+fn push_usable(
+    text: &mut String,
+    csv_record: &mut ByteRecord,
+    usable: &Usable<'_>,
+) -> Result<(), AllocError>
+    requires { partial_of csv_record.old ≡ [] }
+    ensures fields { OnOk result (fields_of csv_record.new ≡ fields_of csv_record.old ++ spec.usable_row (view_usable usable.now)) }
+    ensures partial { OnOk result (partial_of csv_record.new ≡ []) }
+{
+    let alloc = *text.allocator();
+    match usable {
+        Usable::Whole(item) => {
+            csv_record.push_field(kind(item).as_bytes())?;
+            push_place(alloc, csv_record, item)
+        }
+        Usable::Entry(among, string) => {
+            csv_record.push_field(b"entry")?;
+            push_place(alloc, csv_record, among)?;
+            push_text(text, csv_record, string)
+        }
+    }
+}
+
+/// Returns the number of words whose run uses a part of the script. Returns `AllocError` if an allocation fails.
+fn number_using<'a>(
+    alloc: Global,
+    bench: &Bench,
+    taken: &TakeCounts<'a>,
+    usable: &Usable<'a>,
+) -> Result<usize, AllocError>
+    ensures { Defines bench.now (view_usable usable.now) → KeepsNumbers bench.now taken.now → IfOk result (λ n. n ≡ number_for bench.now (view_usable usable.now)) }
+{
+    match usable {
+        Usable::Whole(item) => {
+            let rows = bench.rows_meeting(&own_item(alloc, item)?)?;
+            Ok(rows.len())
+        }
+        Usable::Entry(among, string) => number_taking(alloc, taken, among, string),
+    }
+}
+
+/// Appends a part of the script with its number of words. Returns `AllocError` if an allocation fails.
+#[tactic(auto, unfolding(crate::specs::Counts::count_row))]
+fn push_count<'a>(
+    alloc: Global,
+    counts: &mut Vec<Count<'a>>,
+    bench: &Bench,
+    taken: &TakeCounts<'a>,
+    usable: &Usable<'a>,
+) -> Result<(), AllocError>
+    ensures { Defines bench.now (view_usable usable.now) → KeepsNumbers bench.now taken.now → OnOk result (number_rows counts.new.items ≡ number_rows counts.old.items ++ next_row bench.now usable.now ∷ []) }
+{
+    let words = number_using(alloc, bench, taken, usable)?;
+    counts.push(Count {
+        usable: *usable,
+        words,
+    })?;
+    Ok(())
+}
+
+/// Returns parts of the script, each with its number of words. Returns `AllocError` if an allocation fails.
+fn counts_of<'a>(
+    alloc: Global,
+    bench: &Bench,
+    taken: &TakeCounts<'a>,
+    usables: &[Usable<'a>],
+) -> Result<Vec<Count<'a>>, AllocError>
+    ensures { AreDefined bench.now (view_usables usables.now) → KeepsNumbers bench.now taken.now → IfOk result (λ counts. number_rows counts.items ≡ map (row_for bench.now) (view_usables usables.now)) }
+{
+    let mut counts = Vec::with_capacity(alloc, usables.len())?;
+    for usable in usables {
+        push_count(alloc, &mut counts, bench, taken, usable)?;
+    }
+    Ok(counts)
+}
+
+/// Returns a row for each routine, external and grouping of the script, in the order of the text, with the number of words whose
+/// run uses it; after a routine its amongs, by number, and after each among its strings. Runs that are refused count.
+///
+/// Returns `AllocError` if an allocation fails.
+pub fn counts_text(alloc: Global, bench: &Bench) -> Result<Vec<u8>, AllocError>
+    ensures { IfOk result (λ text. text.items ≡ spec.counts_text (setting_of bench.now) bench.now.words) }
+{
+    let usables = usables_of(alloc, bench.script())?;
+    let words = words_of(alloc, bench)?;
+    let taken = counts_by_words(alloc, bench, &words)?;
+    let counts = counts_of(alloc, bench, &taken, &usables)?;
+    records_text(alloc, &counts)
+}

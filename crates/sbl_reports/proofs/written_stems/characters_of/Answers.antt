@@ -1,0 +1,11 @@
+use Rattle.std.proofs.Common.{rules, ◌≡◌}
+use Rattle.std.specs.Str.{chars}
+use Rattle.std.proofs.lemmas.Iterator.{YieldsList-from_chars}
+use Rattle.std.proofs.lemmas.Iterator.Adapters.{items_from_extend}
+use Rattle.sbl_reports.proofs.written_stems.characters_of.Goals as goal
+
+pub returns : goal.returns
+returns c =
+    let e = items_from_extend c.extend.result c.extend.ensures.ran (YieldsList-from_chars c.args.text.now c.utf8.text c.chars-2.ensures.rest) in
+    let items : c.extend.new.self.items ≡ chars c.args.text.now = search (rules, e) in
+    items

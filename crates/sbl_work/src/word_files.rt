@@ -1,0 +1,79 @@
+//! The file of words, which is read again.
+ghost use Rattle.std.specs.Prelude.{ℕ, List, Option};
+ghost use Rattle.sbl_bench.specs.KeptRuns.{contents_of};
+ghost use Rattle.sbl_history.specs.Desks.{State};
+ghost use Rattle.sbl_sessions.specs.CommandViews.{IsReply};
+ghost use Rattle.sbl_work.specs.Commands as spec;
+ghost use Rattle.sbl_work.specs.Replies.{RereadsWords, words_text};
+ghost use Rattle.sbl_work.specs.ReplyViews.{IsWorkAnswer, view_file};
+
+use crate::appending::Added;
+use crate::files::Paths;
+use crate::replies::{NO_FILE, NOT_TEXT, edit_reply};
+use sbl_bench::{Bench, EditFault};
+use sbl_input::{LoadFault, words_in};
+use sbl_io::ServeFault;
+use sbl_saving::{ReadFault, read_file};
+use sbl_sessions::Reply;
+use std::alloc::Global;
+use std::rt::Files;
+
+/// Replaces the vocabulary by the words in the lines of bytes.
+fn reread_words(alloc: Global, bench: &mut Bench, bytes: &[u8]) -> Result<(), LoadFault>
+    ensures { RereadsWords result bytes.now (contents_of bench.old) (contents_of bench.new) }
+{
+    let words = words_in(alloc, bytes)?;
+    match bench.replace_words(&words) {
+        Ok(()) => Ok(()),
+        Err(fault) => Err(LoadFault::Open(fault)),
+    }
+}
+
+/// Returns the reply to `words`, for what came of its words.
+fn reread_reply(answer: Result<(), LoadFault>) -> Reply
+    ensures { IsReply result (words_text answer) }
+{
+    match answer {
+        Ok(()) => edit_reply(Ok(())),
+        Err(LoadFault::Open(fault)) => edit_reply(Err(fault)),
+        Err(LoadFault::Input(ServeFault::NotText)) => Reply::Fixed(NOT_TEXT),
+        Err(LoadFault::Input(ServeFault::LineTooLong)) => edit_reply(Err(EditFault::WordTooLong)),
+        Err(_) => edit_reply(Err(EditFault::OutOfMemory)),
+    }
+}
+
+/// Returns the reply to `words`, for the bytes of the file of words; none if it cannot be read.
+pub(crate) fn words_reply(alloc: Global, bench: &mut Bench, file: Option<&[u8]>) -> Reply
+    ensures { (d : State) → IsWorkAnswer (contents_of bench.old) d (spec.with_file spec.Words (view_file file.entry)) result (contents_of bench.new) d }
+{
+    match file {
+        Some(bytes) => reread_reply(reread_words(alloc, bench, bytes)),
+        None => Reply::Fixed(NO_FILE),
+    }
+}
+
+/// Reads the file of words again, and returns the reply to `words`. Notes that no word is added then.
+pub(crate) fn words_by_file<F: Files + AllocGlobal>(
+    files: &F,
+    paths: &Paths,
+    added: &mut Added,
+    alloc: Global,
+    bench: &mut Bench,
+) -> Reply
+    ensures { (d : State) → (file : Option (List ℕ)) × IsWorkAnswer (contents_of bench.old) d (spec.with_file spec.Words file) result (contents_of bench.new) d }
+{
+    let Some(path) = &paths.words else {
+        return words_reply(alloc, bench, None);
+    };
+    match read_file(files, path.as_str()) {
+        Ok(bytes) => {
+            let answer = reread_words(alloc, bench, &bytes);
+            if answer.is_ok() {
+                added.note_read(bench.len());
+            }
+            reread_reply(answer)
+        }
+        Err(ReadFault::Unreadable) => words_reply(alloc, bench, None),
+        Err(ReadFault::OutOfMemory) => edit_reply(Err(EditFault::OutOfMemory)),
+    }
+}
