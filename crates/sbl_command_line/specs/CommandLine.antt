@@ -34,9 +34,10 @@ session_app = with_rule (with_rule (verb_app (codes "session")) (flag (codes "st
 abbrev pub stem_app : App
 stem_app = with_rule (verb_app (codes "stem")) (flag (codes "places"))
 
--- `filter` may have a file
+-- `filter` may have two files
 abbrev pub filter_app : App
-filter_app = with_rule (with_rule (verb_app (codes "filter")) (new_rule (codes "SCRIPT"))) (flag (codes "places"))
+filter_app =
+    with_rule (with_rule (with_rule (verb_app (codes "filter")) (new_rule (codes "SCRIPT"))) (new_rule (codes "WORDS"))) (flag (codes "places"))
 
 -- `check` may have three files
 abbrev pub check_app : App

@@ -147,7 +147,7 @@ const ABOUT_FILTER: &str = "Writes the stem of each word as it comes";
 /// The last lines of the help of `filter`.
 const HELP_FILTER: &str = "\
 In:   the lines of a script, a line '.', and words (one a line) up to a line '.' or the end.
-      With a file SCRIPT the input is the words alone.
+      With a file SCRIPT the input is the words alone, and with a file WORDS nothing is read.
 Out:  a row for each word, as 'stem' writes it, before the next word is read. Empty lines are
       skipped, repeats are not: nothing is kept of a word, so there may be any number of them.
 
@@ -309,12 +309,13 @@ fn stem_command<'a>(alloc: Global) -> Result<Command<'a>, AllocError>
     verb_command(alloc, "stem", ABOUT_STEM, HELP_STEM)?.arg(flag_arg(alloc, "places", PLACES_HELP))
 }
 
-/// Returns the definition of `filter`: a subcommand with the file SCRIPT, which may be missing, and the flag `--places`.
+/// Returns the definition of `filter`: a subcommand with the files SCRIPT and WORDS, which may be missing, and the flag `--places`.
 fn filter_command<'a>(alloc: Global) -> Result<Command<'a>, AllocError>
     ensures { IfOk result (λ c. app_of c ≡ filter_app) }
 {
     verb_command(alloc, "filter", ABOUT_FILTER, HELP_FILTER)?
         .arg(file_arg(alloc, "SCRIPT", SCRIPT_HELP))?
+        .arg(file_arg(alloc, "WORDS", WORDS_HELP))?
         .arg(flag_arg(alloc, "places", PLACES_HELP))
 }
 
