@@ -84,7 +84,7 @@ Example:
     snowbench stem
 
 'snowbench COMMAND --help' says what each command reads and writes. To read on: README.md,
-docs/LANGUAGE.md (the language of scripts), docs/SESSION.md (input, commands, faults, limits).";
+docs/LANGUAGE.md (the language of scripts), docs/REFERENCE.md (input, commands, faults, limits).";
 
 /// The first lines of the help of `run`.
 const ABOUT_RUN: &str = "Runs the commands of a session over files";
@@ -102,7 +102,7 @@ writes
   undo,stem,do
   redo,stem,redo
 
-To read on: docs/SESSION.md has every command with its answers.";
+To read on: docs/REFERENCE.md has every command with its answers.";
 
 /// The first lines of the help of `session`.
 const ABOUT_SESSION: &str = "Answers commands that add words and edit the script";
@@ -121,7 +121,7 @@ writes
   undo,stem,do
   unless,stem,less
 
-To read on: docs/SESSION.md has every command with its answers.";
+To read on: docs/REFERENCE.md has every command with its answers.";
 
 /// The first lines of the help of `stem`.
 const ABOUT_STEM: &str = "Writes the stem of each word";
@@ -139,7 +139,7 @@ writes
   undo,stem,do
   redo,stem,redo
 
-To read on: docs/LANGUAGE.md for scripts, docs/SESSION.md for rows and refusals.";
+To read on: docs/LANGUAGE.md for scripts, docs/REFERENCE.md for rows and refusals.";
 
 /// The first lines of the help of `filter`.
 const ABOUT_FILTER: &str = "Writes the stem of each word as it comes";
@@ -158,7 +158,7 @@ writes
   undo,stem,do
   undo,stem,do
 
-To read on: docs/AT-SCALE.md.";
+To read on: docs/SCALE.md.";
 
 /// The first lines of the help of `check`.
 const ABOUT_CHECK: &str = "Writes where stems differ from those that are expected";
@@ -177,7 +177,7 @@ Example:
 writes
   2,redo,do,redo
 
-To read on: docs/SESSION.md.";
+To read on: docs/REFERENCE.md.";
 
 /// The first lines of the help of `compare`.
 const ABOUT_COMPARE: &str = "Writes what a change of a script changes";
@@ -202,7 +202,7 @@ writes
   renamed,do,undo
   words,1,1
 
-To read on: docs/SESSION.md.";
+To read on: docs/REFERENCE.md.";
 
 /// The first lines of the help of `work`.
 const ABOUT_WORK: &str = "Answers commands over a script and words in files";
@@ -220,7 +220,7 @@ writes
   undo,stem,do
   redo,stem,redo
 
-To read on: docs/WORK.md has every command with its answers.";
+To read on: docs/REFERENCE.md has every command with its answers.";
 
 /// The help of an argument.
 const SCRIPT_HELP: &str = "The file of the script";
