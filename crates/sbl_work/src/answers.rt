@@ -17,6 +17,7 @@ use crate::replies::{
 };
 use crate::requests::{Request, count_in, request_of};
 use crate::stem_files::{approve_reply, mark_stems};
+use crate::text_replies::{file_tokens_reply, hello_reply, places_reply, text_reply, tokens_reply};
 use crate::whys::{integers_reply, why_reply};
 use crate::word_files::words_reply;
 use sbl_bench::{Bench, EditFault};
@@ -240,6 +241,11 @@ pub(crate) fn answer_line(
         Request::Append(_) => append_reply(bench, file),
         Request::Echo(text) => echo(alloc, bench, text),
         Request::Help => Reply::Fixed(""),
+        Request::Text => text_reply(desk, bench),
+        Request::Places => places_reply(alloc, desk, bench),
+        Request::Tokens => tokens_reply(alloc, desk, bench),
+        Request::TokensOf(_) => file_tokens_reply(alloc, bench, file),
+        Request::Hello => hello_reply(bench),
         Request::Session => session(alloc, desk, bench, line),
     }
 }

@@ -78,7 +78,7 @@ fn answer_alone<F: Files + AllocGlobal>(
             Err(ReadFault::Unreadable) => answer_line(alloc, desk, bench, line, None),
             Err(ReadFault::OutOfMemory) => edit_reply(Err(EditFault::OutOfMemory)),
         },
-        Request::Families(path) => match read_file(folder.files, path) {
+        Request::Families(path) | Request::TokensOf(path) => match read_file(folder.files, path) {
             Ok(bytes) => answer_line(alloc, desk, bench, line, Some(bytes.as_slice())),
             Err(ReadFault::Unreadable) => answer_line(alloc, desk, bench, line, None),
             Err(ReadFault::OutOfMemory) => edit_reply(Err(EditFault::OutOfMemory)),

@@ -1,0 +1,2 @@
+pub mod GapFacts
+pub mod TokenFacts

@@ -1,0 +1,23 @@
+-- Tokens one after another.
+use Rattle.std.specs.Prelude.{◌≡◌, ℕ, ◌++◌, Bool, true, false, List, [], None, Some, Ok}
+use Rattle.sbl_io.specs.Records.{record_line}
+use Rattle.sbl_token.specs.declared.token.Token.{Token}
+use Rattle.sbl_text.specs.Directives.{setting_of}
+use Rattle.sbl_text.specs.Literals.{byte_length}
+use Rattle.sbl_text.specs.Pieces.{AfterGaps}
+use Rattle.sbl_text.specs.Tokens.{Advances, Reading}
+use Rattle.sbl_text_rows.specs.TokenRows.{HasNoMore, comment_row}
+
+-- the line of a comment from one byte offset to another; white space has none
+abbrev pub comment_line : Bool → ℕ → ℕ → List ℕ
+comment_line true from to = record_line (comment_row from to)
+comment_line false from to = []
+
+-- the next token, without a fault
+abbrev pub TakesToken : Reading → Reading → Token → Type 0
+TakesToken r t token = Advances r.text r.state r.rest t.state t.rest (Ok (Some token)) × (t.fault ≡ None)
+
+-- after white space and comments there is the end of the text or a fault
+abbrev pub EndsAfter : Reading → Type 0
+EndsAfter r =
+    (before : List ℕ) × (at : List ℕ) × (r.text ≡ before ++ at) × AfterGaps (setting_of r.state) r.rest at × HasNoMore r.state at (byte_length before)
