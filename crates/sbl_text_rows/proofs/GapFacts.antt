@@ -128,30 +128,58 @@ abbrev pub Left : Option Inserts → List ℕ → List ℕ → List ℕ → List
 Left i text rest at out whole =
     (y : List ℕ) × (hs : List Gap) × (text ≡ y ++ rest) × AreGaps (setting i wanted.Token) rest hs at × (out ++ gap_lines (byte_length y) hs ≡ whole)
 
+-- what a text that begins with a gap is cut into
+abbrev pub gap_at : Bool → List ℕ → Option (Bool × List ℕ)
+gap_at b r = Some (b, r)
+
+some_pair : (b c : Bool) (r s : List ℕ) → gap_at b r ≡ gap_at c s → (b ≡ c) × (r ≡ s)
+some_pair b c r s e = (cc, cc)
+
 one_gap : (i : Option Inserts) (text rest r at y z : List ℕ) (b : Bool) (hs : List Gap) → text ≡ y ++ rest → text ≡ z ++ r → AreGaps (setting i wanted.Token) rest hs at → cut_gap at ≡ None
     → cut_gap rest ≡ Some (b, r) → (js : List Gap) × AreGaps (setting i wanted.Token) r js at × (comment_line b (byte_length y) (byte_length z) ++ gap_lines (byte_length z) js ≡ gap_lines (byte_length y) hs)
-one_gap i text rest r at y z b [] e f h none found = absurd (let no : Some (b, r) ≡ None = sym found ∙ ap cut_gap h ∙ none in cc)
+one_gap i text rest r at y z b [] e f h none found = absurd (let no : gap_at b r ≡ None = sym found ∙ ap cut_gap h ∙ none in cc)
 one_gap i text rest r at y z b (g ∷ gs) e f h none found =
-    let is : Some (b, r) ≡ Some (is_comment g.shape, h.0) = sym found ∙ ap cut_gap h.1 ∙ piece_gap i g.shape g.text h.0 h.2 ∙ gap_found g.shape h.0 h.3 in
-    let same : r ≡ h.0 = cc in
-    let kind : b ≡ is_comment g.shape = cc in
+    let is : gap_at b r ≡ gap_at (is_comment g.shape) h.0 = sym found ∙ ap cut_gap h.1 ∙ piece_gap i g.shape g.text h.0 h.2 ∙ gap_found g.shape h.0 h.3 in
+    let pair = some_pair b (is_comment g.shape) r h.0 is in
+    let same : r ≡ h.0 = pair.1 in
+    let kind : b ≡ is_comment g.shape = pair.0 in
     let prefix : z ≡ y ++ g.text =
     append_cancel_right z (y ++ g.text) r (sym f ∙ e ∙ ap (λ (t : List ℕ). y ++ t) (h.1 ∙ ap (λ (t : List ℕ). g.text ++ t) (sym same)) ∙ sym (append_assoc y g.text r)) in
-    let place : byte_length z ≡ byte_length y + byte_length g.text = ap byte_length prefix ∙ bytes_append y g.text in
-    (gs, subst (λ (t : List ℕ). AreGaps (setting i wanted.Token) t gs at) (sym same) h.4,
-    ap (λ (n : ℕ). comment_line b (byte_length y) n ++ gap_lines n gs) place
-    ∙ ap (λ (c : Bool). comment_line c (byte_length y) (byte_length y + byte_length g.text) ++ gap_lines (byte_length y + byte_length g.text) gs) kind
-    ∙ ap (λ (t : List ℕ). t ++ gap_lines (byte_length y + byte_length g.text) gs) (comment_is g.shape (byte_length y) (byte_length y + byte_length g.text) h.3))
+    let place : byte_length z ≡ byte_length y + byte_length g.text = ap byte_length prefix ∙ bytes_append y g.text in (
+      gs,
+      subst (λ (t : List ℕ). AreGaps (setting i wanted.Token) t gs at) (sym same) h.4,
+      ap (λ (n : ℕ). comment_line b (byte_length y) n ++ gap_lines n gs) place
+          ∙ ap (λ (c : Bool). comment_line c (byte_length y) (byte_length y + byte_length g.text) ++ gap_lines (byte_length y + byte_length g.text) gs) kind
+          ∙ ap (λ (t : List ℕ). t ++ gap_lines (byte_length y + byte_length g.text) gs) (comment_is g.shape (byte_length y) (byte_length y + byte_length g.text) h.3),
+    )
+
+-- a text goes on after a gap
+pub gap_prefix : (text rest r : List ℕ) (b : Bool) → (x : List ℕ) × (text ≡ x ++ rest) → cut_gap rest ≡ Some (b, r) → (x : List ℕ) × (text ≡ x ++ r)
+gap_prefix text rest r b prefix found = by (cut None rest) (cut_is None wanted.Token rest) (sym (cut_gap_is None rest) ∙ found)
+  where
+    at : (k : Shape) (s : List ℕ) (g : Bool) → is_gap k ≡ g → (if g then gap_at (is_comment k) s else None) ≡ gap_at b r → s ≡ r
+    at k s true h e = (some_pair (is_comment k) b s r e).1
+    at k s false h e = absurd (cc)
+
+    by : (o : FirstPiece) → IsCutFrom (setting None wanted.Token) rest o → gap_of o ≡ Some (b, r) → (x : List ℕ) × (text ≡ x ++ r)
+    by None c e = absurd (cc)
+    by (Some q) c e =
+        let same = at q.0 q.1 (is_gap q.0) refl e in
+        (prefix.0 ++ c.0, prefix.1 ∙ ap (λ (t : List ℕ). prefix.0 ++ t) (c.1 ∙ ap (λ (t : List ℕ). c.0 ++ t) same) ∙ sym (append_assoc prefix.0 c.0 r))
 
 -- past a gap, whose line was put out
 pub left_after : (i : Option Inserts) (text rest r at out new whole : List ℕ) (b : Bool) (z : List ℕ) → Left i text rest at out whole → cut_gap at ≡ None → cut_gap rest ≡ Some (b, r)
     → text ≡ z ++ r → ((x y : List ℕ) → text ≡ x ++ rest → text ≡ y ++ r → new ≡ out ++ comment_line b (byte_length x) (byte_length y)) → Left i text r at new whole
 left_after i text rest r at out new whole b z l none found is put =
     let s = one_gap i text rest r at l.0 z b l.1 l.2 is l.3 none found in
-    let line = comment_line b (byte_length l.0) (byte_length z) in
-    (z, s.0, is, s.1,
-    ap (λ (t : List ℕ). t ++ gap_lines (byte_length z) s.0) (put l.0 z l.2 is) ∙ append_assoc out line (gap_lines (byte_length z) s.0)
-    ∙ ap (λ (t : List ℕ). out ++ t) s.2 ∙ l.4)
+    let line = comment_line b (byte_length l.0) (byte_length z) in (
+      z,
+      s.0,
+      is,
+      s.1,
+      ap (λ (t : List ℕ). t ++ gap_lines (byte_length z) s.0) (put l.0 z l.2 is) ∙ append_assoc out line (gap_lines (byte_length z) s.0)
+          ∙ ap (λ (t : List ℕ). out ++ t) s.2 ∙ l.4,
+    )
 
 -- no gap is left
 pub left_none : (i : Option Inserts) (text rest at out whole : List ℕ) → Left i text rest at out whole → cut_gap rest ≡ None → out ≡ whole
@@ -159,7 +187,7 @@ left_none i text rest at out whole l none = by l.1 l.3 l.4
   where
     by : (hs : List Gap) → AreGaps (setting i wanted.Token) rest hs at → out ++ gap_lines (byte_length l.0) hs ≡ whole → out ≡ whole
     by [] h e = sym (append-nil out) ∙ e
-    by (g ∷ gs) h e = absurd (let no : None ≡ Some (is_comment g.shape, h.0) = sym none ∙ ap cut_gap h.1 ∙ piece_gap i g.shape g.text h.0 h.2 ∙ gap_found g.shape h.0 h.3 in cc)
+    by (g ∷ gs) h e = absurd (let no : None ≡ gap_at (is_comment g.shape) h.0 = sym none ∙ ap cut_gap h.1 ∙ piece_gap i g.shape g.text h.0 h.2 ∙ gap_found g.shape h.0 h.3 in cc)
 
 -- ---- after the words of directives there is white space alone
 

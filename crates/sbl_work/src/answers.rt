@@ -203,7 +203,7 @@ fn session(alloc: Global, desk: &mut Desk, bench: &mut Bench, line: &[u8]) -> Re
 /// Makes the edit or the report that a line without a block asks for, and returns the reply.
 ///
 /// `file` has the bytes of the file that the line needs: of the script's for `reload`, of that of the words for `words`, of the one that
-/// `families` or `mark` names. It is `None` if the file could not be read. For `save` and `approve` it has any bytes if the file was written, and for `append` the lines
+/// `families`, `mark` or `tokens` names. It is `None` if the file could not be read. For `save` and `approve` it has any bytes if the file was written, and for `append` the lines
 /// that were put at the file's end; it is `None` if the file was not written. Other commands do not look at it.
 ///
 /// If an allocation fails, the reply is `no 49 OutOfMemory`.
@@ -244,8 +244,8 @@ pub(crate) fn answer_line(
         Request::Text => text_reply(desk, bench),
         Request::Places => places_reply(alloc, desk, bench),
         Request::Tokens => tokens_reply(alloc, desk, bench),
-        Request::TokensOf(_) => file_tokens_reply(alloc, bench, file),
-        Request::Hello => hello_reply(bench),
+        Request::TokensOf(_) => file_tokens_reply(alloc, file),
+        Request::Hello => hello_reply(),
         Request::Session => session(alloc, desk, bench, line),
     }
 }
