@@ -1,6 +1,6 @@
 -- White space and comments, one after another.
-use Rattle.std.proofs.Common.{◌≡◌, ◌∙◌, ℕ, ◌+◌, ◌≤◌, Bool, true, false, List, [], ◌∷◌, ◌++◌, length, Option, Some, None, refl, sym, ap, subst, arith, length-append, append_assoc}
-use Rattle.std.specs.Prelude.{not, ◌==◌, if◌then◌else◌, option_map, MatchOption}
+use Rattle.std.proofs.Common.{◌≡◌, ◌∙◌, ℕ, ◌+◌, Bool, true, false, List, [], ◌∷◌, ◌++◌, length, Option, Some, None, refl, sym, ap, subst, arith, length-append, append_assoc}
+use Rattle.std.specs.Prelude.{not, ◌==◌, if◌then◌else◌, option_map}
 use Rattle.std.proofs.lemmas.List.{append_cancel_right, append-nil}
 use Rattle.sbl_token.specs.declared.signs.Sign.{Sign}
 use Rattle.sbl_text.specs.declared.pieces.Shape.{Shape}
@@ -11,7 +11,7 @@ use Rattle.sbl_text.specs.declared.pieces.Start.TheVariants as start
 use Rattle.sbl_text.specs.declared.escapes.Inserts.{Inserts}
 use Rattle.sbl_text.specs.Classes.{is_white, is_letter, is_digit}
 use Rattle.sbl_text.specs.Literals.{byte_length}
-use Rattle.sbl_text.specs.Pieces.{AreGaps, Gap, IsPiece, NoPiece, Setting, is_gap, may_come, setting}
+use Rattle.sbl_text.specs.Pieces.{AreGaps, Gap, IsPiece, NoPiece, is_gap, may_come, setting}
 use Rattle.sbl_text.specs.Scan.{FirstPiece, IsCutFrom, cut, cut_as, cut_at, past_block, past_literal, sign_cut, slash_cut}
 use Rattle.sbl_text.specs.Skip.{past}
 use Rattle.sbl_text.proofs.Lists.{bytes_append}
@@ -132,8 +132,16 @@ Left i text rest at out whole =
 abbrev pub gap_at : Bool → List ℕ → Option (Bool × List ℕ)
 gap_at b r = Some (b, r)
 
+abbrev kind_in : Option (Bool × List ℕ) → Bool
+kind_in None = false
+kind_in (Some p) = p.0
+
+abbrev rest_in : Option (Bool × List ℕ) → List ℕ
+rest_in None = []
+rest_in (Some p) = p.1
+
 some_pair : (b c : Bool) (r s : List ℕ) → gap_at b r ≡ gap_at c s → (b ≡ c) × (r ≡ s)
-some_pair b c r s e = (cc, cc)
+some_pair b c r s e = (ap kind_in e, ap rest_in e)
 
 one_gap : (i : Option Inserts) (text rest r at y z : List ℕ) (b : Bool) (hs : List Gap) → text ≡ y ++ rest → text ≡ z ++ r → AreGaps (setting i wanted.Token) rest hs at → cut_gap at ≡ None
     → cut_gap rest ≡ Some (b, r) → (js : List Gap) × AreGaps (setting i wanted.Token) r js at × (comment_line b (byte_length y) (byte_length z) ++ gap_lines (byte_length z) js ≡ gap_lines (byte_length y) hs)

@@ -1,5 +1,5 @@
 -- The rows of tokens, one after another.
-use Rattle.std.proofs.Common.{◌≡◌, ◌⊎◌, inl, inr, ◌∙◌, ℕ, ◌+◌, ◌<◌, Bool, true, false, List, [], ◌∷◌, ◌++◌, length, Option, Some, None, Result, Ok, Err, MatchOption, refl, sym, ap, subst, arith, append_assoc}
+use Rattle.std.proofs.Common.{◌≡◌, ◌⊎◌, inl, inr, ◌∙◌, ℕ, ◌+◌, ◌<◌, false, List, [], ◌∷◌, ◌++◌, length, Option, Some, None, Ok, Err, MatchOption, refl, sym, ap, subst, arith, append_assoc}
 use Rattle.std.specs.Prelude.{encode_utf8_all}
 use Rattle.std.proofs.lemmas.List.{append-nil}
 use Rattle.std.specs.Str.{chars}
@@ -16,13 +16,13 @@ use Rattle.sbl_text.specs.declared.escapes.Inserts.{Inserts}
 use Rattle.sbl_text.specs.Directives.{Directives, after, setting_of, start}
 use Rattle.sbl_text.specs.Literals.{byte_length}
 use Rattle.sbl_text.specs.Pieces.{AreGaps, Gap, IsPiece, NoPiece, is_gap, setting}
-use Rattle.sbl_text.specs.Tokens.{Advances, AreCut, HasValue, IsFault, IsLexeme, IsNext, IsRefused, IsToken, Piece, Reading, Stops, beginning}
+use Rattle.sbl_text.specs.Tokens.{AreCut, HasValue, IsFault, IsLexeme, IsNext, IsRefused, IsToken, Piece, Reading, Stops, beginning}
 use Rattle.sbl_text.proofs.Lists.{bytes_append, cut_append, cut_total, next_advances, next_shorter, still_none, total}
 use Rattle.sbl_text_rows.specs.Gaps.{cut_gap, gap_lines}
 use Rattle.sbl_text_rows.specs.Lexing.{EndsAfter, TakesToken}
 use Rattle.sbl_text_rows.specs.Rows.{line_if}
-use Rattle.sbl_text_rows.specs.TokenRows.{ArePieces, HasNoMore, IsTokensText, lines_from, row_of, token_row}
-use Rattle.sbl_text_rows.proofs.GapFacts.{gap_of, no_gap, no_piece_gap, piece_gap}
+use Rattle.sbl_text_rows.specs.TokenRows.{HasNoMore, IsTokensText, lines_from, row_of, token_row}
+use Rattle.sbl_text_rows.proofs.GapFacts.{no_gap, no_piece_gap, piece_gap}
 
 -- ---- lines of pieces
 
@@ -208,7 +208,7 @@ all_lines bytes r out same so last =
       so.0 ++ gap_pieces gs,
       (last.0, last.1, r.state, sym same ∙ last.2, cut_append start r.state r.state (chars bytes) r.rest last.1 so.0 (gap_pieces gs) so.1 (gaps_are_cut r.state r.rest last.1 gs gaps), last.4),
       so.2 gs last.1 gaps (ends_at_last r.state last.1 (byte_length last.0) last.4)
-          ∙ ap (λ (t : List ℕ). lines_from 0 so.0 ++ t) (sym (lines_gaps (total so.0) gs)) ∙ sym (lines_append 0 so.0 (gap_pieces gs)),
+          ∙ ap (λ (t : List ℕ). lines_from 0 so.0 ++ t) (sym (lines_gaps (total so.0) gs)) ∙ lines_joined so.0 (gap_pieces gs),
     )
 
 -- ---- the next token, or none
@@ -221,9 +221,9 @@ ends r t none next =
     let h = next_advances r t (Ok None) none next in
     (r.text, [], sym (append-nil r.text), h.0.0, inl (refl, h.0.1))
 
-pub answered : (r t : Reading) (o : Option Token) → r.fault ≡ None → IsNext r t (Ok o) → MatchOption o (EndsAfter r) (λ token. TakesToken r t token)
-answered r t None none next = ends r t none next
-answered r t (Some token) none next = takes r t token none next
+pub next_answer : (r t : Reading) (o : Option Token) → r.fault ≡ None → IsNext r t (Ok o) → MatchOption o (EndsAfter r) (λ token. TakesToken r t token)
+next_answer r t None none next = ends r t none next
+next_answer r t (Some token) none next = takes r t token none next
 
 pub stops : (r t : Reading) (f : ScriptFault) → r.fault ≡ None → IsNext r t (Err f) → (f ≡ fault.OutOfMemory → ⊥) → EndsAfter r
 stops r t f none next other = by (next_advances r t (Err f) none next).2

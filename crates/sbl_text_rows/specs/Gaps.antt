@@ -1,9 +1,12 @@
 -- White space and comments, one after another.
-use Rattle.std.specs.Prelude.{◌≡◌, ℕ, ◌+◌, ◌<◌, Bool, true, false, not, ◌==◌, if◌then◌else◌, List, [], ◌∷◌, ◌++◌, length, Option, Some, None, option_map, IfSome, MatchOption}
+use Rattle.std.specs.Prelude.{◌≡◌, ℕ, ◌+◌, Bool, true, false, not, ◌==◌, if◌then◌else◌, List, [], ◌∷◌, ◌++◌}
+use Rattle.std.specs.Prelude.{Option, Some, None, option_map}
 use Rattle.std.specs.Str.{chars}
 use Rattle.sbl_text.specs.Classes.{is_white, line_feed, slash, star}
 use Rattle.sbl_text.specs.Literals.{byte_length}
-use Rattle.sbl_text.specs.Pieces.{Gap}
+use Rattle.sbl_text.specs.declared.escapes.Inserts.{Inserts}
+use Rattle.sbl_text.specs.declared.pieces.Expectation.TheVariants as wanted
+use Rattle.sbl_text.specs.Pieces.{AreGaps, Gap, setting}
 use Rattle.sbl_text.specs.Scan.{past_block}
 use Rattle.sbl_text.specs.Skip.{past}
 use Rattle.sbl_text_rows.specs.Rows.{line_if}
@@ -31,3 +34,9 @@ view_gap g = (g.is_comment, chars g.rest.now)
 abbrev pub gap_lines : ℕ → List Gap → List ℕ
 gap_lines from [] = []
 gap_lines from (g ∷ gs) = line_if (gap_row from (from + byte_length g.text) g.shape) ++ gap_lines (from + byte_length g.text) gs
+
+-- the lines of the comments that the rest of a text begins with were appended
+abbrev pub AddsGaps : List ℕ → List ℕ → List ℕ → List ℕ → Type 0
+AddsGaps text rest old new =
+    (i : Option Inserts) (x : List ℕ) (gs : List Gap) (at : List ℕ) →
+    text ≡ x ++ rest → AreGaps (setting i wanted.Token) rest gs at → cut_gap at ≡ None → new ≡ old ++ gap_lines (byte_length x) gs

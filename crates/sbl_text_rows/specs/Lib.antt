@@ -1,7 +1,7 @@
 -- definitions that public contracts depend on
 pub mod Rows
 pub mod TokenRows
-pub mod Places
+pub mod PlaceRows
 -- what the functions inside the crate promise each other; no public contract depends on these
 pub mod Gaps
 pub mod Lexing

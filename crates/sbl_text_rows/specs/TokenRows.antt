@@ -52,7 +52,8 @@ HasNoMore s text place = ((text ≡ []) × MayEnd s) ⊎ ((f : ScriptFault) × I
 -- the pieces of a text up to its end or its first fault
 abbrev pub ArePieces : List ℕ → List Piece → Type 0
 ArePieces text ps =
-    (before : List ℕ) × (rest : List ℕ) × (s : Directives) × (text ≡ before ++ rest) × AreCut start text ps s rest × HasNoMore s rest (byte_length before)
+    (before : List ℕ) × (rest : List ℕ) × (s : Directives) × (text ≡ before ++ rest) × AreCut start text ps s rest
+    × HasNoMore s rest (byte_length before)
 
 -- the rows of the tokens and comments of a text, as UTF-8 bytes, up to its first fault
 abbrev pub IsTokensText : List ℕ → List ℕ → Type 0

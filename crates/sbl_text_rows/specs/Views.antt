@@ -2,8 +2,7 @@
 use Rattle.std.specs.Prelude.{◌≡◌, ℕ, ◌+◌, ◌≤◌, ◌++◌, List, length, reverse, take}
 use Rattle.std.specs.List.{count_by}
 use Rattle.sbl_source_map.specs.Positions.{begins_character, is_line_feed, last_line}
-use Rattle.sbl_source_map.specs.declared.positions.Position.{Position}
-use Rattle.sbl_text_rows.specs.Places.{Context}
+use Rattle.sbl_text_rows.specs.PlaceRows.{Context}
 use Rattle.sbl_text_rows.specs.declared.places.Rows.{Rows}
 use Rattle.sbl_text_rows.specs.declared.rulers.Ruler.{Ruler}
 use Rattle.sbl_text_rows.specs.declared.walks.Walk.{Walk}

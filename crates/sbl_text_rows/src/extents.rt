@@ -5,7 +5,7 @@ ghost use Rattle.sbl_token.specs.Lexemes.{lexeme_of};
 ghost use Rattle.sbl_text.specs.Tokens.{placed_of};
 ghost use Rattle.sbl_source_map.specs.PartTokens as parts;
 ghost use Rattle.sbl_source_map.specs.SubjectTokens as subjects;
-ghost use Rattle.sbl_text_rows.specs.Places.{end_after};
+ghost use Rattle.sbl_text_rows.specs.PlaceRows.{end_after};
 
 use sbl_source_map::begins_item;
 use sbl_text::{Kind, Sign, Token, Word};

@@ -7,7 +7,7 @@ ghost use Rattle.csv.specs.Records.{fields_of, partial_of};
 ghost use Rattle.sbl_io.specs.Records.{record_line};
 ghost use Rattle.sbl_token.specs.Lexemes.{SaysFitting, lexeme_of};
 ghost use Rattle.sbl_text.specs.Tokens.{ArePlaced, PlacedToken, placed_of};
-ghost use Rattle.sbl_text_rows.specs.Places as spec;
+ghost use Rattle.sbl_text_rows.specs.PlaceRows as spec;
 ghost use Rattle.sbl_text_rows.specs.Rows.{line_if};
 ghost use Rattle.sbl_text_rows.specs.Views.{Measures, TakesLine, context_of};
 
@@ -72,6 +72,7 @@ impl Rows<'_> {
     }
 
     /// Appends the row of an among, given its first token and the tokens after that. Returns `AllocError` if an allocation fails.
+    #[tactic(auto, unfolding(crate::specs::PlaceRows::among_row))]
     fn push_among(
         &mut self,
         walk: &Walk<'_>,
@@ -89,20 +90,18 @@ impl Rows<'_> {
         self.push(&mut csv_record, among.start, closed_end(among.end, after))
     }
 
-    /// Appends the row of a literal if it is a string of an among. Returns `AllocError` if an allocation fails.
-    fn push_string(
+    /// Appends the row of a string of the among with this number. Returns `AllocError` if an allocation fails.
+    #[tactic(auto, unfolding(crate::specs::PlaceRows::entry_row))]
+    fn push_entry(
         &mut self,
         walk: &Walk<'_>,
         literal: &Token<'_>,
         string: &[char],
+        number: usize,
     ) -> Result<(), AllocError>
         requires { Measures self.old.ruler }
-        ensures { OnOk result (TakesLine self.old self.new (line_if (spec.string_row self.old.ruler.text.now (context_of walk.now) (placed_of literal.now) string.now (spec.innermost (context_of walk.now).brackets)))) }
+        ensures { OnOk result (TakesLine self.old self.new (record_line (spec.entry_row self.old.ruler.text.now (context_of walk.now) (placed_of literal.now) string.now number))) }
     {
-        let number = walk.among();
-        if number == 0 {
-            return Ok(());
-        }
         let mut csv_record = ByteRecord::new(self.alloc);
         csv_record.push_field(b"entry")?;
         csv_record.push_field(walk.name().as_bytes())?;
@@ -112,7 +111,26 @@ impl Rows<'_> {
         self.push(&mut csv_record, literal.start, literal.end)
     }
 
+    /// Appends the row of a literal if it is a string of the among with this number, which is 0 if there is none. Returns `AllocError`
+    /// if an allocation fails.
+    fn push_string(
+        &mut self,
+        walk: &Walk<'_>,
+        literal: &Token<'_>,
+        string: &[char],
+        number: usize,
+    ) -> Result<(), AllocError>
+        requires { Measures self.old.ruler }
+        ensures { OnOk result (TakesLine self.old self.new (line_if (spec.string_row self.old.ruler.text.now (context_of walk.now) (placed_of literal.now) string.now number))) }
+    {
+        if number == 0 {
+            return Ok(());
+        }
+        self.push_entry(walk, literal, string, number)
+    }
+
     /// Appends the row of a name. Returns `AllocError` if an allocation fails.
+    #[tactic(auto, unfolding(crate::specs::PlaceRows::name_row))]
     fn push_name(&mut self, walk: &Walk<'_>, name: &Token<'_>) -> Result<(), AllocError>
         requires { Measures self.old.ruler }
         ensures { OnOk result (TakesLine self.old self.new (record_line (spec.name_row self.old.ruler.text.now (context_of walk.now) (placed_of name.now)))) }
@@ -140,7 +158,7 @@ impl Rows<'_> {
             Kind::Word(Word::Define) => self.push_definition(token, after),
             Kind::Word(Word::Among) => self.push_among(walk, token, after),
             Kind::Literal => match &token.value {
-                Value::Literal { value, .. } => self.push_string(walk, token, value),
+                Value::Literal { value, .. } => self.push_string(walk, token, value, walk.among()),
                 _ => Ok(()),
             },
             Kind::Name => self.push_name(walk, token),

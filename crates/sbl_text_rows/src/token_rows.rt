@@ -1,18 +1,16 @@
 //! The rows of the tokens and comments of a text.
 
-ghost use Rattle.std.specs.Prelude.{◌≡◌, ◌++◌, ℕ, [], true, false, IfOk, List, MatchOption, None, OnOk, Option};
+ghost use Rattle.std.specs.Prelude.{◌≡◌, ◌++◌, ℕ, true, false, IfOk, List, MatchOption, None, OnOk};
 ghost use Rattle.std.specs.Str.{chars};
 ghost use Rattle.sbl_io.specs.Records.{record_line};
 ghost use Rattle.sbl_token.specs.Lexemes as lexemes;
 ghost use Rattle.sbl_token.specs.Lexemes.{lexeme_of};
-ghost use Rattle.sbl_text.specs.declared.escapes.Inserts.{Inserts};
 ghost use Rattle.sbl_text.specs.declared.pieces.Expectation.TheVariants as wanted;
-ghost use Rattle.sbl_text.specs.Directives.{Directives, after, setting_of};
+ghost use Rattle.sbl_text.specs.Directives.{Directives, after};
 ghost use Rattle.sbl_text.specs.Literals.{byte_length};
-ghost use Rattle.sbl_text.specs.Pieces.{AreGaps, Gap, setting};
-ghost use Rattle.sbl_text_rows.specs.Gaps.{cut_gap, gap_lines};
+ghost use Rattle.sbl_text_rows.specs.Gaps.{AddsGaps};
 ghost use Rattle.sbl_text_rows.specs.TokenRows as spec;
-ghost use Rattle.sbl_text_rows.specs.Lexing.{EndsAfter, TakesToken, comment_line};
+ghost use Rattle.sbl_text_rows.specs.Lexing.{AddsAfter, AddsGap, EndsAfter, TakesToken};
 
 use crate::comments::{GapEnd, next_gap};
 use crate::fields::push_numbers;
@@ -106,7 +104,7 @@ fn push_gap(
 ) -> Result<(), AllocError>
     requires rest { (x : List ℕ) × (chars text.now ≡ x ++ chars rest.now) }
     requires gap { (x : List ℕ) × (chars text.now ≡ x ++ chars gap.now.rest.now) }
-    ensures { (x y : List ℕ) → chars text.now ≡ x ++ chars rest.now → chars text.now ≡ y ++ chars gap.now.rest.now → OnOk result (out.new.items ≡ out.old.items ++ comment_line gap.now.is_comment (byte_length x) (byte_length y)) }
+    ensures { OnOk result (AddsGap (chars text.now) (chars rest.now) gap.now.is_comment (chars gap.now.rest.now) out.old.items out.new.items) }
 {
     if gap.is_comment {
         push_comment(alloc, out, offset_of(text, rest), offset_of(text, gap.rest))
@@ -123,7 +121,7 @@ fn push_comments(
     mut rest: &str,
 ) -> Result<(), AllocError>
     requires { (x : List ℕ) × (chars text.now ≡ x ++ chars rest.now) }
-    ensures { (i : Option Inserts) (x : List ℕ) (gs : List Gap) (at : List ℕ) → chars text.now ≡ x ++ chars rest.entry.now → AreGaps (setting i wanted.Token) (chars rest.entry.now) gs at → cut_gap at ≡ None → OnOk result (out.new.items ≡ out.old.items ++ gap_lines (byte_length x) gs) }
+    ensures { OnOk result (AddsGaps (chars text.now) (chars rest.entry.now) out.old.items out.new.items) }
 {
     while let Some(gap) = next_gap(rest) {
         push_gap(alloc, out, text, rest, &gap)?;
@@ -140,7 +138,7 @@ fn push_after(
     token: &Token<'_>,
 ) -> Result<(), AllocError>
     requires { (x rest : List ℕ) × (chars text.now ≡ x ++ rest) × (token.now.end ≡ byte_length x) }
-    ensures { (s : Directives) (x rest : List ℕ) (gs : List Gap) (at : List ℕ) → chars text.now ≡ x ++ rest → token.now.end ≡ byte_length x → AreGaps (setting_of (after s (lexeme_of token.now))) rest gs at → ((after s (lexeme_of token.now)).wanted ≡ wanted.Token → cut_gap at ≡ None) → OnOk result (out.new.items ≡ out.old.items ++ gap_lines (byte_length x) gs) }
+    ensures { OnOk result (AddsAfter (chars text.now) token.now out.old.items out.new.items) }
 {
     if allows_comments(token) {
         push_comments(alloc, out, text, rest_from(text, token.end))

@@ -3,7 +3,7 @@
 ghost use Rattle.std.specs.Prelude.{◌≡◌, ◌<◌, ◌+◌, ◌^◌, OnOk};
 ghost use Rattle.sbl_token.specs.Lexemes.{lexeme_of};
 ghost use Rattle.sbl_text.specs.Tokens.{placed_of};
-ghost use Rattle.sbl_text_rows.specs.Places as spec;
+ghost use Rattle.sbl_text_rows.specs.PlaceRows as spec;
 ghost use Rattle.sbl_text_rows.specs.Views.{context_of};
 
 use crate::extents::{is_among, is_define};

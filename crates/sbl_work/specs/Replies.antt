@@ -1,5 +1,6 @@
 -- The replies of work: the text of the reply to a command, and the bench and the desk after it.
-use Rattle.std.specs.Prelude.{◌≡◌, ◌⊎◌, ℕ, Bool, ◌==◌, List, [], codes, length, nat_lt, true, false, if◌then◌else◌, Option, Some, None, Result, Ok, Err}
+use Rattle.std.specs.Prelude.{◌≡◌, ◌⊎◌, ℕ, Bool, true, false, ◌==◌, nat_lt, List, [], codes, length, if◌then◌else◌}
+use Rattle.std.specs.Prelude.{Option, Some, None, Result, Ok, Err}
 use Rattle.std.specs.Option.{unwrap_or}
 use Rattle.std.specs.Str.{chars, is_utf8}
 use Rattle.sbl_bench.specs.Contents.{Contents, rows_now}
@@ -36,7 +37,7 @@ use Rattle.sbl_history.specs.Desks.{Redoes, State, Undoes, text_in}
 use Rattle.sbl_history.specs.Editing.{IsLimitNoted, Replaces, ReplacesPart}
 use Rattle.sbl_reports.specs.Families.{families_in, families_text}
 use Rattle.sbl_source_map.specs.Heads.{IsWithoutHead}
-use Rattle.sbl_text_rows.specs.Places.{IsPlacesText}
+use Rattle.sbl_text_rows.specs.PlaceRows.{IsPlacesText}
 use Rattle.sbl_text_rows.specs.TokenRows.{IsTokensText}
 use Rattle.sbl_reports.specs.Lookups.{found_text, stem_text}
 use Rattle.sbl_reports.specs.Reports.{changes_text, largest_text, stats_text}

@@ -3,7 +3,7 @@ ghost use Rattle.std.specs.Prelude.{ℕ, List, Option};
 ghost use Rattle.sbl_bench.specs.Contents.{Contents};
 ghost use Rattle.sbl_bench.specs.KeptRuns.{contents_of};
 ghost use Rattle.sbl_history.specs.Desks.{State, state_of};
-ghost use Rattle.sbl_text_rows.specs.Places.{IsPlacesText};
+ghost use Rattle.sbl_text_rows.specs.PlaceRows.{IsPlacesText};
 ghost use Rattle.sbl_text_rows.specs.TokenRows.{IsTokensText};
 ghost use Rattle.sbl_work.specs.Commands as spec;
 ghost use Rattle.sbl_work.specs.ReplyViews.{IsRowsAnswer, IsWorkAnswer, view_file};

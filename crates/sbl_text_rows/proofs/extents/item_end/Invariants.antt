@@ -1,7 +1,7 @@
 use Rattle.std.proofs.Common.{◌≡◌, ◌≤◌, drop, map}
 use Rattle.sbl_text.specs.Tokens.{placed_of}
 use Rattle.sbl_source_map.specs.PartTokens.{until_end}
-use Rattle.sbl_text_rows.specs.Places.{end_after}
+use Rattle.sbl_text_rows.specs.PlaceRows.{end_after}
 use Rattle.sbl_text_rows.proofs.extents.item_end.Given as goal
 
 abbrev pub invariant-loop-token : goal.invariant-loop-token

@@ -1,6 +1,6 @@
 use Rattle.std.proofs.Common.{◌≡◌, ◌≤◌, ◌++◌, drop, map}
 use Rattle.sbl_text.specs.Tokens.{placed_of}
-use Rattle.sbl_text_rows.specs.Places.{beginning, lines_after}
+use Rattle.sbl_text_rows.specs.PlaceRows.{beginning, lines_after}
 use Rattle.sbl_text_rows.specs.Views.{Measures, context_of}
 use Rattle.sbl_text_rows.proofs.places.rows_of.Given as goal
 

@@ -1,5 +1,5 @@
 use Rattle.std.proofs.Common.{refl}
-use Rattle.sbl_text_rows.specs.Places.{IsPlacesText}
+use Rattle.sbl_text_rows.specs.PlaceRows.{IsPlacesText}
 use Rattle.sbl_work.proofs.TextReplyFacts.{rows_bytes, rows_utf8}
 use Rattle.sbl_work.proofs.text_replies.places_of.Goals as goal
 

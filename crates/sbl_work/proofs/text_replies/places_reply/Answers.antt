@@ -1,7 +1,7 @@
 use Rattle.std.proofs.Common.{rules, ◌≡◌}
 use Rattle.sbl_bench.specs.KeptRuns.{contents_of}
 use Rattle.sbl_history.specs.Desks.{state_of, text_in}
-use Rattle.sbl_text_rows.specs.Places.{IsPlacesText}
+use Rattle.sbl_text_rows.specs.PlaceRows.{IsPlacesText}
 use Rattle.sbl_work.proofs.TextReplyFacts.{rows_held, rows_memory}
 use Rattle.sbl_work.proofs.text_replies.places_reply.Goals as goal
 

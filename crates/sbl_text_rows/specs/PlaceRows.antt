@@ -1,5 +1,5 @@
 -- The rows of what is in the text of a script, with the places.
-use Rattle.std.specs.Prelude.{◌≡◌, ◌⊎◌, ℕ, zero, suc, ◌+◌, Bool, true, false, if◌then◌else◌, List, [], ◌∷◌, ◌++◌, codes, decimal, drop}
+use Rattle.std.specs.Prelude.{◌≡◌, ◌⊎◌, ℕ, ◌+◌, nat_eq, Bool, true, false, if◌then◌else◌, List, [], ◌∷◌, ◌++◌, codes, decimal, drop}
 use Rattle.std.specs.Prelude.{encode_utf8_all, Option, Some, None}
 use Rattle.std.specs.Str.{chars}
 use Rattle.sbl_token.specs.declared.words.Word.{Word}
@@ -94,11 +94,13 @@ definition_row text t _ = None
 unfoldable pub among_row : List ℕ → Context → PlacedToken → List PlacedToken → List (List ℕ)
 among_row text c t ts = codes "among" ∷ c.name ∷ decimal (c.amongs + 1) ∷ place_fields text t.start (end_after t.end (until_closed 0 ts))
 
--- a string of the among with this number; other literals have no row
+-- a string of the among with this number
+unfoldable pub entry_row : List ℕ → Context → PlacedToken → List ℕ → ℕ → List (List ℕ)
+entry_row text c t characters k = codes "entry" ∷ c.name ∷ decimal k ∷ encode_utf8_all characters ∷ place_fields text t.start t.end
+
+-- a literal has a row if it is such a string
 abbrev pub string_row : List ℕ → Context → PlacedToken → List ℕ → ℕ → Option (List (List ℕ))
-string_row text c t characters zero = None
-string_row text c t characters (suc k) =
-    Some (codes "entry" ∷ c.name ∷ decimal (suc k) ∷ encode_utf8_all characters ∷ place_fields text t.start t.end)
+string_row text c t characters k = if nat_eq k 0 then None else Some (entry_row text c t characters k)
 
 -- what a name is there for
 abbrev pub role_field : Context → List ℕ
