@@ -9,7 +9,7 @@ from plain import cut, named
 from rows import rows_of
 from warn import read
 
-PLAIN = "stems classes script runs reload undo redo mark changes stats unused counts words help quit".split()
+PLAIN = "stems classes script runs reload undo redo mark changes stats unused counts words text places tokens hello help quit".split()
 ONE_LINE = "add append remove class trace why tests events integers limit largest uses find stem show save approve echo".split()
 BLOCKS = "routine among grouping replace families".split()
 # What `show` does not show, and what does.

@@ -68,6 +68,16 @@ pub data WorkCommand : Type 0 where
   NoFile : WorkCommand
   -- a text to be written
   Echo : List ℕ → WorkCommand
+  -- the text of the script
+  Text : WorkCommand
+  -- what is in that text, with the places
+  Places : WorkCommand
+  -- the tokens of that text
+  Tokens : WorkCommand
+  -- the tokens of the text with these bytes
+  TokensOf : List ℕ → WorkCommand
+  -- the name and the version of the program
+  Hello : WorkCommand
 
 -- the line that ends the work
 abbrev pub quit_line : List ℕ
@@ -127,7 +137,8 @@ word_command file line =
     else (if bytes_eq (command_word line) (codes "append") then with_file append_command file
     else (if bytes_eq (command_word line) (codes "mark") then mark_command file line
     else (if bytes_eq (command_word line) (codes "approve") then Approve (is_some file)
-    else Session (session.line_command line)))))))))))))
+    else (if bytes_eq (command_word line) (codes "tokens") then with_file TokensOf file
+    else Session (session.line_command line))))))))))))))
 
 -- the command of a line that is no comment and no `echo`
 abbrev pub text_command : Option (List ℕ) → List ℕ → WorkCommand
@@ -142,7 +153,11 @@ text_command file line =
     else (if bytes_eq line (codes "unused") then Unused
     else (if bytes_eq line (codes "counts") then Counts
     else (if bytes_eq line (codes "help") then Nothing
-    else word_command file line)))))))))
+    else (if bytes_eq line (codes "text") then Text
+    else (if bytes_eq line (codes "places") then Places
+    else (if bytes_eq line (codes "tokens") then Tokens
+    else (if bytes_eq line (codes "hello") then Hello
+    else word_command file line)))))))))))))
 
 -- whether a line begins with `#`
 abbrev pub is_comment : List ℕ → Bool
@@ -156,7 +171,7 @@ utf8_command file line =
     else text_command file line
 
 -- The command of a line without a block. The file has these bytes: the script's for `reload`, that of the words for `words`, the
--- one that the line names for `families` and `mark`; for `save` and `approve` any if it was written, and for `append` the lines
+-- one that the line names for `families`, `mark` and `tokens`; for `save` and `approve` any if it was written, and for `append` the lines
 -- that were put at its end; none if it could not be read or written. A line that is not UTF-8 and no comment is a command of a
 -- session, where it is bad.
 unfoldable pub alone_command : Option (List ℕ) → List ℕ → WorkCommand

@@ -24,7 +24,7 @@ use Rattle.sbl_history.specs.declared.desk.Desk.{Desk}
 use Rattle.sbl_history.specs.Editing.{ReplacesPart}
 use Rattle.sbl_source_map.specs.Heads.{IsWithoutHead}
 use Rattle.sbl_reports.specs.Families.{families_in, families_text}
-use Rattle.sbl_work.specs.Replies.{IsWorkReply, TellsReport}
+use Rattle.sbl_work.specs.Replies.{IsRowsReply, IsWorkReply, TellsReport}
 use Rattle.sbl_work.specs.declared.requests.BlockRequest.{BlockRequest}
 use Rattle.sbl_work.specs.declared.requests.BlockRequest.TheVariants as blocks
 use Rattle.sbl_work.specs.declared.requests.Request.{Request}
@@ -59,6 +59,11 @@ view_request file line (variants.Save path) = with_file (λ bytes. command.Saved
 view_request file line (variants.Append path) = with_file append_command file
 view_request file line (variants.Echo text) = command.Echo text.now
 view_request file line variants.Help = command.Nothing
+view_request file line variants.Text = command.Text
+view_request file line variants.Places = command.Places
+view_request file line variants.Tokens = command.Tokens
+view_request file line (variants.TokensOf path) = with_file command.TokensOf file
+view_request file line variants.Hello = command.Hello
 view_request file line variants.Session = command.Session (line_command line)
 
 -- the reply to a command, and the bench and the desk after it
@@ -72,6 +77,10 @@ Answers bench desk c r new_bench new_desk = IsWorkAnswer (contents_of bench) (st
 -- the reply to a line without a block, for some bytes of its file, if it needs one
 abbrev pub IsFileAnswer : Contents → State → List ℕ → Reply → Contents → State → Type 0
 IsFileAnswer s d line r t e = (file : Option (List ℕ)) × IsWorkAnswer s d (alone_command file line) r t e
+
+-- the rows that a text has, or that the bytes are no text, or an allocation failed; nothing is changed
+abbrev pub IsRowsAnswer : (List ℕ → List ℕ → Type 0) → List ℕ → Contents → State → Reply → Type 0
+IsRowsAnswer HasRows bytes s d r = (text : List ℕ) × IsReply r text × IsRowsReply HasRows bytes s d text s d
 
 -- ---- a line and its block
 

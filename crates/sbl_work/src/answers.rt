@@ -17,6 +17,7 @@ use crate::replies::{
 };
 use crate::requests::{Request, count_in, request_of};
 use crate::stem_files::{approve_reply, mark_stems};
+use crate::text_replies::{file_tokens_reply, hello_reply, places_reply, text_reply, tokens_reply};
 use crate::whys::{integers_reply, why_reply};
 use crate::word_files::words_reply;
 use sbl_bench::{Bench, EditFault};
@@ -202,7 +203,7 @@ fn session(alloc: Global, desk: &mut Desk, bench: &mut Bench, line: &[u8]) -> Re
 /// Makes the edit or the report that a line without a block asks for, and returns the reply.
 ///
 /// `file` has the bytes of the file that the line needs: of the script's for `reload`, of that of the words for `words`, of the one that
-/// `families` or `mark` names. It is `None` if the file could not be read. For `save` and `approve` it has any bytes if the file was written, and for `append` the lines
+/// `families`, `mark` or `tokens` names. It is `None` if the file could not be read. For `save` and `approve` it has any bytes if the file was written, and for `append` the lines
 /// that were put at the file's end; it is `None` if the file was not written. Other commands do not look at it.
 ///
 /// If an allocation fails, the reply is `no 49 OutOfMemory`.
@@ -240,6 +241,11 @@ pub(crate) fn answer_line(
         Request::Append(_) => append_reply(bench, file),
         Request::Echo(text) => echo(alloc, bench, text),
         Request::Help => Reply::Fixed(""),
+        Request::Text => text_reply(desk, bench),
+        Request::Places => places_reply(alloc, desk, bench),
+        Request::Tokens => tokens_reply(alloc, desk, bench),
+        Request::TokensOf(_) => file_tokens_reply(alloc, file),
+        Request::Hello => hello_reply(),
         Request::Session => session(alloc, desk, bench, line),
     }
 }

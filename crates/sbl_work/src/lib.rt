@@ -10,6 +10,7 @@ mod replies;
 mod requests;
 mod serving;
 mod stem_files;
+mod text_replies;
 mod whys;
 mod word_files;
 

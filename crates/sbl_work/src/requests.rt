@@ -55,6 +55,16 @@ pub(crate) enum Request<'a> {
     Stem(&'a str),
     /// Reports a definition.
     Show(&'a str),
+    /// Reports the text of the script.
+    Text,
+    /// Reports where everything is in that text.
+    Places,
+    /// Reports the tokens of that text.
+    Tokens,
+    /// Reports the tokens of a file.
+    TokensOf(&'a str),
+    /// Reports the name and the version of the program.
+    Hello,
     /// Writes a text.
     Echo(&'a [u8]),
     /// Reports nothing.
@@ -167,6 +177,10 @@ fn text_request(line: &str) -> Request<'_>
         "unused" => Request::Unused,
         "counts" => Request::Counts,
         "help" => Request::Help,
+        "text" => Request::Text,
+        "places" => Request::Places,
+        "tokens" => Request::Tokens,
+        "hello" => Request::Hello,
         _ => word_request(line),
     }
 }
@@ -197,6 +211,7 @@ fn word_request(line: &str) -> Request<'_>
         "append" => Request::Append(argument),
         "mark" => mark_request(argument),
         "approve" => Request::Approve(argument),
+        "tokens" => Request::TokensOf(argument),
         _ => Request::Session,
     }
 }

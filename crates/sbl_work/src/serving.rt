@@ -20,6 +20,7 @@ use crate::parts::answer_block;
 use crate::replies::edit_reply;
 use crate::requests::{Request, block_request, is_quit, request_of};
 use crate::stem_files::{approve_by_file, mark_by_file};
+use crate::text_replies::tokens_by_file;
 use crate::word_files::words_by_file;
 use sbl_bench::{Bench, EditFault};
 use sbl_history::Desk;
@@ -108,6 +109,7 @@ fn answer_alone<F: Files + AllocGlobal>(
             alloc,
             bench,
         ),
+        Request::TokensOf(path) => tokens_by_file(folder.files, alloc, path),
         _ => answer_line(alloc, desk, bench, line, None),
     }
 }

@@ -1,7 +1,7 @@
 use Rattle.std.proofs.Common.{◌∙◌, [], ◌∷◌, Some, ap, sym}
 use Rattle.sbl_bench.specs.KeptRuns.{contents_of}
 use Rattle.sbl_history.specs.Desks.{state_of}
-use Rattle.sbl_work.specs.Commands.{Approve, MarkStems, Words, alone_command, with_file}
+use Rattle.sbl_work.specs.Commands.{Approve, MarkStems, TokensOf, Words, alone_command, with_file}
 use Rattle.sbl_work.proofs.ReplyFacts.{append_memory, families_memory, reload_memory, same_command, save_memory}
 use Rattle.sbl_work.proofs.StemFileFacts.{file_for}
 use Rattle.sbl_work.proofs.serving.answer_alone.Goals as goal
@@ -37,3 +37,10 @@ returns-in-Words g c =
     let d = state_of c.args.desk.now in
     let it = c.words_by_file.ensures d in
     (it.0, same_command (contents_of c.args.bench.now) (contents_of c.words_by_file.new.bench) d d (with_file Words it.0) (alone_command it.0 c.args.line.now) c.words_by_file.result (c.in-Words.ensures it.0) it.1)
+
+pub returns-in-TokensOf : goal.returns-in-TokensOf
+returns-in-TokensOf g c =
+    let s = contents_of c.args.bench.now in
+    let d = state_of c.args.desk.now in
+    let it = c.tokens_by_file.ensures s d in
+    (it.0, same_command s s d d (with_file TokensOf it.0) (alone_command it.0 c.args.line.now) c.tokens_by_file.result (c.in-TokensOf.ensures it.0) it.1)
