@@ -5,6 +5,7 @@
 mod desk;
 mod history;
 mod line_ends;
+mod listing;
 mod marks;
 mod splice;
 mod steps;

@@ -19,6 +19,7 @@ use crate::files::{OpenFault, Paths, append, open, save};
 use crate::parts::answer_block;
 use crate::replies::edit_reply;
 use crate::requests::{Request, block_request, is_quit, request_of};
+use crate::script_files::replace_by_file;
 use crate::stem_files::{approve_by_file, mark_by_file};
 use crate::word_files::words_by_file;
 use sbl_bench::{Bench, EditFault};
@@ -99,6 +100,14 @@ fn answer_alone<F: Files + AllocGlobal>(
             Err(SaveFault::OutOfMemory) => edit_reply(Err(EditFault::OutOfMemory)),
             Err(_) => answer_line(alloc, desk, bench, line, None),
         },
+        Request::Replace(path) => replace_by_file(
+            folder.files,
+            folder.paths,
+            &mut folder.seen,
+            desk,
+            bench,
+            path,
+        ),
         Request::MarkStems(path) => mark_by_file(folder.files, alloc, desk, bench, path),
         Request::Approve(path) => approve_by_file(folder.files, folder.paths, bench, path),
         Request::Words => words_by_file(
