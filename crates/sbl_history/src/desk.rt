@@ -13,9 +13,9 @@ ghost use Rattle.sbl_history.specs.{Editing.NotesLimit, Editing.Remembers, Editi
 ghost use Rattle.sbl_script.specs.Parts.{view_part};
 
 use crate::history::{HistoryFault, text_of, turn};
+use crate::listing::history_text;
 use crate::marks::{MarkedRow, copy_rows, rows_of_stems, views_of};
 use crate::splice::{SplicedText, splice};
-use crate::listing::history_text;
 use crate::steps::{HeldEdit, HeldKind, History, Step};
 use sbl_bench::{Bench, EditFault, Row};
 use sbl_script::Part;

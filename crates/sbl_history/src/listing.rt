@@ -52,7 +52,12 @@ fn push_kind(alloc: Global, csv_record: &mut ByteRecord, kind: &HeldKind) -> Res
 }
 
 /// Appends the row of an edit, which begins with a word. Returns `AllocError` if an allocation fails.
-fn push_edit(alloc: Global, out: &mut Vec<u8>, word: &[u8], edit: &HeldEdit) -> Result<(), AllocError>
+fn push_edit(
+    alloc: Global,
+    out: &mut Vec<u8>,
+    word: &[u8],
+    edit: &HeldEdit,
+) -> Result<(), AllocError>
     ensures { OnOk result (out.new.items ≡ out.old.items ++ record_line (word.now ∷ spec.kind_fields (view_kind edit.now.kind))) }
 {
     let mut csv_record = ByteRecord::new(alloc);

@@ -15,7 +15,7 @@ ghost use Rattle.sbl_work.specs.WholeWork.{WorksOver, status_of};
 
 use crate::answers::answer_line;
 use crate::appending::Added;
-use crate::files::{OpenFault, Paths, append, open, save};
+use crate::files::{OpenFault, Paths, Texts, append, open, save};
 use crate::parts::answer_block;
 use crate::replies::edit_reply;
 use crate::requests::{Request, block_request, is_quit, request_of};
@@ -223,19 +223,20 @@ fn write_fault<E: Sink>(alloc: Global, errors: &mut E, fault: &OpenFault)
     };
 }
 
-/// Replies to each request of the input in turn over the bench of a script and its words, up to `quit` or the end of input.
+/// Replies to each request of the input in turn over the bench of a script and its words, up to `quit` or the end of input. The script
+/// was read from this text.
 fn serve_bench<F: Files + AllocGlobal, R: Source + Drop, W: Sink>(
     folder: &mut Folder<'_, F>,
     bench: &mut Bench,
+    text: Vec<u8>,
     prompt: &[u8],
     lines: &mut Lines<R>,
     writer: &mut W,
 ) -> Result<(), ServeFault>
-    ensures works { fault_of lines.old ≡ None → WorksOnBench R.left R.tally W.held W.tally folder.old.seen.items prompt.now lines.old lines.new writer.old writer.new bench.old result }
+    ensures works { fault_of lines.old ≡ None → WorksOnBench R.left R.tally W.held W.tally text.items prompt.now lines.old lines.new writer.old writer.new bench.old result }
     ensures reads_in_time { KeepsTime R.tally lines.old lines.new }
     ensures writes_in_time { WritesInTime W.tally writer.old writer.new }
 {
-    let text = Vec::from_slice(lines.alloc(), folder.seen.as_slice())?;
     let mut desk = Desk::new(lines.alloc(), bench, text)?;
     serve(folder, &mut desk, bench, prompt, lines, writer)
 }
@@ -260,7 +261,8 @@ fn work_on<F: Files + AllocGlobal, R: Source + Drop, W: Sink>(
     ensures reads_in_time { KeepsTime R.tally lines.old lines.new }
     ensures writes_in_time { WritesInTime W.tally writer.old writer.new }
 {
-    let (mut bench, seen) = open(files, keys, paths)?;
+    let (mut bench, texts) = open(files, keys, paths)?;
+    let Texts { text, seen } = texts;
     let added = Added::new(files.alloc(), bench.len());
     let mut folder = Folder {
         files,
@@ -268,7 +270,7 @@ fn work_on<F: Files + AllocGlobal, R: Source + Drop, W: Sink>(
         seen,
         added,
     };
-    let served = serve_bench(&mut folder, &mut bench, prompt, lines, writer);
+    let served = serve_bench(&mut folder, &mut bench, text, prompt, lines, writer);
     bench.leak();
     match served {
         Ok(()) => Ok(()),
