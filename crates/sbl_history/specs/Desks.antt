@@ -12,8 +12,8 @@ use Rattle.sbl_history.specs.declared.desk.Desk.{Desk}
 use Rattle.sbl_history.specs.declared.history.HistoryFault.{HistoryFault}
 use Rattle.sbl_history.specs.declared.history.HistoryFault.TheVariants as fault
 use Rattle.sbl_history.specs.declared.steps.HeldEdit.{HeldEdit}
-use Rattle.sbl_history.specs.declared.steps.HeldKind.{HeldKind}
-use Rattle.sbl_history.specs.declared.steps.HeldKind.TheVariants as kind
+use Rattle.sbl_history.specs.declared.kinds.HeldKind.{HeldKind}
+use Rattle.sbl_history.specs.declared.kinds.HeldKind.TheVariants as kind
 use Rattle.sbl_history.specs.declared.steps.History.{History}
 use Rattle.sbl_history.specs.declared.steps.Step.{Step}
 use Rattle.sbl_history.specs.declared.steps.Step.TheVariants as step

@@ -13,10 +13,11 @@ ghost use Rattle.sbl_history.specs.{Editing.NotesLimit, Editing.Remembers, Editi
 ghost use Rattle.sbl_script.specs.Parts.{view_part};
 
 use crate::history::{HistoryFault, text_of, turn};
+use crate::kinds::HeldKind;
 use crate::listing::history_text;
 use crate::marks::{MarkedRow, copy_rows, rows_of_stems, views_of};
 use crate::splice::{SplicedText, splice};
-use crate::steps::{HeldEdit, HeldKind, History, Step};
+use crate::steps::{HeldEdit, History, Step};
 use sbl_bench::{Bench, EditFault, Row};
 use sbl_script::Part;
 use std::alloc::{AllocError, Global};

@@ -4,6 +4,7 @@
 
 mod desk;
 mod history;
+mod kinds;
 mod line_ends;
 mod listing;
 mod marks;

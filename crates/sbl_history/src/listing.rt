@@ -5,7 +5,8 @@ ghost use Rattle.sbl_history.specs.Desks.{past_of, view_edit, view_kind};
 ghost use Rattle.sbl_history.specs.Listing as spec;
 ghost use Rattle.sbl_io.specs.Records.{record_line, records_text};
 
-use crate::steps::{HeldEdit, HeldKind, History};
+use crate::kinds::HeldKind;
+use crate::steps::{HeldEdit, History};
 use csv::ByteRecord;
 use sbl_io::push_line;
 use std::alloc::{AllocError, Global};
