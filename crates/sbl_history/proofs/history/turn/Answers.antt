@@ -1,8 +1,7 @@
 use Rattle.std.proofs.Common.{◌∙◌, ◌++◌, ◌∷◌, [], ap, map, refl, sym}
 use Rattle.std.proofs.lemmas.List.{map-append}
 use Rattle.sbl_history.specs.Desks.{view_edit, view_kind, view_text}
-use Rattle.sbl_history.specs.History.{PastEdit, Turn}
-use Rattle.sbl_history.specs.declared.steps.HeldEdit.{HeldEdit}
+use Rattle.sbl_history.specs.History.{Turn}
 use Rattle.sbl_history.specs.declared.steps.Step.{Step}
 use Rattle.sbl_history.proofs.history.turn.Goals as goal
 
