@@ -3,7 +3,7 @@ ghost use Rattle.std.specs.Prelude.{◌≡◌, IfOk, None, Some, codes, false, m
 ghost use Rattle.std.specs.String.{string_bytes};
 ghost use Rattle.clap.specs.Walk.{rule_of};
 ghost use Rattle.clap.specs.Words.{Text, app_of, first_value, found_of, new_rule, one_text};
-ghost use Rattle.sbl_command_line.specs.CommandLine.{IsFlag, IsGiven, IsMissing, IsVerb, LacksFlag, check_app, compare_app, flag, flag_in, program, required_rule, run_app, session_app, stem_app, filter_app, value_in, verb_app, verb_and_external, work_app};
+ghost use Rattle.sbl_command_line.specs.CommandLine.{IsFlag, IsGiven, IsMissing, IsVerb, LacksFlag, check_app, compare_app, flag, flag_in, from_rule, program, required_rule, run_app, session_app, stem_app, filter_app, value_in, verb_app, verb_and_external, work_app};
 
 use clap::error::ErrorKind;
 use clap::{Arg, ArgAction, ArgMatches, Command, Error};
@@ -67,6 +67,8 @@ pub struct Options {
     pub shows_places: bool,
     /// The face of the answers, if `work` or `compare` has one.
     pub face: Option<Face>,
+    /// The file of the text that `work` begins with, if it is not that of the script.
+    pub from: Option<String>,
 }
 
 /// The first lines of the help of the program.
@@ -232,6 +234,9 @@ const WORDS_HELP: &str = "The file of the words, one on each line";
 const ROWS_HELP: &str = "Answers in rows, for programs";
 
 /// The help of an argument.
+const FROM_HELP: &str = "Begins with the script in this file; reload and save mean SCRIPT";
+
+/// The help of an argument.
 const STRICT_HELP: &str = "Ends with status 1 if a command was refused";
 
 /// The help of an argument.
@@ -269,6 +274,17 @@ fn required_file<'a>(alloc: Global, name: &'a str, help: &'a str) -> Arg<'a>
     ensures here { result.global ≡ false }
 {
     Arg::new(alloc, name).required(true).help(help)
+}
+
+/// Returns the definition of `--from TEXT`.
+fn from_arg<'a>(alloc: Global) -> Arg<'a>
+    ensures rule { rule_of result ≡ from_rule }
+    ensures here { result.global ≡ false }
+{
+    Arg::new(alloc, "from")
+        .long("from")
+        .value_name("TEXT")
+        .help(FROM_HELP)
 }
 
 /// Returns the definition of an option without a value.
@@ -346,7 +362,8 @@ fn compare_command<'a>(alloc: Global) -> Result<Command<'a>, AllocError>
         .arg(flag_arg(alloc, "rows", ROWS_HELP))
 }
 
-/// Returns the definition of `work`: a subcommand with the files SCRIPT and WORDS, and the flags `--rows` and `--text`.
+/// Returns the definition of `work`: a subcommand with the files SCRIPT and WORDS, the flags `--rows` and `--text`, and the option
+/// `--from TEXT`.
 fn work_command<'a>(alloc: Global) -> Result<Command<'a>, AllocError>
     ensures { IfOk result (λ c. app_of c ≡ work_app) }
 {
@@ -354,7 +371,8 @@ fn work_command<'a>(alloc: Global) -> Result<Command<'a>, AllocError>
         .arg(required_file(alloc, "SCRIPT", SCRIPT_HELP))?
         .arg(file_arg(alloc, "WORDS", WORDS_HELP))?
         .arg(flag_arg(alloc, "rows", ROWS_HELP))?
-        .arg(flag_arg(alloc, "text", "Answers in text, for people"))
+        .arg(flag_arg(alloc, "text", "Answers in text, for people"))?
+        .arg(from_arg(alloc))
 }
 
 /// Returns the text of an argument, if it is given. Returns `AllocError` if an allocation fails.
@@ -427,6 +445,7 @@ pub fn read_words<'a>(alloc: Global, words: &'a [String]) -> Result<Wanted, Erro
     ensures words { IfOk result (λ wanted. option_map string_bytes wanted.options.words ≡ value_in (codes "WORDS") (map string_bytes words.now)) }
     ensures commands { IfOk result (λ wanted. option_map string_bytes wanted.options.commands ≡ value_in (codes "COMMANDS") (map string_bytes words.now)) }
     ensures stems { IfOk result (λ wanted. option_map string_bytes wanted.options.stems ≡ value_in (codes "STEMS") (map string_bytes words.now)) }
+    ensures from { IfOk result (λ wanted. option_map string_bytes wanted.options.from ≡ value_in (codes "from") (map string_bytes words.now)) }
     ensures strict { IfOk result (λ wanted. IsFlag (flag_in (codes "strict") (map string_bytes words.now)) wanted.options.is_strict) }
     ensures places { IfOk result (λ wanted. IsFlag (flag_in (codes "places") (map string_bytes words.now)) wanted.options.shows_places) }
     ensures rows { IfOk result (λ wanted. IsGiven (codes "rows") (map string_bytes words.now) → wanted.options.face ≡ Some Face.Rows) }
@@ -462,6 +481,7 @@ pub fn read_words<'a>(alloc: Global, words: &'a [String]) -> Result<Wanted, Erro
     let list = text_of(alloc, options, "WORDS")?;
     let commands = text_of(alloc, options, "COMMANDS")?;
     let stems = text_of(alloc, options, "STEMS")?;
+    let from = text_of(alloc, options, "from")?;
     let is_strict = has_flag(options, "strict");
     let shows_places = has_flag(options, "places");
     let face = face_of(options);
@@ -478,6 +498,7 @@ pub fn read_words<'a>(alloc: Global, words: &'a [String]) -> Result<Wanted, Erro
             is_strict,
             shows_places,
             face,
+            from,
         },
     })
 }

@@ -28,6 +28,8 @@ pub data WorkCommand : Type 0 where
   Undo : WorkCommand
   -- makes the edit again that was taken back last
   Redo : WorkCommand
+  -- the edits that can be undone and redone
+  History : WorkCommand
   -- sets the mark
   Mark : WorkCommand
   -- sets the mark to the words with the stems in these bytes
@@ -126,6 +128,7 @@ abbrev pub word_command : Option (List ℕ) → List ℕ → WorkCommand
 word_command file line =
     if bytes_eq (command_word line) (codes "largest") then Largest (count_in (argument line))
     else (if bytes_eq (command_word line) (codes "families") then with_file families_in_file file
+    else (if bytes_eq (command_word line) (codes "replace") then with_file EditWhole file
     else (if bytes_eq (command_word line) (codes "why") then Why (chars (argument line))
     else (if bytes_eq (command_word line) (codes "events") then Why (chars (argument line))
     else (if bytes_eq (command_word line) (codes "integers") then Integers (chars (argument line))
@@ -138,7 +141,7 @@ word_command file line =
     else (if bytes_eq (command_word line) (codes "mark") then mark_command file line
     else (if bytes_eq (command_word line) (codes "approve") then Approve (is_some file)
     else (if bytes_eq (command_word line) (codes "tokens") then with_file TokensOf file
-    else Session (session.line_command line))))))))))))))
+    else Session (session.line_command line)))))))))))))))
 
 -- the command of a line that is no comment and no `echo`
 abbrev pub text_command : Option (List ℕ) → List ℕ → WorkCommand
@@ -146,6 +149,7 @@ text_command file line =
     if bytes_eq line (codes "reload") then with_file EditWhole file
     else (if bytes_eq line (codes "undo") then Undo
     else (if bytes_eq line (codes "redo") then Redo
+    else (if bytes_eq line (codes "history") then History
     else (if bytes_eq line (codes "mark") then Mark
     else (if bytes_eq line (codes "words") then with_file Words file
     else (if bytes_eq line (codes "changes") then Changes
@@ -157,7 +161,7 @@ text_command file line =
     else (if bytes_eq line (codes "places") then Places
     else (if bytes_eq line (codes "tokens") then Tokens
     else (if bytes_eq line (codes "hello") then Hello
-    else word_command file line)))))))))))))
+    else word_command file line))))))))))))))
 
 -- whether a line begins with `#`
 abbrev pub is_comment : List ℕ → Bool
@@ -171,7 +175,7 @@ utf8_command file line =
     else text_command file line
 
 -- The command of a line without a block. The file has these bytes: the script's for `reload`, that of the words for `words`, the
--- one that the line names for `families`, `mark` and `tokens`; for `save` and `approve` any if it was written, and for `append` the lines
+-- one that the line names for `replace`, `families`, `mark` and `tokens`; for `save` and `approve` any if it was written, and for `append` the lines
 -- that were put at its end; none if it could not be read or written. A line that is not UTF-8 and no comment is a command of a
 -- session, where it is bad.
 unfoldable pub alone_command : Option (List ℕ) → List ℕ → WorkCommand
@@ -183,10 +187,9 @@ alone_command file line =
 -- ---- a line and its block
 
 abbrev pub is_replace : List ℕ → Bool
-is_replace line = bytes_eq (command_word line) (codes "replace")
+is_replace line = bytes_eq line (codes "replace")
 
--- whether a block follows the line: after the command words of the blocks of a session, after `replace` with an argument too,
--- and after `families` alone
+-- whether a block follows the line: after the command words of the blocks of a session, and after `replace` and `families` alone
 abbrev pub asks_work_block : List ℕ → Bool
 asks_work_block line = asks_block line || (is_replace line || bytes_eq line (codes "families"))
 
@@ -196,10 +199,6 @@ part_command None text = Session session.Bad
 part_command (Some what) (Ok text) = EditPart what text
 part_command (Some what) (Err f) = Session (session.HasNoText f)
 
--- `replace` with an argument is bad
-abbrev pub replace_command : List ℕ → List (List ℕ) → WorkCommand
-replace_command line lines = if bytes_eq line (codes "replace") then EditWhole (made_text lines) else Session session.Bad
-
 abbrev pub families_command : List (List ℕ) → WorkCommand
 families_command lines =
     if nat_lt max_script (length (made_text lines)) then Session (session.HasNoText fault.ScriptTooLong) else Families (made_text lines)
@@ -207,7 +206,7 @@ families_command lines =
 abbrev pub block_command : List ℕ → List (List ℕ) → WorkCommand
 block_command line lines =
     if asks_block line then part_command (session.target_of line) (session.text_of_block lines)
-    else (if is_replace line then replace_command line lines
+    else (if is_replace line then EditWhole (made_text lines)
     else families_command lines)
 
 -- ---- both

@@ -24,7 +24,7 @@ use Rattle.sbl_explain.specs.declared.uses.UsesFault.TheVariants as uses
 use Rattle.sbl_explain.specs.WhyRows as rows
 use Rattle.sbl_work.specs.Commands.{WorkCommand, Nothing, Session, EditPart, EditWhole, Undo, Redo, Mark, Changes, Stats}
 use Rattle.sbl_work.specs.Commands.{Unused, Largest, Families, Why, Integers, Uses, Counts, Find, Stem, Show, Saved, NoWords, NoFile, Echo}
-use Rattle.sbl_work.specs.Commands.{MarkStems, Approve, Words, Text, Places, Tokens, TokensOf, Hello}
+use Rattle.sbl_work.specs.Commands.{MarkStems, Approve, Words, Text, Places, Tokens, TokensOf, Hello, History}
 use Rattle.sbl_input.specs.FileWords.{file_lines, file_words, first_line_fault}
 use Rattle.sbl_io.specs.LinesOf.{lines_of}
 use Rattle.sbl_input.specs.declared.faults.LoadFault.{LoadFault}
@@ -35,6 +35,8 @@ use Rattle.sbl_rows.specs.StemRows.{rows_with}
 use Rattle.sbl_source_map.specs.Definitions.{definition_text}
 use Rattle.sbl_history.specs.Desks.{Redoes, State, Undoes, text_in}
 use Rattle.sbl_history.specs.Editing.{IsLimitNoted, Replaces, ReplacesPart}
+use Rattle.sbl_history.specs.History.{OfScript}
+use Rattle.sbl_history.specs.Listing.{history_text}
 use Rattle.sbl_reports.specs.Families.{families_in, families_text}
 use Rattle.sbl_source_map.specs.Heads.{IsWithoutHead}
 use Rattle.sbl_text_rows.specs.PlaceRows.{IsPlacesText}
@@ -167,7 +169,7 @@ IsWordsReply bytes s d text t e =
 
 -- these bytes replace the whole script, and become its text
 abbrev pub ReplacesWhole : Result (Unit {0}) EditFault → List ℕ → Contents → State → Contents → State → Type 0
-ReplacesWhole result bytes s d t e = Replaces result (Whole bytes) (Some bytes) s d t e
+ReplacesWhole result bytes s d t e = Replaces result OfScript (Whole bytes) (Some bytes) s d t e
 
 abbrev pub IsWholeReply : List ℕ → Contents → State → List ℕ → Contents → State → Type 0
 IsWholeReply bytes s d text t e =
@@ -212,6 +214,7 @@ IsWorkReply s d (EditPart what block) text t e = IsPartReply what block s d text
 IsWorkReply s d (EditWhole bytes) text t e = IsWholeReply bytes s d text t e
 IsWorkReply s d Undo text t e = (result : Result (Unit {0}) HistoryFault) × Undoes result s d t e × (text ≡ undo_text result)
 IsWorkReply s d Redo text t e = (result : Result (Unit {0}) HistoryFault) × Redoes result s d t e × (text ≡ redo_text result)
+IsWorkReply s d History text t e = TellsReport (history_text d.past) s d text t e
 IsWorkReply s d Mark text t e = SetsMark (rows_now s) s d text t e
 IsWorkReply s d (MarkStems bytes) text t e = IsMarkReply (mark_refusal s bytes) bytes s d text t e
 IsWorkReply s d (Approve is_written) text t e = TellsReport (approve_text s is_written) s d text t e

@@ -39,6 +39,7 @@ view_request file line variants.Comment = command.Nothing
 view_request file line variants.Reload = with_file command.EditWhole file
 view_request file line variants.Undo = command.Undo
 view_request file line variants.Redo = command.Redo
+view_request file line variants.History = command.History
 view_request file line variants.Mark = command.Mark
 view_request file line (variants.MarkStems path) = with_file command.MarkStems file
 view_request file line (variants.Approve path) = command.Approve (is_some file)
@@ -48,6 +49,7 @@ view_request file line variants.Stats = command.Stats
 view_request file line variants.Unused = command.Unused
 view_request file line (variants.Largest number) = command.Largest (count_in number.now)
 view_request file line (variants.Families path) = with_file families_in_file file
+view_request file line (variants.Replace path) = with_file command.EditWhole file
 view_request file line (variants.Why word) = command.Why (chars word.now)
 view_request file line (variants.Integers word) = command.Integers (chars word.now)
 view_request file line (variants.Uses text) = uses_command text.now
@@ -87,7 +89,7 @@ IsRowsAnswer HasRows bytes s d r = (text : List ℕ) × IsReply r text × IsRows
 -- what a line asks for with its block
 abbrev pub FindsBlock : BlockRequest → List ℕ → Type 0
 FindsBlock (blocks.Part kept) line = (asks_block line ≡ true) × KeepsLine kept line
-FindsBlock (blocks.Whole is_good) line = (asks_block line ≡ false) × (is_replace line ≡ true) × (is_good ≡ bytes_eq line (codes "replace"))
+FindsBlock blocks.Whole line = (asks_block line ≡ false) × (is_replace line ≡ true)
 FindsBlock blocks.Families line = (asks_block line ≡ false) × (is_replace line ≡ false) × (bytes_eq line (codes "families") ≡ true)
 
 -- the report of the families of a text, or an allocation for it fails; nothing is changed

@@ -8,6 +8,7 @@ mod lookups;
 mod parts;
 mod replies;
 mod requests;
+mod script_files;
 mod serving;
 mod stem_files;
 mod text_replies;

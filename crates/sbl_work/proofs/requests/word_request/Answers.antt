@@ -24,6 +24,7 @@ differ a b other = by (bytes_eq a b) refl
 no_other : (file : Option (List ℕ)) (line : List ℕ)
     → bytes_eq (command_word line) (codes "largest") ≡ false
     → bytes_eq (command_word line) (codes "families") ≡ false
+    → bytes_eq (command_word line) (codes "replace") ≡ false
     → bytes_eq (command_word line) (codes "why") ≡ false
     → bytes_eq (command_word line) (codes "events") ≡ false
     → bytes_eq (command_word line) (codes "integers") ≡ false
@@ -47,6 +48,7 @@ returns-in_default c = λ file.
     no_other file line
     (lacks (codes "largest") c.in_default.not-largest)
     (lacks (codes "families") c.in_default.not-families)
+    (lacks (codes "replace") c.in_default.not-replace)
     (lacks (codes "why") c.in_default.not-why)
     (lacks (codes "events") c.in_default.not-events)
     (lacks (codes "integers") c.in_default.not-integers)
