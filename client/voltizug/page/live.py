@@ -1,0 +1,493 @@
+"""What the page shows of a bench: parts, each with the number of the version that it is of, so that a browser gets what is new; and what the page
+may do with the bench. After an edit the outcomes come first, and what takes longer follows.
+"""
+import contextlib
+import re
+import threading
+import time
+from collections import Counter
+from typing import Any, Callable, Dict, Iterator, List, Optional, Sequence, Set
+
+from .. import faults, loops, rows, words
+from ..bench import Bench, Edit
+from ..kept import read_file, state_of
+from ..layout import named, short
+from ..lints import lints
+from ..places import BOM
+from ..program import DONE, Reply
+from ..warn import warnings_on
+from . import ink
+from .timeline import timeline
+
+# How often files are looked at, and after how much quiet rules are counted, in seconds.
+PERIOD, QUIET = 0.012, 0.3
+# Of how many versions the changed outcomes are kept; how many strings are asked for at once.
+KEPT, MOST_RULES = 64, 500
+PLACE = re.compile(r":(\d+):(\d+): (.*)", re.S)
+ORIGINS = {"file": "saved", "trial": "trial", "undo": "undo", "redo": "redo"}
+
+
+class Refused(Exception):
+    """What the page asked for cannot be done; a sentence."""
+
+
+class Live:
+    """A bench that is shown. `turn` is held by who asks the program; `news` guards what is shown."""
+
+    def __init__(self, bench: Bench, stems: str = "", families: str = ""):
+        self.bench, self.stems, self.families = bench, stems, families
+        self.turn, self.news = threading.RLock(), threading.Condition()
+        self.version, self.floor, self.script = 0, 0, 0
+        self.parts: Dict[str, Any] = {}
+        self.deltas: Dict[int, List[int]] = {}
+        # The rows of `stems` as lines, the words, and their outcomes now and at the mark: = and a stem, or ! and a refusal.
+        self.lines: List[str] = []
+        self.words: List[str] = []
+        self.outcomes: List[str] = []
+        self.marked: List[str] = []
+        self.differs: Set[int] = set()
+        # The names of the edits that `history` holds, those that are undone too; the definitions of the script before.
+        self.steps: List[str] = []
+        self.slices: Dict[str, bytes] = {}
+        self.origin, self.begun, self.marked_text, self.is_trial = "start", 0.0, b"", False
+        self.owed: List[Callable[[], None]] = []
+        self.quiet_until, self.stopping = 0.0, threading.Event()
+        bench.on_accepted, bench.program.on_long = self.show_outcomes, self.tell_long
+        name = {"script": bench.script, "words": bench.words or "", "stems": stems, "hasFamilies": bool(families), "refusals": words.REFUSALS}
+        self.publish(names=name, fault=None, notice="", busy=None, warnings=[], history=None, changes=[], limit=0, added=0)
+
+    # What is shown
+
+    def publish(self, **parts: Any) -> None:
+        with self.news:
+            self.version += 1
+            self.parts.update({name: (self.version, value) for name, value in parts.items()})
+            self.news.notify_all()
+
+    def part(self, name: str) -> Any:
+        return self.parts.get(name, (0, None))[1]
+
+    def state(self, since: int) -> Dict[str, Any]:
+        """Returns what is new since a version: all if that is too old."""
+        with self.news:
+            shown: Dict[str, Any] = {name: value for name, (version, value) in self.parts.items() if version > since}
+            if since < self.floor or since > self.version:
+                shown = {name: value for name, (_, value) in self.parts.items()}
+                shown["words"], shown["outcomes"] = self.words, self.outcomes
+            else:
+                changed = sorted({i for version, part in self.deltas.items() if version > since for i in part})
+                shown.update({"delta": [[i, self.outcomes[i]] for i in changed]} if changed else {})
+            return {**shown, "version": self.version}
+
+    def tell_long(self) -> None:
+        self.publish(busy={"since": round(1000 * time.time()) - 2000})
+
+    # Outcomes
+
+    def show_outcomes(self) -> None:
+        """Shows the outcomes under the script in force, and which words differ from the mark."""
+        reply, text = self.bench.program.ask(["stems"]), self.bench.program.text()
+        if not reply.is_done and reply.lines or text is None or reply.state != DONE:
+            return
+        changed = self.changed(reply.lines)
+        with self.news:
+            if changed is None:
+                self.floor = self.version + 1
+                self.deltas.clear()
+                self.differs = {i for i, (old, new) in enumerate(zip(self.marked, self.outcomes)) if old != new} if self.is_like_mark() else set()
+            else:
+                self.deltas[self.version + 1] = changed
+                if len(self.deltas) > KEPT:
+                    self.floor = min(self.deltas)
+                    del self.deltas[self.floor]
+                for i in changed if self.is_like_mark() else ():
+                    (self.differs.add if self.outcomes[i] != self.marked[i] else self.differs.discard)(i)
+            self.script += 1
+            if self.is_like_mark():
+                found = [["changed", self.words[i], *pair(self.marked[i]), *pair(self.outcomes[i])] for i in sorted(self.differs)]
+                self.publish(changes=found, isPartial=True)
+            last = {"origin": self.origin, "at": time.strftime("%H:%M:%S"), "ms": round(1000 * (time.monotonic() - self.begun)), "changed": changed}
+            self.publish(text=ink.shown_text(text), script=self.script, fault=None, notice="", last=last)
+
+    def changed(self, lines: List[str]) -> Optional[List[int]]:
+        """Takes the rows of `stems`. Returns the words with another outcome; nothing if the words are others."""
+        before, self.lines = self.lines, lines
+        is_plain = len(before) == len(lines) and not any('"' in line for line in lines) and not any('"' in line for line in before)
+        if is_plain:
+            places = [i for i, (old, new) in enumerate(zip(before, lines)) if old != new]
+            found = rows.outcomes(lines[i] for i in places)
+            if all(row.word == self.words[i] for i, row in zip(places, found)):
+                outcomes = self.outcomes[:]
+                for i, row in zip(places, found):
+                    outcomes[i] = outcome(row)
+                self.outcomes = outcomes
+                return places
+        all_rows, old = rows.outcomes(lines), self.outcomes
+        is_same, self.outcomes = [row.word for row in all_rows] == self.words and self.version > 1, [outcome(row) for row in all_rows]
+        self.words = self.words if is_same else [row.word for row in all_rows]
+        return [i for i, (a, b) in enumerate(zip(old, self.outcomes)) if a != b] if is_same else None
+
+    def is_like_mark(self) -> bool:
+        return len(self.marked) == len(self.words)
+
+    # Beginning, and files
+
+    def open(self) -> None:
+        """Has the program read the files, as they are now."""
+        with self.turn:
+            self.begun, self.origin = time.monotonic(), "start"
+            reply = self.bench.open()
+            self.publish(busy=None)
+            if not reply.is_done:
+                self.show_fault(reply.said or ["The program ended at the start."], "file")
+                return
+            self.words, self.lines, self.steps = [], [], []
+            self.show_outcomes()
+            self.note_mark()
+            if self.stems:
+                self.mark_stems()
+            self.show_edit([])
+
+    def watch(self) -> None:
+        """Reads what is saved, and between two looks asks for what takes longer."""
+        before: Any = None
+        gone = 0
+        while not self.stopping.wait(0 if self.may_settle() else PERIOD):
+            try:
+                now = self.look()
+                gone = gone + 1 if now[0] is None else 0
+                if gone == round(1 / PERIOD):
+                    self.publish(notice="%s is not there now. What you see is what it had last." % named(self.bench.script))
+                if now == before and self.bench.saved():
+                    self.read_saved()
+                elif self.may_settle():
+                    self.settle()
+                before = now
+            except Exception as fault:  # noqa: BLE001 (the watch goes on)
+                self.publish(notice="The page has a fault: %s: %s" % (type(fault).__name__, named(str(fault))))
+
+    def look(self) -> List[Any]:
+        return [state_of(path) for path in (self.bench.script, self.bench.words) if path]
+
+    def read_saved(self) -> None:
+        with self.turn:
+            saved = self.bench.saved()
+            if self.bench.is_waiting:
+                self.open()
+            elif self.bench.script in saved:
+                self.edit(["reload"], "file")
+            elif saved:
+                self.read_words()
+
+    def read_words(self) -> None:
+        added = set(self.bench.added)
+        reply = self.bench.ask("words")
+        if reply.is_done:
+            self.begun, self.origin = time.monotonic(), "words"
+            self.show_outcomes()
+            gone = added - set(self.words)
+            self.bench.added = [word for word in self.bench.added if word not in gone]
+            self.show_edit(rows.read("changes", self.bench.known("changes")[0] or []))
+            if gone:
+                self.publish(notice="Words that you added are gone, since the file lacks them: %s." % ", ".join(map(short, sorted(gone)[:20])))
+        else:
+            self.bench.look(self.bench.words or "")
+            self.publish(notice=words.sentence(reply, ["words"], self.bench))
+
+    # What takes longer
+
+    def may_settle(self) -> bool:
+        return bool(self.owed) and time.monotonic() >= self.quiet_until
+
+    def settle(self) -> None:
+        """Asks for one thing that the page does not show yet."""
+        with self.turn:
+            if self.owed and not self.bench.is_waiting:
+                self.owed.pop(0)()
+
+    def settle_all(self) -> None:
+        while self.owed:
+            self.settle()
+
+    def show_figures(self) -> None:
+        lines = (self.bench.known("stats")[0]) or []
+        self.publish(figures={row.kind: int(row.count) for row in rows.read("stats", lines)})
+
+    def show_ink(self) -> None:
+        """Shows colours and rules, as far as the program tells them; and names the edit by the definitions that differ."""
+        places = self.bench.places()
+        starts = [int(row.start) for row in places.names if row.role == "defined"]
+        spans, found = ink.spans_of(places.text, places.tokens, starts), ink.rules_of(places)
+        before, self.slices = self.slices, ink.slices_of(places)
+        other = sorted(name for name in {**before, **self.slices} if before.get(name) != self.slices.get(name)) if before else []
+        self.publish(ink={"text": ink.shown_text(places.text), "script": self.script, "spans": spans, "rules": found})
+        self.name_step(other)
+        self.quiet_until = time.monotonic() + QUIET
+
+    def show_counts(self) -> None:
+        lines = self.bench.known("counts")[0]
+        counts = ink.counts_of(rows.read("counts", lines)) if lines is not None else None
+        self.publish(counts={"script": self.script, "of": counts})
+
+    def show_warnings(self) -> None:
+        found = warnings_on(self.bench.script, self.bench.words) + lints(self.bench)
+        self.publish(warnings=[named(line) for line in found])
+
+    # Edits
+
+    def edit(self, lines: Sequence[str], origin: str) -> bool:
+        """Makes an edit. Returns whether it was accepted."""
+        with self.turn:
+            self.need_program()
+            self.begun, self.origin = time.monotonic(), origin
+            count, text = self.count_done(), self.bench.program.now.text
+            edit = self.bench.edit(lines)
+            self.publish(busy=None)
+            if edit.reply.state != DONE:
+                self.show_broken(edit.reply)
+            elif edit.reply.refusal():
+                self.show_refusal(edit.reply, lines, origin)
+            else:
+                self.note_step(lines[0], count, text)
+                self.show_edit(edit.changes, edit)
+            return edit.reply.is_done
+
+    def need_program(self) -> None:
+        if self.bench.is_waiting:
+            raise Refused("No script is in force: correct the file first.")
+
+    def show_edit(self, changes: Sequence[Any], edit: Optional[Edit] = None) -> None:
+        """Shows what an edit changed, by the rows of the program, and what follows from it."""
+        program = self.bench.program
+        text, in_file = ink.shown_text(program.now.text), ink.shown_text(self.bench.file_text or b"")
+        self.is_trial = text != in_file
+        aside = edit.aside if edit else None
+        self.publish(
+            changes=[flat(row) for row in changes], isPartial=False, text=text, isTrial=self.is_trial, isMark=program.now.text == self.marked_text,
+            history=self.history(), limit=int(program.now.limit), added=len(self.bench.added), familiesOf=self.script,
+        )
+        if aside is not None:
+            self.publish(notice="Your trial was put aside: undo brings it back.")
+        self.owed = [self.show_figures, self.show_ink, self.show_counts, self.show_warnings]
+
+    def show_broken(self, reply: Reply) -> None:
+        if reply.state == "lost":
+            self.bench.is_waiting = True
+            self.show_fault(["The program ended, and could not be started again: start ./snowbench page again."], "file")
+            return
+        self.begun = time.monotonic()
+        self.show_outcomes()
+        self.show_edit(self.bench.changes)
+        self.publish(notice="It was broken off: the script before it is in force." if reply.state == "broken" else "The program ended, and was started again.")
+
+    def show_refusal(self, reply: Reply, lines: Sequence[str], origin: str) -> None:
+        if (reply.refusal() or (0, ""))[0] == 48 and reply.said:
+            text = "\n".join(lines[1:-1]) if origin == "trial" else None
+            self.show_fault(reply.said, origin, text)
+        else:
+            self.publish(notice=words.sentence(reply, list(lines), self.bench))
+
+    def show_fault(self, said: Sequence[str], origin: str, text: Optional[str] = None) -> None:
+        """Shows what the program said of a text that it refused: place and sentence, if they are of the script."""
+        script, data = self.bench.script, read_file(self.bench.script) or b""
+        lines = faults.shown(said, script, self.bench.program.copy_path, data if text is None else None, 1 << 20) or [named(line) for line in said]
+        places = [PLACE.match(line[len(start) :]) for line in lines for start in (named(script), "replace") if line.startswith(start + ":")]
+        place = next(filter(None, places), None)
+        # (a fault of the words has no place in the script)
+        is_of_script = place is not None or text is not None
+        carets = next((line for line in lines if line.strip() and not line.strip("^ ")), "")
+        fault = {
+            "origin": origin, "isOfScript": is_of_script, "text": (text if text is not None else ink.shown_text(data)) if is_of_script else None,
+            "line": int(place[1]) if place else 0, "column": int(place[2]) if place else 0, "length": carets.count("^"),
+            "sentence": place[3] if place else " ".join(lines),
+        }
+        self.publish(fault=fault, last=None if self.bench.is_waiting else self.part("last"))
+
+    # The history by name
+
+    def done(self) -> Optional[List[Any]]:
+        lines = self.bench.known("history")[0]
+        return rows.read("history", lines) if lines is not None else None
+
+    def count_done(self) -> int:
+        return sum(row.kind == "done" for row in self.done() or [])
+
+    def note_step(self, command: str, before: int, text: bytes) -> None:
+        """Notes the name of an accepted edit, if the program holds it."""
+        if command in ("undo", "redo") or command.startswith("limit") and self.count_done() == before or text == self.bench.program.now.text:
+            self.steps = [*self.steps[:before], command] if command.startswith("limit") and self.count_done() != before else self.steps
+            return
+        self.steps = [*self.steps[:before], command if command.startswith("limit") else ORIGINS.get(self.origin, self.origin)]
+
+    def name_step(self, names: Sequence[str]) -> None:
+        at = len(self.steps) - 1
+        if names and at >= 0 and self.steps[at] in ("saved", "trial"):
+            self.steps[at] += ": " + ", ".join(names[:3]) + (" and %d more" % (len(names) - 3) if len(names) > 3 else "")
+            self.publish(history=self.history())
+
+    def history(self) -> Optional[Dict[str, List[str]]]:
+        found = self.done()
+        if found is None:
+            return None
+        self.steps = self.steps[-len(found) :] if found else []
+        names = [self.steps[i] if i < len(self.steps) else " ".join((row.command, *row.rest)) for i, row in enumerate(found)]
+        count = sum(row.kind == "done" for row in found)
+        return {"done": names[:count], "undone": names[count:]}
+
+    # What a page may do
+
+    def undo(self, command: str, count: int) -> None:
+        for _ in range(min(count, 100)):
+            if not self.edit([command], command):
+                break
+
+    def take_trial(self, text: str) -> None:
+        """Has the program run a text that is in no file."""
+        lines = text.replace("\r\n", "\n").split("\n")
+        lines = lines[:-1] if lines[-1] == "" else lines
+        if any(line.strip() == "." for line in lines):
+            raise Refused("A line with a single point cannot be tried here, since it ends what is sent. Save the text in your editor.")
+        with self.turn:
+            self.need_program()
+            if text == ink.shown_text(self.bench.program.now.text):
+                self.publish(fault=None)
+            else:
+                mark = BOM.decode() if (self.bench.file_text or b"").startswith(BOM) and lines else ""
+                self.edit(["replace", *([mark + lines[0], *lines[1:]] if lines else []), "."], "trial")
+
+    def save(self, is_sure: bool) -> None:
+        bench = self.bench
+        with self.turn:
+            self.need_program()
+            why = bench.may_write("save", bench.script)
+            if not why and bench.script in bench.saved():
+                why = "changed"
+            if why and not (is_sure and why.endswith("?")):
+                raise Refused(words.may_not(why, "save", bench.script, "").replace("Enter reads it again", "Reload reads it again"))
+            reply = bench.save(bench.script)
+            if not reply.is_done:
+                raise Refused(words.sentence(reply, ["save " + bench.script], bench))
+            self.publish(isTrial=False, fault=None, notice="Saved.", isSaved=self.version)
+
+    def limit(self, text: str) -> None:
+        self.edit(["limit " + text], "limit")
+
+    def add(self, new: Sequence[str]) -> None:
+        with self.turn:
+            self.need_program()
+            for word in new:
+                self.ask("add " + word)
+            self.show_words()
+
+    def append(self) -> None:
+        with self.turn:
+            self.ask("append")
+            self.publish(added=len(self.bench.added), notice="The words that you added are now at the end of %s." % named(self.bench.words or ""))
+
+    def show_words(self) -> None:
+        self.begun, self.origin = time.monotonic(), "words"
+        self.show_outcomes()
+        self.show_edit(rows.read("changes", self.bench.known("changes")[0] or []))
+
+    def mark(self, is_of_stems: bool) -> None:
+        with self.turn:
+            self.need_program()
+            if is_of_stems and self.stems:
+                self.mark_stems()
+            else:
+                self.ask("mark")
+                self.note_mark()
+            self.show_edit(self.bench.changes)
+
+    def note_mark(self) -> None:
+        self.marked, self.differs, self.marked_text = self.outcomes, set(), self.bench.program.now.text
+        self.publish(markFigures=figures_of(self.words, self.marked), markName="")
+
+    def mark_stems(self) -> None:
+        """Makes the approved stems the mark."""
+        reply = self.bench.ask("mark " + self.stems)
+        if not reply.is_done:
+            self.publish(notice=words.sentence(reply, ["mark " + self.stems], self.bench))
+            return
+        before = {row.word: row for row in self.bench.changes if row.kind == "changed"}
+        self.marked = [code(before[word].old_kind, before[word].old) if word in before else now for word, now in zip(self.words, self.outcomes)]
+        self.differs = {i for i, word in enumerate(self.words) if word in before}
+        self.marked_text = b""
+        self.publish(markFigures=figures_of(self.words, self.marked), markName=self.stems)
+
+    # What a page asks
+
+    def ask(self, line: str) -> Reply:
+        if "\n" in line:
+            raise Refused("A word, or a name of a file, is one line.")
+        reply = self.bench.ask(line)
+        self.publish(busy=None)
+        if not reply.is_done:
+            raise Refused(words.sentence(reply, [line], self.bench) if reply.state == DONE else "It was broken off.")
+        return reply
+
+    def word(self, word: str) -> Dict[str, Any]:
+        with self.turn:
+            self.need_program()
+            events = rows.read("events", self.ask("events " + word).lines)
+            figures = rows.read("integers", self.ask("integers " + word).lines)
+            turn = words.turning(word, loops.turn_of(events), self.bench)
+            found = timeline(word, events, self.bench.places())
+        named_figures = [[getattr(row, "name", "steps"), getattr(row, "value", getattr(row, "count", ""))] for row in figures]
+        return {**found, "figures": named_figures, "turn": turn, "script": self.script}
+
+    def uses(self, rules: Sequence[Sequence[str]]) -> Dict[str, Any]:
+        """Returns the places of the words that use one of some rules: name; name and number; or name, number and string."""
+        lines = ["uses " + " ".join(map(str, rule)) for rule in rules[:MOST_RULES]]
+        # (such a string cannot be asked for)
+        lines = [line for line in lines if "\n" not in line and not line.endswith("\r")]
+        with self.turn:
+            self.need_program()
+            replies = self.bench.program.ask_each([[line] for line in lines]) if lines else []
+            found = {row.word for reply in replies if reply.is_done for row in rows.outcomes(reply.lines)}
+            return {"words": [i for i, word in enumerate(self.words) if word in found], "script": self.script, "left": len(rules) - len(lines)}
+
+    def families_now(self) -> Dict[str, Any]:
+        with self.turn:
+            self.need_program()
+            return {"rows": [flat(row) for row in rows.read("families", self.ask("families " + self.families).lines)], "script": self.script}
+
+    def tokens(self, text: str) -> List[List[Any]]:
+        """Returns the colours of a text that is being typed, if the program tells tokens."""
+        with self.turn:
+            if self.bench.is_waiting or not self.bench.program.rows or not self.bench.program.knows("tokens"):
+                return []
+            data = text.encode("utf-8", "replace")
+            path = self.bench.program.copy_path + ".typed"
+            with contextlib.suppress(OSError), open(path, "wb") as file:
+                file.write(data)
+            lines = self.bench.known("tokens " + path)[0]
+            return ink.spans_of(data, rows.tokens(lines or []))
+
+
+def pair(now: str) -> Iterator[str]:
+    yield "stem" if now[0] == "=" else "refused"
+    yield now[1:]
+
+
+def code(kind: str, text: str) -> str:
+    return ("=" if kind == "stem" else "!") + text
+
+
+def outcome(row: rows.Outcome) -> str:
+    return code(row.kind, row.stem)
+
+
+def flat(row: Any) -> List[str]:
+    """Returns a row as the program wrote it."""
+    return [part for field in row for part in ([field] if isinstance(field, str) else field)]
+
+
+def figures_of(vocabulary: Sequence[str], outcomes: Sequence[str]) -> Dict[str, int]:
+    """Returns the figures of `stats` for outcomes that the program does not have in force, those of the mark."""
+    sizes = Counter(now for now in outcomes if now[0] == "=")
+    unchanged = sum("=" + word == now for word, now in zip(vocabulary, outcomes))
+    alone = sum(size == 1 for size in sizes.values())
+    refused = sum(now[0] == "!" for now in outcomes)
+    largest = max(sizes.values(), default=0)
+    return {"words": len(vocabulary), "refused": refused, "classes": len(sizes), "alone": alone, "largest": largest, "unchanged": unchanged}
