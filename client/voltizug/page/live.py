@@ -49,7 +49,7 @@ class Live:
         # The names of the edits that `history` holds, those that are undone too; the definitions of the script before.
         self.steps: List[str] = []
         self.slices: Dict[str, bytes] = {}
-        self.origin, self.begun, self.marked_text, self.is_trial = "start", 0.0, b"", False
+        self.origin, self.begun = "start", 0.0
         self.owed: List[Callable[[], None]] = []
         self.quiet_until, self.stopping = 0.0, threading.Event()
         bench.on_accepted, bench.program.on_long = self.show_outcomes, self.tell_long
@@ -81,6 +81,18 @@ class Live:
 
     def tell_long(self) -> None:
         self.publish(busy={"since": round(1000 * time.time()) - 2000})
+
+    @contextlib.contextmanager
+    def asking(self) -> Iterator[None]:
+        """The turn to ask the program, if it is there."""
+        with self.turn:
+            if self.bench.is_waiting:
+                raise Refused("No script is in force: correct the file first.")
+            try:
+                yield
+            finally:
+                if self.part("busy"):
+                    self.publish(busy=None)
 
     # Outcomes
 
@@ -146,7 +158,7 @@ class Live:
             self.note_mark()
             if self.stems:
                 self.mark_stems()
-            self.show_edit([])
+            self.show_edit(self.bench.changes)
 
     def watch(self) -> None:
         """Reads what is saved, and between two looks asks for what takes longer."""
@@ -180,19 +192,22 @@ class Live:
                 self.read_words()
 
     def read_words(self) -> None:
-        added = set(self.bench.added)
-        reply = self.bench.ask("words")
-        if reply.is_done:
-            self.begun, self.origin = time.monotonic(), "words"
-            self.show_outcomes()
-            gone = added - set(self.words)
-            self.bench.added = [word for word in self.bench.added if word not in gone]
-            self.show_edit(rows.read("changes", self.bench.known("changes")[0] or []))
-            if gone:
-                self.publish(notice="Words that you added are gone, since the file lacks them: %s." % ", ".join(map(short, sorted(gone)[:20])))
-        else:
+        added, reply = self.bench.added, self.bench.ask("words")
+        if not reply.is_done:
             self.bench.look(self.bench.words or "")
             self.publish(notice=words.sentence(reply, ["words"], self.bench))
+            return
+        self.show_words()
+        gone = [word for word in added if word not in set(self.words)]
+        self.bench.added = [word for word in added if word not in gone]
+        if gone:
+            self.publish(added=len(self.bench.added), notice="Words that you added are gone, since the file lacks them: %s." % ", ".join(map(short, gone[:20])))
+
+    def show_words(self) -> None:
+        """Shows other words than before."""
+        self.begun, self.origin = time.monotonic(), "words"
+        self.show_outcomes()
+        self.show_edit(rows.read("changes", self.bench.known("changes")[0] or []))
 
     # What takes longer
 
@@ -204,10 +219,6 @@ class Live:
         with self.turn:
             if self.owed and not self.bench.is_waiting:
                 self.owed.pop(0)()
-
-    def settle_all(self) -> None:
-        while self.owed:
-            self.settle()
 
     def show_figures(self) -> None:
         lines = (self.bench.known("stats")[0]) or []
@@ -237,36 +248,28 @@ class Live:
 
     def edit(self, lines: Sequence[str], origin: str) -> bool:
         """Makes an edit. Returns whether it was accepted."""
-        with self.turn:
-            self.need_program()
+        with self.asking():
             self.begun, self.origin = time.monotonic(), origin
-            count, text = self.count_done(), self.bench.program.now.text
+            before, text = self.history_rows(), self.bench.program.now.text
             edit = self.bench.edit(lines)
-            self.publish(busy=None)
             if edit.reply.state != DONE:
                 self.show_broken(edit.reply)
             elif edit.reply.refusal():
                 self.show_refusal(edit.reply, lines, origin)
             else:
-                self.note_step(lines[0], count, text)
+                self.note_step(lines[0], before, text)
                 self.show_edit(edit.changes, edit)
             return edit.reply.is_done
-
-    def need_program(self) -> None:
-        if self.bench.is_waiting:
-            raise Refused("No script is in force: correct the file first.")
 
     def show_edit(self, changes: Sequence[Any], edit: Optional[Edit] = None) -> None:
         """Shows what an edit changed, by the rows of the program, and what follows from it."""
         program = self.bench.program
         text, in_file = ink.shown_text(program.now.text), ink.shown_text(self.bench.file_text or b"")
-        self.is_trial = text != in_file
-        aside = edit.aside if edit else None
         self.publish(
-            changes=[flat(row) for row in changes], isPartial=False, text=text, isTrial=self.is_trial, isMark=program.now.text == self.marked_text,
-            history=self.history(), limit=int(program.now.limit), added=len(self.bench.added), familiesOf=self.script,
+            changes=[flat(row) for row in changes], isPartial=False, text=text, isTrial=text != in_file, history=self.history(),
+            limit=int(program.now.limit), added=len(self.bench.added),
         )
-        if aside is not None:
+        if edit and edit.aside is not None:
             self.publish(notice="Your trial was put aside: undo brings it back.")
         self.owed = [self.show_figures, self.show_ink, self.show_counts, self.show_warnings]
 
@@ -301,32 +304,31 @@ class Live:
             "line": int(place[1]) if place else 0, "column": int(place[2]) if place else 0, "length": carets.count("^"),
             "sentence": place[3] if place else " ".join(lines),
         }
+        fault["spans"] = self.tokens(fault["text"]) if is_of_script else []
         self.publish(fault=fault, last=None if self.bench.is_waiting else self.part("last"))
 
     # The history by name
 
-    def done(self) -> Optional[List[Any]]:
+    def history_rows(self) -> Optional[List[Any]]:
         lines = self.bench.known("history")[0]
         return rows.read("history", lines) if lines is not None else None
 
-    def count_done(self) -> int:
-        return sum(row.kind == "done" for row in self.done() or [])
-
-    def note_step(self, command: str, before: int, text: bytes) -> None:
-        """Notes the name of an accepted edit, if the program holds it."""
-        if command in ("undo", "redo") or command.startswith("limit") and self.count_done() == before or text == self.bench.program.now.text:
-            self.steps = [*self.steps[:before], command] if command.startswith("limit") and self.count_done() != before else self.steps
-            return
-        self.steps = [*self.steps[:before], command if command.startswith("limit") else ORIGINS.get(self.origin, self.origin)]
+    def note_step(self, command: str, before: Optional[List[Any]], text: bytes) -> None:
+        """Notes the name of an accepted edit, if the program holds it. (It holds 100, and then the number does not tell.)"""
+        counts = [sum(row.kind == "done" for row in found or []) for found in (before, self.history_rows())]
+        is_held = counts[1] > counts[0] or counts[0] >= 100 and text != self.bench.program.now.text
+        if command not in ("undo", "redo") and is_held:
+            self.steps = [*self.steps[: counts[0]], command if command.startswith("limit") else ORIGINS.get(self.origin, self.origin)]
 
     def name_step(self, names: Sequence[str]) -> None:
-        at = len(self.steps) - 1
-        if names and at >= 0 and self.steps[at] in ("saved", "trial"):
-            self.steps[at] += ": " + ", ".join(names[:3]) + (" and %d more" % (len(names) - 3) if len(names) > 3 else "")
+        """Completes the name of the last edit by the definitions that it changed."""
+        if names and self.steps and self.steps[-1] in ("saved", "trial"):
+            self.steps[-1] += ": " + ", ".join(names[:3]) + (" and %d more" % (len(names) - 3) if len(names) > 3 else "")
             self.publish(history=self.history())
 
     def history(self) -> Optional[Dict[str, List[str]]]:
-        found = self.done()
+        """Returns the names of the edits that `undo` and `redo` hold, the oldest first."""
+        found = self.history_rows()
         if found is None:
             return None
         self.steps = self.steps[-len(found) :] if found else []
@@ -347,8 +349,7 @@ class Live:
         lines = lines[:-1] if lines[-1] == "" else lines
         if any(line.strip() == "." for line in lines):
             raise Refused("A line with a single point cannot be tried here, since it ends what is sent. Save the text in your editor.")
-        with self.turn:
-            self.need_program()
+        with self.asking():
             if text == ink.shown_text(self.bench.program.now.text):
                 self.publish(fault=None)
             else:
@@ -357,8 +358,7 @@ class Live:
 
     def save(self, is_sure: bool) -> None:
         bench = self.bench
-        with self.turn:
-            self.need_program()
+        with self.asking():
             why = bench.may_write("save", bench.script)
             if not why and bench.script in bench.saved():
                 why = "changed"
@@ -367,14 +367,15 @@ class Live:
             reply = bench.save(bench.script)
             if not reply.is_done:
                 raise Refused(words.sentence(reply, ["save " + bench.script], bench))
-            self.publish(isTrial=False, fault=None, notice="Saved.", isSaved=self.version)
+            self.publish(isTrial=False, fault=None, notice="Saved.")
 
     def limit(self, text: str) -> None:
+        if not re.fullmatch(r"[0-9]{1,9}", text):
+            raise Refused(words.SENTENCES[51])
         self.edit(["limit " + text], "limit")
 
     def add(self, new: Sequence[str]) -> None:
-        with self.turn:
-            self.need_program()
+        with self.asking():
             for word in new:
                 self.ask("add " + word)
             self.show_words()
@@ -384,14 +385,8 @@ class Live:
             self.ask("append")
             self.publish(added=len(self.bench.added), notice="The words that you added are now at the end of %s." % named(self.bench.words or ""))
 
-    def show_words(self) -> None:
-        self.begun, self.origin = time.monotonic(), "words"
-        self.show_outcomes()
-        self.show_edit(rows.read("changes", self.bench.known("changes")[0] or []))
-
     def mark(self, is_of_stems: bool) -> None:
-        with self.turn:
-            self.need_program()
+        with self.asking():
             if is_of_stems and self.stems:
                 self.mark_stems()
             else:
@@ -400,7 +395,7 @@ class Live:
             self.show_edit(self.bench.changes)
 
     def note_mark(self) -> None:
-        self.marked, self.differs, self.marked_text = self.outcomes, set(), self.bench.program.now.text
+        self.marked, self.differs = self.outcomes, set()
         self.publish(markFigures=figures_of(self.words, self.marked), markName="")
 
     def mark_stems(self) -> None:
@@ -412,7 +407,6 @@ class Live:
         before = {row.word: row for row in self.bench.changes if row.kind == "changed"}
         self.marked = [code(before[word].old_kind, before[word].old) if word in before else now for word, now in zip(self.words, self.outcomes)]
         self.differs = {i for i, word in enumerate(self.words) if word in before}
-        self.marked_text = b""
         self.publish(markFigures=figures_of(self.words, self.marked), markName=self.stems)
 
     # What a page asks
@@ -421,14 +415,12 @@ class Live:
         if "\n" in line:
             raise Refused("A word, or a name of a file, is one line.")
         reply = self.bench.ask(line)
-        self.publish(busy=None)
         if not reply.is_done:
             raise Refused(words.sentence(reply, [line], self.bench) if reply.state == DONE else "It was broken off.")
         return reply
 
     def word(self, word: str) -> Dict[str, Any]:
-        with self.turn:
-            self.need_program()
+        with self.asking():
             events = rows.read("events", self.ask("events " + word).lines)
             figures = rows.read("integers", self.ask("integers " + word).lines)
             turn = words.turning(word, loops.turn_of(events), self.bench)
@@ -441,15 +433,13 @@ class Live:
         lines = ["uses " + " ".join(map(str, rule)) for rule in rules[:MOST_RULES]]
         # (such a string cannot be asked for)
         lines = [line for line in lines if "\n" not in line and not line.endswith("\r")]
-        with self.turn:
-            self.need_program()
+        with self.asking():
             replies = self.bench.program.ask_each([[line] for line in lines]) if lines else []
             found = {row.word for reply in replies if reply.is_done for row in rows.outcomes(reply.lines)}
             return {"words": [i for i, word in enumerate(self.words) if word in found], "script": self.script, "left": len(rules) - len(lines)}
 
     def families_now(self) -> Dict[str, Any]:
-        with self.turn:
-            self.need_program()
+        with self.asking():
             return {"rows": [flat(row) for row in rows.read("families", self.ask("families " + self.families).lines)], "script": self.script}
 
     def tokens(self, text: str) -> List[List[Any]]:

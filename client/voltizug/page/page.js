@@ -269,7 +269,8 @@ function layout() {
   if (lines.length > 1 && text.endsWith('\n')) lines.pop();
   Object.assign(S, { shown: text, lines, same: common(text, ink.text), fault, gap: fault && fault.line && !S.editing ? fault.line : 0 });
   S.ruleAt = new Map(ink.rules.map((rule, i) => [rule[5], i]));
-  S.inked = S.typed && S.editing && S.typed.text === text ? S.typed.spans : null;
+  // (a text that is not in force has colours of its own between its beginning and its end, if they are known)
+  S.inked = S.typed && S.typed.text === text ? S.typed.spans : fault ? fault.spans : [];
   $('lines').style.height = TOP + lines.length * LINE + (S.gap ? GAP : 0) + 60 + 'px';
   $('lines').style.width = `max(100%, calc(${most}ch + 150px))`;
   const news = JSON.stringify(fault);
@@ -296,15 +297,14 @@ function drawLines(isNew) {
 }
 // The coloured parts of a line: text, class, rule.
 function pieces(start, end) {
-  const ink = S.st.ink || { text: '', spans: [], rules: [] }, spans = S.inked || ink.spans, size = S.shown.length, found = [];
-  const a = S.inked ? start : moved(S.same, start, end, ink.text.length, size), b = a + end - start;
-  if (a < 0) return [[S.shown.slice(start, end), '', undefined]];
+  const ink = S.st.ink || { text: '', spans: [], rules: [] }, place = moved(S.same, start, end, ink.text.length, S.shown.length), isSame = place >= 0, found = [];
+  const spans = isSame ? ink.spans : S.inked, a = isSame ? place : start, b = a + end - start;
   let low = 0, high = spans.length, at = a;
   while (low < high) { const mid = (low + high) >> 1; if (spans[mid][1] <= a) low = mid + 1; else high = mid; }
   for (; low < spans.length && spans[low][0] < b; low++) {
     const from = Math.max(a, spans[low][0]), to = Math.min(b, spans[low][1]);
     if (from > at) found.push([S.shown.slice(at - a + start, from - a + start), '', undefined]);
-    const rule = S.inked ? undefined : S.ruleAt.get(spans[low][0]);
+    const rule = isSame ? S.ruleAt.get(spans[low][0]) : undefined;
     found.push([S.shown.slice(from - a + start, to - a + start), spans[low][2], from === spans[low][0] ? rule : undefined]);
     at = to;
   }
@@ -401,7 +401,7 @@ function typed() {
   clearTimeout(pausing);
   pausing = setTimeout(async () => {
     const text = $('editor').value;
-    try { const spans = await ask('tokens', null, { text }); if (spans.length) { S.typed = { text, spans }; if (S.editing) layout(); } } catch (fault) { /* plain then */ }
+    try { S.typed = { text, spans: await ask('tokens', null, { text }) }; if (S.editing) layout(); } catch (fault) { /* plain then */ }
   }, 250);
 }
 async function tryIt() {

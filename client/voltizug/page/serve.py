@@ -2,6 +2,7 @@
 secret. Requests for another host, or from another page, are refused.
 """
 import argparse
+import contextlib
 import hmac
 import json
 import os
@@ -10,6 +11,7 @@ import signal
 import sys
 import threading
 import webbrowser
+import zlib
 from http.server import BaseHTTPRequestHandler, ThreadingHTTPServer
 from typing import Any, Callable, Dict, List, Optional, Sequence, Tuple
 from urllib.parse import parse_qs, urlsplit
@@ -133,7 +135,7 @@ class Handler(BaseHTTPRequestHandler):
         asked: Dict[str, Callable[[], Any]] = {
             "trial": lambda: live.take_trial(given["text"]), "save": lambda: live.save(given.get("sure") is True), "reload": lambda: live.edit(["reload"], "file"),
             "undo": lambda: live.undo("undo", int(given["count"])), "redo": lambda: live.undo("redo", int(given["count"])), "stop": live.bench.program.break_off,
-            "mark": lambda: live.mark(given.get("stems") is True), "limit": lambda: live.limit(str(int(given["limit"]))),
+            "mark": lambda: live.mark(given.get("stems") is True), "limit": lambda: live.limit(str(given["limit"])),
             "add": lambda: live.add([str(word) for word in given["words"]]), "append": live.append, "tokens": lambda: live.tokens(given["text"]),
         }
         self.answer(asked.get(found[0]))
@@ -193,7 +195,7 @@ def in_json(data: Any) -> bytes:
 def options_of(given: Sequence[str]) -> argparse.Namespace:
     parser = argparse.ArgumentParser(prog="./snowbench page", allow_abbrev=False)
     parser.add_argument("--program", default=usual_program(), help=argparse.SUPPRESS)
-    parser.add_argument("--port", type=int, default=0, metavar="N")
+    parser.add_argument("--port", type=int, metavar="N")
     parser.add_argument("--external", metavar="NAME")
     parser.add_argument("--families", metavar="FILE")
     parser.add_argument("--open", action="store_true")
@@ -216,15 +218,24 @@ def fault_of(given: argparse.Namespace) -> str:
     for path in filter(None, (given.script, given.words, given.stems, given.families)):
         if not os.path.isfile(path) or "\n" in path:
             return "%s is no file that can be read" % named(path)
-    return "" if 0 <= given.port <= 65535 else "--port takes a number from 0 to 65535"
+    return "" if 0 <= (given.port or 0) <= 65535 else "--port takes a number from 0 to 65535"
+
+
+def server_of(port: Optional[int], script: str, live: Live) -> Server:
+    """Returns a server at this port; without one, at the port of the script, so that a browser keeps theme and widths, or else at any other."""
+    if port is not None:
+        return Server(port, live)
+    with contextlib.suppress(OSError):
+        return Server(20000 + zlib.crc32(os.fsencode(os.path.realpath(script))) % 10000, live)
+    return Server(0, live)
 
 
 def serve(given: argparse.Namespace, bench: Bench) -> int:
     live = Live(bench, given.stems or "", given.families or "")
     try:
-        server = Server(given.port, live)
+        server = server_of(given.port, given.script, live)
     except OSError as fault:
-        print("snowbench: port %d cannot be had: %s" % (given.port, fault.strerror), file=sys.stderr)
+        print("snowbench: port %d cannot be had: %s" % (given.port or 0, fault.strerror), file=sys.stderr)
         return 2
     live.open()
     fault = live.part("fault")
