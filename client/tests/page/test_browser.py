@@ -154,7 +154,7 @@ class InBrowser(Page):
         tab.run("post('limit', { limit: 10000000 })")
         tab.wait("S.st.limit === 10000000")
         self.save(LOOP)
-        tab.wait("$('status').querySelector('button') || S.st.text.includes('repeat')")
+        tab.wait("!!$('status').querySelector('button') || S.st.text.includes('repeat')")
         if tab.run("!!$('status').querySelector('button')"):
             tab.run("$('status').querySelector('button').click()")
             tab.wait("$('bar').innerText.includes('broken off') || S.st.text.includes('repeat')")
