@@ -93,6 +93,7 @@ class Edits(Page):
         live = self.page()
         live.take_trial(SCRIPT.replace("do r", "do rr"))
         fault = live.part("fault")
+        self.assertEqual(fault["text"], SCRIPT.replace("do r", "do rr"))
         self.assertEqual((fault["origin"], fault["line"], fault["column"], live.part("text")), ("trial", 6, 31, SCRIPT))
         live.take_trial(SCRIPT)
         self.assertIsNone(live.part("fault"))

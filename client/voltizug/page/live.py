@@ -46,8 +46,9 @@ class Live:
         self.outcomes: List[str] = []
         self.marked: List[str] = []
         self.differs: Set[int] = set()
-        # The names of the edits that `history` holds, those that are undone too; the definitions of the script before.
+        # The names of the edits that `history` holds, those that are undone too; the definitions of the script before; the text that was tried last.
         self.steps: List[str] = []
+        self.typed = ""
         self.slices: Dict[str, bytes] = {}
         self.origin, self.begun = "start", 0.0
         self.owed: List[Callable[[], None]] = []
@@ -271,6 +272,9 @@ class Live:
         )
         if edit and edit.aside is not None:
             self.publish(notice="Your trial was put aside: undo brings it back.")
+        if self.show_ink in self.owed:
+            # (which definitions the edit before has changed is not known)
+            self.slices = {}
         self.owed = [self.show_figures, self.show_ink, self.show_counts, self.show_warnings]
 
     def show_broken(self, reply: Reply) -> None:
@@ -285,8 +289,7 @@ class Live:
 
     def show_refusal(self, reply: Reply, lines: Sequence[str], origin: str) -> None:
         if (reply.refusal() or (0, ""))[0] == 48 and reply.said:
-            text = "\n".join(lines[1:-1]) if origin == "trial" else None
-            self.show_fault(reply.said, origin, text)
+            self.show_fault(reply.said, origin, self.typed if origin == "trial" else None)
         else:
             self.publish(notice=words.sentence(reply, list(lines), self.bench))
 
@@ -322,7 +325,7 @@ class Live:
 
     def name_step(self, names: Sequence[str]) -> None:
         """Completes the name of the last edit by the definitions that it changed."""
-        if names and self.steps and self.steps[-1] in ("saved", "trial"):
+        if names and self.steps and self.origin in ("file", "trial") and self.steps[-1] == ORIGINS[self.origin]:
             self.steps[-1] += ": " + ", ".join(names[:3]) + (" and %d more" % (len(names) - 3) if len(names) > 3 else "")
             self.publish(history=self.history())
 
@@ -345,7 +348,8 @@ class Live:
 
     def take_trial(self, text: str) -> None:
         """Has the program run a text that is in no file."""
-        lines = text.replace("\r\n", "\n").split("\n")
+        self.typed = text.replace("\r\n", "\n")
+        lines = self.typed.split("\n")
         lines = lines[:-1] if lines[-1] == "" else lines
         if any(line.strip() == "." for line in lines):
             raise Refused("A line with a single point cannot be tried here, since it ends what is sent. Save the text in your editor.")

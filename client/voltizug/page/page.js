@@ -335,7 +335,7 @@ function countCell(n, rules, isCounted) {
   if (!rules.length || !isCounted) return el('span', { class: 'cov' });
   const taken = rules.filter(rule => rule[1] === 'entry'), meant = taken.length ? taken : rules.slice(0, 1), sum = meant.reduce((all, rule) => all + usesOf(rule), 0);
   const zero = isOld() || !S.words.length ? 0 : (taken.length ? taken : rules).filter(rule => !usesOf(rule)).length, bar = el('i');
-  bar.style.width = (60 * Math.min(1, Math.log1p(sum) / (Math.log1p(S.words.length) || 1))).toFixed(1) + 'px';
+  bar.style.width = (54 * Math.min(1, Math.log1p(sum) / (Math.log1p(S.words.length) || 1))).toFixed(1) + 'px';
   const title = taken.length > 1 ? `${number(sum)} in all: for each of these ${taken.length} strings the words that take it` : `${count(sum, 'word')} ${sum === 1 ? 'uses' : 'use'} this`;
   const never = zero ? `; ${count(zero, 'is', 'are')} never ${taken.length ? 'taken' : 'used'}` : '';
   return el('button', { type: 'button', class: 'cov' + (zero ? ' has0' : '') + (isOld() ? ' old' : ''), tabindex: -1, 'data-n': n, title: title + never, 'aria-label': `line ${n}: ${title}${never}`, onclick: () => go('rule', meant.map(rule => rule[0]).join('\n')) }, bar, zero && sum ? '○ ' : '', number(sum));
@@ -545,7 +545,7 @@ function showClasses(isNew) {
   if (isNew) lists.classes.host.scrollTop = top;
   const n = S.sel === null ? -1 : found.findIndex(c => c.stem === S.sel);
   $('class-detail').hidden = n < 0;
-  if (n >= 0) { if (!isNew) lists.classes.move(n); showClass(found[n]); }
+  if (n >= 0) { showClass(found[n]); if (!isNew) lists.classes.move(n); }
 }
 function showClass(c) {
   S.sel = c.stem;
