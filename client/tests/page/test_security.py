@@ -94,7 +94,7 @@ class Security(Page):
     def test_methods(self):
         for method in ("OPTIONS", "PUT", "DELETE", "PATCH", "TRACE", "CONNECT"):
             self.assertEqual(request(self.server, method, body=b"{}").status, 501, method)
-        self.assertEqual(request(self.server, "HEAD").body, b"")
+        self.assertEqual(request(self.server, "HEAD", headers={"Connection": "close"}).body, b"")
         for path in ("word", "uses", "events"):
             self.assertEqual(request(self.server, "POST", path, body=b"{}").status, 404)
 
