@@ -9,7 +9,7 @@ from voltizug.page.live import Live, Refused, figures_of
 from voltizug.places import Places
 from voltizug.rows import Token, read
 
-from ..kit import FAKE, LOOP, PROGRAM, example, write
+from ..kit import FAKE, LOOP, example, write
 from .kit import OTHER, SCRIPT, WORDS, Page, post, request, settle, until
 
 PORTER_WORDS = "relational conditional rational digitizer radically differently vileness analogousli sensitiviti sensibiliti caresses ponies ties cats feed agreed plastered motoring sing conflated troubled sized hopping failing filing happy sky triplicate formative formalize electrical hopeful goodness revival allowance inference airliner adjustable defensible irritant replacement dependent adoption communism activate effective probate rate cease controll roll"
@@ -233,6 +233,10 @@ class Rules(Page):
             self.assertEqual([step["line"] for step in found["steps"] if not step["minor"]], [4, 4])
         self.assertEqual(live.word("never seen")["outcome"], "=never seen")
 
+    def test_a_word_like_a_refusal(self):
+        live = self.page(words="no 52 BadCommand\n")
+        self.assertEqual((live.outcomes, live.word("no 52 BadCommand")["outcome"]), (["=no 52 BadCommand"], "=no 52 BadCommand"))
+
     def test_units(self):
         """Places count in units of UTF-16, without the mark and the carriage returns: by hand."""
         text = "\ufeffa\u00e9\r\n\U0001d11eb\r\n\rc".encode()
@@ -299,14 +303,20 @@ class States(Page):
         import socket
         live = self.page()
         server = self.serve(live)
-        with socket.create_connection(server.server_address, 30) as connection:
-            connection.sendall(("GET /%s/events HTTP/1.1\r\nHost: 127.0.0.1:%d\r\n\r\n" % (server.secret, server.server_address[1])).encode())
+        head = "GET /%s/events HTTP/1.1\r\nHost: 127.0.0.1:%d\r\n" % (server.secret, server.server_address[1])
+        with socket.create_connection(server.server_address, 30) as connection, socket.create_connection(server.server_address, 30) as later:
+            connection.sendall((head + "\r\n").encode())
             file = connection.makefile("rb")
             news = lambda: json.loads(next(line for line in file if line.startswith(b"data: "))[6:])  # noqa: E731
-            state = news()
+            state = first = news()
             self.assertEqual((state["words"], state["text"]), (live.words, SCRIPT))
             self.assertEqual(post(server, "trial", text=OTHER).status, 200)
             while state["text"] != OTHER or state["isPartial"]:
                 state = self.merged(state, news())
             self.assertEqual((state["outcomes"], len(state["changes"])), (["=walks", "=walk", "=walk", "=talk"], 4))
-        self.assertTrue(PROGRAM)
+            # (a browser that was away names the last event that it had)
+            later.sendall((head + "Last-Event-ID: %d\r\n\r\n" % first["version"]).encode())
+            file = later.makefile("rb")
+            missed = news()
+            self.assertNotIn("words", missed)
+            self.assertEqual((missed["delta"], missed["text"]), ([[0, "=walks"], [2, "=walk"]], OTHER))

@@ -1,9 +1,14 @@
 """The report and the summary, by commands over files."""
+import io
 import os
 import re
 import subprocess
 import sys
 from html.parser import HTMLParser
+from types import SimpleNamespace
+from unittest import mock
+
+from voltizug.page.report import main
 
 from ..kit import CLIENT, PROGRAM, Case
 from .kit import OTHER, SCRIPT, WORDS
@@ -56,9 +61,22 @@ class Reports(Case):
     def files(self, old: str = SCRIPT, new: str = OTHER, words: str = WORDS) -> str:
         return self.room(old_sbl=old, new_sbl=new, my_words=words)
 
-    def run_in(self, room: str, *words: str, given: bytes = b"") -> "subprocess.CompletedProcess[bytes]":
-        command = [sys.executable, "-E", "-s", "-B", CLIENT, "--report", "--program", PROGRAM, *words]
-        return subprocess.run(command, cwd=room, input=given, stdout=subprocess.PIPE, stderr=subprocess.PIPE, check=False)
+    def run_in(self, room: str, *words: str, given: bytes = b"") -> SimpleNamespace:
+        """Runs the report in this process: files are those of the room."""
+        paths = [word if word.startswith(("-", "/")) else os.path.join(room, word) for word in words]
+        streams = [io.TextIOWrapper(io.BytesIO(data), encoding="utf-8", write_through=True) for data in (given, b"", b"")]
+        with mock.patch.multiple("sys", stdin=streams[0], stdout=streams[1], stderr=streams[2]):
+            try:
+                status = main(["--program", PROGRAM, *paths])
+            except SystemExit as end:
+                status = end.code
+        return SimpleNamespace(returncode=status, stdout=streams[1].buffer.getvalue(), stderr=streams[2].buffer.getvalue())
+
+    def test_by_command(self):
+        room = self.files()
+        command = [sys.executable, "-E", "-s", "-B", CLIENT, "--report", "--program", PROGRAM, "--markdown", "-", "new.sbl", "my.words"]
+        done = subprocess.run(command, cwd=room, input=SCRIPT.encode(), stdout=subprocess.PIPE, check=False)
+        self.assertEqual((done.returncode, done.stdout.decode()), (1, MARKDOWN.replace("`old.sbl`", "`standard input`") % self.alone(room)))
 
     def alone(self, room: str) -> str:
         """How the part that differs is written: without `places` it is not known what an among changes alone."""
@@ -82,7 +100,7 @@ class Reports(Case):
     def test_the_same_bytes(self):
         room, other = self.files(), self.files()
         first = self.run_in(room, "old.sbl", "new.sbl", "my.words").stdout
-        self.assertEqual(first, self.run_in(room, "./old.sbl", "new.sbl", os.path.join(room, "my.words")).stdout)
+        self.assertEqual(first, self.run_in(room, "./old.sbl", "new.sbl", os.path.join(room, ".", "my.words")).stdout)
         os.utime(os.path.join(other, "old.sbl"), (1, 1))
         self.assertEqual(first, self.run_in(other, "old.sbl", "new.sbl", "my.words").stdout)
         self.assertEqual(first.decode().count(SCRIPT.split("\n")[3].replace("'", "&#x27;")), 1)

@@ -100,7 +100,7 @@ class Live:
     def show_outcomes(self) -> None:
         """Shows the outcomes under the script in force, and which words differ from the mark."""
         reply, text = self.bench.program.ask(["stems"]), self.bench.program.text()
-        if not reply.is_done and reply.lines or text is None or reply.state != DONE:
+        if reply.state != DONE or text is None:
             return
         changed = self.changed(reply.lines)
         with self.news:

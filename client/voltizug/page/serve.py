@@ -266,11 +266,10 @@ def main(given: Sequence[str]) -> int:
         signal.signal(number, lambda *_: sys.exit(0))
     external = ["--external", options.external] if options.external else []
     bench = Bench([options.program, "work", "--text", *external], options.script, options.words, Kept(home(), options.script))
-    is_gone = True
     try:
-        status = serve(options, bench)
-        is_gone = False
-        return status
+        return serve(options, bench)
     finally:
-        # (a trial that is in no file is kept if the page was ended from outside)
-        bench.close(is_kept=is_gone)
+        # (a trial that is in no file is kept)
+        if bench.kept.has_edits():
+            print("snowbench: what you tried is in no file, and is kept in %s" % named(bench.kept.room), file=sys.stderr)
+        bench.close(is_kept=True)
