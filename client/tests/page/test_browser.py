@@ -11,16 +11,16 @@ from .browser import CHROMIUM, Browser, Tab
 from .kit import OTHER, SCRIPT, WORDS, Page
 
 FAMILIES = "walks walked walking\ntalk\n"
-# The least contrast of text and what is behind it, over all that is shown.
+# The least contrast of text and its ground, over all that is shown.
 CONTRAST = """(() => {
   const rgb = c => { const m = c.match(/[\\d.]+/g).map(Number); return c.startsWith('color(') ? [255 * m[0], 255 * m[1], 255 * m[2], m[3] ?? 1] : [m[0], m[1], m[2], m[3] ?? 1]; };
   const light = c => { const [r, g, b] = c.map(v => { v /= 255; return v <= .03928 ? v / 12.92 : ((v + .055) / 1.055) ** 2.4; }); return .2126 * r + .7152 * g + .0722 * b; };
-  const behind = node => { for (let at = node; at; at = at.parentElement) { const c = rgb(getComputedStyle(at).backgroundColor); if (c[3] === 1) return c; } return [255, 255, 255]; };
+  const ground = node => { for (let at = node; at; at = at.parentElement) { const c = rgb(getComputedStyle(at).backgroundColor); if (c[3] === 1) return c; } return [255, 255, 255]; };
   let found = [];
   for (const node of document.querySelectorAll('body *')) {
     const box = node.getBoundingClientRect(), style = getComputedStyle(node);
     if (![...node.childNodes].some(part => part.nodeType === 3 && part.data.trim()) || !box.width || style.visibility === 'hidden' || node.disabled || node.id === 'editor' || node instanceof SVGElement || node.className === 'skip') continue;
-    const a = light(rgb(style.color).slice(0, 3)), b = light(behind(node).slice(0, 3)), ratio = (Math.max(a, b) + .05) / (Math.min(a, b) + .05);
+    const a = light(rgb(style.color).slice(0, 3)), b = light(ground(node).slice(0, 3)), ratio = (Math.max(a, b) + .05) / (Math.min(a, b) + .05);
     if (ratio < 4.5) found.push(node.tagName + '.' + node.className + ' ' + ratio.toFixed(2) + ' ' + node.textContent.slice(0, 30));
   }
   return found;

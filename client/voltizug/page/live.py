@@ -88,7 +88,7 @@ class Live:
         """The turn to ask the program, if it is there."""
         with self.turn:
             if self.bench.is_waiting:
-                raise Refused("No script is in force: correct the file first.")
+                raise Refused("There is no current script: correct the file first.")
             try:
                 yield
             finally:
@@ -98,7 +98,7 @@ class Live:
     # Outcomes
 
     def show_outcomes(self) -> None:
-        """Shows the outcomes under the script in force, and which words differ from the mark."""
+        """Shows the outcomes under the current script, and which words differ from the mark."""
         reply, text = self.bench.program.ask(["stems"]), self.bench.program.text()
         if reply.state != DONE or text is None:
             return
@@ -271,9 +271,9 @@ class Live:
             limit=int(program.now.limit), added=len(self.bench.added),
         )
         if edit and edit.aside is not None:
-            self.publish(notice="Your trial was put aside: undo brings it back.")
+            self.publish(notice="The file has replaced your trial: undo brings it back.")
         if self.show_ink in self.owed:
-            # (which definitions the edit before has changed is not known)
+            # (what the edit before has changed is not known)
             self.slices = {}
         self.owed = [self.show_figures, self.show_ink, self.show_counts, self.show_warnings]
 
@@ -285,7 +285,7 @@ class Live:
         self.begun = time.monotonic()
         self.show_outcomes()
         self.show_edit(self.bench.changes)
-        self.publish(notice="It was broken off: the script before it is in force." if reply.state == "broken" else "The program ended, and was started again.")
+        self.publish(notice="It was broken off: the script is the one of before." if reply.state == "broken" else "The program ended, and was started again.")
 
     def show_refusal(self, reply: Reply, lines: Sequence[str], origin: str) -> None:
         if (reply.refusal() or (0, ""))[0] == 48 and reply.said:
@@ -478,7 +478,7 @@ def flat(row: Any) -> List[str]:
 
 
 def figures_of(vocabulary: Sequence[str], outcomes: Sequence[str]) -> Dict[str, int]:
-    """Returns the figures of `stats` for outcomes that the program does not have in force, those of the mark."""
+    """Returns the figures of `stats` for outcomes that the program has no figures of, those of the mark."""
     sizes = Counter(now for now in outcomes if now[0] == "=")
     unchanged = sum("=" + word == now for word, now in zip(vocabulary, outcomes))
     alone = sum(size == 1 for size in sizes.values())

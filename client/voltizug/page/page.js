@@ -163,7 +163,7 @@ function take(news) {
   if (st.busy) ticking = setInterval(showStatus, 500);
   document.title = `${st.fault ? '✗ ' : ''}${st.names.script.split('/').pop()} – Voltizug`;
   showTop(rest);
-  if (S.editing && S.dirty && text !== undefined && text !== st.text && st.text !== $('editor').value) say('Another script is in force now. The text that you type here is kept, and is not based on it.', false);
+  if (S.editing && S.dirty && text !== undefined && text !== st.text && st.text !== $('editor').value) say('The script has changed. The text that you type here is kept, and is based on the script of before.', false);
   if ('text' in rest || 'fault' in rest || 'ink' in rest) showScript(); else if ('counts' in rest) layout();
   showEditButtons();
   if (words || delta || 'changes' in rest || 'script' in rest || 'counts' in rest && S.view === 'rule') show(true);
@@ -269,7 +269,7 @@ function layout() {
   if (lines.length > 1 && text.endsWith('\n')) lines.pop();
   Object.assign(S, { shown: text, lines, same: common(text, ink.text), fault, gap: fault && fault.line && !S.editing ? fault.line : 0 });
   S.ruleAt = new Map(ink.rules.map((rule, i) => [rule[5], i]));
-  // (a text that is not in force has colours of its own between its beginning and its end, if they are known)
+  // (a text that is not the current script has colours of its own between its beginning and its end, if they are known)
   S.inked = S.typed && S.typed.text === text ? S.typed.spans : fault ? fault.spans : [];
   $('lines').style.height = TOP + lines.length * LINE + (S.gap ? GAP : 0) + 60 + 'px';
   $('lines').style.width = `max(100%, calc(${most}ch + 150px))`;
@@ -343,7 +343,7 @@ function countCell(n, rules, isCounted) {
 function showHint() {
   const rules = S.st.ink ? S.st.ink.rules : [], never = rules.filter(rule => rule[1] === 'entry' && !usesOf(rule)).length;
   const known = S.counts.size && rules.length, pending = isOld() && S.st.text !== undefined && !S.st.fault;
-  $('hint').textContent = !known ? (S.st.counts && S.st.ink && !S.st.fault && S.words.length ? 'the program does not tell places or counts' : '') : pending ? 'counting the words of each rule' : !S.words.length ? '' : never ? `${count(never, 'string')} that no word takes` : 'some word takes each string';
+  $('hint').textContent = !known ? (S.st.counts && S.st.ink && !S.st.fault && S.words.length ? 'this program writes no places or no counts' : '') : pending ? 'counting the words of each rule' : !S.words.length ? '' : never ? `${count(never, 'string')} that no word takes` : 'some word takes each string';
 }
 const ruleName = ([, kind, name, k, string]) => kind === 'entry' ? `${name}, among ${k}, '${named(string)}'` : kind === 'among' ? `${name}, among ${k}` : `${kind} ${name}`;
 function toLine(n, isFault) {
@@ -619,7 +619,7 @@ async function showRule() {
   const none = sentence => { head.replaceChildren(el('p', { class: 'muted' }, sentence)); lists.rule.set([], () => [], 'two', ''); };
   if (!S.rule) return none('Choose a string, a routine or a grouping in the script, or a number beside it: you see the words that use it.');
   const rules = S.rule.map(key => all.find(rule => rule[0] === key)).filter(Boolean).slice(0, 200);
-  if (!rules.length) return none('The script in force has no such rule.');
+  if (!rules.length) return none('The script has no such rule.');
   let data;
   try { data = await ask('uses', { rules: JSON.stringify(rules.map(([, , ...rest]) => rest.slice(0, rest[2] !== '' || rules[0][1] === 'entry' ? 3 : rest[1] ? 2 : 1))) }); } catch (fault) { return turn === ruleTurn && none(fault.message); }
   if (turn !== ruleTurn) return undefined;

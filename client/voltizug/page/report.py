@@ -1,5 +1,5 @@
 """The verb `report`: one file on what a change of a script does to a list of words; and `compare --markdown`: the same in short, for the text of a
-pull request. They depend on the files alone. All is told by the program: `compare --rows`, and `work` for figures and for each part alone.
+pull request. They depend on the files alone. The rows are the program's: of `compare --rows`, and of `work` for figures and for each part alone.
 """
 import argparse
 import base64
