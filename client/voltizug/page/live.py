@@ -42,6 +42,7 @@ class Live:
         self.deltas: Dict[int, List[int]] = {}
         # The rows of `stems` as lines, the words, and their outcomes now and at the mark: = and a stem, or ! and a refusal.
         self.lines: List[str] = []
+        self.is_plain = False
         self.words: List[str] = []
         self.outcomes: List[str] = []
         self.marked: List[str] = []
@@ -124,9 +125,9 @@ class Live:
 
     def changed(self, lines: List[str]) -> Optional[List[int]]:
         """Takes the rows of `stems`. Returns the words with another outcome; nothing if the words are others."""
-        before, self.lines = self.lines, lines
-        is_plain = len(before) == len(lines) and not any('"' in line for line in lines) and not any('"' in line for line in before)
-        if is_plain:
+        before, was_plain, self.lines, self.is_plain = self.lines, self.is_plain, lines, '"' not in "".join(lines)
+        if len(before) == len(lines) and was_plain and self.is_plain:
+            # (a row is a line)
             places = [i for i, (old, new) in enumerate(zip(before, lines)) if old != new]
             found = rows.outcomes(lines[i] for i in places)
             if all(row.word == self.words[i] for i, row in zip(places, found)):
@@ -163,11 +164,11 @@ class Live:
 
     def watch(self) -> None:
         """Reads what is saved, and between two looks asks for what takes longer."""
-        before: Any = None
-        gone = 0
-        while not self.stopping.wait(0 if self.may_settle() else PERIOD):
+        before, now, gone = None, None, 0  # type: Any, Any, int
+        # (after a change it is soon looked whether the file is still being written)
+        while not self.stopping.wait(0 if self.may_settle() else PERIOD if now == before else PERIOD / 3):
             try:
-                now = self.look()
+                before, now = now, self.look()
                 gone = gone + 1 if now[0] is None else 0
                 if gone == round(1 / PERIOD):
                     self.publish(notice="%s is not there now. What you see is what it had last." % named(self.bench.script))
@@ -175,7 +176,6 @@ class Live:
                     self.read_saved()
                 elif self.may_settle():
                     self.settle()
-                before = now
             except Exception as fault:  # noqa: BLE001 (the watch goes on)
                 self.publish(notice="The page has a fault: %s: %s" % (type(fault).__name__, named(str(fault))))
 

@@ -5,10 +5,11 @@ const base = location.pathname.replace(/[^/]*$/, ''), ROW = 28, LINE = 20, TOP =
 const VIEWS = ['changes', 'classes', 'word', 'rule', 'families'];
 const S = {
   st: {}, words: [], out: [], classes: null, view: 'changes', kind: 'changed', fkind: 'under', sort: 'size', desc: true, pick: null, sel: null,
-  word: null, rule: null, fam: null, editing: false, dirty: false, live: false, lines: [], ruleAt: new Map(), counts: new Map(), typed: null, at: 0,
+  word: null, rule: null, fam: null, editing: false, dirty: false, live: false, lines: [], ruleAt: new Map(), counts: new Map(), typed: null, at: 0, idle: 0,
 };
 const number = n => n.toLocaleString('en-US');
 const count = (n, one, many) => `${number(n)} ${n === 1 ? one : many || one + 's'}`;
+const later = window.requestIdleCallback || (act => setTimeout(act, 100)), notLater = window.cancelIdleCallback || clearTimeout;
 const kept = { get: key => { try { return localStorage.getItem('voltizug.' + key); } catch (fault) { return null; } }, set: (key, value) => { try { localStorage.setItem('voltizug.' + key, value); } catch (fault) { /* nothing is kept */ } } };
 
 // Elements and text
@@ -151,7 +152,7 @@ function listen() {
 }
 let ticking = 0;
 function take(news) {
-  const { words, outcomes, delta, ...rest } = news, st = S.st, text = st.text;
+  const { words, outcomes, delta, ...rest } = news, st = S.st, text = st.text, fault = JSON.stringify(st.fault);
   Object.assign(st, rest);
   if (words) { S.words = words; S.out = outcomes; S.classes = null; }
   if (delta) { for (const [i, o] of delta) S.out[i] = o; S.classes = null; }
@@ -164,7 +165,7 @@ function take(news) {
   document.title = `${st.fault ? '✗ ' : ''}${st.names.script.split('/').pop()} – Voltizug`;
   showTop(rest);
   if (S.editing && S.dirty && text !== undefined && text !== st.text && st.text !== $('editor').value) say('The script has changed. The text that you type here is kept, and is based on the script of before.', false);
-  if ('text' in rest || 'fault' in rest || 'ink' in rest) showScript(); else if ('counts' in rest) layout();
+  if (text !== st.text || fault !== JSON.stringify(st.fault) || 'ink' in rest) showScript(); else if ('counts' in rest) layout(); else if ('script' in rest) showHint();
   showEditButtons();
   if (words || delta || 'changes' in rest || 'script' in rest || 'counts' in rest && S.view === 'rule') show(true);
   document.documentElement.dataset.version = st.version;
@@ -283,12 +284,15 @@ function layout() {
   drawLines(true);
 }
 const topOf = n => TOP + (n - 1) * LINE + (S.gap && n > S.gap ? GAP : 0);
-function drawLines(isNew) {
-  const host = $('code'), n = S.lines.length, high = host.clientHeight;
+// (all lines of a short one when there is time, so that the browser finds text in them)
+function drawLines(isNew, isIdle) {
+  const host = $('code'), n = S.lines.length, high = host.clientHeight, isShort = n <= ALL && !S.editing;
   if (!high) return;
-  const back = S.gap ? GAP / LINE + 1 : 0, all = n <= ALL && !S.editing;
+  const back = S.gap ? GAP / LINE + 1 : 0, all = isShort && isIdle;
   const from = all ? 0 : Math.max(0, Math.floor((host.scrollTop - TOP) / LINE - back) - 5), to = all ? n : Math.min(n, Math.ceil((host.scrollTop + high) / LINE) + 5);
-  if (!isNew && S.from === from && S.to === to) return;
+  if (!isNew && S.from <= from && S.to >= to) return;
+  notLater(S.idle);
+  if (isShort && !isIdle) S.idle = later(() => drawLines(true, true), { timeout: 500 });
   const had = document.activeElement?.classList.contains('cov') ? +document.activeElement.dataset.n : 0, nodes = [];
   [S.from, S.to] = [from, to];
   for (let k = from; k < to; k++) nodes.push(...drawLine(k));
