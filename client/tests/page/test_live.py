@@ -280,6 +280,8 @@ class States(Page):
             at = seed.randrange(3)
             pages[at] = self.merged(pages[at], live.state(pages[at]["version"]))
             self.assertEqual(pages[at], live.state(-1))
+            now = [("=" if row.kind == "stem" else "!") + row.stem for row in live.bench.outcomes()]
+            self.assertEqual((live.outcomes, live.part("text").encode()), (now, live.bench.program.now.text))
         settle(live)
         figures = {key: value for key, value in live.part("figures").items() if key != "runs"}
         self.assertEqual(figures, figures_of(live.words, live.outcomes))

@@ -51,10 +51,10 @@ class Live:
         self.steps: List[str] = []
         self.typed = ""
         self.slices: Dict[str, bytes] = {}
-        self.origin, self.begun = "start", 0.0
+        self.origin, self.begun, self.is_restarted = "start", 0.0, False
         self.owed: List[Callable[[], None]] = []
         self.quiet_until, self.stopping = 0.0, threading.Event()
-        bench.on_accepted, bench.program.on_long = self.show_outcomes, self.tell_long
+        bench.on_accepted, bench.on_restart, bench.program.on_long = self.show_outcomes, self.note_restart, self.tell_long
         name = {"script": bench.script, "words": bench.words or "", "stems": stems, "hasFamilies": bool(families), "refusals": words.REFUSALS}
         self.publish(names=name, fault=None, notice="", busy=None, warnings=[], history=None, changes=[], limit=0, added=0)
 
@@ -95,6 +95,13 @@ class Live:
             finally:
                 if self.part("busy"):
                     self.publish(busy=None)
+                if self.is_restarted:
+                    self.is_restarted = False
+                    self.publish(history=self.history())
+
+    def note_restart(self, _: Reply) -> None:
+        """Forgets the names of edits: a program that is started again has what was done since the mark as one edit."""
+        self.is_restarted, self.steps = True, []
 
     # Outcomes
 
