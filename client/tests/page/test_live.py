@@ -203,10 +203,25 @@ class Names(Page):
         self.assertEqual(live.part("history"), {"done": [], "undone": ["trial: r", "limit 5000"]})
         live.undo("redo", 1)
         self.assertEqual((live.part("history"), live.part("text")), ({"done": ["trial: r"], "undone": ["limit 5000"]}, OTHER))
+        settle(live)
         write(live.bench.script, SCRIPT.replace("do r", "try r"))
         live.read_saved()
         settle(live)
         self.assertEqual(live.part("history"), {"done": ["trial: r", "saved: r, stem"], "undone": []})
+
+
+    def test_names_after_a_restart(self):
+        live = self.page(program=FAKE)
+        self.need(live, "history", "places")
+        live.take_trial(OTHER)
+        live.limit("5000")
+        live.bench.program.process.kill()
+        live.word("walks")
+        settle(live)
+        live.take_trial(SCRIPT)
+        settle(live)
+        found = live.part("history")["done"]
+        self.assertEqual((found[-1], found.count("trial: r")), ("trial: r", 1))
 
 
 class Rules(Page):

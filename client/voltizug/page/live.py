@@ -24,6 +24,11 @@ PERIOD, QUIET = 0.012, 0.3
 # Of how many versions the changed outcomes are kept; how many strings are asked for at once.
 KEPT, MOST_RULES = 64, 500
 PLACE = re.compile(r":(\d+):(\d+): (.*)", re.S)
+MAY_NOT = {
+    "changed": "{} was changed since it was read. Nothing was written.",
+    "refused?": "{} has a text that was refused. Nothing was written. If you save again, it is overwritten.",
+    "undone?": "{} has what undo took back. Nothing was written. If you save again, it is overwritten.",
+}
 ORIGINS = {"file": "saved", "trial": "trial", "undo": "undo", "redo": "redo"}
 
 
@@ -341,10 +346,10 @@ class Live:
         found = self.history_rows()
         if found is None:
             return None
-        self.steps = self.steps[-len(found) :] if found else []
-        names = [self.steps[i] if i < len(self.steps) else " ".join((row.command, *row.rest)) for i, row in enumerate(found)]
-        count = sum(row.kind == "done" for row in found)
-        return {"done": names[:count], "undone": names[count:]}
+        # (of more than the program holds the oldest are forgotten)
+        names, count = self.steps[-len(found) :] if found else [], sum(row.kind == "done" for row in found)
+        self.steps = names + [" ".join((row.command, *row.rest)) for row in found[len(names) :]]
+        return {"done": self.steps[:count], "undone": self.steps[count:]}
 
     # What a page may do
 
@@ -374,7 +379,7 @@ class Live:
             if not why and bench.script in bench.saved():
                 why = "changed"
             if why and not (is_sure and why.endswith("?")):
-                raise Refused(words.may_not(why, "save", bench.script, "").replace("Enter reads it again", "Reload reads it again"))
+                raise Refused(MAY_NOT[why].format(short(bench.script)) if why in MAY_NOT else words.may_not(why, "save", bench.script, ""))
             reply = bench.save(bench.script)
             if not reply.is_done:
                 raise Refused(words.sentence(reply, ["save " + bench.script], bench))
