@@ -19,6 +19,9 @@ def cache() -> str:
 if cache():
     sys.pycache_prefix, sys.dont_write_bytecode = cache(), False
 
-from voltizug.terminal import main  # noqa: E402
+if sys.argv[1:2] == ["lsp"]:
+    from voltizug.editor.lsp import main
+else:
+    from voltizug.terminal import main
 
-sys.exit(main(sys.argv[1:]))
+sys.exit(main(sys.argv[2:] if sys.argv[1:2] == ["lsp"] else sys.argv[1:]))

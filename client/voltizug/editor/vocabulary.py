@@ -1,0 +1,271 @@
+"""The words of a script at work: a thread runs the newest text that was accepted over them, in steps. First come the rows, then the counts,
+and then in which routine the run of each changed word begins to differ.
+"""
+import threading
+import time
+from itertools import zip_longest
+from typing import Any, Callable, Dict, List, NamedTuple, Optional, Sequence, Tuple
+
+from .. import layout, reports, rows
+from ..layout import counted, named
+from ..places import Places
+from ..program import BROKEN, DONE, Program, Reply
+from .judge import Memory, encoded
+
+# After how many seconds a run is given up for a newer text; of how many changed words it is asked where they begin to differ.
+LONG, MOST = 1.0, 500
+
+
+class Wish(NamedTuple):
+    """What is to be run: a text, the text that is the mark, the words and the expected stems as files have them, and a file of families."""
+
+    text: str
+    marked: str
+    words: bytes
+    stems: Optional[bytes] = None
+    families: str = ""
+
+
+class State:
+    """What is known of a text over the words. The counts of its parts and `begins` come later: until then the counts are those of the text before."""
+
+    def __init__(self, wish: Wish, replies: Sequence[Reply], older: Optional["State"]):
+        stats, changes, stems, *families = replies
+        self.wish, self.is_counted = wish, False
+        self.figures = {row.kind: int(row.count) for row in rows.read("stats", stats.lines)}
+        self.changes: List[Any] = rows.read("changes", changes.lines)
+        self.changed = {row.word: row for row in self.changes if row.kind == "changed"}
+        self.outcomes = {row.word: row for row in rows.outcomes(stems.lines)}
+        pairs = [row for reply in families for row in rows.read("families", reply.lines) if row.kind == "pairs"]
+        self.pairs = layout.families_line((pairs[0], pairs[0]) if pairs else ())
+        # The expected stems, by word those that are others, if there is one for each word.
+        self.lines = [] if wish.stems is None else lines_of(wish.stems)
+        expected = zip(self.outcomes.values(), self.lines) if len(self.lines) == len(self.outcomes) else ()
+        self.expected = {row.word: stem for row, stem in expected if (row.kind, row.stem) != ("stem", stem)}
+        # How many words use each definition, and each string of each among.
+        self.names: Dict[str, int] = older.names if older else {}
+        self.strings: Dict[Tuple[str, int], List[Tuple[str, int]]] = older.strings if older else {}
+        # By routine the changed words whose run begins to differ there.
+        self.begins: Dict[str, List[str]] = {}
+
+    def count(self, lines: Sequence[str]) -> None:
+        self.names, self.strings, self.is_counted = {}, {}, True
+        for row in rows.read("counts", lines):
+            if row.kind == "entry":
+                self.strings.setdefault((row.name, int(row.k)), []).append((row.string, int(row.count)))
+            elif row.kind != "among":
+                self.names[row.name] = int(row.count)
+
+
+class Gone(Exception):
+    """Why a program, or a run, is gone."""
+
+
+class Vocabulary:
+    """`report` is called in the thread after each step, with a sentence if something failed."""
+
+    def __init__(self, command: str, external: str, name: str, report: Callable[[str], None]):
+        self.command, self.external, self.name, self.report = command, external, name, report
+        self.wish: Optional[Wish] = None
+        self.done: Optional[Wish] = None
+        self.state: Optional[State] = None
+        self.orders: List[Callable[[], None]] = []
+        self.steps: List[Callable[[], None]] = []
+        self.condition, self.is_over, self.since = threading.Condition(), False, 0.0
+        # The program, and one without words that has the marked text; their files; what the program has; a marked text that was given up.
+        self.program: Optional[Program] = None
+        self.old: Optional[Program] = None
+        self.script, self.words, self.mark = Memory(), Memory(), Memory()
+        self.has, self.slow = Wish("", "", b""), ""
+        threading.Thread(target=self.work, daemon=True).start()
+
+    # In the main thread
+
+    def want(self, wish: Wish) -> None:
+        with self.condition:
+            is_new, self.wish, since = wish != self.wish, wish, self.since
+            self.condition.notify()
+        if since and is_new:
+            # (the script before may loop on many words: then its runs are given up)
+            timer = threading.Timer(max(0.0, LONG - time.monotonic() + since), self.give_up, [since])
+            timer.daemon = True
+            timer.start()
+
+    def give_up(self, since: float) -> None:
+        if self.program and self.since == since and self.wish != self.done:
+            self.program.break_off()
+
+    def order(self, order: Callable[[], None]) -> None:
+        """Has the thread do something between two steps."""
+        with self.condition:
+            self.orders.append(order)
+            self.condition.notify()
+
+    def stop(self) -> None:
+        with self.condition:
+            self.is_over = True
+            self.condition.notify()
+        for program in (self.program, self.old):
+            if program and program.process:
+                program.process.kill()
+
+    def is_current(self, text: str) -> bool:
+        return bool(self.state) and self.state.wish.text == text and self.state.is_counted and self.wish == self.done
+
+    # In its own
+
+    def work(self) -> None:
+        while True:
+            with self.condition:
+                self.condition.wait_for(lambda: self.is_over or self.orders or self.wish != self.done or self.steps)
+                if self.is_over:
+                    break
+                wish, order = self.wish, self.orders.pop(0) if self.orders else None
+                step = self.steps.pop(0) if self.steps and not order and wish == self.done else None
+            try:
+                (order or step or (lambda: self.run(wish)))()
+            except (Gone, OSError, ValueError) as why:
+                self.steps = []
+                if wish == self.wish and not self.is_over:
+                    self.report("%s" % why)
+        for program in (self.program, self.old):
+            if program:
+                program.stop()
+
+    def begun(self, script: Memory, *words: str) -> Program:
+        program = Program([self.command, "work", "--text", "--external", self.external], script.path, *(words or [None]), "/nowhere")
+        program.begin([], script.path)
+        return program
+
+    def ask(self, *requests: str, program: Optional[Program] = None) -> List[Reply]:
+        """Asks the program. If it is gone then, the next text starts another one."""
+        asked = program or self.program
+        if asked is None:
+            raise Gone("the words are not there yet")
+        self.since = time.monotonic()
+        replies = asked.ask_each([[request] for request in requests])
+        self.since = 0.0
+        if replies[-1].state != DONE:
+            asked.stop()
+            self.program, self.old = (self.program, None) if program else (None, self.old)
+            raise Gone("given up" if replies[-1].state == BROKEN else " ".join(replies[0].said) or "the program has ended")
+        return replies
+
+    def run(self, wish: Wish) -> None:
+        """The first step: the rows."""
+        self.done = wish
+        if self.program is None:
+            self.open(wish)
+        if wish.words != self.has.words:
+            self.words.fill(wish.words)
+            refusal = self.ask("words")[0].refusal()
+            if refusal:
+                raise Gone("the words are refused: %s" % refusal[1])
+            self.has = self.has._replace(words=wish.words)
+        if wish.marked != self.has.marked:
+            self.set_mark(wish.marked)
+        self.script.fill(encoded(wish.text))
+        reload, *replies = self.ask("reload", "stats", "changes", "stems", *(["families " + wish.families] if wish.families else []))
+        if reload.is_done:
+            self.state = State(wish, replies, self.state)
+            self.steps = [self.count, self.compare]
+            self.report("")
+
+    def open(self, wish: Wish) -> None:
+        """Starts the program over the marked text. If that is refused, or was given up before, the mark is the new text."""
+        self.words.fill(wish.words)
+        for marked in (wish.marked, wish.text)[wish.marked == self.slow :]:
+            self.script.fill(encoded(marked))
+            self.program = self.begun(self.script, self.words.path)
+            try:
+                self.ask("stats")
+                break
+            except Gone:
+                self.slow = marked if self.wish != wish else self.slow
+                if marked == wish.text or self.wish != wish or self.is_over:
+                    raise
+        self.has = wish
+        if marked != wish.marked:
+            self.report("the marked text is refused or takes too long: the mark is the text as it is now")
+
+    def set_mark(self, marked: str) -> None:
+        self.script.fill(encoded(marked))
+        reload, mark = self.ask("reload", "mark")
+        if self.old:
+            self.old.stop()
+        self.has, self.old = self.has._replace(marked=marked), None
+        if not reload.is_done:
+            self.report("the marked text is refused: %s" % (reload.refusal() or (0, ""))[1])
+
+    def count(self) -> None:
+        """The second step: how many words use each part."""
+        reply = self.ask("counts")[0]
+        if self.state:
+            self.state.count(reply.lines if reply.is_done else [])
+            self.report("")
+
+    def compare(self) -> None:
+        """The third step: where the runs of changed words begin to differ."""
+        changed = list(self.state.changed)[:MOST] if self.state else []
+        if not changed or not self.state:
+            return
+        if self.old is None:
+            self.mark.fill(encoded(self.has.marked))
+            self.old = self.begun(self.mark)
+        events = ["events " + word for word in changed]
+        for word, old, new in zip(changed, self.ask(*events, program=self.old), self.ask(*events)):
+            differing = [after or before for before, after in zip_longest(deeds(old), deeds(new)) if before != after]
+            if differing:
+                self.state.begins.setdefault(differing[0][0], []).append(word)
+        self.report("")
+
+    # Orders: they return lines
+
+    def asked(self, line: str, empty: str = "") -> List[str]:
+        """Returns the report of a command, laid out."""
+        reply, word = self.ask(line)[0], line.partition(" ")[0]
+        if not reply.is_done:
+            return ["%s: %s" % (named(line), (reply.refusal() or (0, "refused"))[1])]
+        return (reports.PLACED[word](reply.lines, self.places()) if word in reports.PLACED else reports.REPORTS[word](reply.lines)) or [empty]
+
+    def places(self) -> Places:
+        """Returns where things are in the text that the program has."""
+        found, tokens = (reply.lines if reply.is_done else [] for reply in self.ask("places", "tokens"))
+        text = encoded(self.done.text if self.done else "")
+        return Places(self.name, text, text, rows.read("places", found), rows.tokens(tokens))
+
+    def why(self, word: str) -> List[str]:
+        """Why a word has its stem, and its class."""
+        events, figures = self.ask("events " + word, "integers " + word)
+        if not events.is_done or not figures.is_done:
+            return ["no word: %s" % named(word)]
+        return reports.why(word, rows.read("events", events.lines), rows.read("integers", figures.lines), self.places(), {}) + self.asked("class " + word)
+
+    def changes(self, name: str) -> List[str]:
+        """What differs from the mark; with the name of a routine the words that begin to differ there."""
+        state = self.state
+        words = set(state.begins.get(name, [])) if state else set()
+        found = [row for row in state.changes if not name or row.kind == "changed" and row.word in words] if state else []
+        return layout.changes(found, state.outcomes if state else {}) or ["no word and no class differs from the mark"]
+
+    def differing(self) -> List[str]:
+        """The words whose stem is not the expected one."""
+        state = self.state
+        lines = ["  " + difference(state, word) for word in state.expected] if state else []
+        return [counted(len(lines), "word has not the expected stem", "words have not the expected stem"), *lines]
+
+
+def deeds(reply: Reply) -> List[Tuple[str, ...]]:
+    """Returns what a run took and put, each with its routine first."""
+    return [tuple(row[2:]) for row in rows.read("events", reply.lines) if row.kind in ("taken", "put")]
+
+
+def difference(state: State, word: str) -> str:
+    row = state.outcomes[word]
+    return "%s: expected %s, got %s" % (named(word), named(state.expected[word]) or "(empty)", layout.outcome(row.kind, row.stem))
+
+
+def lines_of(data: bytes) -> List[str]:
+    """Returns the lines of a file of stems."""
+    lines = data.decode("utf-8", "surrogateescape").split("\n")
+    return [line[:-1] if line.endswith("\r") else line for line in (lines if lines[-1] else lines[:-1])]
