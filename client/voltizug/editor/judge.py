@@ -1,11 +1,11 @@
 """What the program says of a text that is in no file: its faults, its tokens, and what can come at a place. The text is read from memory."""
-import os
 import re
-from typing import Dict, List, NamedTuple, Optional, Sequence, Set, Tuple
+from typing import Dict, List, NamedTuple, Optional, Set, Tuple
 
 from .. import rows
 from ..program import DONE, Program, Reply
 from ..rows import Token
+from ..texts import Memory, by_characters, encoded
 from .index import Index
 from .language import COMMANDS, CONTROL, DECLARATIONS, ITEMS, OTHERS, VALUES
 from .wire import Text
@@ -24,25 +24,6 @@ class Fault(NamedTuple):
     start: int
     end: int
     sentence: str
-
-
-class Memory:
-    """A file in memory, which the program reads by its name."""
-
-    def __init__(self, text: str = ""):
-        self.number = os.memfd_create("voltizug")
-        self.path = "/dev/fd/%d" % self.number
-        self.fill(encoded(text))
-
-    def fill(self, data: bytes) -> None:
-        os.ftruncate(self.number, 0)
-        at = 0
-        while at < len(data):
-            at += os.pwrite(self.number, data[at:], at)
-
-
-def encoded(text: str) -> bytes:
-    return text.encode("utf-8", "surrogatepass")
 
 
 class Judge:
@@ -71,8 +52,7 @@ class Judge:
             reply = program.ask([word if word == "reload" else word + " " + memory.path], PATIENCE)
             if reply.state == DONE:
                 break
-            program.stop()
-            os.close(self.programs.pop(external)[1].number)
+            self.programs.pop(external)[0].stop()
         return reply
 
     def ask_known(self, text: str, external: str, word: str) -> Optional[Reply]:
@@ -138,13 +118,3 @@ def placed(name: str, text: Text, line: int, column: int, length: int, sentence:
     """Returns a fault at so many characters. One of the whole text is at the word `externals`, or at the first character."""
     start = text.at(line, column) if length else max(0, text.text.find("externals"))
     return Fault(name, start, min(start + (length or len("externals")), len(text.text)), sentence)
-
-
-def by_characters(text: str, tokens: Sequence[Token]) -> List[Token]:
-    """Returns tokens with places by characters: the program counts bytes."""
-    data, found, byte, at = b"" if text.isascii() else encoded(text), [], 0, 0
-    for token in tokens if data else ():
-        start = at + len(data[byte : token.start].decode("utf-8", "surrogatepass"))
-        byte, at = token.end, start + len(data[token.start : token.end].decode("utf-8", "surrogatepass"))
-        found.append(token._replace(start=start, end=at))
-    return found if data else list(tokens)

@@ -2,7 +2,6 @@
 import os
 import queue
 import re
-import subprocess
 import sys
 import threading
 import time
@@ -11,8 +10,9 @@ from urllib.parse import quote, unquote, urlsplit
 
 from ..kept import read_file
 from ..layout import counted, named
+from ..texts import encoded, of_revision
 from .index import Index
-from .judge import Fault, Judge, encoded
+from .judge import Fault, Judge
 from .vocabulary import Vocabulary, Wish, difference
 from .wire import Message, Text, read_message, write_message
 
@@ -34,14 +34,11 @@ class Document:
         self.uri, self.kind, self.text, self.version = uri, kind, text, version
         parts = urlsplit(uri)
         self.path = os.path.realpath(unquote(parts.path)) if parts.scheme == "file" else ""
-        self.name = os.path.basename(self.path) or uri
-        self.faults: List[Fault] = []
-        self.index_of: Tuple[str, Index] = ("", Index([]))
-        # Whether its faults are looked for, and when it is run.
-        self.is_judged, self.due = False, 0.0
-        # Of a script: the last text that was accepted, the mark, and the words at work.
-        self.accepted: Optional[Text] = None
-        self.marked, self.mark_name = None, ""  # type: Optional[str], str
+        self.name, self.index_of = os.path.basename(self.path) or uri, ("", Index([]))
+        # The faults that it has, whether they are looked for, and when it is run.
+        self.faults, self.is_judged, self.due = [], False, 0.0  # type: List[Fault], bool, float
+        # Of a script: the last text that was accepted, the mark, its git revision, and the words at work.
+        self.accepted, self.marked, self.mark_name = None, None, ""  # type: Optional[Text], Optional[str], str
         self.vocabulary: Optional[Vocabulary] = None
 
 
@@ -50,11 +47,8 @@ class Server:
 
     def __init__(self, command: str, requests: Dict[str, Callable[["Server", Message], Any]], capabilities: Message):
         self.command, self.requests, self.capabilities, self.judge = command, requests, capabilities, Judge(command)
-        self.documents: Dict[str, Document] = {}
-        self.settings: Message = {}
-        self.client: Message = {}
-        self.queue: "queue.Queue[Tuple[str, Any]]" = queue.Queue()
-        self.waiting: List[Tuple[Any, float, Callable[[bool], Any]]] = []
+        self.settings, self.client, self.documents = {}, {}, {}  # type: Message, Message, Dict[str, Document]
+        self.queue, self.waiting = queue.Queue(), []  # type: Any, List[Tuple[Any, float, Callable[[bool], Any]]]
         self.unit, self.refreshes, self.is_over, self.status = "utf-16", 0, False, 1
 
     # The loop
@@ -200,6 +194,8 @@ class Server:
         document.faults = self.judge.faults(document.text, self.external(document))
         self.publish(document, [diagnostic(document.text.range(fault.start, fault.end), fault.sentence, ERROR, fault.name) for fault in document.faults])
         document.accepted = document.accepted if document.faults else document.text
+        if document.marked is None and document.accepted:
+            self.set_mark(document, str(self.settings.get("mark") or ""))
         is_run = not document.faults and (not document.vocabulary or self.settings.get("run") != "onSave")
         document.due = time.monotonic() + QUIET if is_run else 0.0
 
@@ -257,19 +253,16 @@ class Server:
         external, stems = self.external(document), self.bytes_of(self.file_of(document, "stems"))
         if document.vocabulary and document.vocabulary.external != external:
             self.close_words(document)
-        if document.marked is None:
-            self.set_mark(document, str(self.settings.get("mark") or ""))
         if document.vocabulary is None:
             document.vocabulary = Vocabulary(self.command, external, document.name, lambda said: self.queue.put(("report", (document, said))))
         document.vocabulary.want(Wish(document.accepted.text, document.marked or "", words, stems, self.file_of(document, "families")))
 
     def set_mark(self, document: Document, revision: str) -> None:
         """Marks the text as it is, or that of a git revision."""
-        document.marked, document.mark_name = (document.accepted or document.text).text, ""
-        try:
-            document.marked, document.mark_name = text_of(document, revision) if revision else document.marked, revision
-        except Refused as why:
-            self.tell("%s, so the mark is the text as it is now" % why)
+        text = of_revision(document.path, revision) if revision else None
+        document.mark_name, document.marked = (revision, text) if text is not None else ("", (document.accepted or document.text).text)
+        if revision and text is None:
+            self.tell("git has no %s of the revision %s, so the mark is the text as it is now" % (document.name, named(revision)))
 
     def close_words(self, document: Document) -> None:
         if document.vocabulary:
@@ -312,16 +305,3 @@ def diagnostic(place: Message, sentence: str, severity: int, code: str) -> Messa
 def settings_of(given: Any) -> Message:
     inner = given.get("snowbench", given) if isinstance(given, dict) else {}
     return inner if isinstance(inner, dict) else {}
-
-
-def text_of(document: Document, revision: str) -> str:
-    """Returns the text of a script in a git revision."""
-    folder, name = os.path.split(document.path)
-    call = ["git", "-C", folder, "show", "%s:./%s" % (revision, name)]
-    try:
-        done = subprocess.run(call, stdin=subprocess.DEVNULL, stdout=subprocess.PIPE, stderr=subprocess.PIPE, timeout=10)
-    except (OSError, ValueError, subprocess.TimeoutExpired) as why:
-        raise Refused("git: %s" % why) from why
-    if done.returncode or revision.startswith("-"):
-        raise Refused("git has no %s of the revision %s" % (document.name, named(revision)))
-    return done.stdout.decode("utf-8", "surrogateescape")

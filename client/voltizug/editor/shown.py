@@ -1,15 +1,14 @@
 """What is shown in a text of the words' runs: figures above definitions and beside strings, hovers, stems beside words, and the commands."""
 import csv
-import os
 import subprocess
 from typing import Any, Callable, Dict, List, Optional, Tuple
 
 from .. import layout, rows
 from ..layout import counted, named
+from ..texts import Memory, of_revision
 from .index import Index
-from .judge import Memory
 from .requests import place
-from .server import Document, Refused, Server, text_of
+from .server import Document, Refused, Server
 from .vocabulary import State, Vocabulary
 from .wire import Message
 
@@ -161,23 +160,19 @@ def mark(server: Server, document: Document, revision: str) -> Any:
 
 def compare(server: Server, document: Document, revision: str) -> Any:
     """How the text that was accepted last differs from that of a git revision, and what that changes for the words."""
-    texts, external = (text_of(document, revision or "HEAD"), document.accepted.text if document.accepted else ""), server.external(document)
+    old, external = of_revision(document.path, revision or "HEAD"), server.external(document)
+    if old is None or document.accepted is None:
+        raise Refused("git has no %s of the revision %s" % (document.name, named(revision or "HEAD")))
+    files = [Memory(old), Memory(document.accepted.text), Memory()]
+    call = [server.command, "compare", "--rows", "--external", external, *(file.path for file in files)]
 
     def make(vocabulary: Vocabulary) -> List[str]:
-        files = [Memory(text) for text in texts] + [Memory()]
         files[2].fill(vocabulary.has.words)
-        call = [server.command, "compare", "--rows", "--external", external, *(file.path for file in files)]
-        pipes = {"stdin": subprocess.DEVNULL, "stdout": subprocess.PIPE, "stderr": subprocess.PIPE}
-        try:
-            done = subprocess.run(call, pass_fds=[file.number for file in files], timeout=PATIENCE, **pipes)
-        finally:
-            for file in files:
-                os.close(file.number)
-        if done.returncode not in (0, 1):
-            return done.stderr.decode("utf-8", "replace").splitlines()[:1]
+        done = subprocess.run(call, stdin=subprocess.DEVNULL, capture_output=True, pass_fds=[file.number for file in files], timeout=PATIENCE)
         lines = done.stdout.decode("utf-8", "surrogateescape").splitlines()
         differs = ["  differs  " + " ".join(map(named, row[1:])) for row in csv.reader(lines) if row and row[0] == "differs"]
-        return differs + layout.changes(rows.read("changes", lines), {}) or ["nothing differs"]
+        said = done.stderr.decode("utf-8", "replace").splitlines()[:1]
+        return said or differs + layout.changes(rows.read("changes", lines), {}) or ["nothing differs"]
 
     return later(server, document, make)
 

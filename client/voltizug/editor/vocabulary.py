@@ -7,10 +7,10 @@ from itertools import zip_longest
 from typing import Any, Callable, Dict, List, NamedTuple, Optional, Sequence, Tuple
 
 from .. import layout, reports, rows
-from ..layout import counted, named
+from ..layout import named
 from ..places import Places
 from ..program import BROKEN, DONE, Program, Reply
-from .judge import Memory, encoded
+from ..texts import Memory, encoded, lines_of
 
 # After how many seconds a run is given up for a newer text; of how many changed words it is asked where they begin to differ.
 LONG, MOST = 1.0, 500
@@ -30,22 +30,21 @@ class State:
     """What is known of a text over the words. The counts of its parts and `begins` come later: until then the counts are those of the text before."""
 
     def __init__(self, wish: Wish, replies: Sequence[Reply], older: Optional["State"]):
-        stats, changes, stems, *families = replies
+        stats, changes, stems, *families = (reply.lines for reply in replies)
         self.wish, self.is_counted = wish, False
-        self.figures = {row.kind: int(row.count) for row in rows.read("stats", stats.lines)}
-        self.changes: List[Any] = rows.read("changes", changes.lines)
+        self.figures = {row.kind: int(row.count) for row in rows.read("stats", stats)}
+        self.changes: List[Any] = rows.read("changes", changes)
         self.changed = {row.word: row for row in self.changes if row.kind == "changed"}
-        self.outcomes = {row.word: row for row in rows.outcomes(stems.lines)}
-        pairs = [row for reply in families for row in rows.read("families", reply.lines) if row.kind == "pairs"]
+        self.outcomes = {row.word: row for row in rows.outcomes(stems)}
+        pairs = [row for lines in families for row in rows.read("families", lines) if row.kind == "pairs"]
         self.pairs = layout.families_line((pairs[0], pairs[0]) if pairs else ())
-        # The expected stems, by word those that are others, if there is one for each word.
-        self.lines = [] if wish.stems is None else lines_of(wish.stems)
+        # The expected stems, and by word those that are others, if there is one for each word.
+        self.lines = lines_of(wish.stems) if wish.stems is not None else []
         expected = zip(self.outcomes.values(), self.lines) if len(self.lines) == len(self.outcomes) else ()
         self.expected = {row.word: stem for row, stem in expected if (row.kind, row.stem) != ("stem", stem)}
-        # How many words use each definition, and each string of each among.
+        # How many words use each definition, and each string of each among; by routine the changed words whose run begins to differ there.
         self.names: Dict[str, int] = older.names if older else {}
         self.strings: Dict[Tuple[str, int], List[Tuple[str, int]]] = older.strings if older else {}
-        # By routine the changed words whose run begins to differ there.
         self.begins: Dict[str, List[str]] = {}
 
     def count(self, lines: Sequence[str]) -> None:
@@ -66,15 +65,11 @@ class Vocabulary:
 
     def __init__(self, command: str, external: str, name: str, report: Callable[[str], None]):
         self.command, self.external, self.name, self.report = command, external, name, report
-        self.wish: Optional[Wish] = None
-        self.done: Optional[Wish] = None
-        self.state: Optional[State] = None
-        self.orders: List[Callable[[], None]] = []
-        self.steps: List[Callable[[], None]] = []
+        self.wish, self.done, self.state = None, None, None  # type: Optional[Wish], Optional[Wish], Optional[State]
+        self.orders, self.steps = [], []  # type: List[Callable[[], None]], List[Callable[[], None]]
         self.condition, self.is_over, self.since = threading.Condition(), False, 0.0
         # The program, and one without words that has the marked text; their files; what the program has; a marked text that was given up.
-        self.program: Optional[Program] = None
-        self.old: Optional[Program] = None
+        self.program, self.old = None, None  # type: Optional[Program], Optional[Program]
         self.script, self.words, self.mark = Memory(), Memory(), Memory()
         self.has, self.slow = Wish("", "", b""), ""
         threading.Thread(target=self.work, daemon=True).start()
@@ -105,8 +100,8 @@ class Vocabulary:
         with self.condition:
             self.is_over = True
             self.condition.notify()
-        for program in (self.program, self.old):
-            if program and program.process:
+        for program in filter(None, (self.program, self.old)):
+            if program.process:
                 program.process.kill()
 
     def is_current(self, text: str) -> bool:
@@ -115,25 +110,23 @@ class Vocabulary:
     # In its own
 
     def work(self) -> None:
-        while True:
+        while not self.is_over:
             with self.condition:
                 self.condition.wait_for(lambda: self.is_over or self.orders or self.wish != self.done or self.steps)
-                if self.is_over:
-                    break
                 wish, order = self.wish, self.orders.pop(0) if self.orders else None
                 step = self.steps.pop(0) if self.steps and not order and wish == self.done else None
             try:
-                (order or step or (lambda: self.run(wish)))()
+                if not self.is_over:
+                    (order or step or (lambda: self.run(wish)))()
             except (Gone, OSError, ValueError) as why:
                 self.steps = []
                 if wish == self.wish and not self.is_over:
                     self.report("%s" % why)
-        for program in (self.program, self.old):
-            if program:
-                program.stop()
+        for program in filter(None, (self.program, self.old)):
+            program.stop()
 
-    def begun(self, script: Memory, *words: str) -> Program:
-        program = Program([self.command, "work", "--text", "--external", self.external], script.path, *(words or [None]), "/nowhere")
+    def begun(self, script: Memory, words: Optional[str] = None) -> Program:
+        program = Program([self.command, "work", "--text", "--external", self.external], script.path, words, "/nowhere")
         program.begin([], script.path)
         return program
 
@@ -155,47 +148,37 @@ class Vocabulary:
         """The first step: the rows."""
         self.done = wish
         if self.program is None:
-            self.open(wish)
+            self.words.fill(wish.words)
+            self.script.fill(encoded(wish.text))
+            self.program = self.begun(self.script, self.words.path)
+            self.ask("stats")
+            self.has = wish._replace(marked=wish.text)
         if wish.words != self.has.words:
             self.words.fill(wish.words)
             refusal = self.ask("words")[0].refusal()
             if refusal:
                 raise Gone("the words are refused: %s" % refusal[1])
             self.has = self.has._replace(words=wish.words)
-        if wish.marked != self.has.marked:
+        if wish.marked not in (self.has.marked, self.slow):
             self.set_mark(wish.marked)
         self.script.fill(encoded(wish.text))
         reload, *replies = self.ask("reload", "stats", "changes", "stems", *(["families " + wish.families] if wish.families else []))
         if reload.is_done:
-            self.state = State(wish, replies, self.state)
-            self.steps = [self.count, self.compare]
+            self.state, self.steps = State(wish, replies, self.state), [self.count, self.compare]
             self.report("")
 
-    def open(self, wish: Wish) -> None:
-        """Starts the program over the marked text. If that is refused, or was given up before, the mark is the new text."""
-        self.words.fill(wish.words)
-        for marked in (wish.marked, wish.text)[wish.marked == self.slow :]:
-            self.script.fill(encoded(marked))
-            self.program = self.begun(self.script, self.words.path)
-            try:
-                self.ask("stats")
-                break
-            except Gone:
-                self.slow = marked if self.wish != wish else self.slow
-                if marked == wish.text or self.wish != wish or self.is_over:
-                    raise
-        self.has = wish
-        if marked != wish.marked:
-            self.report("the marked text is refused or takes too long: the mark is the text as it is now")
-
     def set_mark(self, marked: str) -> None:
+        """Marks a text. One that is refused, or that is given up, is not tried again."""
         self.script.fill(encoded(marked))
-        reload, mark = self.ask("reload", "mark")
+        self.slow = marked
+        reload = self.ask("reload")[0]
+        if not reload.is_done:
+            self.report("the text of the mark is refused: %s" % (reload.refusal() or (0, ""))[1])
+            return
+        self.ask("mark")
         if self.old:
             self.old.stop()
-        self.has, self.old = self.has._replace(marked=marked), None
-        if not reload.is_done:
-            self.report("the marked text is refused: %s" % (reload.refusal() or (0, ""))[1])
+        self.has, self.slow, self.old = self.has._replace(marked=marked), "", None
 
     def count(self) -> None:
         """The second step: how many words use each part."""
@@ -207,7 +190,7 @@ class Vocabulary:
     def compare(self) -> None:
         """The third step: where the runs of changed words begin to differ."""
         changed = list(self.state.changed)[:MOST] if self.state else []
-        if not changed or not self.state:
+        if not self.state or not changed:
             return
         if self.old is None:
             self.mark.fill(encoded(self.has.marked))
@@ -244,15 +227,11 @@ class Vocabulary:
     def changes(self, name: str) -> List[str]:
         """What differs from the mark; with the name of a routine the words that begin to differ there."""
         state = self.state
-        words = set(state.begins.get(name, [])) if state else set()
-        found = [row for row in state.changes if not name or row.kind == "changed" and row.word in words] if state else []
+        found = [row for row in state.changes if not name or row.kind == "changed" and row.word in state.begins.get(name, [])] if state else []
         return layout.changes(found, state.outcomes if state else {}) or ["no word and no class differs from the mark"]
 
     def differing(self) -> List[str]:
-        """The words whose stem is not the expected one."""
-        state = self.state
-        lines = ["  " + difference(state, word) for word in state.expected] if state else []
-        return [counted(len(lines), "word has not the expected stem", "words have not the expected stem"), *lines]
+        return [difference(self.state, word) for word in self.state.expected] if self.state else []
 
 
 def deeds(reply: Reply) -> List[Tuple[str, ...]]:
@@ -263,9 +242,3 @@ def deeds(reply: Reply) -> List[Tuple[str, ...]]:
 def difference(state: State, word: str) -> str:
     row = state.outcomes[word]
     return "%s: expected %s, got %s" % (named(word), named(state.expected[word]) or "(empty)", layout.outcome(row.kind, row.stem))
-
-
-def lines_of(data: bytes) -> List[str]:
-    """Returns the lines of a file of stems."""
-    lines = data.decode("utf-8", "surrogateescape").split("\n")
-    return [line[:-1] if line.endswith("\r") else line for line in (lines if lines[-1] else lines[:-1])]
