@@ -104,7 +104,7 @@ class Judge:
         first = tokens[begin].text if tokens else ""
         if first in ("stringescapes", "stringdef", *DECLARATIONS):
             return list(ITEMS) if tokens[-1].kind in ("inserts", "literal") or tokens[-1].text == ")" else []
-        is_done = bool(before.order) and before.order[-1].last < len(tokens) - 1
+        is_done = any(item.first == begin and item.last < len(tokens) - 1 for item in before.order)
         rest = [] if is_done or first == "backwardmode" else tokens[begin:]
         shown = "backwardmode ( " * before.is_in_backwardmode + " ".join("'a'" if token.kind == "literal" else token.text for token in rest) + " "
         return [word for word in (*ITEMS, *CONTROL, *COMMANDS, *VALUES, *OTHERS, "NAME") if self.fits(shown, word)]
