@@ -10,7 +10,8 @@ import time
 import unittest
 from typing import Any, Dict, List, Optional
 
-from voltizug.editor.wire import Text, read_message, write_message
+from voltizug.editor.wire import read_message, write_message
+from voltizug.texts import Text
 
 from ..kit import CLIENT, EXAMPLES, PROGRAM, Case
 

@@ -7,7 +7,7 @@ import unittest
 from voltizug.editor import language
 from voltizug.editor.index import Index
 from voltizug.editor.judge import Judge
-from voltizug.editor.wire import Text
+from voltizug.texts import Text
 
 from ..kit import PROGRAM, Case
 from .kit import SCRIPTS, TOP, needs_tokens, read, rows_of

@@ -3,7 +3,8 @@ import io
 import random
 import unittest
 
-from voltizug.editor.wire import Text, read_message, write_message
+from voltizug.editor.wire import read_message, write_message
+from voltizug.texts import Text
 
 from .kit import STORM
 

@@ -5,16 +5,14 @@ from typing import Dict, List, NamedTuple, Optional, Set, Tuple
 from .. import rows
 from ..program import DONE, Program, Reply
 from ..rows import Token
-from ..texts import Memory, by_characters, encoded
+from ..texts import Memory, Text, by_characters, encoded
 from .index import Index
 from .language import COMMANDS, CONTROL, DECLARATIONS, ITEMS, OTHERS, VALUES
-from .wire import Text
 
 # For how many seconds the program is asked about a text; how many faults, and how many lines that have no tokens, are looked at.
 PATIENCE, MOST, LINES = 20.0, 100, 5
-# The faults that are at no place.
-OF_ALL = ("NoExternal", "ScriptTooLong")
-BLANK = "\ufeff \t\r\n\v\f"
+# The faults that are at no place; white space.
+OF_ALL, BLANK = ("NoExternal", "ScriptTooLong"), "\ufeff \t\r\n\v\f"
 
 
 class Fault(NamedTuple):
@@ -92,8 +90,8 @@ class Judge:
             rest = text[found[-1].end if found else 0 :].lstrip(BLANK)
             if not rest:
                 break
-            after = rest.find("\n")
-            text = text[: len(text) - len(rest)] + " " * (len(rest) if after < 0 else after) + ("" if after < 0 else rest[after:])
+            size = len(rest.partition("\n")[0])
+            text = text[: -len(rest)] + " " * size + rest[size:]
         return found
 
     def fitting(self, before: Index) -> List[str]:

@@ -17,9 +17,7 @@ RESERVED = frozenset((*ITEMS, *CONTROL, *COMMANDS, *VALUES, *OTHERS, *LEFT_OUT))
 # The kinds of a name after these tokens; elsewhere in a body it is a command.
 AFTER: Dict[str, Tuple[str, ...]] = {
     "define": ("routine", "external", "grouping"),
-    "non": ("grouping",),
-    "set": ("boolean",), "unset": ("boolean",),
-    "setmark": ("integer",), "$": ("integer",),
+    "non": ("grouping",), "set": ("boolean",), "unset": ("boolean",), "setmark": ("integer",), "$": ("integer",),
     "->": ("string",), "<-": ("string",), "<+": ("string",), "insert": ("string",), "attach": ("string",), "lenof": ("string",),
 }
 AS_COMMAND = ("routine", "external", "grouping", "string", "boolean")

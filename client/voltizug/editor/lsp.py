@@ -16,8 +16,7 @@ REQUESTS: Dict[str, Callable[..., Any]] = {
 CAPABILITIES = {
     "textDocumentSync": {"openClose": True, "change": 2, "save": {"includeText": False}},
     **{name + "Provider": True for name in "hover definition references rename documentSymbol inlayHint".split()},
-    "completionProvider": {"triggerCharacters": ["$"]},
-    "codeActionProvider": {"codeActionKinds": ["quickfix", "source"]},
+    "completionProvider": {"triggerCharacters": ["$"]}, "codeActionProvider": {"codeActionKinds": ["quickfix", "source"]},
     "codeLensProvider": {"resolveProvider": False},
     "executeCommandProvider": {"commands": ["snowbench." + name for name in shown.COMMANDS]},
 }
@@ -30,5 +29,4 @@ def main(words: Sequence[str]) -> int:
         sys.stderr.write("snowbench: lsp takes no file: an editor starts it, and sends it the texts\n")
         return 2
     sys.setswitchinterval(0.001)
-    status = Server(program, REQUESTS, CAPABILITIES).run()
-    os._exit(status)
+    os._exit(Server(program, REQUESTS, CAPABILITIES).run())

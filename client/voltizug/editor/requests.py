@@ -11,8 +11,7 @@ from .server import Document, Refused, Server
 from .wire import Message
 
 # The numbers of the protocol for kinds of symbols and of completions.
-SYMBOLS = {"routine": 12, "external": 6, "grouping": 10, "integer": 13, "string": 13, "boolean": 13}
-COMPLETIONS = {"routine": 3, "external": 2, "grouping": 13, "integer": 6, "string": 6, "boolean": 6}
+NUMBERS = {"routine": (12, 3), "external": (6, 2), "grouping": (10, 13), "integer": (13, 6), "string": (13, 6), "boolean": (13, 6)}
 COMMAND_TITLES = {"mark": "Mark: compare with this text from now on", "changes": "Show what differs from the mark", "unused": "Show what no word uses"}
 
 
@@ -70,7 +69,7 @@ def symbols(server: Server, params: Message) -> List[Message]:
         amongs = [among for among in index.amongs if start <= among.word.start < end]
         children = [symbol(document, "among %d" % among.k, 22, among.word.start, among.word.end, among.word) for among in amongs]
         detail = kind + ", backwards" * item.is_backward
-        found.append({**symbol(document, item.name.text, SYMBOLS[kind], start, end, item.name), "detail": detail, "children": children})
+        found.append({**symbol(document, item.name.text, NUMBERS[kind][0], start, end, item.name), "detail": detail, "children": children})
     return found
 
 
@@ -91,7 +90,7 @@ def completion(server: Server, params: Message) -> List[Message]:
     kinds, is_new = before.kinds_next(), bool(before.tokens) and before.tokens[-1].text == "define"
     names = [name for name, kind in index.kinds.items() if kind in kinds] if "NAME" in fitting else []
     names = [name for name in names if not is_new or name not in index.items or index.items[name].name.start == start]
-    found = [{"label": name, "kind": COMPLETIONS[index.kinds[name]], "detail": index.kinds[name]} for name in names]
+    found = [{"label": name, "kind": NUMBERS[index.kinds[name]][1], "detail": index.kinds[name]} for name in names]
     return found + [{"label": word, "kind": 14} for word in fitting if word != "NAME"]
 
 

@@ -1,20 +1,22 @@
 """The server: messages, texts, their faults, and when the words are run. requests.py and shown.py have what is asked about a text."""
+import contextlib
 import os
 import queue
 import re
 import sys
 import threading
 import time
+from functools import partial
 from typing import Any, Callable, Dict, List, Optional, Tuple
 from urllib.parse import quote, unquote, urlsplit
 
 from ..kept import read_file
 from ..layout import counted, named
-from ..texts import encoded, of_revision
+from ..texts import Text, encoded, of_revision
 from .index import Index
 from .judge import Fault, Judge
 from .vocabulary import Vocabulary, Wish, difference
-from .wire import Message, Text, read_message, write_message
+from .wire import Message, read_message, write_message
 
 # For how long a text has to stay before it is run, and how long a request waits for figures, in seconds; the most differences that are shown.
 QUIET, PATIENCE, MOST = 0.2, 4.0, 500
@@ -56,29 +58,28 @@ class Server:
     def run(self) -> int:
         threading.Thread(target=self.read, daemon=True).start()
         while not self.is_over:
-            try:
-                kind, what = self.queue.get(timeout=self.rest())
-            except queue.Empty:
-                kind, what = "", None
-            if kind == "message":
-                self.take(what)
-            elif kind == "report":
-                self.reported(*what)
-            self.is_over = self.is_over or kind == "end"
-            # (a text of which a newer one waits is not looked at)
-            if self.queue.empty() and not self.is_over:
-                self.judge_texts()
-            self.run_due()
+            with contextlib.suppress(queue.Empty):
+                self.queue.get(timeout=self.rest())()
+            self.look_at_texts()
             self.answer_waiting()
         for document in self.documents.values():
             self.close_words(document)
         return self.status
 
     def read(self) -> None:
-        message: Optional[Message] = {}
-        while message is not None:
-            message = read_message(sys.stdin.buffer)
-            self.queue.put(("message", message) if message is not None else ("end", None))
+        for message in iter(lambda: read_message(sys.stdin.buffer), None):
+            self.queue.put(partial(self.take, message))
+        self.queue.put(partial(self.on_exit, {}))
+
+    def look_at_texts(self) -> None:
+        """Looks for the faults of texts, unless a newer one waits, and has those run that are due."""
+        for document in list(self.documents.values()):
+            if not document.is_judged and self.queue.empty():
+                document.is_judged = True
+                (self.judge_script if document.kind == "script" else self.show_differences)(document)
+            if document.due and document.due <= time.monotonic():
+                document.due = 0.0
+                self.run_words(document)
 
     def rest(self) -> Optional[float]:
         times = [document.due for document in self.documents.values() if document.due] + [until for _, until, _ in self.waiting]
@@ -184,12 +185,6 @@ class Server:
 
     # Faults
 
-    def judge_texts(self) -> None:
-        for document in list(self.documents.values()):
-            if not document.is_judged:
-                document.is_judged = True
-                (self.judge_script if document.kind == "script" else self.show_differences)(document)
-
     def judge_script(self, document: Document) -> None:
         document.faults = self.judge.faults(document.text, self.external(document))
         self.publish(document, [diagnostic(document.text.range(fault.start, fault.end), fault.sentence, ERROR, fault.name) for fault in document.faults])
@@ -227,12 +222,6 @@ class Server:
 
     # Words
 
-    def run_due(self) -> None:
-        for document in list(self.documents.values()):
-            if document.due and document.due <= time.monotonic():
-                document.due = 0.0
-                self.run_words(document)
-
     def file_of(self, document: Document, kind: str) -> str:
         """Returns the file of words, stems or families of a script: that of the settings, or the one beside it; nothing if there is none."""
         beside, wanted = os.path.splitext(document.path)[0] + "." + kind, self.settings.get(kind)
@@ -254,7 +243,7 @@ class Server:
         if document.vocabulary and document.vocabulary.external != external:
             self.close_words(document)
         if document.vocabulary is None:
-            document.vocabulary = Vocabulary(self.command, external, document.name, lambda said: self.queue.put(("report", (document, said))))
+            document.vocabulary = Vocabulary(self.command, external, document.name, lambda said: self.queue.put(partial(self.reported, document, said)))
         document.vocabulary.want(Wish(document.accepted.text, document.marked or "", words, stems, self.file_of(document, "families")))
 
     def set_mark(self, document: Document, revision: str) -> None:
@@ -271,9 +260,9 @@ class Server:
 
     def scripts_of(self, document: Document) -> List[Document]:
         """Returns the open scripts whose words or stems a text is; a script itself."""
-        scripts = [other for other in self.documents.values() if other.kind == "script" and document.path]
+        scripts = [other for other in self.documents.values() if other.kind == "script"]
         files = [self.file_of(script, document.kind) if document.kind != "script" else "" for script in scripts]
-        return [script for script, file in zip(scripts, files) if script is document or file and os.path.realpath(file) == document.path]
+        return [script for script, file in zip(scripts, files) if script is document or file and document.path == os.path.realpath(file)]
 
     def reported(self, script: Document, said: str) -> None:
         """After a step of the words: shows a failure, differences, and has the client ask again for what is shown in the text."""

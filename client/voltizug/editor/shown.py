@@ -21,8 +21,8 @@ def state_of(document: Optional[Document]) -> Optional[State]:
     return document.vocabulary.state if document and document.vocabulary else None
 
 
-def script_of(server: Server, document: Document) -> Optional[Document]:
-    return document if document.kind == "script" else next(iter(server.scripts_of(document)), None)
+def script_of(server: Server, document: Optional[Document]) -> Optional[Document]:
+    return next(iter(server.scripts_of(document)), None) if document else None
 
 
 def used(count: int) -> str:
@@ -146,7 +146,7 @@ def later(server: Server, document: Optional[Document], make: Callable[[Vocabula
             box.append(make(vocabulary))
         finally:
             box.append(instead)
-            server.queue.put(("", None))
+            server.queue.put(lambda: None)
 
     vocabulary.order(order)
     return lambda is_late: box[0] if box else instead if is_late else None
@@ -200,8 +200,7 @@ COMMANDS: Dict[str, Callable[[Server, Document, str], Any]] = {
 def execute(server: Server, params: Message) -> Any:
     """Does a command, whose first argument is the text: a script, or its words."""
     name, arguments = str(params["command"]).replace("snowbench.", "", 1), [*map(str, params.get("arguments") or []), "", ""]
-    opened = server.documents.get(arguments[0])
-    document = script_of(server, opened) if opened else None
+    document = script_of(server, server.documents.get(arguments[0]))
     if name not in COMMANDS or document is None or "\n" in arguments[1]:
         raise Refused("there is no command %s" % named(name) if name not in COMMANDS else "the script is not open")
     return COMMANDS[name](server, document, arguments[1])

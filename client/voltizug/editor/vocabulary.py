@@ -56,10 +56,6 @@ class State:
                 self.names[row.name] = int(row.count)
 
 
-class Gone(Exception):
-    """Why a program, or a run, is gone."""
-
-
 class Vocabulary:
     """`report` is called in the thread after each step, with a sentence if something failed."""
 
@@ -118,7 +114,7 @@ class Vocabulary:
             try:
                 if not self.is_over:
                     (order or step or (lambda: self.run(wish)))()
-            except (Gone, OSError, ValueError) as why:
+            except (OSError, ValueError) as why:
                 self.steps = []
                 if wish == self.wish and not self.is_over:
                     self.report("%s" % why)
@@ -134,14 +130,14 @@ class Vocabulary:
         """Asks the program. If it is gone then, the next text starts another one."""
         asked = program or self.program
         if asked is None:
-            raise Gone("the words are not there yet")
+            raise ChildProcessError("the words are not there yet")
         self.since = time.monotonic()
         replies = asked.ask_each([[request] for request in requests])
         self.since = 0.0
         if replies[-1].state != DONE:
             asked.stop()
             self.program, self.old = (self.program, None) if program else (None, self.old)
-            raise Gone("given up" if replies[-1].state == BROKEN else " ".join(replies[0].said) or "the program has ended")
+            raise ChildProcessError("given up" if replies[-1].state == BROKEN else " ".join(replies[0].said) or "the program has ended")
         return replies
 
     def run(self, wish: Wish) -> None:
@@ -157,7 +153,7 @@ class Vocabulary:
             self.words.fill(wish.words)
             refusal = self.ask("words")[0].refusal()
             if refusal:
-                raise Gone("the words are refused: %s" % refusal[1])
+                raise ChildProcessError("the words are refused: %s" % refusal[1])
             self.has = self.has._replace(words=wish.words)
         if wish.marked not in (self.has.marked, self.slow):
             self.set_mark(wish.marked)
