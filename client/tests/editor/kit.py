@@ -41,7 +41,7 @@ class Editor:
     """An editor that has started the server."""
 
     def __init__(self, settings: Optional[Dict[str, Any]] = None, capabilities: Optional[Dict[str, Any]] = None, program: str = PROGRAM):
-        call = [sys.executable, "-s", "-B", CLIENT, "lsp", "--program", program]
+        call = [sys.executable, "-s", "-B", CLIENT, "--lsp", "--program", program]
         self.process = subprocess.Popen(call, stdin=subprocess.PIPE, stdout=subprocess.PIPE)
         self.number, self.versions, self.diagnostics, self.notes = 0, {}, {}, []  # type: int, Dict[str, int], Dict[str, Any], List[Any]
         self.queue: Any = queue.Queue()

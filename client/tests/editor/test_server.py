@@ -339,5 +339,5 @@ class Trouble(OverServer):
         self.assertEqual(sums(), before)
 
     def test_the_command_line(self):
-        done = subprocess.run([sys.executable, "-B", CLIENT, "lsp", "my.sbl"], capture_output=True, text=True)
+        done = subprocess.run([sys.executable, "-B", CLIENT, "--lsp", "my.sbl"], capture_output=True, text=True)
         self.assertEqual((done.returncode, done.stderr[:20]), (2, "snowbench: lsp takes"))
