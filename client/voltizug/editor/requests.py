@@ -68,8 +68,8 @@ def symbols(server: Server, params: Message) -> List[Message]:
         kind = index.kinds.get(item.name.text, "routine" if item.is_routine else "grouping")
         amongs = [among for among in index.amongs if start <= among.word.start < end]
         children = [symbol(document, "among %d" % among.k, 22, among.word.start, among.word.end, among.word) for among in amongs]
-        detail = kind + ", backwards" * item.is_backward
-        found.append({**symbol(document, item.name.text, NUMBERS[kind][0], start, end, item.name), "detail": detail, "children": children})
+        own = symbol(document, item.name.text, NUMBERS[kind][0], start, end, item.name)
+        found.append({**own, "detail": kind + ", backwards" * item.is_backward, "children": children})
     return found
 
 

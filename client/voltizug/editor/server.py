@@ -18,9 +18,9 @@ from .judge import Fault, Judge
 from .vocabulary import Vocabulary, Wish, difference
 from .wire import Message, read_message, write_message
 
-# For how long a text has to stay before it is run, and how long a request waits for figures, in seconds; the most differences that are shown.
+# For how long a text has to stay before it is run, and how long a request waits for figures, in seconds; the most differences that are shown;
+# and numbers of the protocol.
 QUIET, PATIENCE, MOST = 0.2, 4.0, 500
-# Numbers of the protocol.
 ERROR, WARNING, REFUSED, UNKNOWN, FAILED = 1, 2, -32803, -32601, -32603
 KINDS = {"snowball-words": "words", "snowball-stems": "stems", ".words": "words", ".stems": "stems"}
 
@@ -51,7 +51,7 @@ class Server:
         self.command, self.requests, self.capabilities, self.judge = command, requests, capabilities, Judge(command)
         self.settings, self.client, self.documents = {}, {}, {}  # type: Message, Message, Dict[str, Document]
         self.queue, self.waiting = queue.Queue(), []  # type: Any, List[Tuple[Any, float, Callable[[bool], Any]]]
-        self.unit, self.refreshes, self.is_over, self.status = "utf-16", 0, False, 1
+        self.unit, self.is_over, self.status = "utf-16", False, 1
 
     # The loop
 
@@ -272,8 +272,7 @@ class Server:
             if document.kind != "script" and script in self.scripts_of(document):
                 self.show_differences(document)
         for name in filter(self.can_refresh, ("codeLens", "inlayHint")):
-            self.refreshes += 1
-            self.send({"id": "refresh-%d" % self.refreshes, "method": "workspace/%s/refresh" % name})
+            self.send({"id": "%s-%.6f" % (name, time.monotonic()), "method": "workspace/%s/refresh" % name})
 
     def tell(self, sentence: str) -> None:
         self.send({"method": "window/showMessage", "params": {"type": WARNING, "message": "snowbench: " + sentence}})

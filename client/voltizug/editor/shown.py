@@ -137,6 +137,8 @@ def users(document: Document, vocabulary: Vocabulary, part: str) -> List[str]:
 
 def later(server: Server, document: Optional[Document], make: Callable[[Vocabulary], Any], instead: Any = LATE) -> Any:
     """Has the thread of the words make a result. Returns a function for it; `instead` is what there is when its time is up."""
+    if document and not document.vocabulary:
+        server.run_words(document)
     vocabulary, box = document.vocabulary if document else None, []  # type: Optional[Vocabulary], List[Any]
     if vocabulary is None:
         raise Refused("there are no words: name a file of words in the settings, or put it beside the script as NAME.words")

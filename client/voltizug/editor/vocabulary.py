@@ -209,7 +209,7 @@ class Vocabulary:
 
     def places(self) -> Places:
         """Returns where things are in the text that the program has."""
-        found, tokens = (reply.lines if reply.is_done else [] for reply in self.ask("places", "tokens"))
+        found, tokens = (reply.lines * reply.is_done for reply in self.ask("places", "tokens"))
         text = encoded(self.done.text if self.done else "")
         return Places(self.name, text, text, rows.read("places", found), rows.tokens(tokens))
 
