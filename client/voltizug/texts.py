@@ -19,7 +19,7 @@ class Memory:
     """A file in memory, which a program reads by its name."""
 
     def __init__(self, text: str = ""):
-        self.number = os.memfd_create("voltizug")
+        self.number, self.data = os.memfd_create("voltizug"), b""
         self.path = "/dev/fd/%d" % self.number
         self.fill(encoded(text))
 
@@ -28,7 +28,7 @@ class Memory:
 
     def fill(self, data: bytes) -> None:
         os.ftruncate(self.number, 0)
-        at = 0
+        self.data, at = data, 0
         while at < len(data):
             at += os.pwrite(self.number, data[at:], at)
 

@@ -12,7 +12,7 @@ from .kit import REFRESHING, OverServer, needs_tokens, read, rows_of
 PLAIN = os.path.join(os.path.dirname(os.path.abspath(__file__)), "plain.py")
 PORTER = example("porter.sbl")
 SHORT = "externals ( stem )\nroutines ( tail )\nbackwardmode ( define tail as ( [ among ( 'ing' 'ed' ) ] delete ) )\ndefine stem as backwards tail\n"
-LOOPING = SHORT.replace("delete", "<- 'ing'").replace("backwards tail", "backwards repeat tail")
+LOOPING = SHORT.replace("as backwards tail", "as ( repeat true backwards tail )")
 
 
 def uri_of(room: str, name: str = "my.sbl") -> str:

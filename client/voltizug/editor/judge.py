@@ -13,15 +13,8 @@ from .language import COMMANDS, CONTROL, DECLARATIONS, ITEMS, OTHERS, VALUES
 PATIENCE, MOST, LINES = 20.0, 100, 5
 # The faults that are at no place; white space.
 OF_ALL, BLANK = ("NoExternal", "ScriptTooLong"), "\ufeff \t\r\n\v\f"
-
-
-class Fault(NamedTuple):
-    """A fault of a text, with its name in docs/LANGUAGE.md."""
-
-    name: str
-    start: int
-    end: int
-    sentence: str
+# A fault of a text: its name in docs/LANGUAGE.md, from where to where it is, and the program's sentence.
+Fault = NamedTuple("Fault", [("name", str), ("start", int), ("end", int), ("sentence", str)])
 
 
 class Judge:
@@ -105,11 +98,9 @@ class Judge:
         is_done = any(item.first == begin and item.last < len(tokens) - 1 for item in before.order)
         rest = [] if is_done or first == "backwardmode" else tokens[begin:]
         shown = "backwardmode ( " * before.is_in_backwardmode + " ".join("'a'" if token.kind == "literal" else token.text for token in rest) + " "
-        return [word for word in (*ITEMS, *CONTROL, *COMMANDS, *VALUES, *OTHERS, "NAME") if self.fits(shown, word)]
-
-    def fits(self, shown: str, word: str) -> bool:
-        fault = self.faults(Text(shown + word + " {}" * (word == "stringescapes")))[:1]
-        return not fault or fault[0].name != "Syntax" or fault[0].start > len(shown)
+        words = (*ITEMS, *CONTROL, *COMMANDS, *VALUES, *OTHERS, "NAME")
+        faults = {word: self.faults(Text(shown + word + " {}" * (word == "stringescapes")))[:1] for word in words}
+        return [word for word, found in faults.items() if not found or found[0].name != "Syntax" or found[0].start > len(shown)]
 
 
 def placed(name: str, text: Text, line: int, column: int, length: int, sentence: str) -> Fault:

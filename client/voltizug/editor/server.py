@@ -7,11 +7,12 @@ import sys
 import threading
 import time
 from functools import partial
-from typing import Any, Callable, Dict, List, Optional, Tuple
+from typing import Any, Callable, Dict, Iterable, List, Optional, Tuple
 from urllib.parse import quote, unquote, urlsplit
 
 from ..kept import read_file
 from ..layout import counted, named
+from ..program import ROWS
 from ..texts import Text, encoded, of_revision
 from .index import Index
 from .judge import Fault, Judge
@@ -120,6 +121,11 @@ class Server:
         self.unit = "utf-32" if "utf-32" in ((self.client.get("general") or {}).get("positionEncodings") or []) else "utf-16"
         return {"serverInfo": {"name": "snowbench"}, "capabilities": {"positionEncoding": self.unit, **self.capabilities}}
 
+    def on_initialized(self, params: Message) -> None:
+        hello = self.judge.program("stem")[0].ask(["hello"])
+        if hello.is_done and hello.lines[0].split(",")[-1] != ROWS:
+            self.tell("the program writes other rows than this server knows: they are not of one version")
+
     def on_shutdown(self, params: Message) -> None:
         self.status = 0
 
@@ -127,8 +133,8 @@ class Server:
         self.is_over = True
 
     def on_didChangeConfiguration(self, params: Message) -> None:
-        self.settings = settings_of(params.get("settings")) or self.settings
-        for document in self.documents.values():
+        before, self.settings = self.settings, settings_of(params.get("settings")) or self.settings
+        for document in self.documents.values() if self.settings != before else ():
             self.close_words(document)
             document.is_judged, document.marked = False, None
 
@@ -187,7 +193,7 @@ class Server:
 
     def judge_script(self, document: Document) -> None:
         document.faults = self.judge.faults(document.text, self.external(document))
-        self.publish(document, [diagnostic(document.text.range(fault.start, fault.end), fault.sentence, ERROR, fault.name) for fault in document.faults])
+        self.publish(document, [(document.text.range(fault.start, fault.end), fault.sentence, ERROR, fault.name) for fault in document.faults])
         document.accepted = document.accepted if document.faults else document.text
         if document.marked is None and document.accepted:
             self.set_mark(document, str(self.settings.get("mark") or ""))
@@ -202,22 +208,24 @@ class Server:
         there = [name for name, kind in self.index(document).kinds.items() if kind == "external"]
         return there[0] if len(there) == 1 else "stem"
 
-    def publish(self, document: Document, found: List[Message]) -> None:
+    def publish(self, document: Document, found: Iterable[Tuple[Message, str, int, str]]) -> None:
+        """Shows what is at places: each is a range, a sentence, how severe it is, and a name."""
         version = {} if document.version is None else {"version": document.version}
-        self.send({"method": "textDocument/publishDiagnostics", "params": {"uri": document.uri, **version, "diagnostics": found}})
+        rows = [{"range": place, "severity": severity, "source": "snowbench", "message": what, "code": code} for place, what, severity, code in found]
+        self.send({"method": "textDocument/publishDiagnostics", "params": {"uri": document.uri, **version, "diagnostics": rows}})
 
     def show_differences(self, document: Document) -> None:
         """Shows the words whose stem is not the expected one: each at the word, or in the file of stems at its line."""
-        found: List[Message] = []
+        found: List[Tuple[Message, str, int, str]] = []
         for script in self.scripts_of(document):
             state = script.vocabulary.state if script.vocabulary else None
             if state and state.lines and len(state.lines) != len(state.outcomes):
                 what = counted(len(state.lines), "expected stem"), counted(len(state.outcomes), "word")
-                found.append(diagnostic(document.text.line_range(0), "%s, and the vocabulary has %s" % what, WARNING, "stems"))
+                found.append((document.text.line_range(0), "%s, and the vocabulary has %s" % what, WARNING, "stems"))
             elif state and state.expected:
                 words = map(document.text.line, range(len(document.text.starts))) if document.kind == "words" else state.outcomes
                 lines = [(line, word) for line, word in enumerate(words) if word in state.expected][:MOST]
-                found += [diagnostic(document.text.line_range(line), difference(state, word), WARNING, "stem") for line, word in lines]
+                found += [(document.text.line_range(line), difference(state, word), WARNING, "stem") for line, word in lines]
         self.publish(document, found)
 
     # Words
@@ -284,10 +292,6 @@ class Server:
         """Whether figures of the text as it is are on their way."""
         is_running = document.vocabulary and document.accepted and not document.faults and not document.vocabulary.is_current(document.accepted.text)
         return bool(document.due or not document.is_judged or is_running)
-
-
-def diagnostic(place: Message, sentence: str, severity: int, code: str) -> Message:
-    return {"range": place, "severity": severity, "source": "snowbench", "message": sentence, "code": code}
 
 
 def settings_of(given: Any) -> Message:

@@ -1,5 +1,6 @@
 """What is shown in a text of the words' runs: figures above definitions and beside strings, hovers, stems beside words, and the commands."""
 import csv
+import re
 import subprocess
 from typing import Any, Callable, Dict, List, Optional, Tuple
 
@@ -15,6 +16,8 @@ from .wire import Message
 # How many words a hover names, and how many lines of a definition it has; for how many seconds scripts are compared.
 FEW, LINES, PATIENCE = 5, 24, 60
 LATE = ["this takes long: try again"]
+# What no line to the program may have.
+STRANGE = re.compile("[\r\n\ud800-\udfff]|.{10000}")
 
 
 def state_of(document: Optional[Document]) -> Optional[State]:
@@ -101,7 +104,7 @@ def hover(server: Server, params: Message) -> Any:
     document, index, token, name = place(server, params)
     if document.kind != "script":
         script, word = script_of(server, document), document.text.line(params["position"]["line"])
-        is_word = document.kind == "words" and bool(word) and state_of(script) is not None
+        is_word = document.kind == "words" and bool(word) and not STRANGE.search(word) and state_of(script) is not None
         return later(server, script, lambda vocabulary: markdown(["```", *vocabulary.why(word), "```"]), markdown(LATE)) if is_word else None
     if token is None or not name and token not in index.strings:
         return None
@@ -116,8 +119,8 @@ def hover(server: Server, params: Message) -> Any:
     else:
         among, one = index.strings[token][0], taken(state, index, token)
         about = "`%s` of among %d in %s" % (token.text, among.k, among.name)
-        asked = "%s %d %s" % (among.name, among.k, one[0]) if one and "\n" not in one[0] else ""
-    if not asked:
+        asked = "%s %d %s" % (among.name, among.k, one[0]) if one else ""
+    if not asked or STRANGE.search(asked):
         return markdown([about, *code], part)
     return later(server, document, lambda vocabulary: markdown([about, *users(document, vocabulary, asked), *code], part), markdown([about, *code], part))
 
@@ -203,6 +206,6 @@ def execute(server: Server, params: Message) -> Any:
     """Does a command, whose first argument is the text: a script, or its words."""
     name, arguments = str(params["command"]).replace("snowbench.", "", 1), [*map(str, params.get("arguments") or []), "", ""]
     document = script_of(server, server.documents.get(arguments[0]))
-    if name not in COMMANDS or document is None or "\n" in arguments[1]:
+    if name not in COMMANDS or document is None or STRANGE.search(arguments[1]):
         raise Refused("there is no command %s" % named(name) if name not in COMMANDS else "the script is not open")
     return COMMANDS[name](server, document, arguments[1])

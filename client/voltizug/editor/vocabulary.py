@@ -7,13 +7,12 @@ from itertools import zip_longest
 from typing import Any, Callable, Dict, List, NamedTuple, Optional, Sequence, Tuple
 
 from .. import layout, reports, rows
-from ..layout import named
 from ..places import Places
-from ..program import BROKEN, DONE, Program, Reply
+from ..program import BROKEN, DONE, LONG, Program, Reply
 from ..texts import Memory, encoded, lines_of
 
-# After how many seconds a run is given up for a newer text; of how many changed words it is asked where they begin to differ.
-LONG, MOST = 1.0, 500
+# Of how many changed words it is asked where they begin to differ.
+MOST = 500
 
 
 class Wish(NamedTuple):
@@ -64,10 +63,10 @@ class Vocabulary:
         self.wish, self.done, self.state = None, None, None  # type: Optional[Wish], Optional[Wish], Optional[State]
         self.orders, self.steps = [], []  # type: List[Callable[[], None]], List[Callable[[], None]]
         self.condition, self.is_over, self.since = threading.Condition(), False, 0.0
-        # The program, and one without words that has the marked text; their files; what the program has; a marked text that was given up.
+        # The program, and one without words that has the marked text; their files; what the program has; a text that was given up.
         self.program, self.old = None, None  # type: Optional[Program], Optional[Program]
         self.script, self.words, self.mark = Memory(), Memory(), Memory()
-        self.has, self.slow = Wish("", "", b""), ""
+        self.has, self.slow = Wish("", "", b""), b""
         threading.Thread(target=self.work, daemon=True).start()
 
     # In the main thread
@@ -76,14 +75,12 @@ class Vocabulary:
         with self.condition:
             is_new, self.wish, since = wish != self.wish, wish, self.since
             self.condition.notify()
-        if since and is_new:
-            # (the script before may loop on many words: then its runs are given up)
-            timer = threading.Timer(max(0.0, LONG - time.monotonic() + since), self.give_up, [since])
-            timer.daemon = True
-            timer.start()
+        if is_new and since and time.monotonic() - since > LONG:
+            self.give_up()
 
-    def give_up(self, since: float) -> None:
-        if self.program and self.since == since and self.wish != self.done:
+    def give_up(self) -> None:
+        """Gives runs that take long up for a newer text: the script before may loop. (The program calls it, too.)"""
+        if self.program and self.wish != self.done:
             self.program.break_off()
 
     def order(self, order: Callable[[], None]) -> None:
@@ -114,7 +111,7 @@ class Vocabulary:
             try:
                 if not self.is_over:
                     (order or step or (lambda: self.run(wish)))()
-            except (OSError, ValueError) as why:
+            except Exception as why:
                 self.steps = []
                 if wish == self.wish and not self.is_over:
                     self.report("%s" % why)
@@ -123,6 +120,7 @@ class Vocabulary:
 
     def begun(self, script: Memory, words: Optional[str] = None) -> Program:
         program = Program([self.command, "work", "--text", "--external", self.external], script.path, words, "/nowhere")
+        program.on_long = self.give_up
         program.begin([], script.path)
         return program
 
@@ -135,6 +133,7 @@ class Vocabulary:
         replies = asked.ask_each([[request] for request in requests])
         self.since = 0.0
         if replies[-1].state != DONE:
+            self.slow = self.script.data if replies[-1].state == BROKEN else self.slow
             asked.stop()
             self.program, self.old = (self.program, None) if program else (None, self.old)
             raise ChildProcessError("given up" if replies[-1].state == BROKEN else " ".join(replies[0].said) or "the program has ended")
@@ -149,13 +148,15 @@ class Vocabulary:
             self.program = self.begun(self.script, self.words.path)
             self.ask("stats")
             self.has = wish._replace(marked=wish.text)
+            if encoded(wish.marked) == self.slow != encoded(wish.text):
+                self.report("the text of the mark takes too long: the mark is the text as it is now")
         if wish.words != self.has.words:
             self.words.fill(wish.words)
             refusal = self.ask("words")[0].refusal()
             if refusal:
                 raise ChildProcessError("the words are refused: %s" % refusal[1])
             self.has = self.has._replace(words=wish.words)
-        if wish.marked not in (self.has.marked, self.slow):
+        if wish.marked != self.has.marked and encoded(wish.marked) != self.slow:
             self.set_mark(wish.marked)
         self.script.fill(encoded(wish.text))
         reload, *replies = self.ask("reload", "stats", "changes", "stems", *(["families " + wish.families] if wish.families else []))
@@ -164,17 +165,17 @@ class Vocabulary:
             self.report("")
 
     def set_mark(self, marked: str) -> None:
-        """Marks a text. One that is refused, or that is given up, is not tried again."""
+        """Marks a text. One that is refused is not tried again."""
         self.script.fill(encoded(marked))
-        self.slow = marked
         reload = self.ask("reload")[0]
         if not reload.is_done:
+            self.slow = self.script.data
             self.report("the text of the mark is refused: %s" % (reload.refusal() or (0, ""))[1])
             return
         self.ask("mark")
         if self.old:
             self.old.stop()
-        self.has, self.slow, self.old = self.has._replace(marked=marked), "", None
+        self.has, self.old = self.has._replace(marked=marked), None
 
     def count(self) -> None:
         """The second step: how many words use each part."""
@@ -204,7 +205,7 @@ class Vocabulary:
         """Returns the report of a command, laid out."""
         reply, word = self.ask(line)[0], line.partition(" ")[0]
         if not reply.is_done:
-            return ["%s: %s" % (named(line), (reply.refusal() or (0, "refused"))[1])]
+            return ["%s: %s" % (layout.named(line), (reply.refusal() or (0, "refused"))[1])]
         return (reports.PLACED[word](reply.lines, self.places()) if word in reports.PLACED else reports.REPORTS[word](reply.lines)) or [empty]
 
     def places(self) -> Places:
@@ -217,7 +218,7 @@ class Vocabulary:
         """Why a word has its stem, and its class."""
         events, figures = self.ask("events " + word, "integers " + word)
         if not events.is_done or not figures.is_done:
-            return ["no word: %s" % named(word)]
+            return ["no word: %s" % layout.named(word)]
         return reports.why(word, rows.read("events", events.lines), rows.read("integers", figures.lines), self.places(), {}) + self.asked("class " + word)
 
     def changes(self, name: str) -> List[str]:
@@ -237,4 +238,4 @@ def deeds(reply: Reply) -> List[Tuple[str, ...]]:
 
 def difference(state: State, word: str) -> str:
     row = state.outcomes[word]
-    return "%s: expected %s, got %s" % (named(word), named(state.expected[word]) or "(empty)", layout.outcome(row.kind, row.stem))
+    return "%s: expected %s, got %s" % (layout.named(word), layout.named(state.expected[word]) or "(empty)", layout.outcome(row.kind, row.stem))
