@@ -3,7 +3,7 @@ hook global BufCreate .*[.]sbl %{ set-option buffer filetype snowball }
 hook global BufCreate .*[.]words %{ set-option buffer filetype snowball-words }
 hook global WinSetOption filetype=snowball %{
     add-highlighter window/snowball ref snowball
-    set-option buffer comment_line '//'
+    try %{ set-option buffer comment_line '//' }
     hook -once -always window WinSetOption filetype=.* %{ remove-highlighter window/snowball }
 }
 add-highlighter shared/snowball regions

@@ -51,7 +51,7 @@ end
 
 local function attach(buffer)
   if not client or not vim.lsp.get_client_by_id(client) then
-    client = vim.lsp.start_client({
+    client = (vim.lsp.start_client or vim.lsp.start)({
       name = 'snowbench', cmd = { program, 'lsp' }, root_dir = vim.fn.getcwd(), on_attach = attached,
       init_options = vim.g.snowbench_settings or vim.empty_dict(), flags = { debounce_text_changes = 20 },
     })

@@ -7,6 +7,7 @@ import unittest
 from voltizug.editor import language
 from voltizug.editor.index import Index
 from voltizug.editor.judge import Judge
+from voltizug.program import DONE, Reply
 from voltizug.texts import Text
 
 from ..kit import PROGRAM, Case
@@ -52,6 +53,22 @@ class Table(unittest.TestCase):
         for path in ("vim/syntax/snowball.vim", "emacs/snowball-mode.el", "vscode/snowball.tmLanguage.json", "kakoune/snowball.kak"):
             words = set(re.findall("[a-z]+", read(os.path.join(folder, path))))
             self.assertEqual(language.RESERVED - words, set(), path)
+
+
+class Rows(unittest.TestCase):
+    def test_all_faults(self):
+        """A program with rows for faults says all of them, by bytes and by characters."""
+        text = Text("externals ( stem )\ndefine stem as ( '\u00e9' nowhere '\U0001d51e' never )\n")
+        lines = [
+            'fault,10,Undeclared,41,48,2,22,"nowhere is not declared, and so on"', "fault,10,Undeclared,56,61,2,34,never is not declared",
+            "fault,21,NoExternal,0,0,1,1,no external",
+        ]
+        judge = Judge(PROGRAM)
+        judge.ask_known = lambda text, external, word: Reply(DONE, lines, [])
+        found = [(fault.name, fault.start, fault.end, fault.sentence) for fault in judge.faults(text)]
+        wanted = [("Undeclared", 40, 47, "nowhere is not declared, and so on"), ("Undeclared", 52, 57, "never is not declared"), ("NoExternal", 0, 9, "no external")]
+        self.assertEqual(found, wanted)
+        self.assertEqual([text.text[start:end] for _, start, end, _ in found], ["nowhere", "never", "externals"])
 
 
 @needs_tokens
