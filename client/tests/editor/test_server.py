@@ -186,6 +186,9 @@ class Words(OverServer):
         editor.open(words, "walking\n", "snowball-words")
         part = {"start": {"line": 0, "character": 0}, "end": {"line": 9, "character": 0}}
         self.assertTrue(editor.wait(lambda: [hint["label"] for hint in editor.about(words, "inlayHint", range=part)] == ["-> walk"]))
+        self.assertIn("walk: walking", editor.run("class", words, "walking")[0])
+        editor.tell("textDocument/didClose", {"textDocument": {"uri": words}})
+        self.assertIn("not open", editor.run("class", uri_of(folder), "walking")["message"])
 
     def test_expected_stems(self):
         editor, uri = self.begin(my_stems="walk\nwalk\nwalk\n")
@@ -257,8 +260,12 @@ class Words(OverServer):
         editor.run("mark", uri, "HEAD")
         self.assertTrue(editor.wait(lambda: editor.titles(uri)[0][1] == "1 word changed since HEAD"))
         self.assertIn("git has no my.sbl", editor.run("compare", uri, "nowhere")["message"])
-        editor.run("mark", uri, "--output=x")
-        self.assertTrue(editor.wait(lambda: any("git has no" in note["params"].get("message", "") for note in editor.notes)))
+        self.assertIn("git has no", editor.run("mark", uri, "--output=x")["message"])
+        self.assertEqual(editor.titles(uri)[0][1], "1 word changed since HEAD")
+        other = self.editor({"mark": "nowhere"})
+        other.open(uri, SHORT)
+        self.assertTrue(other.wait(lambda: any("git has no" in note["params"].get("message", "") for note in other.notes)))
+        self.assertEqual(other.titles(uri)[0][1], "0 words changed since the mark")
 
     def test_two_steps_for_a_client_that_refreshes(self):
         editor, uri = self.begin(None, REFRESHING)

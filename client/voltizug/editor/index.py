@@ -7,24 +7,10 @@ from typing import Dict, List, NamedTuple, Optional, Sequence, Tuple
 from ..rows import Token
 from .language import AFTER, ARITHMETIC, AS_COMMAND, AS_CONDITION, DECLARATIONS, ITEMS
 
-
-class Item(NamedTuple):
-    """A definition: the token of its name, its first and last tokens by number, whether it is of a routine, and whether it is backward."""
-
-    name: Token
-    first: int
-    last: int
-    is_routine: bool
-    is_backward: bool
-
-
-class Among(NamedTuple):
-    """An among of a routine: its number, from 1, its word, and its strings."""
-
-    name: str
-    k: int
-    word: Token
-    strings: List[Token]
+# A definition: the token of its name, its first and last tokens by number, whether it is of a routine, and whether it is backward.
+Item = NamedTuple("Item", [("name", Token), ("first", int), ("last", int), ("is_routine", bool), ("is_backward", bool)])
+# An among of a routine: its number, from 1, its word, and its strings.
+Among = NamedTuple("Among", [("name", str), ("k", int), ("word", Token), ("strings", List[Token])])
 
 
 class Index:

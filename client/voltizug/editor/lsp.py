@@ -14,10 +14,9 @@ REQUESTS: Dict[str, Callable[..., Any]] = {
     "inlayHint": shown.hints, "executeCommand": shown.execute,
 }
 CAPABILITIES = {
-    "textDocumentSync": {"openClose": True, "change": 2, "save": {"includeText": False}},
+    "textDocumentSync": {"openClose": True, "change": 2, "save": True}, "codeLensProvider": {"resolveProvider": False},
     **{name + "Provider": True for name in "hover definition references rename documentSymbol inlayHint".split()},
     "completionProvider": {"triggerCharacters": ["$"]}, "codeActionProvider": {"codeActionKinds": ["quickfix", "source"]},
-    "codeLensProvider": {"resolveProvider": False},
     "executeCommandProvider": {"commands": ["snowbench." + name for name in shown.COMMANDS]},
 }
 

@@ -61,7 +61,8 @@ class Server:
         while not self.is_over:
             with contextlib.suppress(queue.Empty):
                 self.queue.get(timeout=self.rest())()
-            self.look_at_texts()
+            with contextlib.suppress(OSError, ValueError):
+                self.look_at_texts()
             self.answer_waiting()
         for document in self.documents.values():
             self.close_words(document)
@@ -172,6 +173,10 @@ class Server:
         self.close_words(document)
         self.publish(document, [])
         self.words_changed(document)
+        if document.kind != "script" and all(other.version is None for other in self.documents.values()):
+            # (the scripts that no client has open were there for it)
+            while self.documents:
+                self.close_words(self.documents.popitem()[1])
 
     def words_changed(self, document: Document) -> None:
         """Has the scripts run again whose words or stems a text has."""
@@ -196,7 +201,11 @@ class Server:
         self.publish(document, [(document.text.range(fault.start, fault.end), fault.sentence, ERROR, fault.name) for fault in document.faults])
         document.accepted = document.accepted if document.faults else document.text
         if document.marked is None and document.accepted:
-            self.set_mark(document, str(self.settings.get("mark") or ""))
+            try:
+                self.set_mark(document, str(self.settings.get("mark") or ""))
+            except Refused as why:
+                self.tell("%s, so the mark is the text as it is now" % why)
+                self.set_mark(document, "")
         is_run = not document.faults and (not document.vocabulary or self.settings.get("run") != "onSave")
         document.due = time.monotonic() + QUIET if is_run else 0.0
 
@@ -256,10 +265,8 @@ class Server:
 
     def set_mark(self, document: Document, revision: str) -> None:
         """Marks the text as it is, or that of a git revision."""
-        text = of_revision(document.path, revision) if revision else None
-        document.mark_name, document.marked = (revision, text) if text is not None else ("", (document.accepted or document.text).text)
-        if revision and text is None:
-            self.tell("git has no %s of the revision %s, so the mark is the text as it is now" % (document.name, named(revision)))
+        document.marked = text_of(document, revision) if revision else (document.accepted or document.text).text
+        document.mark_name = revision
 
     def close_words(self, document: Document) -> None:
         if document.vocabulary:
@@ -290,8 +297,16 @@ class Server:
 
     def is_waiting(self, document: Document) -> bool:
         """Whether figures of the text as it is are on their way."""
-        is_running = document.vocabulary and document.accepted and not document.faults and not document.vocabulary.is_current(document.accepted.text)
+        vocabulary, state = document.vocabulary, document.vocabulary.state if document.vocabulary else None
+        is_running = vocabulary and not document.faults and not (state and state.is_counted and state.wish == vocabulary.wish)
         return bool(document.due or not document.is_judged or is_running)
+
+
+def text_of(document: Document, revision: str) -> str:
+    text = of_revision(document.path, revision)
+    if text is None:
+        raise Refused("git has no %s of the revision %s" % (document.name, named(revision)))
+    return text
 
 
 def settings_of(given: Any) -> Message:

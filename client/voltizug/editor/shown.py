@@ -6,10 +6,10 @@ from typing import Any, Callable, Dict, List, Optional, Tuple
 
 from .. import layout, rows
 from ..layout import counted, named
-from ..texts import Memory, of_revision
+from ..texts import Memory
 from .index import Index
 from .requests import place
-from .server import Document, Refused, Server
+from .server import Document, Refused, Server, text_of
 from .vocabulary import State, Vocabulary
 from .wire import Message
 
@@ -165,11 +165,9 @@ def mark(server: Server, document: Document, revision: str) -> Any:
 
 def compare(server: Server, document: Document, revision: str) -> Any:
     """How the text that was accepted last differs from that of a git revision, and what that changes for the words."""
-    old, external = of_revision(document.path, revision or "HEAD"), server.external(document)
-    if old is None or document.accepted is None:
-        raise Refused("git has no %s of the revision %s" % (document.name, named(revision or "HEAD")))
-    files = [Memory(old), Memory(document.accepted.text), Memory()]
-    call = [server.command, "compare", "--rows", "--external", external, *(file.path for file in files)]
+    new = document.accepted.text if document.accepted else ""
+    files = [Memory(text_of(document, revision or "HEAD")), Memory(new), Memory()]
+    call = [server.command, "compare", "--rows", "--external", server.external(document), *(file.path for file in files)]
 
     def make(vocabulary: Vocabulary) -> List[str]:
         files[2].fill(vocabulary.has.words)

@@ -47,12 +47,13 @@ class State:
         self.begins: Dict[str, List[str]] = {}
 
     def count(self, lines: Sequence[str]) -> None:
-        self.names, self.strings, self.is_counted = {}, {}, True
+        names, strings = {}, {}  # type: Dict[str, int], Dict[Tuple[str, int], List[Tuple[str, int]]]
         for row in rows.read("counts", lines):
             if row.kind == "entry":
-                self.strings.setdefault((row.name, int(row.k)), []).append((row.string, int(row.count)))
+                strings.setdefault((row.name, int(row.k)), []).append((row.string, int(row.count)))
             elif row.kind != "among":
-                self.names[row.name] = int(row.count)
+                names[row.name] = int(row.count)
+        self.names, self.strings, self.is_counted = names, strings, True
 
 
 class Vocabulary:
@@ -96,9 +97,6 @@ class Vocabulary:
         for program in filter(None, (self.program, self.old)):
             if program.process:
                 program.process.kill()
-
-    def is_current(self, text: str) -> bool:
-        return bool(self.state) and self.state.wish.text == text and self.state.is_counted and self.wish == self.done
 
     # In its own
 
@@ -192,11 +190,12 @@ class Vocabulary:
         if self.old is None:
             self.mark.fill(encoded(self.has.marked))
             self.old = self.begun(self.mark)
-        events = ["events " + word for word in changed]
+        events, begins = ["events " + word for word in changed], {}  # type: List[str], Dict[str, List[str]]
         for word, old, new in zip(changed, self.ask(*events, program=self.old), self.ask(*events)):
             differing = [after or before for before, after in zip_longest(deeds(old), deeds(new)) if before != after]
             if differing:
-                self.state.begins.setdefault(differing[0][0], []).append(word)
+                begins.setdefault(differing[0][0], []).append(word)
+        self.state.begins = begins
         self.report("")
 
     # Orders: they return lines
