@@ -19,7 +19,7 @@ class Table(unittest.TestCase):
         self.page = read(os.path.join(TOP, "docs", "LANGUAGE.md"))
 
     def test_reserved_words(self):
-        words = re.search(r"Reserved words: `([a-z\s]+)`", self.page)
+        words = re.search(r"Reserved words:\s`([a-z\s]+)`", self.page)
         self.assertEqual(sorted(language.RESERVED), sorted(words[1].split()))
 
     def test_no_word_is_there_twice(self):
@@ -31,16 +31,14 @@ class Table(unittest.TestCase):
         self.assertEqual(set(language.LEFT_OUT), {word for word in re.findall("`([^`]+)`", row[1]) if word.isalpha()})
 
     def test_kinds_of_names(self):
-        table = dict(re.findall(r"^\| (after .*?|as a command|in .*?) \| ([a-z, ]+) \|$", self.page, re.M))
-        wanted = {}
-        for where, kinds in table.items():
-            kinds = tuple(re.findall("[a-z]+", kinds.replace(" or ", " ")))
-            for word in re.findall("`([^`]+)`", where.split(";")[0]):
-                wanted.setdefault(word, set()).update(kinds)
-        for word in ("set", "unset", "setmark", "$", "->", "<-", "<+", "insert", "attach", "lenof"):
-            self.assertEqual(set(language.AFTER[word]), wanted[word], word)
-        self.assertEqual(set(language.AFTER["define"]), {"routine", "external", "grouping"})
-        self.assertEqual(set(language.AS_COMMAND), set(re.findall("[a-z]+", table["as a command"].replace(" or ", " "))))
+        wanted, names = {}, re.search(r"\*\*Names\.\*\*.*?\n\n(.*?)\n\n", self.page, re.S)
+        for where, kinds in re.findall(r"^- (.*): ([a-z, ]+)[;.]$", names[1], re.M):
+            for word in re.findall("`([^`]+)`", where.split("before")[0]) or ["as a command"]:
+                wanted.setdefault(word, set()).update(set(re.findall("[a-z]+", kinds)) - {"or"})
+        self.assertEqual(wanted.pop("as a command"), set(language.AS_COMMAND))
+        self.assertEqual(wanted, {word: set(kinds) for word, kinds in language.AFTER.items()})
+        condition = re.search(r"as a condition after a string of an `among`: ([a-z ]+);", self.page)[1]
+        self.assertEqual(condition.split(" or "), list(language.AS_CONDITION))
 
     def test_the_program_refuses_each_as_a_name(self):
         judge = Judge(PROGRAM)
