@@ -8,7 +8,7 @@ import sys
 import threading
 import time
 import unittest
-from typing import Any, Dict, List, Optional
+from typing import Any, Dict, List, Optional, Set
 
 from voltizug.editor.wire import read_message, write_message
 from voltizug.texts import Text
@@ -55,7 +55,7 @@ class Editor:
             message = read_message(self.process.stdout)  # type: ignore
             self.queue.put(message)
 
-    def take(self, seconds: float = 30) -> Any:
+    def take(self, seconds: float = 60) -> Any:
         message = self.queue.get(timeout=seconds)
         if message is None:
             raise EOFError("the server has ended")
@@ -68,7 +68,7 @@ class Editor:
     def tell(self, method: str, params: Any) -> None:
         write_message(self.process.stdin, {"method": method, "params": params})  # type: ignore
 
-    def ask(self, method: str, params: Any, seconds: float = 30) -> Any:
+    def ask(self, method: str, params: Any, seconds: float = 60) -> Any:
         """Returns the result, or the error."""
         self.number += 1
         number = self.number
@@ -100,7 +100,7 @@ class Editor:
         self.tell("textDocument/didChange", {"textDocument": {"uri": uri, "version": self.versions[uri]}, "contentChanges": changes})
         return self.published(uri)
 
-    def published(self, uri: str, seconds: float = 30) -> List[Any]:
+    def published(self, uri: str, seconds: float = 60) -> List[Any]:
         while self.diagnostics.get(uri, {}).get("version") != self.versions[uri]:
             self.take(seconds)
         return self.diagnostics[uri]["diagnostics"]
@@ -115,7 +115,15 @@ class Editor:
             found.setdefault(lens["range"]["start"]["line"], []).append(lens["command"]["title"])
         return found
 
-    def wait(self, what: Any, seconds: float = 20) -> bool:
+    def programs(self) -> Set[int]:
+        """Returns the processes that the server has started."""
+        found: Set[int] = set()
+        for thread in os.listdir("/proc/%d/task" % self.process.pid):
+            with open("/proc/%d/task/%s/children" % (self.process.pid, thread)) as file:
+                found |= set(map(int, file.read().split()))
+        return found
+
+    def wait(self, what: Any, seconds: float = 90) -> bool:
         """Takes messages until something is so."""
         end = time.monotonic() + seconds
         while not what() and time.monotonic() < end:
@@ -128,7 +136,7 @@ class Editor:
     def end(self) -> int:
         self.ask("shutdown", None)
         self.tell("exit", None)
-        return self.process.wait(20)
+        return self.process.wait(60)
 
     def kill(self) -> None:
         self.process.kill()

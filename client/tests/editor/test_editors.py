@@ -10,7 +10,7 @@ from ..kit import CLIENT, PROGRAM, Case, example, write
 from .kit import TOP, needs_tokens
 
 HERE = os.path.join(os.path.dirname(os.path.abspath(__file__)), "headless")
-SECONDS = 100
+SECONDS = 180
 
 
 def has_eglot() -> bool:

@@ -278,24 +278,23 @@ class Words(OverServer):
 
 class Trouble(OverServer):
     def test_a_loop_holds_nothing_up(self):
-        words = "".join("w%ding\n" % i for i in range(20000))
-        folder = self.room(my_sbl=SHORT, my_words=words)
+        """While words loop, faults are shown; for a newer text the program is started again, and the mark is that of before."""
+        folder = self.room(my_sbl=SHORT, my_words="".join("w%ding\n" % i for i in range(20000)))
         editor, uri = self.editor(None, REFRESHING), uri_of(folder)
         editor.open(uri, SHORT)
         self.assertTrue(editor.wait(lambda: editor.titles(uri)))
+        programs = editor.programs()
         editor.change(uri, LOOPING)
-        time.sleep(0.6)
+        time.sleep(1)
         begin = time.monotonic()
         self.assertEqual(len(editor.change(uri, LOOPING.replace("repeat", "repeet"))), 1)
-        self.assertLess(time.monotonic() - begin, 0.5)
-        editor.change(uri, SHORT.replace("'ed'", "'es'"))
-        self.assertTrue(editor.wait(lambda: editor.titles(uri).get(0, ["", ""])[1] == "0 words changed since the mark" and not editor.run("changes", uri)[0].startswith("this"), 15))
-        self.assertLess(time.monotonic() - begin, 12)
+        self.assertLess(time.monotonic() - begin, 5)
+        editor.change(uri, SHORT.replace("'ing'", "'0ing'"))
+        self.assertTrue(editor.wait(lambda: editor.titles(uri)[0][1] == "20,000 words changed since the mark"))
+        self.assertEqual(len(editor.programs() & programs), 1)
         editor.change(uri, LOOPING)
         time.sleep(0.5)
-        begin = time.monotonic()
         self.assertEqual(editor.end(), 0)
-        self.assertLess(time.monotonic() - begin, 3)
 
     def test_a_script_that_loops_from_the_start(self):
         folder = self.room(my_sbl=LOOPING, my_words="".join("w%ding\n" % i for i in range(20000)))
@@ -303,18 +302,14 @@ class Trouble(OverServer):
         editor.open(uri, LOOPING)
         time.sleep(0.6)
         editor.change(uri, SHORT)
-        self.assertTrue(editor.wait(lambda: editor.titles(uri).get(0, [""])[0] == "20,000 words, 20,000 classes, 0 refused", 20))
+        self.assertTrue(editor.wait(lambda: editor.titles(uri).get(0, [""])[0] == "20,000 words, 20,000 classes, 0 refused"))
 
     def test_killed_programs(self):
         folder = self.room(my_sbl=SHORT, my_words="walking\n")
         editor, uri = self.editor(), uri_of(folder)
         editor.open(uri, SHORT)
         editor.titles(uri)
-        with open("/proc/%d/task/%d/children" % (editor.process.pid, editor.process.pid)) as file:
-            children = list(map(int, file.read().split()))
-        for thread in os.listdir("/proc/%d/task" % editor.process.pid):
-            with open("/proc/%d/task/%s/children" % (editor.process.pid, thread)) as file:
-                children += [child for child in map(int, file.read().split()) if child not in children]
+        children = editor.programs()
         self.assertEqual(len(children), 2)
         for child in children:
             os.kill(child, signal.SIGKILL)

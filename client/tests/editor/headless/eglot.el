@@ -4,7 +4,7 @@
 (setq eglot-sync-connect 20 snowball-program (concat (getenv "ROOM") "/snowbench"))
 (load (concat (getenv "TOP") "/client/editors/emacs/snowball-mode.el") nil t)
 (defun say (name value) (princ (format "%s: %s\n" name value)))
-(defun until-so (test) (let ((n 0)) (while (and (not (funcall test)) (< n 200)) (accept-process-output nil 0.1) (setq n (1+ n))) (funcall test)))
+(defun until-so (test) (let ((n 0)) (while (and (not (funcall test)) (< n 600)) (accept-process-output nil 0.1) (setq n (1+ n))) (funcall test)))
 (defun seen () (with-current-buffer "*snowball*" (buffer-substring-no-properties (point-min) (line-end-position))))
 (find-file (concat (getenv "ROOM") "/porter.sbl"))
 (say "mode" major-mode)
