@@ -29,6 +29,12 @@ def rows_of(script: str, words: str, *commands: str) -> List[List[str]]:
     return list(csv.reader(done.stdout.splitlines()))
 
 
+def accepted() -> List[str]:
+    """Returns the scripts that the program accepts. (Some published ones have stringescapes { }, or words that are left out here.)"""
+    calls = [(path, [PROGRAM, "work", "--rows", path]) for path in SCRIPTS]
+    return [path for path, call in calls if subprocess.run(call, input="", capture_output=True, encoding="utf-8").returncode == 0]
+
+
 def has(command: str) -> bool:
     """Whether the program knows a command."""
     return rows_of(os.path.join(EXAMPLES, "porter.sbl"), "", command)[0][0] != "no 52 BadCommand"

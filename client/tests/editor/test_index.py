@@ -11,7 +11,7 @@ from voltizug.program import DONE, Reply
 from voltizug.texts import Text
 
 from ..kit import PROGRAM, Case
-from .kit import SCRIPTS, TOP, needs_tokens, read, rows_of
+from .kit import TOP, accepted, needs_tokens, read, rows_of
 
 
 class Table(unittest.TestCase):
@@ -76,7 +76,7 @@ class Names(Case):
 
     def test_places(self):
         """Definitions, amongs, strings and names are where the program has them: over each script."""
-        for path in SCRIPTS:
+        for path in accepted():
             text = read(path)
             index, bytes_at = Index(self.judge.tokens(text)), lambda at, text=text: len(text[:at].encode())
             found = [row for row in rows_of(path, "", "places")]

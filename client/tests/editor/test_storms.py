@@ -11,7 +11,7 @@ from voltizug.editor.judge import Judge
 from voltizug.texts import Text
 
 from ..kit import PROGRAM, example
-from .kit import REFRESHING, SCRIPTS, STORM, OverServer, needs_tokens, read, rows_of
+from .kit import REFRESHING, SCRIPTS, STORM, OverServer, accepted, needs_tokens, read, rows_of
 
 BITS = ["'", "(", ")", "/*", "*/", "//", "{", "\U0001d51e", "\u00e9", "\ufeff", "\r\n", "define ", "among ", "$", "\x00", "stringescapes "]
 PLACED = ("hover", "definition", "references", "completion")
@@ -22,10 +22,9 @@ class Renames(OverServer):
     def test_each_name(self):
         """Renaming gives the canonical text of before with another name."""
         editor, judge, count = self.editor({"run": "never"}), Judge(PROGRAM), 0
-        for path in SCRIPTS:
+        for path in accepted():
             text, uri = read(path), "file:///none/%s" % os.path.basename(path)
-            if editor.open(uri, text):
-                continue
+            self.assertEqual(editor.open(uri, text), [])
             index = Index(judge.tokens(text))
             names = [name for name in index.kinds if index.kinds[name] != "external"]
             for name in names if STORM > 1 else random.Random(1).sample(names, min(6, len(names))):
@@ -47,7 +46,7 @@ class Renames(OverServer):
     def test_each_definition(self):
         """The tokens of each definition are those of its canonical text."""
         judge, count = Judge(PROGRAM), 0
-        for path in SCRIPTS:
+        for path in accepted():
             text = read(path)
             index = Index(judge.tokens(text))
             names = [item.name.text for item in index.order]
@@ -61,10 +60,9 @@ class Renames(OverServer):
     def test_misspelt_names(self):
         editor, chance = self.editor({"run": "never"}), random.Random(2)
         judge = Judge(PROGRAM)
-        for path in SCRIPTS:
+        for path in accepted():
             text, uri = read(path), "file:///none/%s" % os.path.basename(path)
-            if editor.open(uri, text):
-                continue
+            self.assertEqual(editor.open(uri, text), [])
             index = Index(judge.tokens(text))
             used = [token for item in index.order if item.is_routine for token in index.tokens[item.first + 3 : item.last + 1] if token.text in index.kinds]
             token = chance.choice([token for token in used if token.kind == "name"])
