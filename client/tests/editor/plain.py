@@ -1,5 +1,6 @@
 #!/usr/bin/env python3
-"""A program that lacks the newer rows: the one of SNOWBENCH_PROGRAM, or of dist/, which is not asked for them."""
+"""A program that lacks the newer rows: the one of SNOWBENCH_PROGRAM, or of dist/, which is not asked for them. ROWS_OF_HELLO is the
+number of its rows."""
 import os
 import subprocess
 import sys
@@ -9,7 +10,9 @@ TOP = os.path.dirname(os.path.dirname(os.path.dirname(os.path.dirname(os.path.ab
 REAL = os.environ.get("SNOWBENCH_PROGRAM") or os.path.join(TOP, "dist", "snowbench-x86_64-linux")
 real = subprocess.Popen([REAL, *sys.argv[1:]], stdin=subprocess.PIPE, stdout=subprocess.PIPE, close_fds=False)
 for line in sys.stdin.buffer:
-    if line.split()[:1] and line.split()[0].decode() in LACKING:
+    if line == b"hello\n" and os.environ.get("ROWS_OF_HELLO"):
+        sys.stdout.buffer.write(b"voltizug,9.9.9,rows,%s\n" % os.environ["ROWS_OF_HELLO"].encode())
+    elif line.split()[:1] and line.split()[0].decode() in LACKING:
         sys.stdout.buffer.write(b"no 52 BadCommand\n")
     else:
         real.stdin.write(line + b"echo =end=\n")

@@ -53,6 +53,14 @@ class Faults(OverServer):
             self.assertFalse(editor.about(uri, what, 30))
         self.assertEqual(editor.end(), 0)
 
+    def test_a_program_of_another_version(self):
+        for number, is_other in (("2", False), ("3", True)):
+            os.environ["ROWS_OF_HELLO"] = number
+            self.addCleanup(os.environ.pop, "ROWS_OF_HELLO", None)
+            editor = self.editor(program=PLAIN)
+            editor.open("file:///none/x.sbl", SHORT)
+            self.assertEqual(any("not of one version" in note.get("params", {}).get("message", "") for note in editor.notes), is_other)
+
     def test_what_is_no_request(self):
         editor = self.editor()
         self.assertIn("no nothing", editor.ask("textDocument/nothing", {})["message"])

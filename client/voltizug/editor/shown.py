@@ -48,7 +48,8 @@ def lenses_of(server: Server, document: Document) -> List[Message]:
         return []
     at, figures, since = index.starts[0] if index.starts else 0, state.figures, document.mark_name or "the mark"
     sizes = counted(figures["words"], "word"), counted(figures["classes"], "class", "classes"), figures["refused"]
-    found = [(at, "{}, {}, {:,} refused".format(*sizes), "stats", ""), (at, "%s changed since %s" % (counted(len(state.changed), "word"), named(since)), "changes", "")]
+    changed = "%s changed since %s" % (counted(len(state.changed), "word"), named(since))
+    found = [(at, "{}, {}, {:,} refused".format(*sizes), "stats", ""), (at, changed, "changes", "")]
     if state.lines:
         found.append((at, counted(len(state.expected), "word has not the expected stem", "words have not the expected stem"), "differ", ""))
     if state.pairs:
