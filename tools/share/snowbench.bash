@@ -3,7 +3,7 @@ _snowbench() {
   local word=${COMP_WORDS[COMP_CWORD]} before=${COMP_WORDS[COMP_CWORD-1]} command=${COMP_WORDS[1]} options=""
   COMPREPLY=()
   if [ "$COMP_CWORD" -eq 1 ] || { [ "$COMP_CWORD" -eq 2 ] && [ "$command" = help ]; }; then
-    mapfile -t COMPREPLY < <(compgen -W 'work run session stem filter check compare page report help doctor --version --help' -- "$word")
+    mapfile -t COMPREPLY < <(compgen -W 'work run session stem filter check compare page report lsp help doctor --version --help' -- "$word")
     return
   fi
   case $command in
