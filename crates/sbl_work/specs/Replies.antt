@@ -189,17 +189,17 @@ abbrev pub IsLargestReply : Option ℕ → Contents → State → List ℕ → C
 IsLargestReply None s d text t e = TellsAlone bad_number_text s d text t e
 IsLargestReply (Some n) s d text t e = TellsReport (largest_text n s) s d text t e
 
--- the rows that the bytes have, if they are a text; or an allocation fails
+-- the rows that the bytes have, if they are a text, unless an allocation fails
 abbrev pub TellsRows : (List ℕ → List ℕ → Type 0) → Bool → List ℕ → Contents → State → List ℕ → Contents → State → Type 0
 TellsRows HasRows true bytes s d text t e = (HasRows bytes text × (t ≡ s) × (e ≡ d)) ⊎ TellsMemory s d text t e
-TellsRows HasRows false bytes s d text t e = TellsReport not_text_text s d text t e
+TellsRows HasRows false bytes s d text t e = TellsAlone not_text_text s d text t e
 
 abbrev pub IsRowsReply : (List ℕ → List ℕ → Type 0) → List ℕ → Contents → State → List ℕ → Contents → State → Type 0
 IsRowsReply HasRows bytes s d text t e = TellsRows HasRows (is_utf8 bytes) bytes s d text t e
 
 -- the tokens of the bytes of a file, unless there are more than a script may have
 abbrev pub TellsTokens : Bool → List ℕ → Contents → State → List ℕ → Contents → State → Type 0
-TellsTokens true bytes s d text t e = TellsReport (edit_text (Some (edit.Script script.ScriptTooLong))) s d text t e
+TellsTokens true bytes s d text t e = TellsAlone (edit_text (Some (edit.Script script.ScriptTooLong))) s d text t e
 TellsTokens false bytes s d text t e = IsRowsReply IsTokensText bytes s d text t e
 
 abbrev pub IsFileTokensReply : List ℕ → Contents → State → List ℕ → Contents → State → Type 0
@@ -241,4 +241,4 @@ IsWorkReply s d Text text t e = TellsReport (text_in s d.text) s d text t e
 IsWorkReply s d Places text t e = IsRowsReply IsPlacesText (text_in s d.text) s d text t e
 IsWorkReply s d Tokens text t e = IsRowsReply IsTokensText (text_in s d.text) s d text t e
 IsWorkReply s d (TokensOf bytes) text t e = IsFileTokensReply bytes s d text t e
-IsWorkReply s d Hello text t e = TellsReport hello_text s d text t e
+IsWorkReply s d Hello text t e = TellsAlone hello_text s d text t e
