@@ -18,7 +18,7 @@ pub record Context : Type 0 where
   -- the name of the definition that was begun last, and how many words `among` it has so far
   pub name : List ℕ
   pub amongs : ℕ
-  -- for each open parenthesis, the innermost first, the number of its among; 0 if it has none
+  -- for each open parenthesis, the innermost first, the number of the among that it is one of; 0 for another one
   pub brackets : List ℕ
   -- the token is right after `define`, right after `among`, or in a declaration
   pub follows_define : Bool
