@@ -189,10 +189,10 @@ abbrev pub IsLargestReply : Option ℕ → Contents → State → List ℕ → C
 IsLargestReply None s d text t e = TellsAlone bad_number_text s d text t e
 IsLargestReply (Some n) s d text t e = TellsReport (largest_text n s) s d text t e
 
--- the rows that the bytes have, if they are a text, unless an allocation fails
+-- the rows that the bytes have, if they are a text; or an allocation fails
 abbrev pub TellsRows : (List ℕ → List ℕ → Type 0) → Bool → List ℕ → Contents → State → List ℕ → Contents → State → Type 0
 TellsRows HasRows true bytes s d text t e = (HasRows bytes text × (t ≡ s) × (e ≡ d)) ⊎ TellsMemory s d text t e
-TellsRows HasRows false bytes s d text t e = TellsAlone not_text_text s d text t e
+TellsRows HasRows false bytes s d text t e = TellsReport not_text_text s d text t e
 
 abbrev pub IsRowsReply : (List ℕ → List ℕ → Type 0) → List ℕ → Contents → State → List ℕ → Contents → State → Type 0
 IsRowsReply HasRows bytes s d text t e = TellsRows HasRows (is_utf8 bytes) bytes s d text t e
