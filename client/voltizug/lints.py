@@ -54,4 +54,4 @@ def capitals(names: Names, outcomes: Sequence[Outcome]) -> List[str]:
     strings = [string for part in names.strings.values() for string in part]
     if not words or not strings or any(string != string.lower() for string in strings):
         return []
-    return ["{:,} of {:,} words have capitals, as {}, and no string of the script has one".format(len(words), len(outcomes), short(words[0]))]
+    return ["{:,} of {:,} words {} capitals, as '{}', and no string of an among has one".format(len(words), len(outcomes), "has" if len(words) == 1 else "have", short(words[0]))]

@@ -5,6 +5,7 @@ local program = vim.g.snowbench or vim.fn.fnamemodify(here, ':h:h:h') .. '/snowb
 local hints = vim.api.nvim_create_namespace('snowbench')
 local client
 vim.opt.runtimepath:append(vim.fn.fnamemodify(here, ':h') .. '/vim')
+vim.cmd('augroup filetypedetect | runtime! ftdetect/snowball.vim | augroup END')
 
 local function show(failure, lines)
   if failure then return vim.notify(failure.message, vim.log.levels.ERROR) end

@@ -188,7 +188,7 @@ function showStatus() {
     box.replaceChildren(dot, st.isTrial ? 'a trial, not in the file' : 'as in the file', last ? ` · ${last.at} · ${number(last.ms)} ms` : '');
   }
 }
-const FIGURES = [['words', 'words'], ['classes', 'classes'], ['alone', 'classes of one word'], ['largest', 'words in the largest'], ['unchanged', 'words unchanged'], ['refused', 'refused']];
+const FIGURES = [['words', 'words'], ['classes', 'classes'], ['alone', 'classes of one word'], ['largest', 'words in the largest class'], ['unchanged', 'words are their own stem'], ['refused', 'refused']];
 const file = path => named(path.split('/').pop());
 function showTop(news) {
   const st = S.st;
