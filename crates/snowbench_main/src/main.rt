@@ -88,7 +88,7 @@ fn start(rt: &HostRuntime, wanted: Wanted) -> u8 {
 }
 
 /// Runs a session or a check over files, and returns the exit status.
-fn run_files(rt: &HostRuntime, wanted: &Wanted, script: &str) -> u8 {
+fn run_files<'x>(rt: &HostRuntime, wanted: &'x Wanted, script: &'x str) -> u8 {
     let words = match &wanted.options.words {
         Some(words) => words.as_str(),
         None => "-",
