@@ -21,3 +21,6 @@ pub mod TakeFacts
 pub mod UserFacts
 pub mod Defined
 pub mod AskedFacts
+pub mod EventsFrame
+pub mod EventsStay
+pub mod KeptFacts

@@ -1,0 +1,9 @@
+use Rattle.std.proofs.Common.{◌≡◌, ◌||◌, Bool, drop}
+use Rattle.std.specs.List.{list_any}
+use Rattle.sbl_explain.specs.Kept.{view_list}
+use Rattle.sbl_explain.specs.UnusedViews.{takes_in}
+use Rattle.sbl_explain.specs.Used.{Take}
+use Rattle.sbl_explain.proofs.kept_words.add_list.Given as goal
+
+abbrev pub invariant-loop-taken : goal.invariant-loop-taken
+invariant-loop-taken l = (test : Take → Bool) → (list_any test (view_list (drop l.taken-index l.list)) || list_any test (takes_in l.takes)) ≡ (list_any test (view_list l.list) || list_any test (takes_in l.initial.takes))
