@@ -148,8 +148,8 @@ module _ (picked : Item' → Bool) (items : List ItemInMode) (closed : AllByRecu
 
 -- ---- runs
 
-abbrev begun : DeclaredNames → List ℕ → ℕ → State
-begun ns word limit = record (start ns word limit) { events = Some [] }
+abbrev start_with_events : DeclaredNames → List ℕ → ℕ → State
+start_with_events ns word limit = record (start ns word limit) { events = Some [] }
 
 -- two endings are the same, or something that is picked was touched in both
 abbrev Kin : (Touch → Bool) → Ending → Ending → Type 0
@@ -157,21 +157,21 @@ Kin is_marked e e' = (e' ≡ e) ⊎ ((dirty_at is_marked e ≡ true) × (dirty_a
 
 -- a run on so many levels
 abbrev run_on : ℕ → List ItemInMode → List ℕ → List ℕ → ℕ → Ending
-run_on l items external word limit = calls (known_in items) (char_class_of (classes_after items [])) (body_named items) l external Forward (begun (known_in items) word limit)
+run_on l items external word limit = calls (known_in items) (char_class_of (classes_after items [])) (body_named items) l external Forward (start_with_events (known_in items) word limit)
 
 holed_run : (picked : Item' → Bool) (l : ℕ) (items : List ItemInMode) (external word : List ℕ) (limit : ℕ) →
     run_on l (holed_items picked items) external word limit
-    ≡ calls (known_in items) (char_class_of (classes_after (holed_items picked items) [])) (body_named (holed_items picked items)) l external Forward (begun (known_in items) word limit)
+    ≡ calls (known_in items) (char_class_of (classes_after (holed_items picked items) [])) (body_named (holed_items picked items)) l external Forward (start_with_events (known_in items) word limit)
 holed_run picked l items external word limit =
     let bodies = body_named (holed_items picked items) in
-    ap (λ ns. calls ns (char_class_of (classes_after (holed_items picked items) [])) bodies l external Forward (begun ns word limit)) (known_same picked items)
+    ap (λ ns. calls ns (char_class_of (classes_after (holed_items picked items) [])) bodies l external Forward (start_with_events ns word limit)) (known_same picked items)
 
 levels_kin : (picked : Item' → Bool) (l : ℕ) (s : Source) → IsClosed picked s → (word : List ℕ) (limit : ℕ) →
     Kin (marked_by picked (names_of s)) (run_on l (in_order s.items) s.external word limit) (run_on l (in_order (holed_script picked s).items) s.external word limit)
 levels_kin picked l s closed word limit =
     subst (Kin (marked_by picked (names_of s)) (run_on l (in_order s.items) s.external word limit))
     (sym (ap (λ xs. run_on l xs s.external word limit) (order_holed picked s.items) ∙ holed_run picked l (in_order s.items) s.external word limit))
-    (((calls_alike picked (in_order s.items) closed l 0 s.external).in_mode Forward).at (begun (known_in (in_order s.items)) word limit) (record { here = refl; quiet = λ k c clear. refl })).kin
+    (((calls_alike picked (in_order s.items) closed l 0 s.external).in_mode Forward).at (start_with_events (known_in (in_order s.items)) word limit) (record { here = refl; quiet = λ k c clear. refl })).kin
 
 ending_kin : (picked : Item' → Bool) (s : Source) → IsClosed picked s → (word : List ℕ) (limit : ℕ) → Kin (marked_by picked (names_of s)) (ending_with_events s word limit) (ending_with_events (holed_script picked s) word limit)
 unfolding ending_with_events

@@ -114,9 +114,9 @@ fuse f [] = refl
 fuse f (k ∷ kept) = ap (λ l. f k.word.items ∷ l) (fuse f kept)
 
 -- it stays right under a copy of the script
-pub copied : TakesStay → (s u : Setting) (words : List (List ℕ)) (kept : List KeptWord) → WellDeclared s.script.items s.script.external → u.limit ≡ s.limit
+pub copy_keeps : TakesStay → (s u : Setting) (words : List (List ℕ)) (kept : List KeptWord) → WellDeclared s.script.items s.script.external → u.limit ≡ s.limit
     → differs s.script u.script ≡ Some [] → AreTakenBy s words kept → AreKept u kept
-copied stays s u words kept well limits differ taken = λ t.
+copy_keeps stays s u words kept well limits differ taken = λ t.
     let f = λ (w : List ℕ). uses s w (Entry t) in
     taken.1 t
     ∙ ap (map f) (sym taken.0)

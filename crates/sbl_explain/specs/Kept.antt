@@ -5,13 +5,16 @@ use Rattle.std.specs.BTreeSet.{BTreeSet}
 use Rattle.std.specs.Global.{Vec}
 use Rattle.std.specs.declared.rc.Rc.{Rc}
 use Rattle.std.specs.declared.alloc.Global.{Global}
-use Rattle.std.specs.List.{list_any}
+use Rattle.std.specs.List.{list_all, list_any}
 use Rattle.std.specs.Str.{bytes_eq}
 use Rattle.sbl_rows.specs.Setting.{Setting}
 use Rattle.sbl_rows.specs.declared.row.Row as declared
+use Rattle.sbl_bench.specs.KeptRuns.{KeptRuns, setting_of}
 use Rattle.sbl_bench.specs.Vocabulary.{is_word}
 use Rattle.sbl_machine.specs.BuiltFrom.{meets_one}
-use Rattle.sbl_semantics.specs.TouchedItems.{Item', item_of}
+use Rattle.sbl_machine.specs.Marks.{has_item}
+use Rattle.sbl_semantics.specs.TouchedItems.{Item', item_of, names_of}
+use Rattle.sbl_semantics.specs.declared.item.Item.{Item}
 use Rattle.sbl_explain.specs.Used.{Entry, Take, same_take, uses}
 use Rattle.sbl_explain.specs.declared.kept_words.Taken.{Taken}
 use Rattle.sbl_explain.specs.declared.kept_words.KeptWord.{KeptWord}
@@ -42,6 +45,10 @@ AreKept s kept = (t : Take) → map (has_taken t) kept ≡ map (λ k. uses s k.w
 abbrev pub AreTakenBy : Setting → List (List ℕ) → List KeptWord → Type 0
 AreTakenBy s words kept = (kept_words kept ≡ words) × Agrees s words kept
 
+-- the words of a bench are kept so
+abbrev pub KeepsWords : KeptRuns → List KeptWord → Type 0
+KeepsWords bench kept = AreTakenBy (setting_of bench) bench.words kept
+
 -- a list has the strings that the run of a word takes
 abbrev pub IsListOf : Setting → List ℕ → Rc (Vec Taken) → Type 0
 IsListOf s word list = (t : Take) → list_any (same_take t) (view_list list.value.items) ≡ uses s word (Entry t)
@@ -61,3 +68,14 @@ Misses s words xs again = (w : List ℕ) → is_word w words ≡ true → again 
 -- the words that do not run again take the same in two settings
 abbrev pub StayOutside : Setting → Setting → List (List ℕ) → (List ℕ → Bool) → Type 0
 StayOutside s u words again = (w : List ℕ) → is_word w words ≡ true → again w ≡ false → (t : Take) → uses u w (Entry t) ≡ uses s w (Entry t)
+
+-- the same of the words of a bench
+abbrev pub StayKept : KeptRuns → Setting → BTreeSet (Bor (List ℕ)) → Type 0
+StayKept bench u again = StayOutside (setting_of bench) u bench.words (is_one_of again)
+
+abbrev pub MissesIn : KeptRuns → List Item → BTreeSet (Bor (List ℕ)) → Type 0
+MissesIn bench items again = Misses (setting_of bench) bench.words (map item_of items) (is_one_of again)
+
+-- the script of a bench defines the routines and the groupings of these items
+abbrev pub HasItems : KeptRuns → List Item → Type 0
+HasItems bench items = list_all (has_item (names_of (setting_of bench).script)) (map item_of items) ≡ true

@@ -6,7 +6,7 @@ ghost use Rattle.sbl_bench.specs.KeptRuns.{setting_of};
 ghost use Rattle.sbl_explain.specs.Counts as spec;
 ghost use Rattle.sbl_explain.specs.TakeNumbers.{KeepsNumbers};
 ghost use Rattle.sbl_explain.specs.UsableViews.{AreDefined, Defines, next_row, number_for, number_row, number_rows, row_for, rows_text, view_usable, view_usables};
-ghost use Rattle.sbl_explain.specs.Kept.{AreTakenBy};
+ghost use Rattle.sbl_explain.specs.Kept.{KeepsWords};
 
 use crate::event_rows::push_number;
 use crate::kept_takes::KeptTakes;
@@ -120,7 +120,7 @@ fn text_of_counts(
     usables: &[Usable<'_>],
     words: &[KeptWord],
 ) -> Result<Vec<u8>, AllocError>
-    ensures { AreDefined bench.now (view_usables usables.now) → AreTakenBy (setting_of bench.now) bench.now.words words.now → IfOk result (λ text. text.items ≡ rows_text bench.now (view_usables usables.now)) }
+    ensures { AreDefined bench.now (view_usables usables.now) → KeepsWords bench.now words.now → IfOk result (λ text. text.items ≡ rows_text bench.now (view_usables usables.now)) }
 {
     let taken = counts_by_words(alloc, words)?;
     let counts = counts_of(alloc, bench, &taken, usables)?;

@@ -1,16 +1,14 @@
 //! What the runs of the words of a bench take, kept from one question to the next.
 
-ghost use Rattle.std.specs.Prelude.{◌≡◌, ◌||◌, [], ℕ, List, false, true, map, IfOk, IfSome, OnOk, Some};
-ghost use Rattle.std.specs.List.{list_all, list_any};
+ghost use Rattle.std.specs.Prelude.{◌≡◌, ◌||◌, [], ℕ, List, false, true, IfOk, IfSome, OnOk, Some};
+ghost use Rattle.std.specs.List.{list_any};
 ghost use Rattle.std.specs.Str.{bytes_eq};
 ghost use Rattle.sbl_bench.specs.KeptRuns.{setting_of};
 ghost use Rattle.sbl_bench.specs.Vocabulary.{is_word};
-ghost use Rattle.sbl_machine.specs.Marks.{has_item};
-ghost use Rattle.sbl_rows.specs.Setting.{Setting};
+ghost use Rattle.sbl_rows.specs.Setting.{Setting, under};
 ghost use Rattle.sbl_script.specs.ParsedScript.{source_of};
 ghost use Rattle.sbl_semantics.specs.Differs.{differs};
-ghost use Rattle.sbl_semantics.specs.TouchedItems.{item_of, names_of};
-ghost use Rattle.sbl_explain.specs.Kept.{AreKept, AreTakenBy, IsListOf, Misses, StayOutside, is_one_of, row_words};
+ghost use Rattle.sbl_explain.specs.Kept.{AreKept, HasItems, IsListOf, KeepsWords, MissesIn, StayKept, is_one_of, row_words};
 
 use crate::bench_words::words_of;
 use crate::kept_run::KeptRun;
@@ -38,10 +36,7 @@ pub struct KeptTakes {
 const REACH: usize = 64;
 
 /// Adds the words of rows. Returns `AllocError` if an allocation fails.
-fn add_words<'a>(
-    words: &mut BTreeSet<&'a [char]>,
-    rows: &[Row<'a>],
-) -> Result<(), AllocError>
+fn add_words<'a>(words: &mut BTreeSet<&'a [char]>, rows: &[Row<'a>]) -> Result<(), AllocError>
     ensures { OnOk result ((w : List ℕ) → is_one_of words.new w ≡ (list_any (bytes_eq w) (row_words rows.now) || is_one_of words.old w)) }
 {
     for row in rows {
@@ -50,19 +45,24 @@ fn add_words<'a>(
     Ok(())
 }
 
-/// Returns the words whose runs meet one of some items. Returns `AllocError` if an allocation fails.
+/// Returns the words whose runs meet one of some items; `None` if one of the items is met by more than half of the words. Returns
+/// `AllocError` if an allocation fails.
 fn words_meeting<'a>(
     alloc: Global,
     bench: &'a Bench,
     items: &[Item],
-) -> Result<BTreeSet<&'a [char]>, AllocError>
-    ensures { list_all (has_item (names_of (setting_of bench.now).script)) (map item_of items.now) ≡ true → IfOk result (λ words. Misses (setting_of bench.now) bench.now.words (map item_of items.now) (is_one_of words)) }
+) -> Result<Option<BTreeSet<&'a [char]>>, AllocError>
+    ensures { HasItems bench.now items.now → IfOk result (λ found. IfSome found (MissesIn bench.now items.now)) }
 {
     let mut words = BTreeSet::new(alloc);
     for item in items {
-        add_words(&mut words, &bench.rows_meeting(item)?)?;
+        let rows = bench.rows_meeting(item)?;
+        if rows.len() > bench.len() / 2 {
+            return Ok(None);
+        }
+        add_words(&mut words, &rows)?;
     }
-    Ok(words)
+    Ok(Some(words))
 }
 
 /// Returns the strings that the run of a word takes. Returns `AllocError` as `takes_by_words` does.
@@ -117,7 +117,7 @@ fn list_now(
     word: &[char],
     again: &BTreeSet<&[char]>,
 ) -> Result<Rc<Vec<Taken>>, AllocError>
-    ensures { (u : Setting) → AreKept u kept.now → StayOutside (setting_of bench.now) u bench.now.words (is_one_of again.now) → is_word word.now bench.now.words ≡ true → IfOk result (λ list. IsListOf (setting_of bench.now) word.now list) }
+    ensures { (u : Setting) → AreKept u kept.now → StayKept bench.now u again.now → is_word word.now bench.now.words ≡ true → IfOk result (λ list. IsListOf (setting_of bench.now) word.now list) }
 {
     match kept_list(kept, place, word, again)? {
         Some(list) => Ok(list),
@@ -134,7 +134,7 @@ fn words_with_takes(
     kept: &[KeptWord],
     again: &BTreeSet<&[char]>,
 ) -> Result<Vec<KeptWord>, AllocError>
-    ensures { (u : Setting) → AreKept u kept.now → StayOutside (setting_of bench.now) u bench.now.words (is_one_of again.now) → IfOk result (λ words. AreTakenBy (setting_of bench.now) bench.now.words words.items) }
+    ensures { (u : Setting) → AreKept u kept.now → StayKept bench.now u again.now → IfOk result (λ words. KeepsWords bench.now words.items) }
 {
     let all = words_of(alloc, bench)?;
     let mut words = Vec::with_capacity(alloc, all.len())?;
@@ -159,9 +159,29 @@ fn words_anew(
     bench: &Bench,
     lists: &mut SharedTakes,
 ) -> Result<Vec<KeptWord>, AllocError>
-    ensures { IfOk result (λ words. AreTakenBy (setting_of bench.now) bench.now.words words.items) }
+    ensures { IfOk result (λ words. KeepsWords bench.now words.items) }
 {
     words_with_takes(alloc, bench, lists, &[], &BTreeSet::new(alloc))
+}
+
+/// Returns the words whose runs can take something else than in the kept run; `None` if all are to run again. Returns `AllocError` if
+/// an allocation fails.
+fn words_again<'a>(
+    alloc: Global,
+    bench: &'a Bench,
+    run: &KeptRun,
+) -> Result<Option<BTreeSet<&'a [char]>>, AllocError>
+    ensures { IfOk result (λ found. IfSome found (StayKept bench.now (under (source_of run.now.script) run.now.limit))) }
+{
+    takes_stay();
+    is_well_declared(bench.script());
+    if run.limit != bench.limit() {
+        return Ok(None);
+    }
+    match differences(alloc, bench.script(), &run.script)? {
+        Some(items) => words_meeting(alloc, bench, &items),
+        None => Ok(None),
+    }
 }
 
 /// Returns the words of a bench with the strings that their runs take. Only those words run that an edit since the kept run can
@@ -172,18 +192,10 @@ fn words_after(
     lists: &mut SharedTakes,
     run: &KeptRun,
 ) -> Result<Vec<KeptWord>, AllocError>
-    ensures { IfOk result (λ words. AreTakenBy (setting_of bench.now) bench.now.words words.items) }
+    ensures { IfOk result (λ words. KeepsWords bench.now words.items) }
 {
-    takes_stay();
-    is_well_declared(bench.script());
-    if run.limit != bench.limit() {
-        return words_anew(alloc, bench, lists);
-    }
-    match differences(alloc, bench.script(), &run.script)? {
-        Some(items) => {
-            let again = words_meeting(alloc, bench, &items)?;
-            words_with_takes(alloc, bench, lists, &run.words, &again)
-        }
+    match words_again(alloc, bench, run)? {
+        Some(again) => words_with_takes(alloc, bench, lists, &run.words, &again),
         None => words_anew(alloc, bench, lists),
     }
 }
@@ -221,7 +233,7 @@ impl KeptTakes {
         alloc: Global,
         bench: &Bench,
     ) -> Result<Vec<KeptWord>, AllocError>
-        ensures { IfOk result (λ words. AreTakenBy (setting_of bench.now) bench.now.words words.items) }
+        ensures { IfOk result (λ words. KeepsWords bench.now words.items) }
     {
         match self.run.take() {
             Some(run) => words_after(alloc, bench, &mut self.lists, &run),
@@ -237,7 +249,7 @@ impl KeptTakes {
         bench: &Bench,
         words: Vec<KeptWord>,
     ) -> Result<(), AllocError>
-        requires { AreTakenBy (setting_of bench.now) bench.now.words words.items }
+        requires { KeepsWords bench.now words.items }
     {
         takes_stay();
         is_well_declared(bench.script());

@@ -61,11 +61,7 @@ pub(crate) fn ref_of(item: &Item) -> ItemRef<'_>
 }
 
 /// Adds what is in a list. Returns `AllocError` if an allocation fails.
-fn add_list<'k>(
-    alloc: Global,
-    takes: &mut Takes<'k>,
-    list: &'k [Taken],
-) -> Result<(), AllocError>
+fn add_list<'k>(alloc: Global, takes: &mut Takes<'k>, list: &'k [Taken]) -> Result<(), AllocError>
     ensures { OnOk result (IsUnion (takes_in takes.new) (view_list list.now) (takes_in takes.old)) }
 {
     for taken in list {
@@ -76,10 +72,7 @@ fn add_list<'k>(
 }
 
 /// Returns what the run of a word takes. Returns `AllocError` if an allocation fails.
-pub(crate) fn takes_of_word<'k>(
-    alloc: Global,
-    word: &'k KeptWord,
-) -> Result<Takes<'k>, AllocError>
+pub(crate) fn takes_of_word<'k>(alloc: Global, word: &'k KeptWord) -> Result<Takes<'k>, AllocError>
     ensures { IfOk result (λ takes. (t : Take) → list_any (same_take t) (takes_in takes) ≡ has_taken t word.now) }
 {
     let mut takes = BTreeSet::new(alloc);

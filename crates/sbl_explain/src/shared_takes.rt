@@ -123,14 +123,16 @@ const FACTOR: u64 = 0x9E37_79B9_7F4A_7C15;
 fn slot_of(list: &[Taken]) -> usize {
     let mut sum = list.len() as u64;
     for taken in list {
-        sum = added(sum, taken);
+        sum = digest_after(sum, taken);
     }
     sum.wrapping_mul(FACTOR) as usize / (usize::MAX / SLOTS + 1)
 }
 
 // The digest after one string more.
-fn added(sum: u64, taken: &Taken) -> u64 {
-    let mut sum = sum.wrapping_add(number_of(&taken.among)).wrapping_mul(FACTOR);
+fn digest_after(sum: u64, taken: &Taken) -> u64 {
+    let mut sum = sum
+        .wrapping_add(number_of(&taken.among))
+        .wrapping_mul(FACTOR);
     for character in &taken.string {
         sum = (sum ^ u64::from(*character)).wrapping_mul(FACTOR);
     }

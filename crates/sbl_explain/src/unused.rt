@@ -11,7 +11,7 @@ ghost use Rattle.sbl_io.specs.Reports.{TakesMore};
 ghost use Rattle.sbl_explain.specs.TakesRows.{TakesRows, parts_text};
 ghost use Rattle.sbl_explain.specs.Unused as spec;
 ghost use Rattle.sbl_explain.specs.UnusedViews.{HasMet, HasTaken, Words, part_of, parts_in, texts_of};
-ghost use Rattle.sbl_explain.specs.Kept.{AreTakenBy};
+ghost use Rattle.sbl_explain.specs.Kept.{KeepsWords};
 
 use crate::bench_words::words_of;
 use crate::kept_takes::KeptTakes;
@@ -212,12 +212,8 @@ fn text_of_rows<'a>(
 }
 
 /// Returns the rows of what no word uses, given what the words take. Returns `AllocError` if an allocation fails.
-fn text_of_unused(
-    alloc: Global,
-    bench: &Bench,
-    words: &[KeptWord],
-) -> Result<Vec<u8>, AllocError>
-    ensures { AreTakenBy (setting_of bench.now) bench.now.words words.now → IfOk result (λ text. text.items ≡ spec.unused_text (setting_of bench.now) bench.now.words) }
+fn text_of_unused(alloc: Global, bench: &Bench, words: &[KeptWord]) -> Result<Vec<u8>, AllocError>
+    ensures { KeepsWords bench.now words.now → IfOk result (λ text. text.items ≡ spec.unused_text (setting_of bench.now) bench.now.words) }
 {
     let parts = parts_of(alloc, bench.script())?;
     let all = words_of(alloc, bench)?;

@@ -12,7 +12,7 @@ ghost use Rattle.sbl_ast.specs.View.{view_row as view_body};
 ghost use Rattle.sbl_explain.specs.UsableViews.{is_defined, rows_for, view_usable};
 ghost use Rattle.sbl_explain.specs.UnusedViews.{texts_of};
 ghost use Rattle.sbl_explain.specs.Used.{Entry};
-ghost use Rattle.sbl_explain.specs.Kept.{AreTakenBy};
+ghost use Rattle.sbl_explain.specs.Kept.{KeepsWords};
 ghost use Rattle.sbl_explain.specs.Uses as spec;
 ghost use Rattle.sbl_explain.specs.Uses.{IsResult, question_of};
 
@@ -177,7 +177,7 @@ fn rows_taking<'b>(
     among: &ItemRef<'_>,
     string: &[char],
 ) -> Result<Vec<Row<'b>>, AllocError>
-    ensures { AreTakenBy (setting_of bench.now) bench.now.words words.now → IfOk result (λ rows. map view_row rows.items ≡ rows_for bench.now (Entry (item_of_ref among.now, string.now))) }
+    ensures { KeepsWords bench.now words.now → IfOk result (λ rows. map view_row rows.items ≡ rows_for bench.now (Entry (item_of_ref among.now, string.now))) }
 {
     let mut rows = Vec::new(alloc);
     let mut rest = words;

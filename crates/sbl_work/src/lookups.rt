@@ -46,12 +46,7 @@ fn fault_reply(fault: UsesFault) -> Reply
 }
 
 /// Returns the reply with the words that use a part of the script, or with why there is no such part.
-fn users_reply(
-    alloc: Global,
-    bench: &Bench,
-    kept: &mut KeptTakes,
-    question: Question<'_>,
-) -> Reply
+fn users_reply(alloc: Global, bench: &Bench, kept: &mut KeptTakes, question: Question<'_>) -> Reply
     ensures { IsReply result (uses_reply_text (contents_of bench.now) (question_of question.entry)) ⊎ IsReply result (edit_text (Some EditFault.OutOfMemory)) }
 {
     match uses_text(alloc, bench, kept, question) {
@@ -101,12 +96,7 @@ fn among_users_reply(
 }
 
 /// Returns the reply to `uses`.
-pub(crate) fn uses_reply(
-    alloc: Global,
-    bench: &Bench,
-    kept: &mut KeptTakes,
-    text: &str,
-) -> Reply
+pub(crate) fn uses_reply(alloc: Global, bench: &Bench, kept: &mut KeptTakes, text: &str) -> Reply
     ensures { (d : State) → IsWorkAnswer (contents_of bench.now) d (spec.uses_command text.now) result (contents_of bench.now) d }
 {
     let (name, rest) = split_at_space(text);

@@ -74,20 +74,55 @@ fn answer_alone<F: Files + AllocGlobal>(
     match request_of(line) {
         Request::Reload => match read_file(folder.files, folder.paths.script.as_str()) {
             Ok(bytes) => {
-                let reply = answer_line(alloc, desk, bench, &mut folder.kept, line, Some(bytes.as_slice()));
+                let reply = answer_line(
+                    alloc,
+                    desk,
+                    bench,
+                    &mut folder.kept,
+                    line,
+                    Some(bytes.as_slice()),
+                );
                 folder.seen = bytes;
                 reply
             }
-            Err(ReadFault::Unreadable) => answer_line(alloc, desk, bench, &mut folder.kept, line, None),
+            Err(ReadFault::Unreadable) => answer_line(
+                alloc,
+                desk,
+                bench,
+                &mut folder.kept,
+                line,
+                None,
+            ),
             Err(ReadFault::OutOfMemory) => edit_reply(Err(EditFault::OutOfMemory)),
         },
         Request::Families(path) => match read_file(folder.files, path) {
-            Ok(bytes) => answer_line(alloc, desk, bench, &mut folder.kept, line, Some(bytes.as_slice())),
-            Err(ReadFault::Unreadable) => answer_line(alloc, desk, bench, &mut folder.kept, line, None),
+            Ok(bytes) => answer_line(
+                alloc,
+                desk,
+                bench,
+                &mut folder.kept,
+                line,
+                Some(bytes.as_slice()),
+            ),
+            Err(ReadFault::Unreadable) => answer_line(
+                alloc,
+                desk,
+                bench,
+                &mut folder.kept,
+                line,
+                None,
+            ),
             Err(ReadFault::OutOfMemory) => edit_reply(Err(EditFault::OutOfMemory)),
         },
         Request::Save(path) => match save_text(folder, desk, bench, path) {
-            Ok(()) => answer_line(alloc, desk, bench, &mut folder.kept, line, Some(b"".as_slice())),
+            Ok(()) => answer_line(
+                alloc,
+                desk,
+                bench,
+                &mut folder.kept,
+                line,
+                Some(b"".as_slice()),
+            ),
             Err(SaveFault::OutOfMemory) => edit_reply(Err(EditFault::OutOfMemory)),
             Err(_) => answer_line(alloc, desk, bench, &mut folder.kept, line, None),
         },
@@ -98,7 +133,14 @@ fn answer_alone<F: Files + AllocGlobal>(
             bench,
             path,
         ) {
-            Ok(lines) => answer_line(alloc, desk, bench, &mut folder.kept, line, Some(lines.as_slice())),
+            Ok(lines) => answer_line(
+                alloc,
+                desk,
+                bench,
+                &mut folder.kept,
+                line,
+                Some(lines.as_slice()),
+            ),
             Err(SaveFault::OutOfMemory) => edit_reply(Err(EditFault::OutOfMemory)),
             Err(_) => answer_line(alloc, desk, bench, &mut folder.kept, line, None),
         },
