@@ -17,6 +17,7 @@ use crate::laws::takes_stay;
 use crate::shared_takes::SharedTakes;
 use crate::takes::takes_by_words;
 use sbl_bench::{Bench, Row, differences};
+use sbl_machine::laws::differing_agree;
 use sbl_machine::{Item, ScriptFault};
 use sbl_script::Script;
 use sbl_script::laws::is_well_declared;
@@ -174,6 +175,7 @@ fn words_again<'a>(
     ensures { IfOk result (λ found. IfSome found (StayKept bench.now (under (source_of run.now.script) run.now.limit))) }
 {
     takes_stay();
+    differing_agree();
     is_well_declared(bench.script());
     if run.limit != bench.limit() {
         return Ok(None);

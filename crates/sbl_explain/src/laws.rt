@@ -1,7 +1,6 @@
 //! Laws of the searches of a run, of its events under an edit, and of what words use.
 
 ghost use Rattle.sbl_explain.specs.Searches.{EachSearchTakesFirst, PlainTakesLongest, PlainTakesOne, SearchesTakeFirst};
-ghost use Rattle.sbl_machine.specs.DifferLaws.{DifferingAreThere};
 ghost use Rattle.sbl_explain.specs.EventsStay.{EventsStay, TakesStay};
 ghost use Rattle.sbl_explain.specs.UsesLaws.{NumbersAreOfRows, UnusedHaveNumberZero, UsesAgreeWithTraces};
 
@@ -47,7 +46,6 @@ pub fn uses_agree_with_traces()
 pub fn takes_stay()
     ensures events { EventsStay }
     ensures takes { TakesStay }
-    ensures there { DifferingAreThere }
 {
     differing_agree();
 }
