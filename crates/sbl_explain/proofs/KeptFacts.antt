@@ -2,6 +2,9 @@
 use Rattle.std.proofs.Common.{◌≡◌, ◌∙◌, ◌||◌, ℕ, zero, suc, Bool, true, false, cond, List, [], ◌∷◌, map, length, Option, Some, slice_get, refl, sym, ap, subst}
 use Rattle.std.specs.List.{filter, list_any}
 use Rattle.std.specs.Str.{bytes_eq}
+use Rattle.std.specs.Global.{Vec}
+use Rattle.std.specs.declared.rc.Rc.{Rc}
+use Rattle.std.specs.declared.alloc.Global.{Global}
 use Rattle.std.proofs.Math.Path.{fun_ext}
 use Rattle.std.proofs.lemmas.Bool.{true≢false}
 use Rattle.std.proofs.lemmas.Option.{none-some, same_Some}
@@ -10,6 +13,8 @@ use Rattle.sbl_ast.specs.Source.{Source}
 use Rattle.sbl_bench.specs.Traces.{rows_meeting}
 use Rattle.sbl_bench.specs.Vocabulary.{is_word}
 use Rattle.sbl_machine.specs.BuiltFrom.{affected_by, is_affected_by, meets, meets_one}
+use Rattle.sbl_machine.specs.DifferLaws.{DifferingAgree}
+use Rattle.sbl_machine.proofs.FrameLaw.{agree_names}
 use Rattle.sbl_machine.proofs.TouchedOrder.{any-mapped}
 use Rattle.sbl_resolver.specs.Checks.{WellDeclared}
 use Rattle.sbl_rows.specs.Rows.{Row, row_of, rows_of, view_row}
@@ -17,13 +22,15 @@ use Rattle.sbl_rows.specs.Setting.{Setting, under}
 use Rattle.sbl_rows.specs.declared.row.Row as declared
 use Rattle.sbl_semantics.specs.Differs.{differs}
 use Rattle.sbl_semantics.specs.Outcome.{touches_of}
-use Rattle.sbl_semantics.specs.TouchedItems.{Item', item_of_touch, names_of}
+use Rattle.sbl_semantics.specs.TouchedItems.{Item', Names', item_of_touch, names_of}
 use Rattle.sbl_explain.specs.EventsStay.{TakesStay}
-use Rattle.sbl_explain.specs.Kept.{Agrees, AreKept, AreTakenBy, IsListOf, Misses, StayOutside, has_taken, row_words}
+use Rattle.sbl_explain.specs.Kept.{Agrees, AreKept, AreTakenBy, IsListOf, Misses, Names, StayOutside, has_taken, row_words, view_list}
 use Rattle.sbl_explain.specs.TakeNumbers.{number_kept}
 use Rattle.sbl_explain.specs.Unused.{is_taken}
 use Rattle.sbl_explain.specs.Used.{Entry, Take, number_using, same_take, takes_of, uses}
+use Rattle.sbl_explain.specs.WhyRows.{routine_names}
 use Rattle.sbl_explain.specs.declared.kept_words.KeptWord.{KeptWord}
+use Rattle.sbl_explain.specs.declared.kept_words.Taken.{Taken}
 
 -- ---- what is said of all words
 
@@ -36,13 +43,13 @@ trues {X = X} f (x ∷ xs) = by (f x) (trues f xs)
     by true rest = ap suc rest
     by false rest = rest
 
-pub number_is : (s : Setting) (words : List (List ℕ)) (kept : List KeptWord) → Agrees s words kept → (t : Take) → number_kept t kept ≡ number_using s words (Entry t)
+pub number_is : (s : Setting) (words : List (List ℕ)) (kept : List KeptWord) → Agrees s words kept → (t : Take) → number_kept (routine_names s) t kept ≡ number_using s words (Entry t)
 number_is s words kept agrees t =
-    trues (has_taken t) kept ∙ ap (λ (bs : List Bool). length (filter (λ (b : Bool). b) bs)) (agrees t) ∙ sym (trues (λ (w : List ℕ). uses s w (Entry t)) words)
+    trues (has_taken (routine_names s) t) kept ∙ ap (λ (bs : List Bool). length (filter (λ (b : Bool). b) bs)) (agrees t) ∙ sym (trues (λ (w : List ℕ). uses s w (Entry t)) words)
 
-pub taken_is : (s : Setting) (words : List (List ℕ)) (kept : List KeptWord) → Agrees s words kept → (t : Take) → list_any (has_taken t) kept ≡ is_taken s words t
+pub taken_is : (s : Setting) (words : List (List ℕ)) (kept : List KeptWord) → Agrees s words kept → (t : Take) → list_any (has_taken (routine_names s) t) kept ≡ is_taken s words t
 taken_is s words kept agrees t =
-    sym (any-mapped (has_taken t) (λ (b : Bool). b) kept) ∙ ap (list_any (λ (b : Bool). b)) (agrees t) ∙ any-mapped (λ (w : List ℕ). uses s w (Entry t)) (λ (b : Bool). b) words
+    sym (any-mapped (has_taken (routine_names s) t) (λ (b : Bool). b) kept) ∙ ap (list_any (λ (b : Bool). b)) (agrees t) ∙ any-mapped (λ (w : List ℕ). uses s w (Entry t)) (λ (b : Bool). b) words
 
 -- ---- one of some items
 
@@ -103,9 +110,14 @@ same_uses : TakesStay → (s u : Setting) (xs : List Item') → WellDeclared s.s
 same_uses stays s u xs well limits differ w clear t =
     ap (list_any (same_take t)) (ap (λ (l : ℕ). takes_of (under u.script l) w) limits ∙ stays s.script u.script xs well differ w s.limit clear)
 
-pub stay_outside : TakesStay → (s u : Setting) (words : List (List ℕ)) (xs : List Item') (again : List ℕ → Bool) → WellDeclared s.script.items s.script.external → u.limit ≡ s.limit
+same_names : DifferingAgree → (s u : Setting) (xs : List Item') → WellDeclared s.script.items s.script.external → differs s.script u.script ≡ Some xs → routine_names u ≡ routine_names s
+same_names agrees s u xs well differ =
+    ap (λ (names : Names'). names.routines) (agree_names (affected_by s.script xs) s.script u.script (agrees s.script u.script xs well differ).1)
+
+pub stay_outside : TakesStay → DifferingAgree → (s u : Setting) (words : List (List ℕ)) (xs : List Item') (again : List ℕ → Bool) → WellDeclared s.script.items s.script.external → u.limit ≡ s.limit
     → differs s.script u.script ≡ Some xs → Misses s words xs again → StayOutside s u words again
-stay_outside stays s u words xs again well limits differ misses = λ w there out. same_uses stays s u xs well limits differ w (misses w there out)
+stay_outside stays agrees s u words xs again well limits differ misses =
+    (same_names agrees s u xs well differ, λ w there out. same_uses stays s u xs well limits differ w (misses w there out))
 
 -- ---- what is kept
 
@@ -114,11 +126,12 @@ fuse f [] = refl
 fuse f (k ∷ kept) = ap (λ l. f k.word.items ∷ l) (fuse f kept)
 
 -- it stays right under a copy of the script
-pub copy_keeps : TakesStay → (s u : Setting) (words : List (List ℕ)) (kept : List KeptWord) → WellDeclared s.script.items s.script.external → u.limit ≡ s.limit
+pub copy_keeps : TakesStay → DifferingAgree → (s u : Setting) (words : List (List ℕ)) (kept : List KeptWord) → WellDeclared s.script.items s.script.external → u.limit ≡ s.limit
     → differs s.script u.script ≡ Some [] → AreTakenBy s words kept → AreKept u kept
-copy_keeps stays s u words kept well limits differ taken = λ t.
+copy_keeps stays agrees s u words kept well limits differ taken = λ t.
     let f = λ (w : List ℕ). uses s w (Entry t) in
-    taken.1 t
+    ap (λ (names : Names). map (has_taken names t) kept) (same_names agrees s u [] well differ)
+    ∙ taken.1 t
     ∙ ap (map f) (sym taken.0)
     ∙ fuse f kept
     ∙ ap (λ (g : KeptWord → Bool). map g kept) (fun_ext (λ (k : KeptWord). sym (same_uses stays s u [] well limits differ k.word.items (one_met s.script k.word.items s.limit []) t)))
@@ -137,7 +150,13 @@ at_place f g (y ∷ ys) zero x same is = subst (λ z. f z ≡ g z) (same_Some y 
 at_place f g (y ∷ ys) (suc i) x same is = at_place f g ys i x (ap others_of same) is
 
 pub kept_at : (u : Setting) (kept : List KeptWord) (i : ℕ) (k : KeptWord) → AreKept u kept → slice_get kept i ≡ Some k → IsListOf u k.word.items k.takes
-kept_at u kept i k are is = λ t. at_place (has_taken t) (λ (k : KeptWord). uses u k.word.items (Entry t)) kept i k (are t) is
+kept_at u kept i k are is = λ t. at_place (has_taken (routine_names u) t) (λ (k : KeptWord). uses u k.word.items (Entry t)) kept i k (are t) is
 
 pub heads_same : (b c : Bool) (bs cs : List Bool) → (b ∷ bs) ≡ (c ∷ cs) → (b ≡ c) × (bs ≡ cs)
 heads_same b c bs cs h = (ap first_of h, ap others_of h)
+
+-- a list that is kept is that of the word under another script, too
+pub list_stays : (s u : Setting) (words : List (List ℕ)) (again : List ℕ → Bool) (w : List ℕ) (list : Rc (Vec Taken) Global) → StayOutside s u words again → is_word w words ≡ true → again w ≡ false
+    → IsListOf u w list → IsListOf s w list
+list_stays s u words again w list stays there out is = λ t.
+    ap (λ (names : Names). list_any (same_take t) (view_list names list.value.items)) (sym stays.0) ∙ is t ∙ stays.1 w there out t

@@ -122,7 +122,7 @@ fn text_of_counts(
 ) -> Result<Vec<u8>, AllocError>
     ensures { AreDefined bench.now (view_usables usables.now) → KeepsWords bench.now words.now → IfOk result (λ text. text.items ≡ rows_text bench.now (view_usables usables.now)) }
 {
-    let taken = counts_by_words(alloc, words)?;
+    let taken = counts_by_words(alloc, bench, words)?;
     let counts = counts_of(alloc, bench, &taken, usables)?;
     records_text(alloc, &counts)
 }

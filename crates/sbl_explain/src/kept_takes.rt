@@ -12,7 +12,7 @@ ghost use Rattle.sbl_explain.specs.Kept.{AreKept, HasItems, IsListOf, KeepsWords
 
 use crate::bench_words::words_of;
 use crate::kept_run::KeptRun;
-use crate::kept_words::{KeptWord, Taken, own_takes};
+use crate::kept_words::{KeptWord, Taken, nameless_takes};
 use crate::laws::takes_stay;
 use crate::shared_takes::SharedTakes;
 use crate::takes::takes_by_words;
@@ -76,7 +76,7 @@ fn list_of(
     ensures { IfOk result (λ list. IsListOf (setting_of bench.now) word.now list) }
 {
     let takes = takes_by_words(alloc, bench, &[word])?;
-    lists.share(alloc, own_takes(alloc, takes)?)
+    lists.share(alloc, nameless_takes(alloc, bench, takes)?)
 }
 
 /// Returns the place of a word among kept words, if it is one of the next.
@@ -254,6 +254,7 @@ impl KeptTakes {
         requires { KeepsWords bench.now words.items }
     {
         takes_stay();
+        differing_agree();
         is_well_declared(bench.script());
         if let Some(script) = copy_of(alloc, bench.script())? {
             self.run = Some(KeptRun {

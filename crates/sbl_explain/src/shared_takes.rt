@@ -1,10 +1,9 @@
 //! Lists of taken strings that words share.
 
 ghost use Rattle.std.specs.Prelude.{◌≡◌, IfOk, IfSome, true};
-ghost use Rattle.sbl_explain.specs.Kept.{taken_of, view_list};
+ghost use Rattle.sbl_explain.specs.Kept.{Names, taken_of, view_list};
 
-use crate::kept_words::{Taken, is_taken, ref_of};
-use sbl_machine::Item;
+use crate::kept_words::Taken;
 use std::alloc::{AllocError, Global};
 use std::rc::Rc;
 
@@ -33,7 +32,7 @@ impl SharedTakes {
         alloc: Global,
         list: Vec<Taken>,
     ) -> Result<Rc<Vec<Taken>>, AllocError>
-        ensures { IfOk result (λ owner. view_list owner.value.items ≡ view_list list.items) }
+        ensures { IfOk result (λ owner. (names : Names) → view_list names owner.value.items ≡ view_list names list.items) }
     {
         let slot = slot_of(&list);
         match shared_list(self.list_in(slot), &list)? {
@@ -84,7 +83,7 @@ fn shared_list(
     list: Option<&Rc<Vec<Taken>>>,
     other: &[Taken],
 ) -> Result<Option<Rc<Vec<Taken>>>, AllocError>
-    ensures { IfOk result (λ found. IfSome found (λ owner. view_list owner.value.items ≡ view_list other.now)) }
+    ensures { IfOk result (λ found. IfSome found (λ owner. (names : Names) → view_list names owner.value.items ≡ view_list names other.now)) }
 {
     if let Some(list) = list {
         if have_same(list.as_slice(), other) {
@@ -96,7 +95,7 @@ fn shared_list(
 
 // Returns true only if two lists have the same, in the same order.
 fn have_same(one: &[Taken], other: &[Taken]) -> bool
-    ensures { result ≡ true → view_list one.now ≡ view_list other.now }
+    ensures { result ≡ true → (names : Names) → view_list names one.now ≡ view_list names other.now }
 {
     if one.len() != other.len() {
         return false;
@@ -111,9 +110,11 @@ fn have_same(one: &[Taken], other: &[Taken]) -> bool
 
 // Returns true only if two strings are the same and have the same among.
 fn is_same(one: &Taken, other: &Taken) -> bool
-    ensures { result ≡ true → taken_of one.now ≡ taken_of other.now }
+    ensures { result ≡ true → (names : Names) → taken_of names one.now ≡ taken_of names other.now }
 {
-    is_taken(other, &ref_of(&one.among), one.string.as_slice())
+    one.routine == other.routine
+        && one.among == other.among
+        && one.string.as_slice() == other.string.as_slice()
 }
 
 // An odd number whose bits have no pattern.
@@ -137,12 +138,4 @@ fn digest_after(sum: u64, taken: &Taken) -> u64 {
         sum = (sum ^ u64::from(*character)).wrapping_mul(FACTOR);
     }
     sum
-}
-
-// A number of an among, which others can have too.
-fn number_of(item: &Item) -> u64 {
-    match item {
-        Item::Among(name, number) => number.wrapping_add((name.len() as u64).wrapping_mul(FACTOR)),
-        Item::Routine(_) | Item::Grouping(_) => 0,
-    }
 }

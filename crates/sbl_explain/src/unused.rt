@@ -218,7 +218,7 @@ fn text_of_unused(alloc: Global, bench: &Bench, words: &[KeptWord]) -> Result<Ve
     let parts = parts_of(alloc, bench.script())?;
     let all = words_of(alloc, bench)?;
     let met = met_by_words(alloc, bench, &all)?;
-    let taken = takes_of_words(alloc, words)?;
+    let taken = takes_of_words(alloc, bench, words)?;
     text_of_rows(alloc, &met, &taken, &parts)
 }
 

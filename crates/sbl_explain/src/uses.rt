@@ -185,7 +185,7 @@ fn rows_taking<'b>(
         let Some((word, after)) = rest.split_first() else {
             return Err(AllocError);
         };
-        if has_kept_string(word, among, string) {
+        if has_kept_string(bench, word, among, string) {
             rows.push(row)?;
         }
         rest = after;
