@@ -131,9 +131,8 @@ fn slot_of(list: &[Taken]) -> usize {
 
 // The digest after one string more.
 fn digest_after(sum: u64, taken: &Taken) -> u64 {
-    let mut sum = sum
-        .wrapping_add(number_of(&taken.among))
-        .wrapping_mul(FACTOR);
+    let routine = sum.wrapping_add(taken.routine as u64);
+    let mut sum = routine.wrapping_mul(FACTOR).wrapping_add(taken.among);
     for character in &taken.string {
         sum = (sum ^ u64::from(*character)).wrapping_mul(FACTOR);
     }
