@@ -23,4 +23,5 @@ pub mod Defined
 pub mod AskedFacts
 pub mod EventsFrame
 pub mod EventsStay
+pub mod KeptSets
 pub mod KeptFacts
