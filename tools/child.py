@@ -171,7 +171,7 @@ class Child:
 
     def run(self, lines, say, text=None):
         """Does as `query`, and notes what is accepted. Ctrl-C breaks it off: then the result is false. `text` is what the command reads from a
-        file: `reload`, `words`, or `mark` with a file."""
+        file: `reload`, `words`, or `mark` or `replace` with a file."""
         copy = {"reload": self.copy, "words": self.copy_of_words}.get(lines[0])
         if copy is not None:
             if text is None:
@@ -264,9 +264,10 @@ class Child:
 
     def repeat(self, lines, text):
         """Sends an accepted command again, with what it read from a file then. Returns the lines of its answer."""
-        if lines[0].startswith("mark "):
+        word, has_file, _ = lines[0].partition(" ")
+        if word in ("mark", "replace") and has_file:
             file = memory_file(text)
-            answer = self.answers([["mark /proc/%d/fd/%d" % (os.getpid(), file)]])[0]
+            answer = self.answers([["%s /proc/%d/fd/%d" % (word, os.getpid(), file)]])[0]
             os.close(file)
             return answer
         if text is not None:

@@ -135,7 +135,7 @@ class Desk:
         former, state = (read(argument), state_of(argument)) if word == "save" else (None, None)
         typed, text = self.before_reload() if word == "reload" else ({}, self.text_to_read(word, argument))
         state_of_words = state_of(self.words) if word == "words" and self.words else None
-        replaced = self.definition(argument.partition(" ")[0]) if word in TYPED else None
+        replaced = self.definition("" if word == "replace" else argument.partition(" ")[0]) if word in TYPED else None
         if is_edit and self.changes is None:
             self.changes = self.changes_now(self.query(["changes"]))
         answer = self.child.run(lines, say, text)
@@ -169,6 +169,8 @@ class Desk:
             self.files.note_written(argument)
         if word == "mark":
             self.changes = None if argument else Changes([], {})
+        if word == "replace" and argument and text is not None:
+            lines = [*lines, *text.decode("utf-8", "surrogateescape").split("\n"), "."]
         return self.show_edit(lines, typed, replaced, is_edit) if word in EDITS else "ok"
 
     def show_edit(self, lines, typed, replaced, is_edit):
@@ -275,10 +277,10 @@ class Desk:
         return not why
 
     def text_to_read(self, word, argument):
-        """Returns what a command reads from a file: `words`, or `mark` with a file."""
+        """Returns what a command reads from a file: `words`, or `mark` or `replace` with a file."""
         if word == "words":
             return read(self.words) if self.words else None
-        return read(argument) if word == "mark" and argument else None
+        return read(argument) if word in ("mark", "replace") and argument else None
 
     def quit(self):
         """Returns `ok` if no typed edit and no added word would be lost, or if it is asked for again; otherwise says so."""

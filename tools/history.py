@@ -21,7 +21,7 @@ class Edit:
 
     def name(self):
         """Returns the name of the part that was typed, or nothing for a whole script."""
-        return self.argument.partition(" ")[0]
+        return "" if self.word == "replace" else self.argument.partition(" ")[0]
 
     def number(self):
         """Returns the number of the among that was typed, or 1."""

@@ -102,5 +102,5 @@ def overview() -> List[str]:
     return lines + [
         "Keys          TAB completes, Ctrl-R searches earlier lines; Ctrl-C drops the line or the block, or breaks off what runs; Ctrl-D ends",
         "To a file     a report and > FILE, as in: classes > my.classes",
-        "help COMMAND describes one; docs/WORK.md describes all.",
+        "help COMMAND describes one; docs/REFERENCE.md describes all.",
     ]

@@ -1,4 +1,4 @@
-"""The rows of replies as named tuples, by the tables of docs/SESSION.md and docs/WORK.md."""
+"""The rows of replies as named tuples, by the tables of docs/REFERENCE.md."""
 import csv
 from collections import namedtuple
 from typing import Any, Dict, Iterable, List, NamedTuple, Sequence, Tuple

@@ -31,16 +31,16 @@ class Pages:
 
     def __init__(self):
         language = read_page("LANGUAGE.md")
-        session, work = read_page("SESSION.md"), read_page("WORK.md")
+        reference = read_page("REFERENCE.md")
         table = language[language.index("## Why a script is refused") : language.index("## What a run does")]
         self.faults = {}
         for line in re.findall(r"^\| `\d+ \w+`.*", table, re.M):
             text = re.match(r"\| `(\d+ \w+)`", line)[1]
             self.faults[text] = " at" if text + " at " in line else " in item" if text + " in item " in line else ""
         names = [text.split()[1] for text in self.faults]
-        ends = session[session.index("## Ends") : session.index("### Faults of a script")]
+        ends = reference[reference.index("\n## Faults\n") :]
         self.faults.update(dict.fromkeys(re.findall(r"`(\d+ [A-Z]\w+)`", ends), ""))
-        self.refusals = set(re.findall(r"`no (\d\d [A-Z]\w+)`", session + work)) | {"48 " + name for name in names}
+        self.refusals = set(re.findall(r"`no (\d\d [A-Z]\w+)`", reference)) | {"48 " + name for name in names}
         self.refusals -= {"48 NAME"}
 
 

@@ -178,7 +178,7 @@ def proving():
 
 
 def streams(program):
-    """What docs/LIMITS.md says of input and output that do not block, and of a file that may not grow."""
+    """What docs/SCALE.md says of input and output that do not block, and of a file that may not grow."""
     session, wrong = b"externals ( stem ) define stem as true\n.\n" + b"".join(b"w%d\n" % i for i in range(100000)) + b".\nstems\n", []
     ends = os.pipe()
     os.set_blocking(ends[0], False)

@@ -24,16 +24,19 @@ fn answer(alloc: Global, words: &str) -> Result<String, AllocError> {
 
 /// The words of a command line, and what it asks for.
 const LINES: &str =
-    "snowbench session: Wanted { verb: Session, external: \"stem\", options: Options { script: None, old: None, new: None, words: None, commands: None, stems: None, is_strict: false, shows_places: false, face: None } }
-snowbench check --external go: Wanted { verb: Check, external: \"go\", options: Options { script: None, old: None, new: None, words: None, commands: None, stems: None, is_strict: false, shows_places: false, face: None } }
-snowbench stem --external=go: Wanted { verb: Stem, external: \"go\", options: Options { script: None, old: None, new: None, words: None, commands: None, stems: None, is_strict: false, shows_places: false, face: None } }
-snowbench stem --external=: Wanted { verb: Stem, external: \"\", options: Options { script: None, old: None, new: None, words: None, commands: None, stems: None, is_strict: false, shows_places: false, face: None } }
-snowbench stem --external -: Wanted { verb: Stem, external: \"-\", options: Options { script: None, old: None, new: None, words: None, commands: None, stems: None, is_strict: false, shows_places: false, face: None } }
-snowbench session --: Wanted { verb: Session, external: \"stem\", options: Options { script: None, old: None, new: None, words: None, commands: None, stems: None, is_strict: false, shows_places: false, face: None } }
-snowbench run a --strict b c: Wanted { verb: Session, external: \"stem\", options: Options { script: Some(\"a\"), old: None, new: None, words: Some(\"b\"), commands: Some(\"c\"), stems: None, is_strict: true, shows_places: false, face: None } }
-snowbench check --places a - c: Wanted { verb: Check, external: \"stem\", options: Options { script: Some(\"a\"), old: None, new: None, words: Some(\"-\"), commands: None, stems: Some(\"c\"), is_strict: false, shows_places: true, face: None } }
-snowbench compare a --rows b c: Wanted { verb: Compare, external: \"stem\", options: Options { script: None, old: Some(\"a\"), new: Some(\"b\"), words: Some(\"c\"), commands: None, stems: None, is_strict: false, shows_places: false, face: Some(Rows) } }
-snowbench compare a b c --external go: Wanted { verb: Compare, external: \"go\", options: Options { script: None, old: Some(\"a\"), new: Some(\"b\"), words: Some(\"c\"), commands: None, stems: None, is_strict: false, shows_places: false, face: None } }
+    "snowbench session: Wanted { verb: Session, external: \"stem\", options: Options { script: None, old: None, new: None, words: None, commands: None, stems: None, is_strict: false, shows_places: false, face: None, from: None } }
+snowbench check --external go: Wanted { verb: Check, external: \"go\", options: Options { script: None, old: None, new: None, words: None, commands: None, stems: None, is_strict: false, shows_places: false, face: None, from: None } }
+snowbench stem --external=go: Wanted { verb: Stem, external: \"go\", options: Options { script: None, old: None, new: None, words: None, commands: None, stems: None, is_strict: false, shows_places: false, face: None, from: None } }
+snowbench stem --external=: Wanted { verb: Stem, external: \"\", options: Options { script: None, old: None, new: None, words: None, commands: None, stems: None, is_strict: false, shows_places: false, face: None, from: None } }
+snowbench stem --external -: Wanted { verb: Stem, external: \"-\", options: Options { script: None, old: None, new: None, words: None, commands: None, stems: None, is_strict: false, shows_places: false, face: None, from: None } }
+snowbench session --: Wanted { verb: Session, external: \"stem\", options: Options { script: None, old: None, new: None, words: None, commands: None, stems: None, is_strict: false, shows_places: false, face: None, from: None } }
+snowbench run a --strict b c: Wanted { verb: Session, external: \"stem\", options: Options { script: Some(\"a\"), old: None, new: None, words: Some(\"b\"), commands: Some(\"c\"), stems: None, is_strict: true, shows_places: false, face: None, from: None } }
+snowbench check --places a - c: Wanted { verb: Check, external: \"stem\", options: Options { script: Some(\"a\"), old: None, new: None, words: Some(\"-\"), commands: None, stems: Some(\"c\"), is_strict: false, shows_places: true, face: None, from: None } }
+snowbench compare a --rows b c: Wanted { verb: Compare, external: \"stem\", options: Options { script: None, old: Some(\"a\"), new: Some(\"b\"), words: Some(\"c\"), commands: None, stems: None, is_strict: false, shows_places: false, face: Some(Rows), from: None } }
+snowbench compare a b c --external go: Wanted { verb: Compare, external: \"go\", options: Options { script: None, old: Some(\"a\"), new: Some(\"b\"), words: Some(\"c\"), commands: None, stems: None, is_strict: false, shows_places: false, face: None, from: None } }
+snowbench work a --from b --rows c: Wanted { verb: Work, external: \"stem\", options: Options { script: Some(\"a\"), old: None, new: None, words: Some(\"c\"), commands: None, stems: None, is_strict: false, shows_places: false, face: Some(Rows), from: Some(\"b\") } }
+snowbench work a --from: refused
+snowbench run a --from b: refused
 snowbench compare a b: refused
 snowbench compare a b c d: refused
 snowbench compare --text a b c: refused

@@ -40,6 +40,7 @@ fn wanted_of(alloc: Global, words: &str) -> Result<Wanted, AllocError> {
             is_strict: false,
             shows_places: false,
             face: None,
+            from: None,
         },
     })
 }

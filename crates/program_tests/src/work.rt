@@ -28,6 +28,7 @@ fn paths_of(alloc: Global, file: &str) -> Result<Paths, Fail> {
         script: String::from_str(alloc, file)?,
         words: None,
         external: String::from_str(alloc, "stem")?,
+        from: None,
     })
 }
 

@@ -34,9 +34,10 @@ session_app = with_rule (with_rule (verb_app (codes "session")) (flag (codes "st
 abbrev pub stem_app : App
 stem_app = with_rule (verb_app (codes "stem")) (flag (codes "places"))
 
--- `filter` may have a file
+-- `filter` may have two files
 abbrev pub filter_app : App
-filter_app = with_rule (with_rule (verb_app (codes "filter")) (new_rule (codes "SCRIPT"))) (flag (codes "places"))
+filter_app =
+    with_rule (with_rule (with_rule (verb_app (codes "filter")) (new_rule (codes "SCRIPT"))) (new_rule (codes "WORDS"))) (flag (codes "places"))
 
 -- `check` may have three files
 abbrev pub check_app : App
@@ -50,11 +51,15 @@ compare_app =
     with_rule (with_rule (with_rule (with_rule (verb_app (codes "compare")) (required_rule (codes "OLD"))) (required_rule (codes "NEW")))
     (required_rule (codes "WORDS"))) (flag (codes "rows"))
 
--- `work` has two files, and the faces of its answers
+-- `--from TEXT`: an option with one value
+abbrev pub from_rule : Rule
+from_rule = record (new_rule (codes "from")) { long = Some (codes "from"); value_names = 1 }
+
+-- `work` has two files, the faces of its answers, and the text that it begins with
 abbrev pub work_app : App
 work_app =
-    with_rule (with_rule (with_rule (with_rule (verb_app (codes "work")) (required_rule (codes "SCRIPT"))) (new_rule (codes "WORDS")))
-    (flag (codes "rows"))) (flag (codes "text"))
+    with_rule (with_rule (with_rule (with_rule (with_rule (verb_app (codes "work")) (required_rule (codes "SCRIPT"))) (new_rule (codes "WORDS")))
+    (flag (codes "rows"))) (flag (codes "text"))) from_rule
 
 -- the program itself
 abbrev pub top : App

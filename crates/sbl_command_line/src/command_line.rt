@@ -3,7 +3,7 @@ ghost use Rattle.std.specs.Prelude.{◌≡◌, IfOk, None, Some, codes, false, m
 ghost use Rattle.std.specs.String.{string_bytes};
 ghost use Rattle.clap.specs.Walk.{rule_of};
 ghost use Rattle.clap.specs.Words.{Text, app_of, first_value, found_of, new_rule, one_text};
-ghost use Rattle.sbl_command_line.specs.CommandLine.{IsFlag, IsGiven, IsMissing, IsVerb, LacksFlag, check_app, compare_app, flag, flag_in, program, required_rule, run_app, session_app, stem_app, filter_app, value_in, verb_app, verb_and_external, work_app};
+ghost use Rattle.sbl_command_line.specs.CommandLine.{IsFlag, IsGiven, IsMissing, IsVerb, LacksFlag, check_app, compare_app, flag, flag_in, from_rule, program, required_rule, run_app, session_app, stem_app, filter_app, value_in, verb_app, verb_and_external, work_app};
 
 use clap::error::ErrorKind;
 use clap::{Arg, ArgAction, ArgMatches, Command, Error};
@@ -67,6 +67,8 @@ pub struct Options {
     pub shows_places: bool,
     /// The face of the answers, if `work` or `compare` has one.
     pub face: Option<Face>,
+    /// The file of the text that `work` begins with, if it is not that of the script.
+    pub from: Option<String>,
 }
 
 /// The first lines of the help of the program.
@@ -84,7 +86,7 @@ Example:
     snowbench stem
 
 'snowbench COMMAND --help' says what each command reads and writes. To read on: README.md,
-docs/LANGUAGE.md (the language of scripts), docs/SESSION.md (input, commands, faults, limits).";
+docs/LANGUAGE.md (the language of scripts), docs/REFERENCE.md (input, commands, faults, limits).";
 
 /// The first lines of the help of `run`.
 const ABOUT_RUN: &str = "Runs the commands of a session over files";
@@ -102,7 +104,7 @@ writes
   undo,stem,do
   redo,stem,redo
 
-To read on: docs/SESSION.md has every command with its answers.";
+To read on: docs/REFERENCE.md has every command with its answers.";
 
 /// The first lines of the help of `session`.
 const ABOUT_SESSION: &str = "Answers commands that add words and edit the script";
@@ -121,7 +123,7 @@ writes
   undo,stem,do
   unless,stem,less
 
-To read on: docs/SESSION.md has every command with its answers.";
+To read on: docs/REFERENCE.md has every command with its answers.";
 
 /// The first lines of the help of `stem`.
 const ABOUT_STEM: &str = "Writes the stem of each word";
@@ -139,7 +141,7 @@ writes
   undo,stem,do
   redo,stem,redo
 
-To read on: docs/LANGUAGE.md for scripts, docs/SESSION.md for rows and refusals.";
+To read on: docs/LANGUAGE.md for scripts, docs/REFERENCE.md for rows and refusals.";
 
 /// The first lines of the help of `filter`.
 const ABOUT_FILTER: &str = "Writes the stem of each word as it comes";
@@ -147,7 +149,7 @@ const ABOUT_FILTER: &str = "Writes the stem of each word as it comes";
 /// The last lines of the help of `filter`.
 const HELP_FILTER: &str = "\
 In:   the lines of a script, a line '.', and words (one a line) up to a line '.' or the end.
-      With a file SCRIPT the input is the words alone.
+      With a file SCRIPT the input is the words alone, and with a file WORDS nothing is read.
 Out:  a row for each word, as 'stem' writes it, before the next word is read. Empty lines are
       skipped, repeats are not: nothing is kept of a word, so there may be any number of them.
 
@@ -158,7 +160,7 @@ writes
   undo,stem,do
   undo,stem,do
 
-To read on: docs/AT-SCALE.md.";
+To read on: docs/SCALE.md.";
 
 /// The first lines of the help of `check`.
 const ABOUT_CHECK: &str = "Writes where stems differ from those that are expected";
@@ -177,7 +179,7 @@ Example:
 writes
   2,redo,do,redo
 
-To read on: docs/SESSION.md.";
+To read on: docs/REFERENCE.md.";
 
 /// The first lines of the help of `compare`.
 const ABOUT_COMPARE: &str = "Writes what a change of a script changes";
@@ -202,7 +204,7 @@ writes
   renamed,do,undo
   words,1,1
 
-To read on: docs/SESSION.md.";
+To read on: docs/REFERENCE.md.";
 
 /// The first lines of the help of `work`.
 const ABOUT_WORK: &str = "Answers commands over a script and words in files";
@@ -220,7 +222,7 @@ writes
   undo,stem,do
   redo,stem,redo
 
-To read on: docs/WORK.md has every command with its answers.";
+To read on: docs/REFERENCE.md has every command with its answers.";
 
 /// The help of an argument.
 const SCRIPT_HELP: &str = "The file of the script";
@@ -230,6 +232,9 @@ const WORDS_HELP: &str = "The file of the words, one on each line";
 
 /// The help of an argument.
 const ROWS_HELP: &str = "Answers in rows, for programs";
+
+/// The help of an argument.
+const FROM_HELP: &str = "Begins with the script in this file; reload and save mean SCRIPT";
 
 /// The help of an argument.
 const STRICT_HELP: &str = "Ends with status 1 if a command was refused";
@@ -271,6 +276,17 @@ fn required_file<'a>(alloc: Global, name: &'a str, help: &'a str) -> Arg<'a>
     Arg::new(alloc, name).required(true).help(help)
 }
 
+/// Returns the definition of `--from TEXT`.
+fn from_arg<'a>(alloc: Global) -> Arg<'a>
+    ensures rule { rule_of result ≡ from_rule }
+    ensures here { result.global ≡ false }
+{
+    Arg::new(alloc, "from")
+        .long("from")
+        .value_name("TEXT")
+        .help(FROM_HELP)
+}
+
 /// Returns the definition of an option without a value.
 fn flag_arg<'a>(alloc: Global, name: &'a str, help: &'a str) -> Arg<'a>
     ensures rule { rule_of result ≡ flag name.entry.now }
@@ -309,12 +325,13 @@ fn stem_command<'a>(alloc: Global) -> Result<Command<'a>, AllocError>
     verb_command(alloc, "stem", ABOUT_STEM, HELP_STEM)?.arg(flag_arg(alloc, "places", PLACES_HELP))
 }
 
-/// Returns the definition of `filter`: a subcommand with the file SCRIPT, which may be missing, and the flag `--places`.
+/// Returns the definition of `filter`: a subcommand with the files SCRIPT and WORDS, which may be missing, and the flag `--places`.
 fn filter_command<'a>(alloc: Global) -> Result<Command<'a>, AllocError>
     ensures { IfOk result (λ c. app_of c ≡ filter_app) }
 {
     verb_command(alloc, "filter", ABOUT_FILTER, HELP_FILTER)?
         .arg(file_arg(alloc, "SCRIPT", SCRIPT_HELP))?
+        .arg(file_arg(alloc, "WORDS", WORDS_HELP))?
         .arg(flag_arg(alloc, "places", PLACES_HELP))
 }
 
@@ -345,7 +362,8 @@ fn compare_command<'a>(alloc: Global) -> Result<Command<'a>, AllocError>
         .arg(flag_arg(alloc, "rows", ROWS_HELP))
 }
 
-/// Returns the definition of `work`: a subcommand with the files SCRIPT and WORDS, and the flags `--rows` and `--text`.
+/// Returns the definition of `work`: a subcommand with the files SCRIPT and WORDS, the flags `--rows` and `--text`, and the option
+/// `--from TEXT`.
 fn work_command<'a>(alloc: Global) -> Result<Command<'a>, AllocError>
     ensures { IfOk result (λ c. app_of c ≡ work_app) }
 {
@@ -353,7 +371,8 @@ fn work_command<'a>(alloc: Global) -> Result<Command<'a>, AllocError>
         .arg(required_file(alloc, "SCRIPT", SCRIPT_HELP))?
         .arg(file_arg(alloc, "WORDS", WORDS_HELP))?
         .arg(flag_arg(alloc, "rows", ROWS_HELP))?
-        .arg(flag_arg(alloc, "text", "Answers in text, for people"))
+        .arg(flag_arg(alloc, "text", "Answers in text, for people"))?
+        .arg(from_arg(alloc))
 }
 
 /// Returns the text of an argument, if it is given. Returns `AllocError` if an allocation fails.
@@ -426,6 +445,7 @@ pub fn read_words<'a>(alloc: Global, words: &'a [String]) -> Result<Wanted, Erro
     ensures words { IfOk result (λ wanted. option_map string_bytes wanted.options.words ≡ value_in (codes "WORDS") (map string_bytes words.now)) }
     ensures commands { IfOk result (λ wanted. option_map string_bytes wanted.options.commands ≡ value_in (codes "COMMANDS") (map string_bytes words.now)) }
     ensures stems { IfOk result (λ wanted. option_map string_bytes wanted.options.stems ≡ value_in (codes "STEMS") (map string_bytes words.now)) }
+    ensures from { IfOk result (λ wanted. option_map string_bytes wanted.options.from ≡ value_in (codes "from") (map string_bytes words.now)) }
     ensures strict { IfOk result (λ wanted. IsFlag (flag_in (codes "strict") (map string_bytes words.now)) wanted.options.is_strict) }
     ensures places { IfOk result (λ wanted. IsFlag (flag_in (codes "places") (map string_bytes words.now)) wanted.options.shows_places) }
     ensures rows { IfOk result (λ wanted. IsGiven (codes "rows") (map string_bytes words.now) → wanted.options.face ≡ Some Face.Rows) }
@@ -461,6 +481,7 @@ pub fn read_words<'a>(alloc: Global, words: &'a [String]) -> Result<Wanted, Erro
     let list = text_of(alloc, options, "WORDS")?;
     let commands = text_of(alloc, options, "COMMANDS")?;
     let stems = text_of(alloc, options, "STEMS")?;
+    let from = text_of(alloc, options, "from")?;
     let is_strict = has_flag(options, "strict");
     let shows_places = has_flag(options, "places");
     let face = face_of(options);
@@ -477,6 +498,7 @@ pub fn read_words<'a>(alloc: Global, words: &'a [String]) -> Result<Wanted, Erro
             is_strict,
             shows_places,
             face,
+            from,
         },
     })
 }

@@ -1,15 +1,19 @@
 -- A desk without memory addresses; marking, undoing and redoing.
-use Rattle.std.specs.Prelude.{◌≡◌, ℕ, List, [], ◌∷◌, ◌++◌, Option, Some, None, Result, Ok, Err, map}
+use Rattle.std.specs.Prelude.{◌≡◌, ℕ, List, [], ◌∷◌, ◌++◌, Option, Some, None, Result, Ok, Err, map, string_bytes}
 use Rattle.std.specs.Option.{option_map}
 use Rattle.sbl_bench.specs.Contents.{Contents}
 use Rattle.sbl_bench.specs.Edits.{Edits}
 use Rattle.sbl_rows.specs.Rows.{Row}
 use Rattle.sbl_semantics.specs.Outcome.{outcome_of}
 use Rattle.sbl_print.specs.Canonical.{canonical}
-use Rattle.sbl_history.specs.History.{Past, ToLimit, ToText, Turn, edit_of}
+use Rattle.sbl_script.specs.Edits.{among, body, terms}
+use Rattle.sbl_history.specs.History.{EditKind, OfLimit, OfPart, OfScript, Past, PastEdit, ToLimit, ToText, Turn, edit_of}
 use Rattle.sbl_history.specs.declared.desk.Desk.{Desk}
 use Rattle.sbl_history.specs.declared.history.HistoryFault.{HistoryFault}
 use Rattle.sbl_history.specs.declared.history.HistoryFault.TheVariants as fault
+use Rattle.sbl_history.specs.declared.steps.HeldEdit.{HeldEdit}
+use Rattle.sbl_history.specs.declared.kinds.HeldKind.{HeldKind}
+use Rattle.sbl_history.specs.declared.kinds.HeldKind.TheVariants as kind
 use Rattle.sbl_history.specs.declared.steps.History.{History}
 use Rattle.sbl_history.specs.declared.steps.Step.{Step}
 use Rattle.sbl_history.specs.declared.steps.Step.TheVariants as step
@@ -30,11 +34,21 @@ view_step (step.Limit n) = ToLimit n
 abbrev pub view_marked : MarkedRow → Row
 view_marked r = record { word = r.word.items; outcome = outcome_of r.outcome }
 
-abbrev pub view_steps : Vec Step Global → List Turn
-view_steps steps = map view_step steps.items
+abbrev pub view_kind : HeldKind → EditKind
+view_kind (kind.Routine name) = OfPart (body (string_bytes name))
+view_kind (kind.Among name k) = OfPart (among (string_bytes name) k)
+view_kind (kind.Grouping name) = OfPart (terms (string_bytes name))
+view_kind kind.Script = OfScript
+view_kind (kind.Limit n) = OfLimit n
+
+abbrev pub view_edit : HeldEdit → PastEdit
+view_edit e = record { kind = view_kind e.kind; turn = view_step e.step }
+
+abbrev pub view_edits : Vec HeldEdit Global → List PastEdit
+view_edits edits = map view_edit edits.items
 
 abbrev pub past_of : History → Past
-past_of h = record { earlier = view_steps h.earlier; later = view_steps h.later }
+past_of h = record { earlier = view_edits h.earlier; later = view_edits h.later }
 
 abbrev pub view_text : Option (Vec ℕ Global) → Option (List ℕ)
 view_text text = option_map (λ t. t.items) text
@@ -59,17 +73,21 @@ abbrev pub text_after : Option (List ℕ) → Turn → Option (List ℕ)
 text_after text (ToText other) = Some other
 text_after text (ToLimit n) = text
 
--- What undoes or redoes: the last of the turns in the first list is made, and what takes it back becomes the last of the other
--- list. If there is none, or the bench refuses its edit, nothing changes but, maybe, the count of runs.
+-- the same edit, with what takes its turn back
+abbrev pub turned_edit : Contents → Option (List ℕ) → PastEdit → PastEdit
+turned_edit s text edit = record edit { turn = back s text edit.turn }
+
+-- What undoes or redoes: the turn of the last edit in the first list is made, and this edit becomes the last of the other list,
+-- with what takes the turn back. If there is none, or the bench refuses it, nothing changes but, maybe, the count of runs.
 abbrev pub Turns : Result (Unit {0}) HistoryFault → Contents → Contents → Option (List ℕ) → Option (List ℕ)
-    → List Turn → List Turn → List Turn → List Turn → Type 0
+    → List PastEdit → List PastEdit → List PastEdit → List PastEdit → Type 0
 Turns (Ok u) s t text new_text from to new_from new_to =
-    (turn : Turn) × (from ≡ new_from ++ turn ∷ []) × Edits (Ok u) s (edit_of turn) t × (new_to ≡ to ++ back s text turn ∷ [])
-    × (new_text ≡ text_after text turn)
+    (edit : PastEdit) × (from ≡ new_from ++ edit ∷ []) × Edits (Ok u) s (edit_of edit.turn) t × (new_to ≡ to ++ turned_edit s text edit ∷ [])
+    × (new_text ≡ text_after text edit.turn)
 Turns (Err fault.Nothing) s t text new_text from to new_from new_to =
     (from ≡ []) × (t ≡ s) × (new_text ≡ text) × (new_from ≡ from) × (new_to ≡ to)
 Turns (Err (fault.Edit f)) s t text new_text from to new_from new_to =
-    (rest : List Turn) × (turn : Turn) × (from ≡ rest ++ turn ∷ []) × Edits (Err f) s (edit_of turn) t
+    (rest : List PastEdit) × (edit : PastEdit) × (from ≡ rest ++ edit ∷ []) × Edits (Err f) s (edit_of edit.turn) t
     × (new_text ≡ text) × (new_from ≡ from) × (new_to ≡ to)
 
 -- the latest edit in force is undone

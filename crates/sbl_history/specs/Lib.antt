@@ -1,5 +1,6 @@
 -- definitions that public contracts depend on
 pub mod History
+pub mod Listing
 pub mod Desks
 pub mod Editing
 pub mod Splicing

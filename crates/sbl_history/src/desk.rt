@@ -6,14 +6,18 @@ ghost use Rattle.sbl_bench.specs.KeptRuns.{contents_of};
 ghost use Rattle.sbl_print.specs.Canonical.{canonical};
 ghost use Rattle.sbl_rows.specs.Rows.{view_row};
 ghost use Rattle.sbl_rows.specs.StemRows.{rows_with};
-ghost use Rattle.sbl_history.specs.Desks.{Redoes, Undoes, state_of, text_in, view_text};
+ghost use Rattle.sbl_history.specs.Desks.{Redoes, Undoes, state_of, text_in, view_kind, view_text};
+ghost use Rattle.sbl_history.specs.History.{OfScript};
+ghost use Rattle.sbl_history.specs.Listing as listing;
 ghost use Rattle.sbl_history.specs.{Editing.NotesLimit, Editing.Remembers, Editing.Replaces, Editing.ReplacesPart, Splicing.IsTextIn, Splicing.Reads};
 ghost use Rattle.sbl_script.specs.Parts.{view_part};
 
 use crate::history::{HistoryFault, text_of, turn};
+use crate::kinds::HeldKind;
+use crate::listing::history_text;
 use crate::marks::{MarkedRow, copy_rows, rows_of_stems, views_of};
 use crate::splice::{SplicedText, splice};
-use crate::steps::{History, Step};
+use crate::steps::{HeldEdit, History, Step};
 use sbl_bench::{Bench, EditFault, Row};
 use sbl_script::Part;
 use std::alloc::{AllocError, Global};
@@ -99,7 +103,10 @@ impl Desk {
         ensures { NotesLimit before (contents_of bench.now) (state_of self.old) (state_of self.new) }
     {
         if before != bench.limit() {
-            self.history.remember(Step::Limit(before));
+            self.history.remember(HeldEdit {
+                kind: HeldKind::Limit(bench.limit()),
+                step: Step::Limit(before),
+            });
         }
     }
 
@@ -113,17 +120,20 @@ impl Desk {
         Ok(Before { text, canonical })
     }
 
-    /// Notes that the script was edited, with its text. Remembers the text before unless the canonical text is the same.
-    fn note(&mut self, bench: &Bench, before: Before, text: Option<Vec<u8>>)
+    /// Notes an edit of the script, with the text after it. Remembers the edit unless the canonical text is the same.
+    fn note(&mut self, bench: &Bench, kind: HeldKind, before: Before, text: Option<Vec<u8>>)
         ensures text { (state_of self.new).text ≡ view_text text }
         ensures marked { (state_of self.new).marked ≡ (state_of self.old).marked }
-        ensures past { Remembers before.text.items (canonical (contents_of bench.now).setting.script.items ≡ string_bytes before.canonical) (state_of self.old) (state_of self.new) }
+        ensures past { Remembers (view_kind kind) before.text.items (canonical (contents_of bench.now).setting.script.items ≡ string_bytes before.canonical) (state_of self.old) (state_of self.new) }
     {
         self.text = text;
         if has_canonical(self.alloc, bench, before.canonical.as_str()) {
             return;
         }
-        self.history.remember(Step::Text(before.text));
+        self.history.remember(HeldEdit {
+            kind,
+            step: Step::Text(before.text),
+        });
     }
 
     /// Replaces the whole script, as `Bench::replace_script` does, and remembers the edit if it changed the script.
@@ -133,12 +143,12 @@ impl Desk {
     /// Returns the faults of `Bench::replace_script`. Then the desk is unchanged.
     #[tactic(auto, using(crate::proofs::Refusing::nothing_tried))]
     pub fn replace(&mut self, bench: &mut Bench, text: &[u8]) -> Result<(), EditFault>
-        ensures { Replaces result (Whole text.now) (Some text.now) (contents_of bench.old) (state_of self.old) (contents_of bench.new) (state_of self.new) }
+        ensures { Replaces result OfScript (Whole text.now) (Some text.now) (contents_of bench.old) (state_of self.old) (contents_of bench.new) (state_of self.new) }
     {
         let kept = Vec::from_slice(self.alloc, text)?;
         let before = self.before(bench)?;
         bench.replace_script(text)?;
-        self.note(bench, before, Some(kept));
+        self.note(bench, HeldKind::Script, before, Some(kept));
         Ok(())
     }
 
@@ -158,12 +168,13 @@ impl Desk {
     ) -> Result<(), EditFault>
         ensures { ReplacesPart result (view_part part.entry) text.now (contents_of bench.old) (state_of self.old) (contents_of bench.new) (state_of self.new) }
     {
+        let kind = HeldKind::of_part(self.alloc, part)?;
         let before = self.before(bench)?;
         let external = bench.script().external();
         let found = splice(self.alloc, &before.text, external, part, text)?;
         bench.replace(part, text)?;
         let kept = text_in_force(self.alloc, bench, found);
-        self.note(bench, before, kept);
+        self.note(bench, kind, before, kept);
         Ok(())
     }
 
@@ -193,6 +204,17 @@ impl Desk {
         let text = &mut self.text;
         let past = &mut self.history;
         turn(self.alloc, bench, text, &mut past.later, &mut past.earlier)
+    }
+
+    /// Returns the rows of the edits that can be undone, the oldest first, and then of those that can be redone, the next one first.
+    ///
+    /// # Errors
+    ///
+    /// Returns `AllocError` if an allocation fails.
+    pub fn history(&self) -> Result<Vec<u8>, AllocError>
+        ensures { IfOk result (λ text. text.items ≡ listing.history_text (state_of self.now).past) }
+    {
+        history_text(self.alloc, &self.history)
     }
 
     /// Returns the text of the script in force: the bytes that it was read from, with the typed parts put into them, or its

@@ -2,16 +2,16 @@
 ghost use Rattle.std.specs.Prelude.{◌≡◌, ◌≤◌, ◌<◌, ◌+◌, ◌-◌, ◌++◌, ◌∷◌, [], Some, drop, length, map, IfOk, OnOk, OnErr, vec_len, vec_capacity};
 ghost use Rattle.sbl_bench.specs.Edits.{Edits};
 ghost use Rattle.sbl_bench.specs.KeptRuns.{contents_of};
-ghost use Rattle.sbl_history.specs.Desks.{Turns, back, past_of, text_after, text_in, view_step, view_steps, view_text};
-ghost use Rattle.sbl_history.specs.History.{ToLimit, ToText, edit_of, latest, remember_turn};
+ghost use Rattle.sbl_history.specs.Desks.{Turns, back, past_of, text_after, text_in, view_edit, view_edits, view_step, view_text};
+ghost use Rattle.sbl_history.specs.History.{ToLimit, ToText, edit_of, latest, remember_edit};
 
-use crate::steps::{History, Step};
+use crate::steps::{HeldEdit, History, Step};
 use sbl_bench::{Bench, EditFault};
 use std::alloc::{AllocError, Global};
 use std::mem::replace;
 
 /// The maximum number of edits that can be undone or redone.
-const MAX_STEPS: usize = 100;
+const MAX_EDITS: usize = 100;
 
 /// Why nothing was undone or redone.
 #[derive(Clone, Copy, Debug, PartialEq, Eq)]
@@ -27,46 +27,46 @@ impl History {
     pub(crate) fn new(alloc: Global) -> Result<History, AllocError>
         ensures { IfOk result (λ h. past_of h ≡ record { earlier = []; later = [] }) }
     {
-        let earlier = Vec::with_capacity(alloc, MAX_STEPS)?;
-        let later = Vec::with_capacity(alloc, MAX_STEPS)?;
+        let earlier = Vec::with_capacity(alloc, MAX_EDITS)?;
+        let later = Vec::with_capacity(alloc, MAX_EDITS)?;
         Ok(History { earlier, later })
     }
 
-    /// Remembers the step that undoes an edit. Forgets the edits that were undone, and the oldest one if there are 100.
-    pub(crate) fn remember(&mut self, step: Step)
-        ensures { past_of self.new ≡ remember_turn (past_of self.old) (view_step step) }
+    /// Remembers an edit. Forgets the edits that were undone, and the oldest one if there are 100.
+    pub(crate) fn remember(&mut self, edit: HeldEdit)
+        ensures { past_of self.new ≡ remember_edit (past_of self.old) (view_edit edit) }
     {
         self.later.clear();
-        push_latest(&mut self.earlier, step);
+        push_latest(&mut self.earlier, edit);
     }
 }
 
-/// Drops the first step if there are 100.
-fn make_room(steps: &mut Vec<Step>)
-    requires { vec_len steps.old ≤ 100 }
-    ensures items { steps.new.items ≡ drop (length steps.old.items - 99) steps.old.items }
-    ensures few { vec_len steps.new < 100 }
-    ensures room { vec_capacity steps.new ≡ vec_capacity steps.old }
+/// Drops the first edit if there are 100.
+fn make_room(edits: &mut Vec<HeldEdit>)
+    requires { vec_len edits.old ≤ 100 }
+    ensures items { edits.new.items ≡ drop (length edits.old.items - 99) edits.old.items }
+    ensures few { vec_len edits.new < 100 }
+    ensures room { vec_capacity edits.new ≡ vec_capacity edits.old }
 {
-    if steps.len() >= MAX_STEPS {
-        let _oldest = steps.remove(0);
+    if edits.len() >= MAX_EDITS {
+        let _oldest = edits.remove(0);
     }
 }
 
-/// Appends a step, and forgets the oldest one if there are 100.
+/// Appends an edit, and forgets the oldest one if there are 100.
 #[tactic(auto, using(crate::proofs::Latest::one_more))]
-fn push_latest(steps: &mut Vec<Step>, step: Step)
-    requires few { vec_len steps.old ≤ 100 }
-    requires room { 100 ≤ vec_capacity steps.old }
-    ensures steps { map view_step steps.new.items ≡ latest (map view_step steps.old.items ++ view_step step ∷ []) }
-    ensures few { vec_len steps.new ≤ 100 }
-    ensures room { vec_capacity steps.new ≡ vec_capacity steps.old }
+fn push_latest(edits: &mut Vec<HeldEdit>, edit: HeldEdit)
+    requires few { vec_len edits.old ≤ 100 }
+    requires room { 100 ≤ vec_capacity edits.old }
+    ensures edits { map view_edit edits.new.items ≡ latest (map view_edit edits.old.items ++ view_edit edit ∷ []) }
+    ensures few { vec_len edits.new ≤ 100 }
+    ensures room { vec_capacity edits.new ≡ vec_capacity edits.old }
 {
-    make_room(steps);
-    steps.push_reserved(step);
+    make_room(edits);
+    edits.push_reserved(edit);
 }
 
-/// Makes the last of the steps `from`, and appends the step that takes it back to `to`.
+/// Undoes or redoes the last of the edits `from`, and appends it to `to` with the step that takes that back.
 ///
 /// # Errors
 ///
@@ -76,27 +76,27 @@ pub(crate) fn turn(
     alloc: Global,
     bench: &mut Bench,
     text: &mut Option<Vec<u8>>,
-    from: &mut Vec<Step>,
-    to: &mut Vec<Step>,
+    from: &mut Vec<HeldEdit>,
+    to: &mut Vec<HeldEdit>,
 ) -> Result<(), HistoryFault>
     requires few { vec_len from.old + vec_len to.old ≤ 100 }
     requires room { 100 ≤ vec_capacity from.old }
     requires to_room { 100 ≤ vec_capacity to.old }
-    ensures turns { Turns result (contents_of bench.old) (contents_of bench.new) (view_text text.old) (view_text text.new) (view_steps from.old) (view_steps to.old) (view_steps from.new) (view_steps to.new) }
+    ensures turns { Turns result (contents_of bench.old) (contents_of bench.new) (view_text text.old) (view_text text.new) (view_edits from.old) (view_edits to.old) (view_edits from.new) (view_edits to.new) }
     ensures few { vec_len from.new + vec_len to.new ≡ vec_len from.old + vec_len to.old }
     ensures room { vec_capacity from.new ≡ vec_capacity from.old }
     ensures to_room { vec_capacity to.new ≡ vec_capacity to.old }
 {
-    let Some(mut step) = from.pop() else {
+    let Some(mut edit) = from.pop() else {
         return Err(HistoryFault::Nothing);
     };
-    match exchange(alloc, bench, text, &mut step) {
+    match exchange(alloc, bench, text, &mut edit.step) {
         Ok(()) => {
-            to.push_reserved(step);
+            to.push_reserved(edit);
             Ok(())
         }
         Err(fault) => {
-            from.push_reserved(step);
+            from.push_reserved(edit);
             Err(HistoryFault::Edit(fault))
         }
     }

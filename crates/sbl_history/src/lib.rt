@@ -4,7 +4,9 @@
 
 mod desk;
 mod history;
+mod kinds;
 mod line_ends;
+mod listing;
 mod marks;
 mod splice;
 mod steps;

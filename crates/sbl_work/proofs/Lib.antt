@@ -4,4 +4,6 @@ pub mod ServingFacts
 pub mod WholeFacts
 pub mod LookupFacts
 pub mod StemFileFacts
+pub mod TextReplyFacts
+pub mod TextReplyFacts
 pub mod WordFileFacts

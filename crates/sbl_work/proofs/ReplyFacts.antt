@@ -20,9 +20,10 @@ use Rattle.sbl_sessions.specs.declared.replies.Reply.{Reply}
 use Rattle.sbl_text.specs.declared.fault.ScriptFault.{ScriptFault}
 use Rattle.sbl_text.specs.declared.fault.ScriptFault.TheVariants as script
 use Rattle.sbl_work.specs.Commands as command
-use Rattle.sbl_work.specs.Commands.{WorkCommand, alone_command, block_command, families_command, is_replace, part_command, replace_command}
+use Rattle.sbl_work.specs.Commands.{WorkCommand, alone_command, block_command, families_command, is_replace, part_command, with_file}
 use Rattle.sbl_history.specs.Desks.{State}
 use Rattle.sbl_history.specs.Editing.{Replaces}
+use Rattle.sbl_history.specs.History.{OfScript}
 use Rattle.sbl_work.specs.Replies.{IsWorkReply, TellsReport, not_text_text, rows_or_fault}
 use Rattle.sbl_work.specs.ReplyViews.{IsFamiliesAnswer, IsFileAnswer, IsPartResult, IsTextResult, IsWorkAnswer, NamesText}
 use Rattle.sbl_history.proofs.Refusing.{nothing_tried}
@@ -70,9 +71,9 @@ too_long s bytes long = (inl (script.ScriptTooLong, inl (inl (long, refl)), refl
 
 -- the block has no text
 pub whole_refused : (s : Contents) (d : State) (bytes : List ℕ) (f : EditFault) → ((f ≡ fault.Script script.ScriptTooLong) × (max_script < length bytes)) ⊎ (f ≡ fault.OutOfMemory)
-    → Replaces (Err f) (Whole bytes) (Some bytes) s d s d
-whole_refused s d bytes f (inl long) = subst (λ (g : EditFault). Replaces (Err g) (Whole bytes) (Some bytes) s d s d) (sym long.0) (too_long s bytes long.1, refl)
-whole_refused s d bytes f (inr memory) = subst (λ (g : EditFault). Replaces (Err g) (Whole bytes) (Some bytes) s d s d) (sym memory) (nothing_tried s bytes, refl)
+    → Replaces (Err f) OfScript (Whole bytes) (Some bytes) s d s d
+whole_refused s d bytes f (inl long) = subst (λ (g : EditFault). Replaces (Err g) OfScript (Whole bytes) (Some bytes) s d s d) (sym long.0) (too_long s bytes long.1, refl)
+whole_refused s d bytes f (inr memory) = subst (λ (g : EditFault). Replaces (Err g) OfScript (Whole bytes) (Some bytes) s d s d) (sym memory) (nothing_tried s bytes, refl)
 
 -- memory for the file of the script is refused
 pub reload_memory : (s : Contents) (d : State) (line : List ℕ) (r : Reply) → command.EditWhole [] ≡ alone_command (Some []) line → IsReply r (edit_text (Some fault.OutOfMemory)) → IsFileAnswer s d line r s d
@@ -89,15 +90,14 @@ pub append_memory : (s : Contents) (d : State) (line : List ℕ) (r : Reply) →
 append_memory s d line r is shown =
     (Some (0 ∷ []), same_command s s d d command.Saved (alone_command (Some (0 ∷ [])) line) r is (edit_text (Some fault.OutOfMemory), shown, inr (refl, refl, refl)))
 
--- `replace` alone
-pub replace_good : (s t : Contents) (d e : State) (line : List ℕ) (lines : List (List ℕ)) (result : Result (Unit {0}) EditFault) (r : Reply) → bytes_eq line (codes "replace") ≡ true
-    → Replaces result (Whole (made_text lines)) (Some (made_text lines)) s d t e → IsReply r (edit_text (fault_in result)) → IsWorkAnswer s d (replace_command line lines) r t e
-replace_good s t d e line lines result r good so shown = rw good (edit_text (fault_in result), shown, (result, so, refl))
+-- these bytes replace it
+pub whole_answer : (s t : Contents) (d e : State) (bytes : List ℕ) (result : Result (Unit {0}) EditFault) (r : Reply)
+    → Replaces result OfScript (Whole bytes) (Some bytes) s d t e → IsReply r (edit_text (fault_in result)) → IsWorkAnswer s d (command.EditWhole bytes) r t e
+whole_answer s t d e bytes result r so shown = (edit_text (fault_in result), shown, (result, so, refl))
 
--- `replace` with an argument
-pub replace_bad : (s : Contents) (d : State) (line : List ℕ) (lines : List (List ℕ)) (r : Reply) → bytes_eq line (codes "replace") ≡ false
-    → IsReply r (with_line_feed (codes "no 52 BadCommand")) → IsWorkAnswer s d (replace_command line lines) r s d
-replace_bad s d line lines r bad shown = rw bad (with_line_feed (codes "no 52 BadCommand"), shown, ((Enough, (refl, refl)), inl (refl, refl)))
+-- memory for a file that replaces it is refused
+pub whole_memory : (s : Contents) (d : State) (r : Reply) → IsReply r (edit_text (Some fault.OutOfMemory)) → (file : Option (List ℕ)) × IsWorkAnswer s d (with_file command.EditWhole file) r s d
+whole_memory s d r shown = (Some [], whole_answer s s d d [] (Err fault.OutOfMemory) r (whole_refused s d [] fault.OutOfMemory (inr refl)) shown)
 
 -- ---- the text of a block
 
@@ -205,10 +205,15 @@ families_refused s d lines f r (inr memory) shown = by (nat_lt max_script (lengt
 
 pub part_block : (s t : Contents) (d e : State) (line : List ℕ) (lines : List (List ℕ)) (r : Reply) (asked : Bool) → asked ≡ true
     → IsWorkAnswer s d (part_command (target_of line) (text_of_block lines)) r t e
-    → IsWorkAnswer s d (if asked then part_command (target_of line) (text_of_block lines) else (if is_replace line then replace_command line lines else families_command lines)) r t e
+    → IsWorkAnswer s d (if asked then part_command (target_of line) (text_of_block lines) else (if is_replace line then command.EditWhole (made_text lines) else families_command lines)) r t e
 part_block s t d e line lines r asked is answer = rw is answer
 
 pub families_block : (s t : Contents) (d e : State) (line : List ℕ) (lines : List (List ℕ)) (r : Reply) (asked replaces : Bool) → asked ≡ false → replaces ≡ false
     → IsWorkAnswer s d (families_command lines) r t e
-    → IsWorkAnswer s d (if asked then part_command (target_of line) (text_of_block lines) else (if replaces then replace_command line lines else families_command lines)) r t e
+    → IsWorkAnswer s d (if asked then part_command (target_of line) (text_of_block lines) else (if replaces then command.EditWhole (made_text lines) else families_command lines)) r t e
 families_block s t d e line lines r asked replaces is other answer = rw (is, other) answer
+
+pub replace_block : (s t : Contents) (d e : State) (line : List ℕ) (lines : List (List ℕ)) (r : Reply) (asked replaces : Bool) → asked ≡ false → replaces ≡ true
+    → IsWorkAnswer s d (command.EditWhole (made_text lines)) r t e
+    → IsWorkAnswer s d (if asked then part_command (target_of line) (text_of_block lines) else (if replaces then command.EditWhole (made_text lines) else families_command lines)) r t e
+replace_block s t d e line lines r asked replaces is same answer = rw (is, same) answer

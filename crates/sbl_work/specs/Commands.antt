@@ -28,6 +28,8 @@ pub data WorkCommand : Type 0 where
   Undo : WorkCommand
   -- makes the edit again that was taken back last
   Redo : WorkCommand
+  -- the edits that can be undone and redone
+  History : WorkCommand
   -- sets the mark
   Mark : WorkCommand
   -- sets the mark to the words with the stems in these bytes
@@ -68,6 +70,16 @@ pub data WorkCommand : Type 0 where
   NoFile : WorkCommand
   -- a text to be written
   Echo : List ℕ → WorkCommand
+  -- the text of the script
+  Text : WorkCommand
+  -- what is in that text, with the places
+  Places : WorkCommand
+  -- the tokens of that text
+  Tokens : WorkCommand
+  -- the tokens of the text with these bytes
+  TokensOf : List ℕ → WorkCommand
+  -- the name and the version of the program
+  Hello : WorkCommand
 
 -- the line that ends the work
 abbrev pub quit_line : List ℕ
@@ -116,6 +128,7 @@ abbrev pub word_command : Option (List ℕ) → List ℕ → WorkCommand
 word_command file line =
     if bytes_eq (command_word line) (codes "largest") then Largest (count_in (argument line))
     else (if bytes_eq (command_word line) (codes "families") then with_file families_in_file file
+    else (if bytes_eq (command_word line) (codes "replace") then with_file EditWhole file
     else (if bytes_eq (command_word line) (codes "why") then Why (chars (argument line))
     else (if bytes_eq (command_word line) (codes "events") then Why (chars (argument line))
     else (if bytes_eq (command_word line) (codes "integers") then Integers (chars (argument line))
@@ -127,7 +140,8 @@ word_command file line =
     else (if bytes_eq (command_word line) (codes "append") then with_file append_command file
     else (if bytes_eq (command_word line) (codes "mark") then mark_command file line
     else (if bytes_eq (command_word line) (codes "approve") then Approve (is_some file)
-    else Session (session.line_command line)))))))))))))
+    else (if bytes_eq (command_word line) (codes "tokens") then with_file TokensOf file
+    else Session (session.line_command line)))))))))))))))
 
 -- the command of a line that is no comment and no `echo`
 abbrev pub text_command : Option (List ℕ) → List ℕ → WorkCommand
@@ -135,6 +149,7 @@ text_command file line =
     if bytes_eq line (codes "reload") then with_file EditWhole file
     else (if bytes_eq line (codes "undo") then Undo
     else (if bytes_eq line (codes "redo") then Redo
+    else (if bytes_eq line (codes "history") then History
     else (if bytes_eq line (codes "mark") then Mark
     else (if bytes_eq line (codes "words") then with_file Words file
     else (if bytes_eq line (codes "changes") then Changes
@@ -142,7 +157,11 @@ text_command file line =
     else (if bytes_eq line (codes "unused") then Unused
     else (if bytes_eq line (codes "counts") then Counts
     else (if bytes_eq line (codes "help") then Nothing
-    else word_command file line)))))))))
+    else (if bytes_eq line (codes "text") then Text
+    else (if bytes_eq line (codes "places") then Places
+    else (if bytes_eq line (codes "tokens") then Tokens
+    else (if bytes_eq line (codes "hello") then Hello
+    else word_command file line))))))))))))))
 
 -- whether a line begins with `#`
 abbrev pub is_comment : List ℕ → Bool
@@ -156,7 +175,7 @@ utf8_command file line =
     else text_command file line
 
 -- The command of a line without a block. The file has these bytes: the script's for `reload`, that of the words for `words`, the
--- one that the line names for `families` and `mark`; for `save` and `approve` any if it was written, and for `append` the lines
+-- one that the line names for `replace`, `families`, `mark` and `tokens`; for `save` and `approve` any if it was written, and for `append` the lines
 -- that were put at its end; none if it could not be read or written. A line that is not UTF-8 and no comment is a command of a
 -- session, where it is bad.
 unfoldable pub alone_command : Option (List ℕ) → List ℕ → WorkCommand
@@ -168,10 +187,9 @@ alone_command file line =
 -- ---- a line and its block
 
 abbrev pub is_replace : List ℕ → Bool
-is_replace line = bytes_eq (command_word line) (codes "replace")
+is_replace line = bytes_eq line (codes "replace")
 
--- whether a block follows the line: after the command words of the blocks of a session, after `replace` with an argument too,
--- and after `families` alone
+-- whether a block follows the line: after the command words of the blocks of a session, and after `replace` and `families` alone
 abbrev pub asks_work_block : List ℕ → Bool
 asks_work_block line = asks_block line || (is_replace line || bytes_eq line (codes "families"))
 
@@ -181,10 +199,6 @@ part_command None text = Session session.Bad
 part_command (Some what) (Ok text) = EditPart what text
 part_command (Some what) (Err f) = Session (session.HasNoText f)
 
--- `replace` with an argument is bad
-abbrev pub replace_command : List ℕ → List (List ℕ) → WorkCommand
-replace_command line lines = if bytes_eq line (codes "replace") then EditWhole (made_text lines) else Session session.Bad
-
 abbrev pub families_command : List (List ℕ) → WorkCommand
 families_command lines =
     if nat_lt max_script (length (made_text lines)) then Session (session.HasNoText fault.ScriptTooLong) else Families (made_text lines)
@@ -192,7 +206,7 @@ families_command lines =
 abbrev pub block_command : List ℕ → List (List ℕ) → WorkCommand
 block_command line lines =
     if asks_block line then part_command (session.target_of line) (session.text_of_block lines)
-    else (if is_replace line then replace_command line lines
+    else (if is_replace line then EditWhole (made_text lines)
     else families_command lines)
 
 -- ---- both

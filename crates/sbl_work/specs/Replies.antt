@@ -1,5 +1,6 @@
 -- The replies of work: the text of the reply to a command, and the bench and the desk after it.
-use Rattle.std.specs.Prelude.{◌≡◌, ◌⊎◌, ℕ, Bool, ◌==◌, List, [], codes, length, if◌then◌else◌, Option, Some, None, Result, Ok, Err}
+use Rattle.std.specs.Prelude.{◌≡◌, ◌⊎◌, ℕ, Bool, true, false, ◌==◌, nat_lt, List, [], codes, length, if◌then◌else◌}
+use Rattle.std.specs.Prelude.{Option, Some, None, Result, Ok, Err}
 use Rattle.std.specs.Option.{unwrap_or}
 use Rattle.std.specs.Str.{chars, is_utf8}
 use Rattle.sbl_bench.specs.Contents.{Contents, rows_now}
@@ -8,6 +9,8 @@ use Rattle.sbl_bench.specs.Edits.{Edits, Whole}
 use Rattle.sbl_bench.specs.Whys.{refusal_of_why}
 use Rattle.sbl_bench.specs.declared.fault.EditFault.{EditFault}
 use Rattle.sbl_bench.specs.declared.fault.EditFault.TheVariants as edit
+use Rattle.sbl_text.specs.declared.fault.ScriptFault.TheVariants as script
+use Rattle.sbl_reports.specs.Block.{max_script}
 use Rattle.sbl_script.specs.Edits.{ScriptEdit}
 use Rattle.sbl_sessions.specs.Answers.{edit_text, with_line_feed}
 use Rattle.sbl_sessions.specs.CommandViews.{IsTextAnswer}
@@ -21,7 +24,7 @@ use Rattle.sbl_explain.specs.declared.uses.UsesFault.TheVariants as uses
 use Rattle.sbl_explain.specs.WhyRows as rows
 use Rattle.sbl_work.specs.Commands.{WorkCommand, Nothing, Session, EditPart, EditWhole, Undo, Redo, Mark, Changes, Stats}
 use Rattle.sbl_work.specs.Commands.{Unused, Largest, Families, Why, Integers, Uses, Counts, Find, Stem, Show, Saved, NoWords, NoFile, Echo}
-use Rattle.sbl_work.specs.Commands.{MarkStems, Approve, Words}
+use Rattle.sbl_work.specs.Commands.{MarkStems, Approve, Words, Text, Places, Tokens, TokensOf, Hello, History}
 use Rattle.sbl_input.specs.FileWords.{file_lines, file_words, first_line_fault}
 use Rattle.sbl_io.specs.LinesOf.{lines_of}
 use Rattle.sbl_input.specs.declared.faults.LoadFault.{LoadFault}
@@ -30,10 +33,14 @@ use Rattle.sbl_io.specs.declared.faults.ServeFault.TheVariants as serve
 use Rattle.sbl_rows.specs.Rows.{Row}
 use Rattle.sbl_rows.specs.StemRows.{rows_with}
 use Rattle.sbl_source_map.specs.Definitions.{definition_text}
-use Rattle.sbl_history.specs.Desks.{Redoes, State, Undoes}
+use Rattle.sbl_history.specs.Desks.{Redoes, State, Undoes, text_in}
 use Rattle.sbl_history.specs.Editing.{IsLimitNoted, Replaces, ReplacesPart}
+use Rattle.sbl_history.specs.History.{OfScript}
+use Rattle.sbl_history.specs.Listing.{history_text}
 use Rattle.sbl_reports.specs.Families.{families_in, families_text}
 use Rattle.sbl_source_map.specs.Heads.{IsWithoutHead}
+use Rattle.sbl_text_rows.specs.PlaceRows.{IsPlacesText}
+use Rattle.sbl_text_rows.specs.TokenRows.{IsTokensText}
 use Rattle.sbl_reports.specs.Lookups.{found_text, stem_text}
 use Rattle.sbl_reports.specs.Reports.{changes_text, largest_text, stats_text}
 use Rattle.sbl_reports.specs.StemLines.{are_text, have_lines, stems_in}
@@ -162,7 +169,7 @@ IsWordsReply bytes s d text t e =
 
 -- these bytes replace the whole script, and become its text
 abbrev pub ReplacesWhole : Result (Unit {0}) EditFault → List ℕ → Contents → State → Contents → State → Type 0
-ReplacesWhole result bytes s d t e = Replaces result (Whole bytes) (Some bytes) s d t e
+ReplacesWhole result bytes s d t e = Replaces result OfScript (Whole bytes) (Some bytes) s d t e
 
 abbrev pub IsWholeReply : List ℕ → Contents → State → List ℕ → Contents → State → Type 0
 IsWholeReply bytes s d text t e =
@@ -182,6 +189,23 @@ abbrev pub IsLargestReply : Option ℕ → Contents → State → List ℕ → C
 IsLargestReply None s d text t e = TellsAlone bad_number_text s d text t e
 IsLargestReply (Some n) s d text t e = TellsReport (largest_text n s) s d text t e
 
+-- the rows that the bytes have, if they are a text; or an allocation fails
+abbrev pub TellsRows : (List ℕ → List ℕ → Type 0) → Bool → List ℕ → Contents → State → List ℕ → Contents → State → Type 0
+TellsRows HasRows true bytes s d text t e = (HasRows bytes text × (t ≡ s) × (e ≡ d)) ⊎ TellsMemory s d text t e
+TellsRows HasRows false bytes s d text t e = TellsReport not_text_text s d text t e
+
+abbrev pub IsRowsReply : (List ℕ → List ℕ → Type 0) → List ℕ → Contents → State → List ℕ → Contents → State → Type 0
+IsRowsReply HasRows bytes s d text t e = TellsRows HasRows (is_utf8 bytes) bytes s d text t e
+
+-- the tokens of a file, which must not be longer than a script may be
+abbrev pub IsFileTokensReply : List ℕ → Contents → State → List ℕ → Contents → State → Type 0
+IsFileTokensReply bytes s d text t e =
+    if nat_lt max_script (length bytes) then TellsReport (edit_text (Some (edit.Script script.ScriptTooLong))) s d text t e
+    else IsRowsReply IsTokensText bytes s d text t e
+
+abbrev pub hello_text : List ℕ
+hello_text = with_line_feed (codes "voltizug,0.2.0,rows,2")
+
 -- The reply to a command. A file that is to be written may need memory for its text.
 abbrev pub IsWorkReply : Contents → State → WorkCommand → List ℕ → Contents → State → Type 0
 IsWorkReply s d Nothing text t e = TellsAlone [] s d text t e
@@ -190,6 +214,7 @@ IsWorkReply s d (EditPart what block) text t e = IsPartReply what block s d text
 IsWorkReply s d (EditWhole bytes) text t e = IsWholeReply bytes s d text t e
 IsWorkReply s d Undo text t e = (result : Result (Unit {0}) HistoryFault) × Undoes result s d t e × (text ≡ undo_text result)
 IsWorkReply s d Redo text t e = (result : Result (Unit {0}) HistoryFault) × Redoes result s d t e × (text ≡ redo_text result)
+IsWorkReply s d History text t e = TellsReport (history_text d.past) s d text t e
 IsWorkReply s d Mark text t e = SetsMark (rows_now s) s d text t e
 IsWorkReply s d (MarkStems bytes) text t e = IsMarkReply (mark_refusal s bytes) bytes s d text t e
 IsWorkReply s d (Approve is_written) text t e = TellsReport (approve_text s is_written) s d text t e
@@ -210,3 +235,8 @@ IsWorkReply s d Saved text t e = TellsReport (edit_text None) s d text t e
 IsWorkReply s d NoWords text t e = TellsAlone no_words_text s d text t e
 IsWorkReply s d NoFile text t e = TellsAlone no_file_text s d text t e
 IsWorkReply s d (Echo echoed) text t e = TellsReport (with_line_feed echoed) s d text t e
+IsWorkReply s d Text text t e = TellsReport (text_in s d.text) s d text t e
+IsWorkReply s d Places text t e = IsRowsReply IsPlacesText (text_in s d.text) s d text t e
+IsWorkReply s d Tokens text t e = IsRowsReply IsTokensText (text_in s d.text) s d text t e
+IsWorkReply s d (TokensOf bytes) text t e = IsFileTokensReply bytes s d text t e
+IsWorkReply s d Hello text t e = TellsReport hello_text s d text t e

@@ -24,7 +24,7 @@ use Rattle.sbl_history.specs.declared.desk.Desk.{Desk}
 use Rattle.sbl_history.specs.Editing.{ReplacesPart}
 use Rattle.sbl_source_map.specs.Heads.{IsWithoutHead}
 use Rattle.sbl_reports.specs.Families.{families_in, families_text}
-use Rattle.sbl_work.specs.Replies.{IsWorkReply, TellsReport}
+use Rattle.sbl_work.specs.Replies.{IsRowsReply, IsWorkReply, TellsReport}
 use Rattle.sbl_work.specs.declared.requests.BlockRequest.{BlockRequest}
 use Rattle.sbl_work.specs.declared.requests.BlockRequest.TheVariants as blocks
 use Rattle.sbl_work.specs.declared.requests.Request.{Request}
@@ -39,6 +39,7 @@ view_request file line variants.Comment = command.Nothing
 view_request file line variants.Reload = with_file command.EditWhole file
 view_request file line variants.Undo = command.Undo
 view_request file line variants.Redo = command.Redo
+view_request file line variants.History = command.History
 view_request file line variants.Mark = command.Mark
 view_request file line (variants.MarkStems path) = with_file command.MarkStems file
 view_request file line (variants.Approve path) = command.Approve (is_some file)
@@ -48,6 +49,7 @@ view_request file line variants.Stats = command.Stats
 view_request file line variants.Unused = command.Unused
 view_request file line (variants.Largest number) = command.Largest (count_in number.now)
 view_request file line (variants.Families path) = with_file families_in_file file
+view_request file line (variants.Replace path) = with_file command.EditWhole file
 view_request file line (variants.Why word) = command.Why (chars word.now)
 view_request file line (variants.Integers word) = command.Integers (chars word.now)
 view_request file line (variants.Uses text) = uses_command text.now
@@ -59,6 +61,11 @@ view_request file line (variants.Save path) = with_file (λ bytes. command.Saved
 view_request file line (variants.Append path) = with_file append_command file
 view_request file line (variants.Echo text) = command.Echo text.now
 view_request file line variants.Help = command.Nothing
+view_request file line variants.Text = command.Text
+view_request file line variants.Places = command.Places
+view_request file line variants.Tokens = command.Tokens
+view_request file line (variants.TokensOf path) = with_file command.TokensOf file
+view_request file line variants.Hello = command.Hello
 view_request file line variants.Session = command.Session (line_command line)
 
 -- the reply to a command, and the bench and the desk after it
@@ -73,12 +80,16 @@ Answers bench desk c r new_bench new_desk = IsWorkAnswer (contents_of bench) (st
 abbrev pub IsFileAnswer : Contents → State → List ℕ → Reply → Contents → State → Type 0
 IsFileAnswer s d line r t e = (file : Option (List ℕ)) × IsWorkAnswer s d (alone_command file line) r t e
 
+-- the rows that a text has, or that the bytes are no text, or an allocation failed; nothing is changed
+abbrev pub IsRowsAnswer : (List ℕ → List ℕ → Type 0) → List ℕ → Contents → State → Reply → Type 0
+IsRowsAnswer HasRows bytes s d r = (text : List ℕ) × IsReply r text × IsRowsReply HasRows bytes s d text s d
+
 -- ---- a line and its block
 
 -- what a line asks for with its block
 abbrev pub FindsBlock : BlockRequest → List ℕ → Type 0
 FindsBlock (blocks.Part kept) line = (asks_block line ≡ true) × KeepsLine kept line
-FindsBlock (blocks.Whole is_good) line = (asks_block line ≡ false) × (is_replace line ≡ true) × (is_good ≡ bytes_eq line (codes "replace"))
+FindsBlock blocks.Whole line = (asks_block line ≡ false) × (is_replace line ≡ true)
 FindsBlock blocks.Families line = (asks_block line ≡ false) × (is_replace line ≡ false) × (bytes_eq line (codes "families") ≡ true)
 
 -- the report of the families of a text, or an allocation for it fails; nothing is changed

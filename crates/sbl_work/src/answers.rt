@@ -17,6 +17,7 @@ use crate::replies::{
 };
 use crate::requests::{Request, count_in, request_of};
 use crate::stem_files::{approve_reply, mark_stems};
+use crate::text_replies::{file_tokens_reply, hello_reply, places_reply, text_reply, tokens_reply};
 use crate::whys::{integers_reply, why_reply};
 use crate::word_files::words_reply;
 use sbl_bench::{Bench, EditFault};
@@ -28,8 +29,8 @@ use sbl_sessions::{Reply, report};
 use sbl_source_map::definition_text;
 use std::alloc::{AllocError, Global};
 
-/// Returns the reply to `reload`.
-fn reload(desk: &mut Desk, bench: &mut Bench, file: Option<&[u8]>) -> Reply
+/// Returns the reply to `reload` and to `replace` with a file, for its bytes; none if it cannot be read.
+pub(crate) fn reload(desk: &mut Desk, bench: &mut Bench, file: Option<&[u8]>) -> Reply
     ensures { IsWorkAnswer (contents_of bench.old) (state_of desk.old) (spec.with_file spec.EditWhole (view_file file.entry)) result (contents_of bench.new) (state_of desk.new) }
 {
     match file {
@@ -50,6 +51,13 @@ fn redo(desk: &mut Desk, bench: &mut Bench) -> Reply
     ensures { IsWorkAnswer (contents_of bench.old) (state_of desk.old) spec.Redo result (contents_of bench.new) (state_of desk.new) }
 {
     redo_reply(desk.redo(bench))
+}
+
+/// Returns the reply to `history`.
+fn history(desk: &Desk, bench: &Bench) -> Reply
+    ensures { IsWorkAnswer (contents_of bench.now) (state_of desk.now) spec.History result (contents_of bench.now) (state_of desk.now) }
+{
+    report(desk.history())
 }
 
 /// Returns the reply to `mark`.
@@ -202,7 +210,7 @@ fn session(alloc: Global, desk: &mut Desk, bench: &mut Bench, line: &[u8]) -> Re
 /// Makes the edit or the report that a line without a block asks for, and returns the reply.
 ///
 /// `file` has the bytes of the file that the line needs: of the script's for `reload`, of that of the words for `words`, of the one that
-/// `families` or `mark` names. It is `None` if the file could not be read. For `save` and `approve` it has any bytes if the file was written, and for `append` the lines
+/// `replace`, `families`, `mark` or `tokens` names. It is `None` if the file could not be read. For `save` and `approve` it has any bytes if the file was written, and for `append` the lines
 /// that were put at the file's end; it is `None` if the file was not written. Other commands do not look at it.
 ///
 /// If an allocation fails, the reply is `no 49 OutOfMemory`.
@@ -221,6 +229,7 @@ pub(crate) fn answer_line(
         Request::Reload => reload(desk, bench, file),
         Request::Undo => undo(desk, bench),
         Request::Redo => redo(desk, bench),
+        Request::History => history(desk, bench),
         Request::Mark => mark(desk, bench),
         Request::MarkStems(_) => mark_stems(alloc, desk, bench, file),
         Request::Approve(_) => approve_reply(bench, file.is_some()),
@@ -230,6 +239,7 @@ pub(crate) fn answer_line(
         Request::Unused => unused_reply(alloc, bench, kept),
         Request::Largest(argument) => largest(alloc, bench, argument),
         Request::Families(_) => families(alloc, bench, file),
+        Request::Replace(_) => reload(desk, bench, file),
         Request::Why(word) => why(alloc, bench, word),
         Request::Integers(word) => integers(alloc, bench, word),
         Request::Uses(text) => uses_reply(alloc, bench, kept, text),
@@ -241,6 +251,11 @@ pub(crate) fn answer_line(
         Request::Append(_) => append_reply(bench, file),
         Request::Echo(text) => echo(alloc, bench, text),
         Request::Help => Reply::Fixed(""),
+        Request::Text => text_reply(desk, bench),
+        Request::Places => places_reply(alloc, desk, bench),
+        Request::Tokens => tokens_reply(alloc, desk, bench),
+        Request::TokensOf(_) => file_tokens_reply(alloc, file),
+        Request::Hello => hello_reply(),
         Request::Session => session(alloc, desk, bench, line),
     }
 }

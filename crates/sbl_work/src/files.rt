@@ -24,6 +24,17 @@ pub struct Paths {
     pub words: Option<String>,
     /// The external that is run.
     pub external: String,
+    /// The file of the text that work begins with, if it is not that of the script.
+    pub from: Option<String>,
+}
+
+/// The bytes that work begins with.
+#[derive(Drop)]
+pub(crate) struct Texts {
+    /// The text of the script in force.
+    pub(crate) text: Vec<u8>,
+    /// What was read from the file of the script.
+    pub(crate) seen: Vec<u8>,
 }
 
 /// Why there is no desk.
@@ -53,6 +64,16 @@ fn read_named<F: Files + AllocGlobal>(files: &F, path: &str) -> Result<Vec<u8>, 
         Ok(bytes) => Ok(bytes),
         Err(error) => Err(OpenFault::File(String::from_str(files.alloc(), path)?, error)),
     }
+}
+
+/// Returns the text that work begins with, and what the file of the script has.
+fn read_texts<F: Files + AllocGlobal>(files: &F, paths: &Paths) -> Result<Texts, OpenFault> {
+    let seen = read_named(files, paths.script.as_str())?;
+    let text = match &paths.from {
+        Some(path) => read_named(files, path.as_str())?,
+        None => Vec::from_slice(files.alloc(), &seen)?,
+    };
+    Ok(Texts { text, seen })
 }
 
 /// Returns the words of the file of words; none if there is no such file.
@@ -87,18 +108,24 @@ fn bench_of(
     }
 }
 
-/// Reads the files and opens the bench. Returns it with the bytes of the script.
+/// Reads the files and opens the bench. Returns it with the bytes that work begins with.
 pub(crate) fn open<F: Files + AllocGlobal>(
     files: &F,
     keys: RandomState,
     paths: &Paths,
-) -> Result<(Bench, Vec<u8>), OpenFault>
-    ensures { IfOk result (λ opened. IsOpened (string_bytes paths.now.external) opened.1.items (contents_of opened.0)) }
+) -> Result<(Bench, Texts), OpenFault>
+    ensures { IfOk result (λ opened. IsOpened (string_bytes paths.now.external) opened.1.text.items (contents_of opened.0)) }
 {
-    let text = read_named(files, paths.script.as_str())?;
+    let texts = read_texts(files, paths)?;
     let words = read_words(files, paths)?;
-    let bench = bench_of(files.alloc(), keys, &text, paths.external.as_str(), words)?;
-    Ok((bench, text))
+    let bench = bench_of(
+        files.alloc(),
+        keys,
+        &texts.text,
+        paths.external.as_str(),
+        words,
+    )?;
+    Ok((bench, texts))
 }
 
 /// Returns a text whose lines end in a carriage return and a line feed if each line of the old text does.

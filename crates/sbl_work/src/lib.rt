@@ -8,8 +8,10 @@ mod lookups;
 mod parts;
 mod replies;
 mod requests;
+mod script_files;
 mod serving;
 mod stem_files;
+mod text_replies;
 mod whys;
 mod word_files;
 

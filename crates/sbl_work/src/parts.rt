@@ -1,6 +1,5 @@
 //! The replies to lines with a block.
-ghost use Rattle.std.specs.Prelude.{◌≡◌, ℕ, List, Some, codes};
-ghost use Rattle.std.specs.Str.{bytes_eq};
+ghost use Rattle.std.specs.Prelude.{ℕ, List, Some};
 ghost use Rattle.sbl_bench.specs.KeptRuns.{contents_of};
 ghost use Rattle.sbl_reports.specs.Block.{HoldsText, made_text};
 ghost use Rattle.sbl_sessions.specs.CommandViews.{KeepsLine};
@@ -110,15 +109,11 @@ fn edit_kept(
     }
 }
 
-/// Makes the edit of `replace`, and returns the reply. A line with an argument is refused, whatever its block is.
-fn replace_reply(desk: &mut Desk, bench: &mut Bench, is_good: bool, block: BlockText) -> Reply
-    ensures { (line : List ℕ) (lines : List (List ℕ)) → is_good ≡ bytes_eq line (codes "replace") → HoldsText block lines → Answers bench.old desk.old (spec.replace_command line lines) result bench.new desk.new }
+/// Makes the edit of `replace`, and returns the reply.
+fn replace_reply(desk: &mut Desk, bench: &mut Bench, block: BlockText) -> Reply
+    ensures { (lines : List (List ℕ)) → HoldsText block lines → Answers bench.old desk.old (spec.EditWhole (made_text lines)) result bench.new desk.new }
 {
-    if is_good {
-        edit_reply(replace_by(desk, bench, block))
-    } else {
-        Reply::Fixed(BAD_COMMAND)
-    }
+    edit_reply(replace_by(desk, bench, block))
 }
 
 /// Returns the reply to `families`, for the text of the families.
@@ -161,7 +156,7 @@ pub(crate) fn answer_block(
 {
     match request {
         BlockRequest::Part(kept) => edit_kept(alloc, desk, bench, kept, block),
-        BlockRequest::Whole(is_good) => replace_reply(desk, bench, is_good, block),
+        BlockRequest::Whole => replace_reply(desk, bench, block),
         BlockRequest::Families => families_of(alloc, bench, block),
     }
 }

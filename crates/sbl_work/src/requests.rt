@@ -19,6 +19,8 @@ pub(crate) enum Request<'a> {
     Undo,
     /// Redoes an edit.
     Redo,
+    /// Reports the edits that can be undone and redone.
+    History,
     /// Writes the script to a file.
     Save(&'a str),
     /// Puts the words that were added at the end of a file; of the file of words if the name is empty.
@@ -39,6 +41,8 @@ pub(crate) enum Request<'a> {
     Largest(&'a str),
     /// Reports on the families of a file.
     Families(&'a str),
+    /// Replaces the whole script by what a file has.
+    Replace(&'a str),
     /// Reports why a word has its stem.
     Why(&'a str),
     /// Reports the steps of a run of a word and the integer variables at its end.
@@ -55,6 +59,16 @@ pub(crate) enum Request<'a> {
     Stem(&'a str),
     /// Reports a definition.
     Show(&'a str),
+    /// Reports the text of the script.
+    Text,
+    /// Reports where everything is in that text.
+    Places,
+    /// Reports the tokens of that text.
+    Tokens,
+    /// Reports the tokens of a file.
+    TokensOf(&'a str),
+    /// Reports the name and the version of the program.
+    Hello,
     /// Writes a text.
     Echo(&'a [u8]),
     /// Reports nothing.
@@ -68,8 +82,8 @@ pub(crate) enum Request<'a> {
 pub enum BlockRequest {
     /// Replaces the part of the script that the line names; none if the line is bad, or an allocation for it failed.
     Part(Result<Option<String>, AllocError>),
-    /// Replaces the whole script, if the line is `replace` alone.
-    Whole(bool),
+    /// Replaces the whole script.
+    Whole,
     /// Reports on families.
     Families,
 }
@@ -94,14 +108,6 @@ fn split(line: &[u8]) -> (&[u8], &[u8])
     (line, &[])
 }
 
-/// Whether the command word of a line is `replace`: then a block follows the line, whatever else the line contains.
-fn asks_replace(line: &[u8]) -> bool
-    ensures { result ≡ spec.is_replace line.now }
-{
-    let (word, _) = split(line);
-    word == b"replace".as_slice()
-}
-
 /// Returns what a line asks for with the block after it; `None` if no block follows the line.
 pub fn block_request(alloc: Global, line: &[u8]) -> Option<BlockRequest>
     ensures { MatchOption result (spec.asks_work_block line.now ≡ false) (λ request. FindsBlock request line.now) }
@@ -109,8 +115,8 @@ pub fn block_request(alloc: Global, line: &[u8]) -> Option<BlockRequest>
     if asks_block(line) {
         return Some(BlockRequest::Part(keep_line(alloc, line)));
     }
-    if asks_replace(line) {
-        return Some(BlockRequest::Whole(line == b"replace".as_slice()));
+    if line == b"replace".as_slice() {
+        return Some(BlockRequest::Whole);
     }
     if line == b"families".as_slice() {
         return Some(BlockRequest::Families);
@@ -160,6 +166,7 @@ fn text_request(line: &str) -> Request<'_>
         "reload" => Request::Reload,
         "undo" => Request::Undo,
         "redo" => Request::Redo,
+        "history" => Request::History,
         "mark" => Request::Mark,
         "words" => Request::Words,
         "changes" => Request::Changes,
@@ -167,6 +174,10 @@ fn text_request(line: &str) -> Request<'_>
         "unused" => Request::Unused,
         "counts" => Request::Counts,
         "help" => Request::Help,
+        "text" => Request::Text,
+        "places" => Request::Places,
+        "tokens" => Request::Tokens,
+        "hello" => Request::Hello,
         _ => word_request(line),
     }
 }
@@ -187,6 +198,7 @@ fn word_request(line: &str) -> Request<'_>
     match word {
         "largest" => Request::Largest(argument),
         "families" => Request::Families(argument),
+        "replace" => Request::Replace(argument),
         "why" | "events" => Request::Why(argument),
         "integers" => Request::Integers(argument),
         "uses" => Request::Uses(argument),
@@ -197,6 +209,7 @@ fn word_request(line: &str) -> Request<'_>
         "append" => Request::Append(argument),
         "mark" => mark_request(argument),
         "approve" => Request::Approve(argument),
+        "tokens" => Request::TokensOf(argument),
         _ => Request::Session,
     }
 }

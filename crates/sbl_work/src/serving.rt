@@ -15,11 +15,13 @@ ghost use Rattle.sbl_work.specs.WholeWork.{WorksOver, status_of};
 
 use crate::answers::answer_line;
 use crate::appending::Added;
-use crate::files::{OpenFault, Paths, append, open, save};
+use crate::files::{OpenFault, Paths, Texts, append, open, save};
 use crate::parts::answer_block;
 use crate::replies::edit_reply;
 use crate::requests::{Request, block_request, is_quit, request_of};
+use crate::script_files::replace_by_file;
 use crate::stem_files::{approve_by_file, mark_by_file};
+use crate::text_replies::tokens_by_file;
 use crate::word_files::words_by_file;
 use sbl_bench::{Bench, EditFault};
 use sbl_explain::KeptTakes;
@@ -144,6 +146,14 @@ fn answer_alone<F: Files + AllocGlobal>(
             Err(SaveFault::OutOfMemory) => edit_reply(Err(EditFault::OutOfMemory)),
             Err(_) => answer_line(alloc, desk, bench, &mut folder.kept, line, None),
         },
+        Request::Replace(path) => replace_by_file(
+            folder.files,
+            folder.paths,
+            &mut folder.seen,
+            desk,
+            bench,
+            path,
+        ),
         Request::MarkStems(path) => mark_by_file(folder.files, alloc, desk, bench, path),
         Request::Approve(path) => approve_by_file(folder.files, folder.paths, bench, path),
         Request::Words => words_by_file(
@@ -153,6 +163,7 @@ fn answer_alone<F: Files + AllocGlobal>(
             alloc,
             bench,
         ),
+        Request::TokensOf(path) => tokens_by_file(folder.files, alloc, path),
         _ => answer_line(alloc, desk, bench, &mut folder.kept, line, None),
     }
 }
@@ -259,19 +270,20 @@ fn write_fault<E: Sink>(alloc: Global, errors: &mut E, fault: &OpenFault)
     };
 }
 
-/// Replies to each request of the input in turn over the bench of a script and its words, up to `quit` or the end of input.
+/// Replies to each request of the input in turn over the bench of a script and its words, up to `quit` or the end of input. The script
+/// was read from this text.
 fn serve_bench<F: Files + AllocGlobal, R: Source + Drop, W: Sink>(
     folder: &mut Folder<'_, F>,
     bench: &mut Bench,
+    text: Vec<u8>,
     prompt: &[u8],
     lines: &mut Lines<R>,
     writer: &mut W,
 ) -> Result<(), ServeFault>
-    ensures works { fault_of lines.old ≡ None → WorksOnBench R.left R.tally W.held W.tally folder.old.seen.items prompt.now lines.old lines.new writer.old writer.new bench.old result }
+    ensures works { fault_of lines.old ≡ None → WorksOnBench R.left R.tally W.held W.tally text.items prompt.now lines.old lines.new writer.old writer.new bench.old result }
     ensures reads_in_time { KeepsTime R.tally lines.old lines.new }
     ensures writes_in_time { WritesInTime W.tally writer.old writer.new }
 {
-    let text = Vec::from_slice(lines.alloc(), folder.seen.as_slice())?;
     let mut desk = Desk::new(lines.alloc(), bench, text)?;
     serve(folder, &mut desk, bench, prompt, lines, writer)
 }
@@ -296,7 +308,8 @@ fn work_on<F: Files + AllocGlobal, R: Source + Drop, W: Sink>(
     ensures reads_in_time { KeepsTime R.tally lines.old lines.new }
     ensures writes_in_time { WritesInTime W.tally writer.old writer.new }
 {
-    let (mut bench, seen) = open(files, keys, paths)?;
+    let (mut bench, texts) = open(files, keys, paths)?;
+    let Texts { text, seen } = texts;
     let added = Added::new(files.alloc(), bench.len());
     let mut folder = Folder {
         files,
@@ -305,7 +318,7 @@ fn work_on<F: Files + AllocGlobal, R: Source + Drop, W: Sink>(
         added,
         kept: KeptTakes::new(files.alloc()),
     };
-    let served = serve_bench(&mut folder, &mut bench, prompt, lines, writer);
+    let served = serve_bench(&mut folder, &mut bench, text, prompt, lines, writer);
     bench.leak();
     match served {
         Ok(()) => Ok(()),

@@ -39,6 +39,7 @@ pub(crate) fn start_work(rt: &HostRuntime, wanted: Wanted) -> u8 {
         is_strict: _,
         shows_places: _,
         face,
+        from,
     } = options;
     let Some(script) = script else {
         return REFUSED;
@@ -47,6 +48,7 @@ pub(crate) fn start_work(rt: &HostRuntime, wanted: Wanted) -> u8 {
         script,
         words,
         external,
+        from,
     };
     let Ok(keys) = RandomState::new(rt) else {
         let _ = eprint!(rt; "{NO_KEYS}");
@@ -115,6 +117,14 @@ fn work_in_text(
     Ok(status)
 }
 
+/// Returns the name of the file of the text that the work begins with.
+fn first_text(paths: &Paths) -> &str {
+    match &paths.from {
+        Some(path) => path.as_str(),
+        None => paths.script.as_str(),
+    }
+}
+
 /// Prints why the work has ended, and the place of the fault if it is one of the script.
 fn print_end(rt: &HostRuntime, paths: &Paths, said: &[u8]) -> Result<(), AllocError> {
     if said.is_empty() {
@@ -123,7 +133,7 @@ fn print_end(rt: &HostRuntime, paths: &Paths, said: &[u8]) -> Result<(), AllocEr
     if let Ok(said) = str::from_utf8(said) {
         let _ = eprint!(rt; "{said}");
     }
-    let Ok(text) = fs::read(rt, paths.script.as_str()) else {
+    let Ok(text) = fs::read(rt, first_text(paths)) else {
         return Ok(());
     };
     if let Some(shown) = start_text(rt.alloc(), paths, &text, said)? {
@@ -147,5 +157,5 @@ fn start_text(
     if line.as_bytes() != said {
         return Ok(None);
     }
-    file_text(alloc, paths.script.as_str(), text, external)
+    file_text(alloc, first_text(paths), text, external)
 }

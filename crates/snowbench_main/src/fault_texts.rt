@@ -95,18 +95,26 @@ fn part_not_utf8<'x>(names: FileNames<'x>, input: &'x [u8]) -> (&'x str, &'x [u8
     }
 }
 
-/// Returns where the fault of a word is, and what to do, if the fault is of the word: `line` is the number of its line in standard
-/// input, and `word` what was read of the line.
+/// Returns where the fault of a word is, and what to do, if the fault is of the word: `line` is the number of its line, `name` the
+/// name of its file, and `word` what was read of the line.
 pub(crate) fn word_fault_text(
     alloc: Global,
+    name: &str,
     said: &[u8],
     line: u64,
     word: &[u8],
 ) -> Result<Option<String>, AllocError> {
-    let mut shown = format!(in alloc; "{STANDARD_INPUT}:{line}: ")?;
+    let mut shown = String::new(alloc);
+    push_named(&mut shown, name)?;
+    let place = format!(in alloc; ":{line}: ")?;
+    shown.push_str(place.as_str())?;
     if said == NOT_TEXT {
         shown.push_str("not UTF-8. ")?;
-        push_conversion(&mut shown, word, "OLD")?;
+        push_conversion(
+            &mut shown,
+            word,
+            if name == STANDARD_INPUT { "OLD" } else { name },
+        )?;
     } else if said == TOO_LONG {
         push_long_word(&mut shown)?;
     } else if said == LINE_TOO_LONG {

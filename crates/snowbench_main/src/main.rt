@@ -94,7 +94,12 @@ fn run_files(rt: &HostRuntime, wanted: &Wanted, script: &str) -> u8 {
         None => "-",
     };
     if wanted.verb == Verb::Filter {
-        return run_filter(rt, wanted, script);
+        let names = FileNames {
+            script,
+            words,
+            rest: None,
+        };
+        return run_filter(rt, wanted, names);
     }
     if wanted.verb == Verb::Check {
         return check_files(rt, wanted, script, words);

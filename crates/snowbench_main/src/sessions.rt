@@ -2,7 +2,7 @@
 
 use crate::blocks::{compose, line_count, point_line, script_block};
 use crate::fault_texts::{hint, run_fault_text, word_fault_text};
-use crate::file_names::{FileNames, STANDARD_INPUT, file_name};
+use crate::file_names::{FileNames, STANDARD_INPUT, file_name, reads_twice};
 use crate::messages::{FAILED, NO_KEYS, REFUSED, count_and_word, fail_memory, print_line};
 use crate::run_result::RunResult;
 use crate::streams::{FirstBytes, FirstBytesReader, Output};
@@ -11,6 +11,7 @@ use crate::watching::{Context, Quiet, WatchedReader};
 use snowbench::{Device, Lines, Source, Verb, Wanted, WordKeys, run_filter as run_words, run_with};
 use std::alloc::{AllocError, Global};
 use std::cell::RefCell;
+use std::fs::File;
 use std::hash::RandomState;
 use std::io::{IsTerminal, Read};
 use std::{fs, io};
@@ -164,11 +165,13 @@ pub(crate) fn read_named(rt: &HostRuntime, path: &str, what: &str) -> Result<Vec
     }
     match fs::read(rt, path) {
         Ok(bytes) => Ok(bytes),
-        Err(error) => {
-            let text = format!(in rt.alloc(); "snowbench: {path} is no file that can be read");
-            Err(print_unread(rt, &error, text, REFUSED))
-        }
+        Err(error) => Err(print_unread(rt, &error, unread_text(rt.alloc(), path), REFUSED)),
     }
+}
+
+/// Returns that a file cannot be read.
+fn unread_text(alloc: Global, path: &str) -> Result<String, AllocError> {
+    format!(in alloc; "snowbench: {path} is no file that can be read")
 }
 
 /// Prints that something cannot be read, and returns the status. If an allocation has failed, it prints that.
@@ -264,33 +267,67 @@ fn session_input(rt: &HostRuntime, names: FileNames<'_>) -> Result<Vec<u8>, u8> 
     }
 }
 
-/// Writes the row of each word of standard input by the script of a file, as they come, and returns the exit status. With the
-/// name `-` the script is at the beginning of standard input, and a line `.` may end the words.
-pub(crate) fn run_filter(rt: &HostRuntime, wanted: &Wanted, script: &str) -> u8 {
-    if script == "-" {
+/// Writes the row of each word of a file, or of standard input, by the script of a file, as they come. Returns the exit status.
+/// With the name `-` for both, the script is at the beginning of standard input, and a line `.` may end the words.
+pub(crate) fn run_filter(rt: &HostRuntime, wanted: &Wanted, names: FileNames<'_>) -> u8 {
+    if reads_twice(names) {
         return run_input(rt, wanted);
     }
-    let text = match read_block(rt, "filter", script, "lines of the script") {
+    let text = match read_block(rt, "filter", names.script, "lines of the script") {
         Ok(text) => text,
         Err(status) => return status,
     };
     let Ok(input) = script_block(rt.alloc(), &text) else {
         return fail_memory(rt);
     };
-    let Ok((ended, text)) = filter_words(rt, wanted.external.as_str(), &input) else {
+    if names.words == "-" {
+        return filter_words(rt, wanted, names, &input, rt.stdin());
+    }
+    match open_words(rt, names.words) {
+        Ok(words) => filter_words(rt, wanted, names, &input, words),
+        Err(status) => status,
+    }
+}
+
+/// Opens a file of words. If it cannot be read, prints that and returns the exit status.
+fn open_words(rt: &HostRuntime, path: &str) -> Result<File, u8> {
+    let text = unread_text(rt.alloc(), path);
+    match fs::open(rt, path) {
+        Ok(file) if !is_folder(&file) => Ok(file),
+        Ok(_) => Err(print_line(rt, text, REFUSED)),
+        Err(error) => Err(print_unread(rt, &error, text, REFUSED)),
+    }
+}
+
+/// Returns whether an open file is a folder.
+fn is_folder(file: &File) -> bool {
+    match file.metadata() {
+        Ok(metadata) => metadata.is_dir(),
+        Err(_) => false,
+    }
+}
+
+/// Writes the row of each word, by the script in the input. Returns the exit status.
+fn filter_words<R: Read + Drop>(
+    rt: &HostRuntime,
+    wanted: &Wanted,
+    names: FileNames<'_>,
+    input: &[u8],
+    words: R,
+) -> u8 {
+    let filtered = filter_lines(
+        rt,
+        wanted.external.as_str(),
+        file_name(names.words),
+        input.chain(words),
+    );
+    let Ok((ended, text)) = filtered else {
         return fail_memory(rt);
     };
     match text {
         Ok(Some(text)) => print_word_fault(rt, &ended, Ok(text)),
         Err(error) => print_word_fault(rt, &ended, Err(error)),
-        Ok(None) => {
-            let names = FileNames {
-                script,
-                words: "-",
-                rest: None,
-            };
-            print_fault(rt, wanted, Some(names), &input, &ended)
-        }
+        Ok(None) => print_fault(rt, wanted, Some(names), input, &ended),
     }
 }
 
@@ -303,9 +340,13 @@ fn print_word_fault(rt: &HostRuntime, ended: &RunResult, text: Result<String, Al
 /// How a filter has ended, and what there is to say on the fault of a word.
 type EndOfFilter = (RunResult, Result<Option<String>, AllocError>);
 
-/// Writes the row of each word of standard input, by the script in these bytes.
-fn filter_words(rt: &HostRuntime, external: &str, input: &[u8]) -> Result<EndOfFilter, AllocError> {
-    let reader = input.chain(rt.stdin());
+/// Writes the row of each word after the script. `name` is what the words are called.
+fn filter_lines<R: Read + Drop>(
+    rt: &HostRuntime,
+    external: &str,
+    name: &str,
+    reader: R,
+) -> Result<EndOfFilter, AllocError> {
     let mut lines = Lines::new(rt.alloc(), Device::new(reader))?;
     let said = Vec::with_capacity(rt.alloc(), MAX_FAULT_LINE)?;
     let mut writer = Device::new(Output::new(rt.stdout()));
@@ -314,7 +355,7 @@ fn filter_words(rt: &HostRuntime, external: &str, input: &[u8]) -> Result<EndOfF
     let output = writer.into_inner();
     let ended = RunResult::new(end.status, errors.into_inner(), &output);
     let text = match end.line {
-        Some(line) => word_fault_text(rt.alloc(), ended.said.as_slice(), line, lines.line()),
+        Some(line) => word_fault_text(rt.alloc(), name, ended.said.as_slice(), line, lines.line()),
         None => Ok(None),
     };
     Ok((ended, text))

@@ -122,15 +122,21 @@ impl Talk {
     pub(crate) fn is_refused(&self) -> bool {
         let reply = self.reply.as_slice();
         self.next == Next::Command
-            && (self.has_block || self.command.as_slice() == b"reload".as_slice())
+            && (self.has_block || self.reads_script())
             && !self.is_lost
             && (reply.starts_with(b"no 48 ") || reply.starts_with(b"no 47 "))
             && reply.contains(&b'\n')
     }
 
+    /// Returns whether the last command replaces the whole script by a file.
+    fn reads_script(&self) -> bool {
+        let command = self.command.as_slice();
+        command == b"reload".as_slice() || command.starts_with(b"replace ".as_slice())
+    }
+
     /// Returns whether the script in force has to be asked for before the place can be shown.
     pub(crate) fn needs_script(&self) -> bool {
-        !self.is_asking && self.command.as_slice() != b"reload".as_slice()
+        !self.is_asking && !self.reads_script()
     }
 
     /// Begins to ask for the script.

@@ -60,15 +60,23 @@ fn line_length(bytes: &[u8]) -> usize {
     bytes.len()
 }
 
-/// Returns the lines on the fault of the file of the script, if it has one.
-fn reload_text(rt: &HostRuntime, context: Context<'_>) -> Result<Option<String>, AllocError> {
-    let Some(path) = context.script else {
-        return Ok(None);
-    };
+/// Returns the file by which a command replaces the whole script, if it does so by one.
+fn whole_file<'x>(context: Context<'x>, command: &'x [u8]) -> Option<&'x str> {
+    if command == b"reload".as_slice() {
+        return context.script;
+    }
+    match str::from_utf8(command.strip_prefix(b"replace ".as_slice())?) {
+        Ok(path) => Some(path),
+        Err(_) => None,
+    }
+}
+
+/// Returns the lines on the fault of the script in a file that is read again, if it has one.
+fn reload_text(rt: &HostRuntime, path: &str, external: &str) -> Result<Option<String>, AllocError> {
     let Ok(text) = fs::read(rt, path) else {
         return Ok(None);
     };
-    file_text(rt.alloc(), path, &text, context.external)
+    file_text(rt.alloc(), path, &text, external)
 }
 
 /// Returns the lines on the fault of a script in a file, if it has one.
@@ -113,10 +121,9 @@ fn block_text<'x>(
 
 /// Shows what is wrong with what was refused. If there is no memory for it, nothing is shown.
 fn show(rt: &HostRuntime, context: Context<'_>, talk: &Talk) {
-    let text = if talk.command() == b"reload".as_slice() {
-        reload_text(rt, context)
-    } else {
-        block_text(rt.alloc(), context, talk)
+    let text = match whole_file(context, talk.command()) {
+        Some(path) => reload_text(rt, path, context.external),
+        None => block_text(rt.alloc(), context, talk),
     };
     if let Ok(Some(text)) = text {
         print_line(rt, Ok(text), 0);

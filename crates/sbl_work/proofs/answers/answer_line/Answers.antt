@@ -2,7 +2,7 @@ use Rattle.std.proofs.Common.{◌≡◌, ◌∙◌, ap}
 use Rattle.std.specs.Option.{is_some}
 use Rattle.std.specs.Str.{chars}
 use Rattle.sbl_bench.specs.KeptRuns.{contents_of}
-use Rattle.sbl_work.specs.Commands.{Approve, Words, Counts, Echo, Integers, Largest, Saved, Show, Stats, Stem, Unused, Why, alone_command, append_command}
+use Rattle.sbl_work.specs.Commands.{Approve, Words, Hello, Places, Text, Tokens, TokensOf, Counts, Echo, Integers, Largest, Saved, Show, Stats, Stem, Unused, Why, alone_command, append_command}
 use Rattle.sbl_work.specs.Commands.{count_in, families_in_file, find_command, uses_command, with_file}
 use Rattle.sbl_history.specs.Desks.{state_of}
 use Rattle.sbl_work.specs.ReplyViews.{view_file}
@@ -106,3 +106,33 @@ pub returns-in-Words : goal.returns-in-Words
 returns-in-Words c =
     let d = state_of c.args.desk.now in
     same_command (contents_of c.args.bench.now) (contents_of c.words_reply.new.bench) d d (with_file Words (view_file c.args.file)) (alone_command (view_file c.args.file) c.args.line.now) c.words_reply.result (c.in-Words.ensures (view_file c.args.file)) (c.words_reply.ensures d)
+
+pub returns-in-Text : goal.returns-in-Text
+returns-in-Text c =
+    let s = contents_of c.args.bench.now in
+    let d = state_of c.args.desk.now in
+    same_command s s d d (Text) (alone_command (view_file c.args.file) c.args.line.now) c.text_reply.result (c.in-Text.ensures (view_file c.args.file)) (c.text_reply.ensures)
+
+pub returns-in-Places : goal.returns-in-Places
+returns-in-Places c =
+    let s = contents_of c.args.bench.now in
+    let d = state_of c.args.desk.now in
+    same_command s s d d (Places) (alone_command (view_file c.args.file) c.args.line.now) c.places_reply.result (c.in-Places.ensures (view_file c.args.file)) (c.places_reply.ensures)
+
+pub returns-in-Tokens : goal.returns-in-Tokens
+returns-in-Tokens c =
+    let s = contents_of c.args.bench.now in
+    let d = state_of c.args.desk.now in
+    same_command s s d d (Tokens) (alone_command (view_file c.args.file) c.args.line.now) c.tokens_reply.result (c.in-Tokens.ensures (view_file c.args.file)) (c.tokens_reply.ensures)
+
+pub returns-in-TokensOf : goal.returns-in-TokensOf
+returns-in-TokensOf c =
+    let s = contents_of c.args.bench.now in
+    let d = state_of c.args.desk.now in
+    same_command s s d d (with_file TokensOf (view_file c.args.file)) (alone_command (view_file c.args.file) c.args.line.now) c.file_tokens_reply.result (c.in-TokensOf.ensures (view_file c.args.file)) (c.file_tokens_reply.ensures s d)
+
+pub returns-in-Hello : goal.returns-in-Hello
+returns-in-Hello c =
+    let s = contents_of c.args.bench.now in
+    let d = state_of c.args.desk.now in
+    same_command s s d d (Hello) (alone_command (view_file c.args.file) c.args.line.now) c.hello_reply.result (c.in-Hello.ensures (view_file c.args.file)) (c.hello_reply.ensures s d)

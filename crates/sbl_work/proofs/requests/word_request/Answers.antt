@@ -24,6 +24,7 @@ differ a b other = by (bytes_eq a b) refl
 no_other : (file : Option (List ℕ)) (line : List ℕ)
     → bytes_eq (command_word line) (codes "largest") ≡ false
     → bytes_eq (command_word line) (codes "families") ≡ false
+    → bytes_eq (command_word line) (codes "replace") ≡ false
     → bytes_eq (command_word line) (codes "why") ≡ false
     → bytes_eq (command_word line) (codes "events") ≡ false
     → bytes_eq (command_word line) (codes "integers") ≡ false
@@ -35,8 +36,9 @@ no_other : (file : Option (List ℕ)) (line : List ℕ)
     → bytes_eq (command_word line) (codes "append") ≡ false
     → bytes_eq (command_word line) (codes "mark") ≡ false
     → bytes_eq (command_word line) (codes "approve") ≡ false
+    → bytes_eq (command_word line) (codes "tokens") ≡ false
     → Session (line_command line) ≡ word_command file line
-no_other file line w1 w2 w3 w4 w5 w6 w7 w8 w9 w10 w11 w12 w13 = rw (w1, w2, w3, w4, w5, w6, w7, w8, w9, w10, w11, w12, w13) refl
+no_other file line w1 w2 w3 w4 w5 w6 w7 w8 w9 w10 w11 w12 w13 w14 = rw (w1, w2, w3, w4, w5, w6, w7, w8, w9, w10, w11, w12, w13, w14) refl
 
 pub returns-in_default : goal.returns-in_default
 returns-in_default c = λ file.
@@ -46,6 +48,7 @@ returns-in_default c = λ file.
     no_other file line
     (lacks (codes "largest") c.in_default.not-largest)
     (lacks (codes "families") c.in_default.not-families)
+    (lacks (codes "replace") c.in_default.not-replace)
     (lacks (codes "why") c.in_default.not-why)
     (lacks (codes "events") c.in_default.not-events)
     (lacks (codes "integers") c.in_default.not-integers)
@@ -57,3 +60,4 @@ returns-in_default c = λ file.
     (lacks (codes "append") c.in_default.not-append)
     (lacks (codes "mark") c.in_default.not-mark)
     (lacks (codes "approve") c.in_default.not-approve)
+    (lacks (codes "tokens") c.in_default.not-tokens)

@@ -1,4 +1,4 @@
-use Rattle.std.proofs.Common.{rules, ◌≡◌}
+use Rattle.std.proofs.Common.{refl}
 use Rattle.sbl_bench.specs.KeptRuns.{contents_of}
 use Rattle.sbl_io.specs.HeldInput.{input_of}
 use Rattle.sbl_sessions.specs.Session.{Ends}
@@ -10,7 +10,6 @@ pub returns-clause-works : goal.returns-clause-works
 returns-clause-works g c = λ none.
     let read = g.R.Source in
     let write = g.W.Sink in
-    let same : c.in_ok-text.text.items ≡ c.args.folder.now.seen.items = search rules in
     works_from (Ends read.tally write.tally c.args.lines.now c.serve.new.lines c.args.writer.now c.serve.new.writer)
-    c.args.folder.now.seen.items c.in_ok-text.text.items c.args.prompt.now (input_of read.left c.args.lines.now) (input_of read.left c.serve.new.lines) (write.held c.args.writer.now) (write.held c.serve.new.writer)
-    (contents_of c.args.bench.now) (contents_of c.serve.new.bench) (state_of c.in_ok-desk.desk) (state_of c.serve.new.desk) c.serve.result same c.in_ok-desk.ensures (c.serve.ensures.work none) c.serve.ensures.ends
+    c.args.text.items c.args.text.items c.args.prompt.now (input_of read.left c.args.lines.now) (input_of read.left c.serve.new.lines) (write.held c.args.writer.now) (write.held c.serve.new.writer)
+    (contents_of c.args.bench.now) (contents_of c.serve.new.bench) (state_of c.in_ok-desk.desk) (state_of c.serve.new.desk) c.serve.result refl c.in_ok-desk.ensures (c.serve.ensures.work none) c.serve.ensures.ends

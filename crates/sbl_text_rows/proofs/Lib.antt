@@ -1,0 +1,3 @@
+pub mod GapFacts
+pub mod TextFacts
+pub mod TokenFacts

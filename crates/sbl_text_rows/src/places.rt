@@ -1,0 +1,215 @@
+//! The rows of what is in a text, with the places.
+
+ghost use Rattle.std.specs.Prelude.{◌≡◌, ◌<◌, ◌+◌, ◌^◌, ◌++◌, [], IfOk, IfSome, List, MatchOption, OnOk, map};
+ghost use Rattle.std.specs.List.{All};
+ghost use Rattle.std.specs.Str.{chars};
+ghost use Rattle.csv.specs.Records.{fields_of, partial_of};
+ghost use Rattle.sbl_io.specs.Records.{record_line};
+ghost use Rattle.sbl_token.specs.Lexemes.{SaysFitting, lexeme_of};
+ghost use Rattle.sbl_text.specs.Tokens.{ArePlaced, PlacedToken, placed_of};
+ghost use Rattle.sbl_text_rows.specs.PlaceRows as spec;
+ghost use Rattle.sbl_text_rows.specs.Rows.{line_if};
+ghost use Rattle.sbl_text_rows.specs.Views.{Measures, TakesLine, context_of};
+
+use crate::extents::{closed_end, is_as, item_end};
+use crate::fields::{push_number, push_numbers};
+use crate::rulers::Ruler;
+use crate::walks::Walk;
+use csv::ByteRecord;
+use sbl_io::{push_line, text_of};
+use sbl_text::laws::first_fault_is_one;
+use sbl_text::{Kind, ScriptFault, Token, Value, Word, tokens};
+use std::alloc::{AllocError, Global};
+
+/// The rows so far, and the position that was asked for last.
+#[derive(Drop)]
+struct Rows<'a> {
+    alloc: Global,
+    out: Vec<u8>,
+    ruler: Ruler<'a>,
+}
+
+/// Returns what a definition defines, given the token after its name.
+fn definition_kind(next: &Token<'_>) -> &'static str
+    ensures { result.now ≡ spec.definition_kind (lexeme_of next.now) }
+{
+    if is_as(next) { "routine" } else { "grouping" }
+}
+
+impl Rows<'_> {
+    /// Appends a row: these fields, the two ends, and the position of the first one. Returns `AllocError` if an allocation fails.
+    fn push(
+        &mut self,
+        csv_record: &mut ByteRecord,
+        from: usize,
+        to: usize,
+    ) -> Result<(), AllocError>
+        requires ruler { Measures self.old.ruler }
+        requires whole { partial_of csv_record.old ≡ [] }
+        ensures { OnOk result (TakesLine self.old self.new (record_line (fields_of csv_record.old ++ spec.place_fields self.old.ruler.text.now from to))) }
+    {
+        let position = self.ruler.position(from);
+        push_numbers(self.alloc, csv_record, from, to)?;
+        push_numbers(self.alloc, csv_record, position.line, position.column)?;
+        push_line(self.alloc, &mut self.out, csv_record)
+    }
+
+    /// Appends the row of a definition, given its first token and the tokens after that. Returns `AllocError` if an allocation fails.
+    fn push_definition(&mut self, define: &Token<'_>, after: &[Token<'_>]) -> Result<(), AllocError>
+        requires { Measures self.old.ruler }
+        ensures { OnOk result (TakesLine self.old self.new (line_if (spec.definition_row self.old.ruler.text.now (placed_of define.now) (map placed_of after.now)))) }
+    {
+        let Some((name, rest)) = after.split_first() else {
+            return Ok(());
+        };
+        let Some((next, _)) = rest.split_first() else {
+            return Ok(());
+        };
+        let mut csv_record = ByteRecord::new(self.alloc);
+        csv_record.push_field(definition_kind(next).as_bytes())?;
+        csv_record.push_field(name.text.as_bytes())?;
+        self.push(&mut csv_record, define.start, item_end(define.end, after))
+    }
+
+    /// Appends the row of an among, given its first token and the tokens after that. Returns `AllocError` if an allocation fails.
+    #[tactic(auto, unfolding(crate::specs::PlaceRows::among_row))]
+    fn push_among(
+        &mut self,
+        walk: &Walk<'_>,
+        among: &Token<'_>,
+        after: &[Token<'_>],
+    ) -> Result<(), AllocError>
+        requires ruler { Measures self.old.ruler }
+        requires few { (context_of walk.now).amongs + 1 < 2 ^ 64 }
+        ensures { OnOk result (TakesLine self.old self.new (record_line (spec.among_row self.old.ruler.text.now (context_of walk.now) (placed_of among.now) (map placed_of after.now)))) }
+    {
+        let mut csv_record = ByteRecord::new(self.alloc);
+        csv_record.push_field(b"among")?;
+        csv_record.push_field(walk.name().as_bytes())?;
+        push_number(self.alloc, &mut csv_record, walk.next_among())?;
+        self.push(&mut csv_record, among.start, closed_end(among.end, after))
+    }
+
+    /// Appends the row of a string of the among with this number. Returns `AllocError` if an allocation fails.
+    #[tactic(auto, unfolding(crate::specs::PlaceRows::entry_row))]
+    fn push_entry(
+        &mut self,
+        walk: &Walk<'_>,
+        literal: &Token<'_>,
+        string: &[char],
+        number: usize,
+    ) -> Result<(), AllocError>
+        requires { Measures self.old.ruler }
+        ensures { OnOk result (TakesLine self.old self.new (record_line (spec.entry_row self.old.ruler.text.now (context_of walk.now) (placed_of literal.now) string.now number))) }
+    {
+        let mut csv_record = ByteRecord::new(self.alloc);
+        csv_record.push_field(b"entry")?;
+        csv_record.push_field(walk.name().as_bytes())?;
+        push_number(self.alloc, &mut csv_record, number)?;
+        let text = text_of(self.alloc, string)?;
+        csv_record.push_field(text.as_bytes())?;
+        self.push(&mut csv_record, literal.start, literal.end)
+    }
+
+    /// Appends the row of a literal if it is a string of the among with this number, which is 0 if there is none. Returns `AllocError`
+    /// if an allocation fails.
+    fn push_string(
+        &mut self,
+        walk: &Walk<'_>,
+        literal: &Token<'_>,
+        string: &[char],
+        number: usize,
+    ) -> Result<(), AllocError>
+        requires { Measures self.old.ruler }
+        ensures { OnOk result (TakesLine self.old self.new (line_if (spec.string_row self.old.ruler.text.now (context_of walk.now) (placed_of literal.now) string.now number))) }
+    {
+        if number == 0 {
+            return Ok(());
+        }
+        self.push_entry(walk, literal, string, number)
+    }
+
+    /// Appends the row of a name. Returns `AllocError` if an allocation fails.
+    #[tactic(auto, unfolding(crate::specs::PlaceRows::name_row))]
+    fn push_name(&mut self, walk: &Walk<'_>, name: &Token<'_>) -> Result<(), AllocError>
+        requires { Measures self.old.ruler }
+        ensures { OnOk result (TakesLine self.old self.new (record_line (spec.name_row self.old.ruler.text.now (context_of walk.now) (placed_of name.now)))) }
+    {
+        let mut csv_record = ByteRecord::new(self.alloc);
+        csv_record.push_field(b"name")?;
+        csv_record.push_field(name.text.as_bytes())?;
+        csv_record.push_field(walk.role().as_bytes())?;
+        self.push(&mut csv_record, name.start, name.end)
+    }
+
+    /// Appends the row of a token, if it has one, given the tokens after it. Returns `AllocError` if an allocation fails.
+    fn push_token(
+        &mut self,
+        walk: &Walk<'_>,
+        token: &Token<'_>,
+        after: &[Token<'_>],
+    ) -> Result<(), AllocError>
+        requires ruler { Measures self.old.ruler }
+        requires few { (context_of walk.now).amongs + 1 < 2 ^ 64 }
+        requires fitting { SaysFitting token.now }
+        ensures { OnOk result (TakesLine self.old self.new (line_if (spec.row_at self.old.ruler.text.now (context_of walk.now) (placed_of token.now) (map placed_of after.now) (lexeme_of token.now)))) }
+    {
+        match token.kind {
+            Kind::Word(Word::Define) => self.push_definition(token, after),
+            Kind::Word(Word::Among) => self.push_among(walk, token, after),
+            Kind::Literal => match &token.value {
+                Value::Literal { value, .. } => self.push_string(walk, token, value, walk.among()),
+                _ => Ok(()),
+            },
+            Kind::Name => self.push_name(walk, token),
+            _ => Ok(()),
+        }
+    }
+}
+
+/// Returns the tokens of a text, or `None` if it has none. Returns `AllocError` if an allocation fails.
+fn tokens_of<'a>(alloc: Global, text: &'a str) -> Result<Option<Vec<Token<'a>>>, AllocError>
+    ensures placed { IfOk result (λ o. MatchOption o ((ts : List PlacedToken) → ArePlaced (chars text.now) ts → ⊥) (λ ts. ArePlaced (chars text.now) (map placed_of ts.items))) }
+    ensures fitting { IfOk result (λ o. IfSome o (λ ts. All SaysFitting ts.items)) }
+{
+    first_fault_is_one();
+    match tokens(alloc, text) {
+        Ok(found) => Ok(Some(found)),
+        Err(fault) => match fault {
+            ScriptFault::OutOfMemory => Err(AllocError),
+            _ => Ok(None),
+        },
+    }
+}
+
+/// Returns the rows of these tokens of a text.
+fn rows_of(alloc: Global, text: &str, tokens: &[Token<'_>]) -> Result<Vec<u8>, AllocError>
+    requires { All SaysFitting tokens.now }
+    ensures { IfOk result (λ report. report.items ≡ spec.lines_after text.now spec.beginning (map placed_of tokens.now)) }
+{
+    let mut rows = Rows {
+        alloc,
+        out: Vec::new(alloc),
+        ruler: Ruler::new(text.as_bytes()),
+    };
+    let mut walk = Walk::new(alloc);
+    for i in 0..tokens.len() {
+        rows.push_token(&walk, &tokens[i], &tokens[i + 1..])?;
+        walk.pass(&tokens[i])?;
+    }
+    Ok(rows.out)
+}
+
+/// Returns the rows of what is in the text of a script, in the order of the text: each definition, each among and its strings, and
+/// each name. A row has the two ends of what it is about, in bytes, and the line and the column of the first. A text without tokens,
+/// as one with a fault of the lexer, has no rows.
+///
+/// Returns `AllocError` if an allocation fails.
+pub fn places_text(alloc: Global, text: &str) -> Result<Vec<u8>, AllocError>
+    ensures { IfOk result (λ report. spec.IsPlacesText text.now report.items) }
+{
+    match tokens_of(alloc, text)? {
+        Some(tokens) => rows_of(alloc, text, &tokens),
+        None => Ok(Vec::new(alloc)),
+    }
+}
