@@ -91,11 +91,11 @@ fn place_of(kept: &[KeptWord], from: usize, word: &[char]) -> usize {
 
 /// Returns the strings that a word takes, if the word is kept at a place and is not one of those that run again. Returns
 /// `AllocError` if the list has too many owners.
-fn kept_list(
+fn kept_list<'a>(
     kept: &[KeptWord],
     place: usize,
-    word: &[char],
-    again: &BTreeSet<&[char]>,
+    word: &'a [char],
+    again: &BTreeSet<&'a [char]>,
 ) -> Result<Option<Rc<Vec<Taken>>>, AllocError>
     ensures { (u : Setting) → AreKept u kept.now → IfOk result (λ found. IfSome found (λ list. (is_one_of again.now word.now ≡ false) × IsListOf u word.now list)) }
 {
@@ -109,14 +109,14 @@ fn kept_list(
 }
 
 /// Returns the strings that the run of a word takes: those that are kept, or those of a run. Returns `AllocError` as `list_of` does.
-fn list_now(
+fn list_now<'a>(
     alloc: Global,
     bench: &Bench,
     lists: &mut SharedTakes,
     kept: &[KeptWord],
     place: usize,
-    word: &[char],
-    again: &BTreeSet<&[char]>,
+    word: &'a [char],
+    again: &BTreeSet<&'a [char]>,
 ) -> Result<Rc<Vec<Taken>>, AllocError>
     ensures { (u : Setting) → AreKept u kept.now → StayKept bench.now u again.now → is_word word.now bench.now.words ≡ true → IfOk result (λ list. IsListOf (setting_of bench.now) word.now list) }
 {
@@ -128,12 +128,12 @@ fn list_now(
 
 /// Returns the words of a bench with the strings that their runs take. Only those words run that are not kept or that are to run
 /// again. Returns `AllocError` as `list_of` does.
-fn words_with_takes(
+fn words_with_takes<'b>(
     alloc: Global,
-    bench: &Bench,
+    bench: &'b Bench,
     lists: &mut SharedTakes,
     kept: &[KeptWord],
-    again: &BTreeSet<&[char]>,
+    again: &BTreeSet<&'b [char]>,
 ) -> Result<Vec<KeptWord>, AllocError>
     ensures { (u : Setting) → AreKept u kept.now → StayKept bench.now u again.now → IfOk result (λ words. KeepsWords bench.now words.items) }
 {
