@@ -1,5 +1,5 @@
 -- What is kept of words, and what their runs take.
-use Rattle.std.proofs.Common.{◌≡◌, ◌∙◌, ◌||◌, ℕ, zero, suc, Bool, true, false, cond, List, [], ◌∷◌, map, length, Option, Some, slice_get, refl, sym, ap, subst}
+use Rattle.std.proofs.Common.{◌≡◌, ◌∙◌, ◌||◌, ℕ, zero, suc, Bool, true, false, cond, List, [], ◌∷◌, map, length, Option, None, Some, IfSome, slice_get, refl, sym, ap, subst}
 use Rattle.std.specs.List.{filter, list_any}
 use Rattle.std.specs.Str.{bytes_eq}
 use Rattle.std.specs.Global.{Vec}
@@ -160,3 +160,24 @@ pub list_stays : (s u : Setting) (words : List (List ℕ)) (again : List ℕ →
     → IsListOf u w list → IsListOf s w list
 list_stays s u words again w list stays there out is = λ t.
     ap (λ (names : Names). list_any (same_take t) (view_list names list.value.items)) (sym stays.0) ∙ is t ∙ stays.1 w there out t
+
+-- ---- rows
+
+of_rows : (f : List ℕ → Bool) (s : Setting) (words : List (List ℕ)) → map (λ (r : Row). f r.word) (rows_of s words) ≡ map f words
+of_rows f s [] = refl
+of_rows f s (w ∷ words) = ap (λ l. f w ∷ l) (of_rows f s words)
+
+-- what is kept of words, beside their rows
+pub rows_match : (s : Setting) (words : List (List ℕ)) (kept : List KeptWord) (t : Take) (rows : List Row) → AreTakenBy s words kept → rows ≡ rows_of s words
+    → map (has_taken (routine_names s) t) kept ≡ map (λ (r : Row). uses s r.word (Entry t)) rows
+rows_match s words kept t rows taken are =
+    taken.1 t ∙ sym (of_rows (λ (w : List ℕ). uses s w (Entry t)) s words) ∙ ap (map (λ (r : Row). uses s r.word (Entry t))) (sym are)
+
+-- another owner of a list that is kept
+pub list_moves : (u : Setting) (k : KeptWord) (w : List ℕ) (list : Rc (Vec Taken) Global) → IsListOf u k.word.items k.takes → k.word.items ≡ w → list.value ≡ k.takes.value → IsListOf u w list
+list_moves u k w list is same value = λ t.
+    ap (λ (v : Vec Taken). list_any (same_take t) (view_list (routine_names u) v.items)) value ∙ is t ∙ ap (λ (x : List ℕ). uses u x (Entry t)) same
+
+pub some_weaker : {X : Type 0} (P Q : X → Type 0) → ((x : X) → P x → Q x) → (o : Option X) → IfSome o P → IfSome o Q
+some_weaker P Q f None h = tt
+some_weaker P Q f (Some x) h = f x h

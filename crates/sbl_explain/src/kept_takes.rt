@@ -36,12 +36,21 @@ pub struct KeptTakes {
 /// How many kept words are looked at for the next word: those that were removed are passed over, if they are not more.
 const REACH: usize = 64;
 
+/// Adds a word. Returns `AllocError` if an allocation fails.
+#[tactic(auto, using(crate::proofs::KeptSets::word_added))]
+fn add_word<'a>(words: &mut BTreeSet<&'a [char]>, word: &'a [char]) -> Result<(), AllocError>
+    ensures { OnOk result ((w : List ℕ) → is_one_of words.new w ≡ (bytes_eq w word.now || is_one_of words.old w)) }
+{
+    words.insert(word)?;
+    Ok(())
+}
+
 /// Adds the words of rows. Returns `AllocError` if an allocation fails.
 fn add_words<'a>(words: &mut BTreeSet<&'a [char]>, rows: &[Row<'a>]) -> Result<(), AllocError>
     ensures { OnOk result ((w : List ℕ) → is_one_of words.new w ≡ (list_any (bytes_eq w) (row_words rows.now) || is_one_of words.old w)) }
 {
     for row in rows {
-        words.insert(row.word)?;
+        add_word(words, row.word)?;
     }
     Ok(())
 }
@@ -89,8 +98,41 @@ fn place_of(kept: &[KeptWord], from: usize, word: &[char]) -> usize {
     kept.len()
 }
 
+/// Returns whether a word is to run again.
+#[tactic(auto, using(crate::proofs::KeptSets::word_held))]
+fn runs_again<'a>(again: &BTreeSet<&'a [char]>, word: &'a [char]) -> bool
+    ensures { result ≡ is_one_of again.now word.now }
+{
+    again.contains(&word)
+}
+
+/// Returns the word that is kept at a place.
+fn entry_at(kept: &[KeptWord], place: usize) -> Option<&KeptWord>
+    ensures { (u : Setting) → AreKept u kept.now → IfSome result (λ entry. IsListOf u entry.now.word.items entry.now.takes) }
+{
+    match kept.get(place) {
+        Some(entry) => Some(entry),
+        None => None,
+    }
+}
+
+/// Returns true only if it is this word that is kept.
+fn is_of_word(entry: &KeptWord, word: &[char]) -> bool
+    ensures { result ≡ true → entry.now.word.items ≡ word.now }
+{
+    entry.word.as_slice() == word
+}
+
+/// Returns another owner of the strings of a word. Returns `AllocError` if the list has too many owners.
+fn list_in(entry: &KeptWord) -> Result<Rc<Vec<Taken>>, AllocError>
+    ensures { IfOk result (λ list. list.value ≡ entry.now.takes.value) }
+{
+    Ok(entry.takes.clone()?)
+}
+
 /// Returns the strings that a word takes, if the word is kept at a place and is not one of those that run again. Returns
 /// `AllocError` if the list has too many owners.
+#[tactic(auto, using(crate::proofs::KeptFacts::list_moves))]
 fn kept_list<'a>(
     kept: &[KeptWord],
     place: usize,
@@ -99,13 +141,17 @@ fn kept_list<'a>(
 ) -> Result<Option<Rc<Vec<Taken>>>, AllocError>
     ensures { (u : Setting) → AreKept u kept.now → IfOk result (λ found. IfSome found (λ list. (is_one_of again.now word.now ≡ false) × IsListOf u word.now list)) }
 {
-    let Some(entry) = kept.get(place) else {
+    let Some(entry) = entry_at(kept, place) else {
         return Ok(None);
     };
-    if entry.word.as_slice() != word || again.contains(&word) {
+    if runs_again(again, word) {
         return Ok(None);
     }
-    Ok(Some(entry.takes.clone()?))
+    if !is_of_word(entry, word) {
+        return Ok(None);
+    }
+    let list = list_in(entry)?;
+    Ok(Some(list))
 }
 
 /// Returns the strings that the run of a word takes: those that are kept, or those of a run. Returns `AllocError` as `list_of` does.
@@ -245,6 +291,7 @@ impl KeptTakes {
 
     /// Keeps the words of a bench with the strings that their runs take. Returns `AllocError` if an allocation fails; then nothing
     /// is kept.
+    #[tactic(auto, using(crate::proofs::KeptFacts::copy_keeps))]
     pub(crate) fn keep(
         &mut self,
         alloc: Global,

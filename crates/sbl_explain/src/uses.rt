@@ -170,6 +170,7 @@ fn usable_for<'q>(
 
 /// Returns the rows of the words that take a string of an among, given what the words take. Returns `AllocError` if an allocation
 /// fails, or if there are fewer words than rows.
+#[tactic(auto, using(crate::proofs::KeptFacts::rows_match))]
 fn rows_taking<'b>(
     alloc: Global,
     bench: &'b Bench,
