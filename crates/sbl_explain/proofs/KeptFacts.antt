@@ -136,11 +136,11 @@ copy_keeps stays agrees s u words kept well limits differ taken = λ t.
     ∙ fuse f kept
     ∙ ap (λ (g : KeptWord → Bool). map g kept) (fun_ext (λ (k : KeptWord). sym (same_uses stays s u [] well limits differ k.word.items (one_met s.script k.word.items s.limit []) t)))
 
-first_of : List Bool → Bool
+abbrev first_of : List Bool → Bool
 first_of [] = false
 first_of (b ∷ bs) = b
 
-others_of : List Bool → List Bool
+abbrev others_of : List Bool → List Bool
 others_of [] = []
 others_of (b ∷ bs) = bs
 
