@@ -1,6 +1,7 @@
 """`python3 client ..`: the client of the repository or of an installed snowbench, whatever the current folder has. Compiled modules are kept
 in the user's cache: compiling them takes longer than the rest of the start. A folder of somebody else is not taken.
 """
+import importlib
 import os
 import sys
 
@@ -19,6 +20,7 @@ def cache() -> str:
 if cache():
     sys.pycache_prefix, sys.dont_write_bytecode = cache(), False
 
-from voltizug.terminal import main  # noqa: E402
-
-sys.exit(main(sys.argv[1:]))
+# (by a first word that is no file: the verbs of ./snowbench that are no terminal)
+FACES = {"--lsp": "editor.lsp", "--page": "page.serve", "--report": "page.report"}
+face = FACES.get(sys.argv[1]) if len(sys.argv) > 1 else None
+sys.exit(importlib.import_module("voltizug." + (face or "terminal")).main(sys.argv[2 if face else 1 :]))

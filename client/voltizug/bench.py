@@ -51,6 +51,8 @@ class Bench:
         self.program = Program(command, script, words, kept.room)
         self.is_waiting = True
         self.on_restart: Callable[[Reply], None] = lambda reply: None
+        # (called after an edit was accepted, and before it is asked what that changed)
+        self.on_accepted: Callable[[], None] = lambda: None
         # The states of the files when they were read, and of those that were written here, with their texts by checksum.
         self.seen: Dict[str, FileState] = {}
         self.written: Dict[str, Tuple[FileState, bytes]] = {}
@@ -172,6 +174,7 @@ class Bench:
             self.refused_text = read if reply.refusal() else None
         if not reply.is_done:
             return Edit(word, self.settled(reply), self.changes)
+        self.on_accepted()
         return self.edited(word, lines[0], Edit(word, reply), history, had_fault)
 
     def edited(self, word: str, command: str, edit: Edit, history: Optional[List[str]], had_fault: bool) -> Edit:

@@ -26,6 +26,7 @@ class Places:
         self.amongs: Dict[Tuple[str, str], Any] = {(row.name, row.k): row for row in rows if row.kind == "among"}
         self.entries: Dict[Tuple[str, str, str], Any] = {(row.name, row.k, row.string): row for row in rows if row.kind == "entry"}
         self.tests: Dict[Tuple[str, str], Any] = {(row.name, row.n): row for row in rows if row.kind == "test"}
+        self.names: List[Any] = [row for row in rows if row.kind == "name"]
 
     def of(self, name: str, row: Any = None) -> str:
         """Returns the place of a row of a definition, or of the definition itself; nothing if it is not known."""

@@ -28,7 +28,8 @@ class Reply(NamedTuple):
     def refusal(self) -> Optional[Tuple[int, str]]:
         """Returns the number and the name if the request was refused."""
         words = self.lines[0].split(" ") if len(self.lines) == 1 else []
-        return (int(words[1]), words[2]) if len(words) == 3 and words[0] == "no" and words[1].isdigit() else None
+        is_refusal = len(words) == 3 and words[0] == "no" and words[1].isdigit() and words[2].isalnum()
+        return (int(words[1]), words[2]) if is_refusal else None
 
     @property
     def is_done(self) -> bool:

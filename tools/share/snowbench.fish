@@ -7,6 +7,9 @@ complete -c snowbench -n __fish_use_subcommand -a stem -d 'the stems of the word
 complete -c snowbench -n __fish_use_subcommand -a filter -d 'the stem of each word as it comes, in constant memory'
 complete -c snowbench -n __fish_use_subcommand -a check -d 'a row for each word whose stem is not the expected one'
 complete -c snowbench -n __fish_use_subcommand -a compare -d 'where two scripts differ, and what that changes for the words'
+complete -c snowbench -n __fish_use_subcommand -a page -d 'a live page over a script and words, for a browser on this machine'
+complete -c snowbench -n __fish_use_subcommand -a report -d 'one HTML file on what a change of a script does to the words'
+complete -c snowbench -n __fish_use_subcommand -a lsp -d 'a language server: faults, names and figures of the words in your editor'
 complete -c snowbench -n __fish_use_subcommand -a help -d 'all commands; of COMMAND its files, options and an example'
 complete -c snowbench -n __fish_use_subcommand -a doctor -d 'what is installed here, what is missing, and what that means'
 complete -c snowbench -n __fish_use_subcommand -l version -d 'the version, the commit, and what the program was made from'
@@ -18,6 +21,9 @@ complete -c snowbench -n '__fish_seen_subcommand_from help' -a stem -d 'the stem
 complete -c snowbench -n '__fish_seen_subcommand_from help' -a filter -d 'the stem of each word as it comes, in constant memory'
 complete -c snowbench -n '__fish_seen_subcommand_from help' -a check -d 'a row for each word whose stem is not the expected one'
 complete -c snowbench -n '__fish_seen_subcommand_from help' -a compare -d 'where two scripts differ, and what that changes for the words'
+complete -c snowbench -n '__fish_seen_subcommand_from help' -a page -d 'a live page over a script and words, for a browser on this machine'
+complete -c snowbench -n '__fish_seen_subcommand_from help' -a report -d 'one HTML file on what a change of a script does to the words'
+complete -c snowbench -n '__fish_seen_subcommand_from help' -a lsp -d 'a language server: faults, names and figures of the words in your editor'
 complete -c snowbench -n '__fish_seen_subcommand_from help' -a doctor -d 'what is installed here, what is missing, and what that means'
 complete -c snowbench -n '__fish_seen_subcommand_from work' -l external -x -d 'run this external of the script; without it, stem'
 complete -c snowbench -n '__fish_seen_subcommand_from work' -l watch -d 'read SCRIPT again each time that you save it'
@@ -45,5 +51,13 @@ complete -c snowbench -n '__fish_seen_subcommand_from check' -l help -d 'show wh
 complete -c snowbench -n '__fish_seen_subcommand_from check' -F
 complete -c snowbench -n '__fish_seen_subcommand_from compare' -l external -x -d 'run this external of both scripts; without it, stem'
 complete -c snowbench -n '__fish_seen_subcommand_from compare' -l rows -d 'rows for programs, also at a terminal'
+complete -c snowbench -n '__fish_seen_subcommand_from compare' -l markdown -d 'a summary of at most 30 lines for the text of a pull request'
 complete -c snowbench -n '__fish_seen_subcommand_from compare' -l help -d 'show what compare takes'
 complete -c snowbench -n '__fish_seen_subcommand_from compare' -F
+complete -c snowbench -n '__fish_seen_subcommand_from page' -l port -x -d 'listen at this port of 127.0.0.1; without it at one that goes with SCRIPT'
+complete -c snowbench -n '__fish_seen_subcommand_from page' -l external -x -d 'run this external of the script; without it, stem'
+complete -c snowbench -n '__fish_seen_subcommand_from page' -l families -x -d 'show how far the stems agree with families of words, one family a line'
+complete -c snowbench -n '__fish_seen_subcommand_from page' -l open -d 'open the page in your browser'
+complete -c snowbench -n '__fish_seen_subcommand_from page' -F
+complete -c snowbench -n '__fish_seen_subcommand_from report' -l external -x -d 'run this external of both scripts; without it, stem'
+complete -c snowbench -n '__fish_seen_subcommand_from report' -F

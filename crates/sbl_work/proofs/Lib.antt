@@ -5,5 +5,4 @@ pub mod WholeFacts
 pub mod LookupFacts
 pub mod StemFileFacts
 pub mod TextReplyFacts
-pub mod TextReplyFacts
 pub mod WordFileFacts

@@ -211,5 +211,5 @@ answered_block a b line s t x y block reply asks reads is = record {
 -- a request with a block is for a line that asks for one
 pub asks_found : (request : BlockRequest) (line : List ℕ) → FindsBlock request line → asks_work_block line ≡ true
 asks_found (blocks.Part kept) line so = rw so.0 refl
-asks_found (blocks.Whole is_good) line so = rw (so.0, so.1) refl
+asks_found blocks.Whole line so = rw (so.0, so.1) refl
 asks_found blocks.Families line so = rw (so.0, so.1, so.2) refl

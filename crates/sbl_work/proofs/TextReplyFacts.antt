@@ -29,8 +29,9 @@ rows_utf8 HasRows s d text bytes (Err e) r same utf8 has shown refused =
     rw (is_utf8-from_IsUtf8 bytes utf8) (edit_text (Some edit.OutOfMemory), refused, inr (refl, refl, refl))
 
 -- they are none
-pub rows_bytes : (HasRows : List ℕ → List ℕ → Type 0) (s : Contents) (d : State) (bytes : List ℕ) (r : Reply) → ¬ (IsUtf8 bytes) → IsReply r not_text_text → IsRowsAnswer HasRows bytes s d r
-rows_bytes HasRows s d bytes r not shown = rw (no_utf8 bytes not) (not_text_text, shown, inl (refl, refl, refl))
+pub rows_bytes : (HasRows : List ℕ → List ℕ → Type 0) (s : Contents) (d : State) (bytes : List ℕ) → ¬ (IsUtf8 bytes)
+    → (text : List ℕ) × (not_text_text ≡ text) × IsRowsReply HasRows bytes s d text s d
+rows_bytes HasRows s d bytes not = rw (no_utf8 bytes not) (not_text_text, refl, inl (refl, refl, refl))
 
 -- an allocation fails
 pub rows_memory : (HasRows : List ℕ → List ℕ → Type 0) (s : Contents) (d : State) (bytes : List ℕ) (r : Reply) → IsReply r (edit_text (Some edit.OutOfMemory)) → IsRowsAnswer HasRows bytes s d r

@@ -197,11 +197,13 @@ TellsRows HasRows false bytes s d text t e = TellsReport not_text_text s d text 
 abbrev pub IsRowsReply : (List ℕ → List ℕ → Type 0) → List ℕ → Contents → State → List ℕ → Contents → State → Type 0
 IsRowsReply HasRows bytes s d text t e = TellsRows HasRows (is_utf8 bytes) bytes s d text t e
 
--- the tokens of a file, which must not be longer than a script may be
+-- the tokens of the bytes of a file, unless there are more than a script may have
+abbrev pub TellsTokens : Bool → List ℕ → Contents → State → List ℕ → Contents → State → Type 0
+TellsTokens true bytes s d text t e = TellsReport (edit_text (Some (edit.Script script.ScriptTooLong))) s d text t e
+TellsTokens false bytes s d text t e = IsRowsReply IsTokensText bytes s d text t e
+
 abbrev pub IsFileTokensReply : List ℕ → Contents → State → List ℕ → Contents → State → Type 0
-IsFileTokensReply bytes s d text t e =
-    if nat_lt max_script (length bytes) then TellsReport (edit_text (Some (edit.Script script.ScriptTooLong))) s d text t e
-    else IsRowsReply IsTokensText bytes s d text t e
+IsFileTokensReply bytes s d text t e = TellsTokens (nat_lt max_script (length bytes)) bytes s d text t e
 
 abbrev pub hello_text : List ℕ
 hello_text = with_line_feed (codes "voltizug,0.2.0,rows,2")

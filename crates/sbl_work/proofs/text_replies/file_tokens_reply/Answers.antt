@@ -6,8 +6,8 @@ use Rattle.sbl_work.specs.ReplyViews.{IsWorkAnswer, view_file}
 use Rattle.sbl_work.proofs.TextReplyFacts.{file_rows, file_too_long}
 use Rattle.sbl_work.proofs.text_replies.file_tokens_reply.Goals as goal
 
-pub returns-then-gt-MAX_SCRIPT : goal.returns-then-gt-MAX_SCRIPT
-returns-then-gt-MAX_SCRIPT c = λ s d.
+pub returns-then-bytes-gt-MAX_SCRIPT : goal.returns-then-bytes-gt-MAX_SCRIPT
+returns-then-bytes-gt-MAX_SCRIPT c = λ s d.
     let is : c.args.file ≡ Some c.in-Some.bytes = search rules in
     let long : max_script < length c.in-Some.bytes.now = search rules in
     subst (λ (f : Option (Bor (List ℕ))). IsWorkAnswer s d (with_file TokensOf (view_file f)) c.edit_reply.result s d) (sym is)

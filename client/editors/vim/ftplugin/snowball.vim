@@ -1,0 +1,4 @@
+if exists('b:did_ftplugin') | finish | endif
+let b:did_ftplugin = 1
+setlocal commentstring=//\ %s comments=s1:/*,mb:*,ex:*/,:// iskeyword=@,48-57,_
+setlocal shiftwidth=4 expandtab

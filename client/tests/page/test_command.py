@@ -1,0 +1,53 @@
+"""The command line of `page`."""
+import os
+import signal
+import socket
+import subprocess
+import sys
+import urllib.request
+from typing import Any
+
+from ..kit import CLIENT, PROGRAM, Case
+from .kit import SCRIPT, WORDS
+
+
+class Commands(Case):
+    def begin(self, room: str, *words: str, **options: Any) -> "subprocess.Popen[bytes]":
+        command = [sys.executable, "-E", "-s", "-B", CLIENT, "--page", "--program", PROGRAM, *words]
+        environment = {**os.environ, "XDG_STATE_HOME": os.path.join(room, "state"), "XDG_CACHE_HOME": os.path.join(room, "cache")}
+        made = subprocess.Popen(command, cwd=room, env=environment, stdin=subprocess.DEVNULL, stdout=subprocess.PIPE, stderr=subprocess.PIPE)
+        self.addCleanup(made.communicate)
+        self.addCleanup(made.kill)
+        return made
+
+    def test_a_page_from_its_start_to_its_end(self):
+        room = self.room(my_sbl=SCRIPT, my_words=WORDS)
+        page = self.begin(room, "my.sbl", "my.words")
+        address = page.stdout.readline().decode().strip()
+        self.assertRegex(address, r"^http://127\.0\.0\.1:2\d{4}/[\w-]{32}/$")
+        self.assertIn("Who has it can read the script and write it", page.stderr.readline().decode())
+        with urllib.request.urlopen(address, timeout=60) as reply:
+            self.assertIn(b"<title>Voltizug</title>", reply.read())
+        # (a second page over the same script is at another port)
+        second = self.begin(room, "my.sbl", "my.words").stdout.readline().decode()
+        self.assertNotEqual(second.split("/")[2], address.split("/")[2])
+        page.send_signal(signal.SIGINT)
+        self.assertEqual(page.wait(60), 0)
+        self.assertEqual(len(os.listdir(os.path.join(room, "state", "voltizug", "open"))), 1)
+
+    def test_what_cannot_be_begun(self):
+        room = self.room(my_sbl=SCRIPT)
+        taken = socket.create_server(("127.0.0.1", 0))
+        self.addCleanup(taken.close)
+        port = str(taken.getsockname()[1])
+        cases = {("none.sbl",): "none.sbl is no file", ("my.sbl", "none"): "none is no file", ("--port", "70000", "my.sbl"): "0 to 65535", ("--port", port, "my.sbl"): "cannot be had", (): "usage"}
+        for words, said in cases.items():
+            page = self.begin(room, *words)
+            self.assertIn(said, page.stderr.read().decode())
+            self.assertEqual(page.wait(60), 2, words)
+
+    def test_a_script_with_a_fault(self):
+        page = self.begin(self.room(my_sbl="externals ( stem )\n"), "my.sbl")
+        self.assertTrue(page.stdout.readline().startswith(b"http://127.0.0.1:"))
+        page.stderr.readline()
+        self.assertIn("my.sbl has a fault, and the page waits: ", page.stderr.readline().decode())

@@ -1,0 +1,1 @@
+"""A language server over the rows of `work`."""

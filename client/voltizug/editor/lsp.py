@@ -1,0 +1,31 @@
+"""`snowbench lsp`: the language server over standard input and output. It takes --program FILE, as `work` does."""
+import os
+import sys
+from typing import Any, Callable, Dict, Sequence
+
+from ..options import usual_program
+from . import requests, shown
+from .server import Server
+
+# By the end of a method what replies to it.
+REQUESTS: Dict[str, Callable[..., Any]] = {
+    "definition": requests.definition, "references": requests.references, "rename": requests.rename, "documentSymbol": requests.symbols,
+    "completion": requests.completion, "codeAction": requests.code_actions, "hover": shown.hover, "codeLens": shown.lenses,
+    "inlayHint": shown.hints, "executeCommand": shown.execute,
+}
+CAPABILITIES = {
+    "textDocumentSync": {"openClose": True, "change": 2, "save": True}, "codeLensProvider": {"resolveProvider": False},
+    **{name + "Provider": True for name in "hover definition references rename documentSymbol inlayHint".split()},
+    "completionProvider": {"triggerCharacters": ["$"]}, "codeActionProvider": {"codeActionKinds": ["quickfix", "source"]},
+    "executeCommandProvider": {"commands": ["snowbench." + name for name in shown.COMMANDS]},
+}
+
+
+def main(words: Sequence[str]) -> int:
+    """Serves until the client ends it. (A thread may still wait for standard input then.)"""
+    program = words[1] if len(words) == 2 and words[0] == "--program" else "" if words else usual_program()
+    if not program:
+        sys.stderr.write("snowbench: lsp takes no file: an editor starts it, and sends it the texts\n")
+        return 2
+    sys.setswitchinterval(0.001)
+    os._exit(Server(program, REQUESTS, CAPABILITIES).run())

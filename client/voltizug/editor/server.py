@@ -1,0 +1,314 @@
+"""The server: messages, texts, their faults, and when the words are run. requests.py and shown.py have what is asked about a text."""
+import contextlib
+import os
+import queue
+import re
+import sys
+import threading
+import time
+from functools import partial
+from typing import Any, Callable, Dict, Iterable, List, Optional, Tuple
+from urllib.parse import quote, unquote, urlsplit
+
+from ..kept import read_file
+from ..layout import counted, named
+from ..program import ROWS
+from ..texts import Text, encoded, of_revision
+from .index import Index
+from .judge import Fault, Judge
+from .vocabulary import Vocabulary, Wish, difference
+from .wire import Message, read_message, write_message
+
+# For how long a text has to stay before it is run, and how long a request waits for figures, in seconds; the most differences that are shown;
+# and numbers of the protocol.
+QUIET, PATIENCE, MOST = 0.2, 4.0, 500
+ERROR, WARNING, REFUSED, UNKNOWN, FAILED = 1, 2, -32803, -32601, -32603
+KINDS = {"snowball-words": "words", "snowball-stems": "stems", ".words": "words", ".stems": "stems"}
+
+
+class Refused(Exception):
+    """Why a request is refused."""
+
+
+class Document:
+    """A text: a script, its words or their stems."""
+
+    def __init__(self, uri: str, kind: str, text: Text, version: Optional[int]):
+        self.uri, self.kind, self.text, self.version = uri, kind, text, version
+        parts = urlsplit(uri)
+        self.path = os.path.realpath(unquote(parts.path)) if parts.scheme == "file" else ""
+        self.name, self.index_of = os.path.basename(self.path) or uri, ("", Index([]))
+        # The faults that it has, whether they are looked for, and when it is run.
+        self.faults, self.is_judged, self.due = [], False, 0.0  # type: List[Fault], bool, float
+        # Of a script: the last text that was accepted, the mark, its git revision, and the words at work.
+        self.accepted, self.marked, self.mark_name = None, None, ""  # type: Optional[Text], Optional[str], str
+        self.vocabulary: Optional[Vocabulary] = None
+
+
+class Server:
+    """A language server over standard input and output. `requests` has what replies to a request, by the end of its name."""
+
+    def __init__(self, command: str, requests: Dict[str, Callable[["Server", Message], Any]], capabilities: Message):
+        self.command, self.requests, self.capabilities, self.judge = command, requests, capabilities, Judge(command)
+        self.settings, self.client, self.documents = {}, {}, {}  # type: Message, Message, Dict[str, Document]
+        self.queue, self.waiting = queue.Queue(), []  # type: Any, List[Tuple[Any, float, Callable[[bool], Any]]]
+        self.unit, self.is_over, self.status = "utf-16", False, 1
+
+    # The loop
+
+    def run(self) -> int:
+        threading.Thread(target=self.read, daemon=True).start()
+        while not self.is_over:
+            with contextlib.suppress(queue.Empty):
+                self.queue.get(timeout=self.rest())()
+            with contextlib.suppress(OSError, ValueError):
+                self.look_at_texts()
+            self.answer_waiting()
+        for document in self.documents.values():
+            self.close_words(document)
+        return self.status
+
+    def read(self) -> None:
+        for message in iter(lambda: read_message(sys.stdin.buffer), None):
+            self.queue.put(partial(self.take, message))
+        self.queue.put(partial(self.on_exit, {}))
+
+    def look_at_texts(self) -> None:
+        """Looks for the faults of texts, unless a newer one waits, and has those run that are due."""
+        for document in list(self.documents.values()):
+            if not document.is_judged and self.queue.empty():
+                document.is_judged = True
+                (self.judge_script if document.kind == "script" else self.show_differences)(document)
+            if document.due and document.due <= time.monotonic():
+                document.due = 0.0
+                self.run_words(document)
+
+    def rest(self) -> Optional[float]:
+        times = [document.due for document in self.documents.values() if document.due] + [until for _, until, _ in self.waiting]
+        return max(0.0, min(times) - time.monotonic()) if times else None
+
+    def send(self, message: Message) -> None:
+        try:
+            write_message(sys.stdout.buffer, message)
+        except OSError:
+            self.is_over = True
+
+    def take(self, message: Message) -> None:
+        """Does what a message asks for. A fault of this server ends no more than that."""
+        number, name = message.get("id"), str(message.get("method")).rpartition("/")[2]
+        handler, result = getattr(self, "on_" + name, None) or self.requests.get(name), None
+        try:
+            result = handler(*([] if hasattr(handler, "__self__") else [self]), message.get("params") or {}) if handler else None
+            failure = {} if handler else {"code": UNKNOWN, "message": "the server has no %s" % name}
+        except Exception as why:
+            failure = {"code": REFUSED, "message": str(why)} if isinstance(why, Refused) else {"code": FAILED, "message": repr(why)}
+        if number is not None and "method" in message and callable(result):
+            self.waiting.append((number, time.monotonic() + PATIENCE, result))
+        elif number is not None and "method" in message:
+            self.send({"id": number, **({"error": failure} if failure else {"result": result})})
+
+    def answer_waiting(self) -> None:
+        """Replies to requests that wait for figures, when these are there or their time is up."""
+        waiting, self.waiting = self.waiting, []
+        for number, until, result in waiting:
+            answer = result(time.monotonic() >= until)
+            if answer is None:
+                self.waiting.append((number, until, result))
+            else:
+                self.send({"id": number, "result": answer})
+
+    def on_initialize(self, params: Message) -> Message:
+        self.client, self.settings = params.get("capabilities") or {}, settings_of(params.get("initializationOptions"))
+        self.unit = "utf-32" if "utf-32" in ((self.client.get("general") or {}).get("positionEncodings") or []) else "utf-16"
+        return {"serverInfo": {"name": "snowbench"}, "capabilities": {"positionEncoding": self.unit, **self.capabilities}}
+
+    def on_initialized(self, params: Message) -> None:
+        hello = self.judge.program("stem")[0].ask(["hello"])
+        if hello.is_done and hello.lines[0].split(",")[-1] != ROWS:
+            self.tell("the program writes other rows than this server knows: they are not of one version")
+
+    def on_shutdown(self, params: Message) -> None:
+        self.status = 0
+
+    def on_exit(self, params: Message) -> None:
+        self.is_over = True
+
+    def on_didChangeConfiguration(self, params: Message) -> None:
+        before, self.settings = self.settings, settings_of(params.get("settings")) or self.settings
+        for document in self.documents.values() if self.settings != before else ():
+            self.close_words(document)
+            document.is_judged, document.marked = False, None
+
+    # Texts
+
+    def on_didOpen(self, params: Message) -> None:
+        item = params["textDocument"]
+        kind = KINDS.get(item.get("languageId", "")) or KINDS.get(os.path.splitext(item["uri"])[1], "script")
+        document = self.documents[item["uri"]] = Document(item["uri"], kind, Text(item["text"], self.unit), item.get("version"))
+        if kind != "script" and not self.scripts_of(document):
+            self.open_beside(document)
+        self.words_changed(document)
+
+    def open_beside(self, document: Document) -> None:
+        """Opens the script beside a file of words or stems, as it is on the disk, if no client has it open."""
+        path = os.path.splitext(document.path)[0] + ".sbl"
+        data, uri = read_file(path), "file://" + quote(path)
+        if data is not None and not any(other.path == path for other in self.documents.values()):
+            self.documents[uri] = Document(uri, "script", Text(data.decode("utf-8", "surrogateescape"), self.unit), None)
+
+    def on_didChange(self, params: Message) -> None:
+        document = self.document(params)
+        document.text, document.version = document.text.changed(params["contentChanges"]), params["textDocument"].get("version")
+        document.is_judged = False
+        self.words_changed(document)
+
+    def on_didSave(self, params: Message) -> None:
+        """A save needs no rest."""
+        document = self.document(params)
+        for script in self.scripts_of(document):
+            script.due = time.monotonic()
+
+    def on_didClose(self, params: Message) -> None:
+        document = self.documents.pop(params["textDocument"]["uri"])
+        self.close_words(document)
+        self.publish(document, [])
+        self.words_changed(document)
+        if document.kind != "script" and all(other.version is None for other in self.documents.values()):
+            # (the scripts that no client has open were there for it)
+            while self.documents:
+                self.close_words(self.documents.popitem()[1])
+
+    def words_changed(self, document: Document) -> None:
+        """Has the scripts run again whose words or stems a text has."""
+        for script in self.scripts_of(document) if document.kind != "script" else []:
+            script.due = time.monotonic() + QUIET
+
+    def document(self, params: Message) -> Document:
+        if params["textDocument"]["uri"] not in self.documents:
+            raise Refused("the text is not open")
+        return self.documents[params["textDocument"]["uri"]]
+
+    def index(self, document: Document) -> Index:
+        text = document.text.text
+        if document.index_of[0] is not text:
+            document.index_of = (text, Index(self.judge.tokens(text) if document.kind == "script" else []))
+        return document.index_of[1]
+
+    # Faults
+
+    def judge_script(self, document: Document) -> None:
+        document.faults = self.judge.faults(document.text, self.external(document))
+        self.publish(document, [(document.text.range(fault.start, fault.end), fault.sentence, ERROR, fault.name) for fault in document.faults])
+        document.accepted = document.accepted if document.faults else document.text
+        if document.marked is None and document.accepted:
+            try:
+                self.set_mark(document, str(self.settings.get("mark") or ""))
+            except Refused as why:
+                self.tell("%s, so the mark is the text as it is now" % why)
+                self.set_mark(document, "")
+        is_run = not document.faults and (not document.vocabulary or self.settings.get("run") != "onSave")
+        document.due = time.monotonic() + QUIET if is_run else 0.0
+
+    def external(self, document: Document) -> str:
+        """Returns the external that is run: that of the settings, `stem`, or the only one."""
+        wanted = str(self.settings.get("external") or "")
+        if wanted or re.search(r"\bexternals\s*\([^)]*\bstem\b", document.text.text):
+            return wanted if re.fullmatch("[A-Za-z][A-Za-z0-9_]*", wanted) else "stem"
+        there = [name for name, kind in self.index(document).kinds.items() if kind == "external"]
+        return there[0] if len(there) == 1 else "stem"
+
+    def publish(self, document: Document, found: Iterable[Tuple[Message, str, int, str]]) -> None:
+        """Shows what is at places: each is a range, a sentence, how severe it is, and a name."""
+        version = {} if document.version is None else {"version": document.version}
+        rows = [{"range": place, "severity": severity, "source": "snowbench", "message": what, "code": code} for place, what, severity, code in found]
+        self.send({"method": "textDocument/publishDiagnostics", "params": {"uri": document.uri, **version, "diagnostics": rows}})
+
+    def show_differences(self, document: Document) -> None:
+        """Shows the words whose stem is not the expected one: each at the word, or in the file of stems at its line."""
+        found: List[Tuple[Message, str, int, str]] = []
+        for script in self.scripts_of(document):
+            state = script.vocabulary.state if script.vocabulary else None
+            if state and state.lines and len(state.lines) != len(state.outcomes):
+                what = counted(len(state.lines), "expected stem"), counted(len(state.outcomes), "word")
+                found.append((document.text.line_range(0), "%s, and the vocabulary has %s" % what, WARNING, "stems"))
+            elif state and state.expected:
+                words = map(document.text.line, range(len(document.text.starts))) if document.kind == "words" else state.outcomes
+                lines = [(line, word) for line, word in enumerate(words) if word in state.expected][:MOST]
+                found += [(document.text.line_range(line), difference(state, word), WARNING, "stem") for line, word in lines]
+        self.publish(document, found)
+
+    # Words
+
+    def file_of(self, document: Document, kind: str) -> str:
+        """Returns the file of words, stems or families of a script: that of the settings, or the one beside it; nothing if there is none."""
+        beside, wanted = os.path.splitext(document.path)[0] + "." + kind, self.settings.get(kind)
+        if wanted:
+            return os.path.join(os.path.dirname(document.path), os.path.expanduser(str(wanted)))
+        return beside if document.path and os.path.isfile(beside) else ""
+
+    def bytes_of(self, path: str) -> Optional[bytes]:
+        """Returns what a file has, also if that is not saved yet."""
+        open_ones = [document for document in self.documents.values() if document.kind != "script" and document.path == os.path.realpath(path)]
+        return encoded(open_ones[0].text.text) if open_ones else read_file(path) if path else None
+
+    def run_words(self, document: Document) -> None:
+        """Has the words run under the text that was accepted last."""
+        words = self.bytes_of(self.file_of(document, "words"))
+        if words is None or document.accepted is None or self.settings.get("run") == "never":
+            return
+        external, stems = self.external(document), self.bytes_of(self.file_of(document, "stems"))
+        if document.vocabulary and document.vocabulary.external != external:
+            self.close_words(document)
+        if document.vocabulary is None:
+            document.vocabulary = Vocabulary(self.command, external, document.name, lambda said: self.queue.put(partial(self.reported, document, said)))
+        document.vocabulary.want(Wish(document.accepted.text, document.marked or "", words, stems, self.file_of(document, "families")))
+
+    def set_mark(self, document: Document, revision: str) -> None:
+        """Marks the text as it is, or that of a git revision."""
+        document.marked = text_of(document, revision) if revision else (document.accepted or document.text).text
+        document.mark_name = revision
+
+    def close_words(self, document: Document) -> None:
+        if document.vocabulary:
+            document.vocabulary.stop()
+        document.vocabulary = None
+
+    def scripts_of(self, document: Document) -> List[Document]:
+        """Returns the open scripts whose words or stems a text is; a script itself."""
+        scripts = [other for other in self.documents.values() if other.kind == "script"]
+        files = [self.file_of(script, document.kind) if document.kind != "script" else "" for script in scripts]
+        return [script for script, file in zip(scripts, files) if script is document or file and document.path == os.path.realpath(file)]
+
+    def reported(self, script: Document, said: str) -> None:
+        """After a step of the words: shows a failure, differences, and has the client ask again for what is shown in the text."""
+        if said:
+            self.tell("%s: %s" % (script.name, said))
+        for document in list(self.documents.values()):
+            if document.kind != "script" and script in self.scripts_of(document):
+                self.show_differences(document)
+        for name in filter(self.can_refresh, ("codeLens", "inlayHint")):
+            self.send({"id": "%s-%.6f" % (name, time.monotonic()), "method": "workspace/%s/refresh" % name})
+
+    def tell(self, sentence: str) -> None:
+        self.send({"method": "window/showMessage", "params": {"type": WARNING, "message": "snowbench: " + sentence}})
+
+    def can_refresh(self, name: str) -> bool:
+        return bool(((self.client.get("workspace") or {}).get(name) or {}).get("refreshSupport"))
+
+    def is_waiting(self, document: Document) -> bool:
+        """Whether figures of the text as it is are on their way."""
+        vocabulary, state = document.vocabulary, document.vocabulary.state if document.vocabulary else None
+        is_running = vocabulary and not document.faults and not (state and state.is_counted and state.wish == vocabulary.wish)
+        return bool(document.due or not document.is_judged or is_running)
+
+
+def text_of(document: Document, revision: str) -> str:
+    text = of_revision(document.path, revision)
+    if text is None:
+        raise Refused("git has no %s of the revision %s" % (document.name, named(revision)))
+    return text
+
+
+def settings_of(given: Any) -> Message:
+    inner = given.get("snowbench", given) if isinstance(given, dict) else {}
+    return inner if isinstance(inner, dict) else {}

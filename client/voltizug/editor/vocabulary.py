@@ -1,0 +1,240 @@
+"""The words of a script at work: a thread runs the newest text that was accepted over them, in steps. First come the rows, then the counts,
+and then in which routine the run of each changed word begins to differ.
+"""
+import threading
+import time
+from itertools import zip_longest
+from typing import Any, Callable, Dict, List, NamedTuple, Optional, Sequence, Tuple
+
+from .. import layout, reports, rows
+from ..places import Places
+from ..program import BROKEN, DONE, LONG, Program, Reply
+from ..texts import Memory, encoded, lines_of
+
+# Of how many changed words it is asked where they begin to differ.
+MOST = 500
+
+
+class Wish(NamedTuple):
+    """What is to be run: a text, the text that is the mark, the words and the expected stems as files have them, and a file of families."""
+
+    text: str
+    marked: str
+    words: bytes
+    stems: Optional[bytes] = None
+    families: str = ""
+
+
+class State:
+    """What is known of a text over the words. The counts of its parts and `begins` come later: until then the counts are those of the text before."""
+
+    def __init__(self, wish: Wish, replies: Sequence[Reply], older: Optional["State"]):
+        stats, changes, stems, *families = (reply.lines for reply in replies)
+        self.wish, self.is_counted = wish, False
+        self.figures = {row.kind: int(row.count) for row in rows.read("stats", stats)}
+        self.changes: List[Any] = rows.read("changes", changes)
+        self.changed = {row.word: row for row in self.changes if row.kind == "changed"}
+        self.outcomes = {row.word: row for row in rows.outcomes(stems)}
+        pairs = [row for lines in families for row in rows.read("families", lines) if row.kind == "pairs"]
+        self.pairs = layout.families_line((pairs[0], pairs[0]) if pairs else ())
+        # The expected stems, and by word those that are others, if there is one for each word.
+        self.lines = lines_of(wish.stems) if wish.stems is not None else []
+        expected = zip(self.outcomes.values(), self.lines) if len(self.lines) == len(self.outcomes) else ()
+        self.expected = {row.word: stem for row, stem in expected if (row.kind, row.stem) != ("stem", stem)}
+        # How many words use each definition, and each string of each among; by routine the changed words whose run begins to differ there.
+        self.names: Dict[str, int] = older.names if older else {}
+        self.strings: Dict[Tuple[str, int], List[Tuple[str, int]]] = older.strings if older else {}
+        self.begins: Dict[str, List[str]] = {}
+
+    def count(self, lines: Sequence[str]) -> None:
+        names, strings = {}, {}  # type: Dict[str, int], Dict[Tuple[str, int], List[Tuple[str, int]]]
+        for row in rows.read("counts", lines):
+            if row.kind == "entry":
+                strings.setdefault((row.name, int(row.k)), []).append((row.string, int(row.count)))
+            elif row.kind != "among":
+                names[row.name] = int(row.count)
+        self.names, self.strings, self.is_counted = names, strings, True
+
+
+class Vocabulary:
+    """`report` is called in the thread after each step, with a sentence if something failed."""
+
+    def __init__(self, command: str, external: str, name: str, report: Callable[[str], None]):
+        self.command, self.external, self.name, self.report = command, external, name, report
+        self.wish, self.done, self.state = None, None, None  # type: Optional[Wish], Optional[Wish], Optional[State]
+        self.orders, self.steps = [], []  # type: List[Callable[[], None]], List[Callable[[], None]]
+        self.condition, self.is_over, self.since = threading.Condition(), False, 0.0
+        # The program, and one without words that has the marked text; their files; what the program has; a text that was given up.
+        self.program, self.old = None, None  # type: Optional[Program], Optional[Program]
+        self.script, self.words, self.mark = Memory(), Memory(), Memory()
+        self.has, self.slow = Wish("", "", b""), b""
+        threading.Thread(target=self.work, daemon=True).start()
+
+    # In the main thread
+
+    def want(self, wish: Wish) -> None:
+        with self.condition:
+            is_new, self.wish, since = wish != self.wish, wish, self.since
+            self.condition.notify()
+        if is_new and since and time.monotonic() - since > LONG:
+            self.give_up()
+
+    def give_up(self) -> None:
+        """Gives runs that take long up for a newer text: the script before may loop. (The program calls it, too.)"""
+        if self.program and self.wish != self.done:
+            self.program.break_off()
+
+    def order(self, order: Callable[[], None]) -> None:
+        """Has the thread do something between two steps."""
+        with self.condition:
+            self.orders.append(order)
+            self.condition.notify()
+
+    def stop(self) -> None:
+        with self.condition:
+            self.is_over = True
+            self.condition.notify()
+        for program in filter(None, (self.program, self.old)):
+            if program.process:
+                program.process.kill()
+
+    # In its own
+
+    def work(self) -> None:
+        while not self.is_over:
+            with self.condition:
+                self.condition.wait_for(lambda: self.is_over or self.orders or self.wish != self.done or self.steps)
+                wish, order = self.wish, self.orders.pop(0) if self.orders else None
+                step = self.steps.pop(0) if self.steps and not order and wish == self.done else None
+            try:
+                if not self.is_over:
+                    (order or step or (lambda: self.run(wish)))()
+            except Exception as why:
+                self.steps = []
+                if wish == self.wish and not self.is_over:
+                    self.report("%s" % why)
+        for program in filter(None, (self.program, self.old)):
+            program.stop()
+
+    def begun(self, script: Memory, words: Optional[str] = None) -> Program:
+        program = Program([self.command, "work", "--text", "--external", self.external], script.path, words, "/nowhere")
+        program.on_long = self.give_up
+        program.begin([], script.path)
+        return program
+
+    def ask(self, *requests: str, program: Optional[Program] = None) -> List[Reply]:
+        """Asks the program. If it is gone then, the next text starts another one."""
+        asked = program or self.program
+        if asked is None:
+            raise ChildProcessError("the words are not there yet")
+        self.since = time.monotonic()
+        replies = asked.ask_each([[request] for request in requests])
+        self.since = 0.0
+        if replies[-1].state != DONE:
+            self.slow = self.script.data if replies[-1].state == BROKEN else self.slow
+            asked.stop()
+            self.program, self.old = (self.program, None) if program else (None, self.old)
+            raise ChildProcessError("given up" if replies[-1].state == BROKEN else " ".join(replies[0].said) or "the program has ended")
+        return replies
+
+    def run(self, wish: Wish) -> None:
+        """The first step: the rows."""
+        self.done = wish
+        if self.program is None:
+            self.words.fill(wish.words)
+            self.script.fill(encoded(wish.text))
+            self.program = self.begun(self.script, self.words.path)
+            self.ask("stats")
+            self.has = wish._replace(marked=wish.text)
+            if encoded(wish.marked) == self.slow != encoded(wish.text):
+                self.report("the text of the mark takes too long: the mark is the text as it is now")
+        if wish.words != self.has.words:
+            self.words.fill(wish.words)
+            refusal = self.ask("words")[0].refusal()
+            if refusal:
+                raise ChildProcessError("the words are refused: %s" % refusal[1])
+            self.has = self.has._replace(words=wish.words)
+        if wish.marked != self.has.marked and encoded(wish.marked) != self.slow:
+            self.set_mark(wish.marked)
+        self.script.fill(encoded(wish.text))
+        reload, *replies = self.ask("reload", "stats", "changes", "stems", *(["families " + wish.families] if wish.families else []))
+        if reload.is_done:
+            self.state, self.steps = State(wish, replies, self.state), [self.count, self.compare]
+            self.report("")
+
+    def set_mark(self, marked: str) -> None:
+        """Marks a text. One that is refused is not tried again."""
+        self.script.fill(encoded(marked))
+        reload = self.ask("reload")[0]
+        if not reload.is_done:
+            self.slow = self.script.data
+            self.report("the text of the mark is refused: %s" % (reload.refusal() or (0, ""))[1])
+            return
+        self.ask("mark")
+        if self.old:
+            self.old.stop()
+        self.has, self.old = self.has._replace(marked=marked), None
+
+    def count(self) -> None:
+        """The second step: how many words use each part."""
+        reply = self.ask("counts")[0]
+        if self.state:
+            self.state.count(reply.lines if reply.is_done else [])
+            self.report("")
+
+    def compare(self) -> None:
+        """The third step: where the runs of changed words begin to differ."""
+        changed = list(self.state.changed)[:MOST] if self.state else []
+        if not self.state or not changed:
+            return
+        if self.old is None:
+            self.mark.fill(encoded(self.has.marked))
+            self.old = self.begun(self.mark)
+        events, begins = ["events " + word for word in changed], {}  # type: List[str], Dict[str, List[str]]
+        for word, old, new in zip(changed, self.ask(*events, program=self.old), self.ask(*events)):
+            differing = [after or before for before, after in zip_longest(deeds(old), deeds(new)) if before != after]
+            if differing:
+                begins.setdefault(differing[0][0], []).append(word)
+        self.state.begins = begins
+        self.report("")
+
+    # Orders: they return lines
+
+    def asked(self, line: str, empty: str = "") -> List[str]:
+        """Returns the report of a command, laid out."""
+        reply, word = self.ask(line)[0], line.partition(" ")[0]
+        if not reply.is_done:
+            return ["%s: %s" % (layout.named(line), (reply.refusal() or (0, "refused"))[1])]
+        return (reports.PLACED[word](reply.lines, self.places()) if word in reports.PLACED else reports.REPORTS[word](reply.lines)) or [empty]
+
+    def places(self) -> Places:
+        """Returns where things are in the text that the program has."""
+        found, tokens = (reply.lines * reply.is_done for reply in self.ask("places", "tokens"))
+        text = encoded(self.done.text if self.done else "")
+        return Places(self.name, text, text, rows.read("places", found), rows.tokens(tokens))
+
+    def why(self, word: str) -> List[str]:
+        """Why a word has its stem, and its class."""
+        events, figures = self.ask("events " + word, "integers " + word)
+        if not events.is_done or not figures.is_done:
+            return ["no word: %s" % layout.named(word)]
+        return reports.why(word, rows.read("events", events.lines), rows.read("integers", figures.lines), self.places(), {}) + self.asked("class " + word)
+
+    def changes(self, name: str) -> List[str]:
+        """What differs from the mark; with the name of a routine the words that begin to differ there."""
+        state = self.state
+        found = [row for row in state.changes if not name or row.kind == "changed" and row.word in state.begins.get(name, [])] if state else []
+        return layout.changes(found, state.outcomes if state else {}) or ["no word and no class differs from the mark"]
+
+    def differing(self) -> List[str]:
+        return [difference(self.state, word) for word in self.state.expected] if self.state else []
+
+
+def deeds(reply: Reply) -> List[Tuple[str, ...]]:
+    """Returns what a run took and put, each with its routine first."""
+    return [tuple(row[2:]) for row in rows.read("events", reply.lines) if row.kind in ("taken", "put")]
+
+
+def difference(state: State, word: str) -> str:
+    row = state.outcomes[word]
+    return "%s: expected %s, got %s" % (layout.named(word), layout.named(state.expected[word]) or "(empty)", layout.outcome(row.kind, row.stem))
