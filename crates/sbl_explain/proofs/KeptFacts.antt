@@ -1,5 +1,5 @@
 -- What is kept of words, and what their runs take.
-use Rattle.std.proofs.Common.{◌≡◌, ◌∙◌, ◌||◌, ℕ, zero, suc, Bool, true, false, cond, List, [], ◌∷◌, map, length, Option, None, Some, IfSome, slice_get, refl, sym, ap, subst}
+use Rattle.std.proofs.Common.{◌≡◌, ◌∙◌, ◌||◌, ◌++◌, ℕ, zero, suc, Bool, true, false, cond, List, [], ◌∷◌, map, length, Option, None, Some, IfSome, slice_get, refl, sym, ap, subst}
 use Rattle.std.specs.List.{filter, list_any}
 use Rattle.std.specs.Str.{bytes_eq}
 use Rattle.std.specs.Global.{Vec}
@@ -98,6 +98,10 @@ passing s test w (v ∷ words) there none = by (bytes_eq w v) refl (test v) refl
     by false p true q h out later = later h (sym (ap (λ (b : Bool). b || list_any (bytes_eq w) (map (λ (r : Row). r.word) rest)) p) ∙ out)
     by false p false q h out later = later h out
 
+pub or_clear : (a b : Bool) → (a || b) ≡ false → (a ≡ false) × (b ≡ false)
+or_clear true b h = absurd (true≢false h)
+or_clear false b h = (refl, h)
+
 -- a word that is in none of the rows of an item does not meet it
 pub row_missed : (s : Setting) (words : List (List ℕ)) (x : Item') (rows : List declared.Row) (w : List ℕ) → map view_row rows ≡ rows_meeting s words x → is_word w words ≡ true
     → list_any (bytes_eq w) (row_words rows) ≡ false → meets x s.script w s.limit ≡ false
@@ -160,6 +164,11 @@ pub list_stays : (s u : Setting) (words : List (List ℕ)) (again : List ℕ →
     → IsListOf u w list → IsListOf s w list
 list_stays s u words again w list stays there out is = λ t.
     ap (λ (names : Names). list_any (same_take t) (view_list names list.value.items)) (sym stays.0) ∙ is t ∙ stays.1 w there out t
+
+-- one word more, and what is said of it
+pub mapped_more : {X Y : Type 0} (f : X → Y) (old : List X) (x : X) (y : Y) → f x ≡ y → map f (old ++ x ∷ []) ≡ map f old ++ y ∷ []
+mapped_more f [] x y same = ap (λ z. z ∷ []) same
+mapped_more f (o ∷ old) x y same = ap (λ l. f o ∷ l) (mapped_more f old x y same)
 
 -- ---- rows
 
