@@ -175,6 +175,16 @@ class Words(OverServer):
         editor.open(uri_of(self.folder, "my.words"), "walking\nwalked\nwalks\ntalking\n", "snowball-words")
         self.assertTrue(editor.wait(lambda: editor.titles(uri)[0][0] == "4 words, 3 classes, 0 refused"))
 
+    def test_the_mark_is_the_text_that_was_opened(self):
+        """Also if the next text comes at once."""
+        folder = self.room(my_sbl=SHORT, my_words="walking\nwalked\n")
+        editor, uri = self.editor(), uri_of(folder)
+        opened = {"uri": uri, "languageId": "snowball", "version": 1, "text": SHORT}
+        editor.versions[uri] = 1
+        editor.tell("textDocument/didOpen", {"textDocument": opened})
+        editor.change(uri, SHORT.replace("'ed'", "'es'"))
+        self.assertEqual(editor.titles(uri)[0][1], "1 word changed since the mark")
+
     def test_stems_beside_words(self):
         editor, uri = self.begin()
         words = uri_of(self.folder, "my.words")

@@ -145,7 +145,10 @@ class Server:
         item = params["textDocument"]
         kind = KINDS.get(item.get("languageId", "")) or KINDS.get(os.path.splitext(item["uri"])[1], "script")
         document = self.documents[item["uri"]] = Document(item["uri"], kind, Text(item["text"], self.unit), item.get("version"))
-        if kind != "script" and not self.scripts_of(document):
+        if kind == "script":
+            document.is_judged = True
+            self.judge_script(document)  # (also if a newer text waits: this one is the mark)
+        elif not self.scripts_of(document):
             self.open_beside(document)
         self.words_changed(document)
 

@@ -21,7 +21,7 @@ use Rattle.sbl_history.specs.declared.marks.MarkedRow.{MarkedRow}
 use Rattle.std.specs.declared.vec.Vec.{Vec}
 use Rattle.std.specs.declared.alloc.Global.{Global}
 
--- a text of the script in force, if one is kept; the edits that can be undone and redone; the rows at the mark
+-- a text of the current script, if one is kept; the edits that can be undone and redone; the rows at the mark
 pub record State : Type 0 where
   pub text : Option (List ℕ)
   pub past : Past
@@ -56,14 +56,14 @@ view_text text = option_map (λ t. t.items) text
 abbrev pub state_of : Desk → State
 state_of d = record { text = view_text d.text; past = past_of d.history; marked = map view_marked d.marked.items }
 
--- the text of the script in force: the one that is kept, or else its canonical text
+-- the text of the current script: the one that is kept, or else its canonical text
 abbrev pub text_in : Contents → Option (List ℕ) → List ℕ
 text_in s (Some text) = text
 text_in s None = canonical s.setting.script.items
 
 -- ---- undoing and redoing
 
--- what takes a turn back: the text in force before it, or the limit before it
+-- what takes a turn back: the current text before it, or the limit before it
 abbrev pub back : Contents → Option (List ℕ) → Turn → Turn
 back s text (ToText other) = ToText (text_in s text)
 back s text (ToLimit n) = ToLimit s.setting.limit
@@ -90,7 +90,7 @@ Turns (Err (fault.Edit f)) s t text new_text from to new_from new_to =
     (rest : List PastEdit) × (edit : PastEdit) × (from ≡ rest ++ edit ∷ []) × Edits (Err f) s (edit_of edit.turn) t
     × (new_text ≡ text) × (new_from ≡ from) × (new_to ≡ to)
 
--- the latest edit in force is undone
+-- the latest edit is undone
 abbrev pub Undoes : Result (Unit {0}) HistoryFault → Contents → State → Contents → State → Type 0
 Undoes result s d t e = Turns result s t d.text e.text d.past.earlier d.past.later e.past.earlier e.past.later × (e.marked ≡ d.marked)
 

@@ -31,7 +31,7 @@ abbrev pub Replaces : Result (Unit {0}) EditFault → EditKind → Edit → Opti
 Replaces (Ok u) kind edit text s d t e = Edits (Ok u) s edit t × IsNoted kind s t d e text
 Replaces (Err f) kind edit text s d t e = Edits (Err f) s edit t × (e ≡ d)
 
--- The same for a part of the script. The text that is kept then is a text of the script in force, if any is kept; or an allocation
+-- The same for a part of the script. The text that is kept then is a text of the current script, if any is kept; or an allocation
 -- failed before anything was tried.
 abbrev pub ReplacesPart : Result (Unit {0}) EditFault → ScriptEdit → List ℕ → Contents → State → Contents → State → Type 0
 ReplacesPart result what text s d t e =

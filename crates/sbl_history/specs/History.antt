@@ -19,7 +19,7 @@ pub record PastEdit : Type 0 where
   pub kind : EditKind
   pub turn : Turn
 
--- the edits in force, the latest last, and the edits that were undone, the next one to be redone last
+-- the edits that can be undone, the latest last, and the edits that were undone, the next one to be redone last
 pub record Past : Type 0 where
   pub earlier : List PastEdit
   pub later : List PastEdit

@@ -19,6 +19,6 @@ kind_fields (OfLimit n) = codes "limit" ∷ decimal n ∷ []
 abbrev pub edit_rows : List ℕ → List PastEdit → List (List (List ℕ))
 edit_rows word edits = map (λ e. word ∷ kind_fields e.kind) edits
 
--- the edits in force, the oldest first, and then those that were undone, the next one to be redone first
+-- the edits that can be undone, the oldest first, and then those that were undone, the next one to be redone first
 abbrev pub history_text : Past → List ℕ
 history_text p = records_text (edit_rows (codes "done") p.earlier ++ edit_rows (codes "undone") (reverse p.later))

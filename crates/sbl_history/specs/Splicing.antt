@@ -13,7 +13,7 @@ Reads external bytes text = (script : Source) × IsScriptOf bytes external scrip
 abbrev pub IsTextIn : Contents → List ℕ → List ℕ → Type 0
 IsTextIn s external bytes = Reads external bytes (canonical s.setting.script.items)
 
--- What may be kept if a part of the script of s was edited, and t is the bench after that: a text of the script in force, or
+-- What may be kept if a part of the script of s was edited, and t is the bench after that: a text of the current script, or
 -- none. The external stays.
 abbrev pub IsTextOf : Contents → Contents → Option (List ℕ) → Type 0
 IsTextOf s t kept = IfSome kept (IsTextIn t s.setting.script.external)

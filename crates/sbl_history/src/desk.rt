@@ -27,7 +27,7 @@ use std::alloc::{AllocError, Global};
 #[derive(Drop)]
 pub struct Desk {
     alloc: Global,
-    // a text of the script in force, if one is known
+    // a text of the current script, if one is known
     text: Option<Vec<u8>>,
     history: History,
     marked: Vec<MarkedRow>,
@@ -153,7 +153,7 @@ impl Desk {
     }
 
     /// Replaces a part of the script by a text, as `Bench::replace` does, and remembers the edit if it changed the script. The
-    /// text in force is the text before with this part put into it, if that is a text of the script after the edit; otherwise the
+    /// current text is the text before with this part put into it, if that is a text of the script after the edit; otherwise the
     /// canonical text.
     ///
     /// # Errors
@@ -217,7 +217,7 @@ impl Desk {
         history_text(self.alloc, &self.history)
     }
 
-    /// Returns the text of the script in force: the bytes that it was read from, with the typed parts put into them, or its
+    /// Returns the text of the current script: the bytes that it was read from, with the typed parts put into them, or its
     /// canonical text.
     ///
     /// # Errors

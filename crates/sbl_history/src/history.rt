@@ -102,7 +102,7 @@ pub(crate) fn turn(
     }
 }
 
-/// Puts into force what a step has. Then the step has what was in force before.
+/// Makes what a step has current. Then the step has what was current before.
 fn exchange(
     alloc: Global,
     bench: &mut Bench,
@@ -119,7 +119,7 @@ fn exchange(
     }
 }
 
-/// Replaces the whole script by a text. Then `other` has the text that was in force before.
+/// Replaces the whole script by a text. Then `other` has the text that was current before.
 #[tactic(auto, using(crate::proofs::Refusing::nothing_tried))]
 fn exchange_text(
     alloc: Global,
@@ -149,7 +149,7 @@ fn exchange_limit(bench: &mut Bench, limit: &mut u32) -> Result<(), EditFault>
     Ok(())
 }
 
-/// Returns the text of the script in force. Returns `AllocError` if an allocation fails.
+/// Returns the text of the current script. Returns `AllocError` if an allocation fails.
 pub(crate) fn text_of(
     alloc: Global,
     bench: &Bench,

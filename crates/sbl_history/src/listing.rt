@@ -67,7 +67,7 @@ fn push_edit(
     push_line(alloc, out, &csv_record)
 }
 
-/// Appends the rows of edits in force. Returns `AllocError` if an allocation fails.
+/// Appends the rows of edits that can be undone. Returns `AllocError` if an allocation fails.
 fn push_done(alloc: Global, out: &mut Vec<u8>, edits: &[HeldEdit]) -> Result<(), AllocError>
     ensures { OnOk result (out.new.items ≡ out.old.items ++ records_text (spec.edit_rows (codes "done") (map view_edit edits.now))) }
 {

@@ -25,8 +25,8 @@ fn push_part(text: &mut Vec<u8>, part: &str, is_crlf: bool) -> Result<(), AllocE
 }
 
 /// Returns whether a text begins with the end of a line.
-fn begins_with_end(text: &[u8], is_crlf: bool) -> bool {
-    text.first() == Some(&b'\n') || (is_crlf && text.starts_with(b"\r\n".as_slice()))
+fn begins_with_end(text: &[u8]) -> bool {
+    text.first() == Some(&b'\n') || text.starts_with(b"\r\n".as_slice())
 }
 
 /// Returns a text that is cut at a part, with another part in its place. The end of a line follows a part that has a comment up to
@@ -40,7 +40,7 @@ fn put_in(
     let part = part.trim();
     let mut new = Vec::from_slice(alloc, cut.before)?;
     push_part(&mut new, part, is_crlf)?;
-    if part.contains("//") && !begins_with_end(cut.after, is_crlf) {
+    if part.contains("//") && !begins_with_end(cut.after) {
         push_part(&mut new, "\n", is_crlf)?;
     }
     new.extend_from_slice(cut.after)?;

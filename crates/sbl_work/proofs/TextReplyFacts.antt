@@ -49,7 +49,7 @@ rows_held HasRows s d bytes held r same answer = subst (λ (b : List ℕ). IsRow
 pub file_too_long : (s : Contents) (d : State) (bytes : List ℕ) (r : Reply) → max_script < length bytes → IsReply r (edit_text (Some (edit.Script script.ScriptTooLong))) → IsWorkAnswer s d (TokensOf bytes) r s d
 file_too_long s d bytes r long shown =
     let test : nat_lt max_script (length bytes) ≡ true = grind (arith, nat_tests) in
-    rw test (edit_text (Some (edit.Script script.ScriptTooLong)), shown, inl (refl, refl, refl))
+    rw test (edit_text (Some (edit.Script script.ScriptTooLong)), shown, (refl, refl, refl))
 
 pub file_rows : (s : Contents) (d : State) (bytes : List ℕ) (r : Reply) → length bytes ≤ max_script → IsRowsAnswer IsTokensText bytes s d r → IsWorkAnswer s d (TokensOf bytes) r s d
 file_rows s d bytes r few answer =

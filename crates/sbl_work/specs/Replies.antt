@@ -199,7 +199,7 @@ IsRowsReply HasRows bytes s d text t e = TellsRows HasRows (is_utf8 bytes) bytes
 
 -- the tokens of the bytes of a file, unless there are more than a script may have
 abbrev pub TellsTokens : Bool → List ℕ → Contents → State → List ℕ → Contents → State → Type 0
-TellsTokens true bytes s d text t e = TellsReport (edit_text (Some (edit.Script script.ScriptTooLong))) s d text t e
+TellsTokens true bytes s d text t e = TellsAlone (edit_text (Some (edit.Script script.ScriptTooLong))) s d text t e
 TellsTokens false bytes s d text t e = IsRowsReply IsTokensText bytes s d text t e
 
 abbrev pub IsFileTokensReply : List ℕ → Contents → State → List ℕ → Contents → State → Type 0
@@ -241,4 +241,4 @@ IsWorkReply s d Text text t e = TellsReport (text_in s d.text) s d text t e
 IsWorkReply s d Places text t e = IsRowsReply IsPlacesText (text_in s d.text) s d text t e
 IsWorkReply s d Tokens text t e = IsRowsReply IsTokensText (text_in s d.text) s d text t e
 IsWorkReply s d (TokensOf bytes) text t e = IsFileTokensReply bytes s d text t e
-IsWorkReply s d Hello text t e = TellsReport hello_text s d text t e
+IsWorkReply s d Hello text t e = TellsAlone hello_text s d text t e

@@ -31,7 +31,7 @@ pub struct Paths {
 /// The bytes that work begins with.
 #[derive(Drop)]
 pub(crate) struct Texts {
-    /// The text of the script in force.
+    /// The text of the current script.
     pub(crate) text: Vec<u8>,
     /// What was read from the file of the script.
     pub(crate) seen: Vec<u8>,
@@ -146,7 +146,7 @@ fn is_words<F: Files>(files: &F, paths: &Paths, path: &str) -> bool {
     }
 }
 
-/// Writes the text of the script in force to a file. The file of the script, by whatever name, is written only if it still has the
+/// Writes the text of the current script to a file. The file of the script, by whatever name, is written only if it still has the
 /// bytes that were read from it last, `seen`.
 ///
 /// # Errors

@@ -52,7 +52,7 @@ struct Folder<'a, F> {
     kept: KeptTakes,
 }
 
-/// Writes the text of the script in force to a file.
+/// Writes the text of the current script to a file.
 fn save_text<F: Files + AllocGlobal>(
     folder: &mut Folder<'_, F>,
     desk: &Desk,

@@ -3,6 +3,7 @@
 
   python3 tests/sources/grouped TOP JOBS CRATE[/EDIT]..         TOP: a copy of the repository in which these crates were checked
   python3 tests/sources/grouped TOP JOBS --sample N COMMIT      tries N edits of all crates, which the commit chooses
+  python3 tests/sources/grouped TOP JOBS --compile CRATE[/EDIT]..         only says which edits do not compile; proves nothing
 
 What no group settles is tried again in a smaller group, without the edits that are settled, and in the end alone. Edits of texts outside
 of bodies are tried alone from the start. That an edit is accepted is said only of a check of that edit alone.
@@ -21,6 +22,7 @@ import sys
 
 sys.dont_write_bytecode = True
 
+from compiling import Compiling, has_code
 from edits import Edit, Sources, edit_files, read_edit
 from judging import Kind, Verdict
 from kit import Kit
@@ -103,8 +105,22 @@ def try_sample(kit: Kit, jobs: int, number: int, commit: str, tally: Tally) -> N
         tally.add(edit, verdict)
 
 
+def compile_edits(kit: Kit, wanted: dict[str, set[str]]) -> bool:
+    """Compiles the edits of these crates, prints those that do not compile, and returns whether all compile."""
+    sources = {it: Sources(kit.folder(it)) for it in wanted}
+    edits = [edit for it, names in wanted.items() for edit in edits_of(kit, it, sources[it]) if not names or edit.name in names]
+    bad = Compiling(kit, sources, edits).run()
+    for edit, why in bad:
+        print(f"does not compile {edit.label}: {why[:400]}", flush=True)
+    left_out = sum(not it.misfit and not has_code(it) for it in edits)
+    print(f"{len(edits) - len(bad) - left_out} compile, {len(bad)} not" + (f", {left_out} have no code" if left_out else ""))
+    return not bad
+
+
 def main(top: str, jobs: str, *names: str) -> int:
     kit, tally, is_proved = Kit(top), Tally(), True
+    if names[0] == "--compile":
+        return 0 if compile_edits(kit, edits_by_crate(list(names[1:]))) else 1
     if names[0] == "--sample":
         try_sample(kit, int(jobs), int(names[1]), names[2], tally)
     else:

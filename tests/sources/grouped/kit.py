@@ -13,6 +13,8 @@ from dataclasses import dataclass
 from types import ModuleType
 
 ERROR = re.compile(r"\berror\[[\w-]+\]")
+# The root of a crate with an error that the compiler finds last of all: after it no proof begins.
+LAST_ERROR = "#![tactic(auto)]\n\npub fn last(items: Vec<u8>) -> usize {\n    drop(items);\n    items.len()\n}\n"
 
 
 def load_rt() -> ModuleType:
@@ -118,6 +120,44 @@ class Kit:
     def compiles(self, crate: str, texts: dict[str, str]) -> Check:
         """Reads and compiles the crate with these texts, and proves nothing."""
         return self.check(crate, texts, None, [""])
+
+    def compile_all(self, texts: dict[str, dict[str, str]]) -> Check:
+        """Compiles these crates, each with its own texts, and the crates below them, all from their sources. Above them is a crate with
+        LAST_ERROR, so that nothing is proved."""
+        with tempfile.TemporaryDirectory(prefix=f"grouped-{os.getpid()}-") as room:
+            folders = {it: self.copied(it, own, room) for it, own in texts.items()}
+            os.makedirs(f"{room}/+every/src")
+            with open(f"{room}/+every/src/lib.rt", "w", encoding="utf-8") as it:
+                it.write(LAST_ERROR)
+            how = {"cwd": f"{room}/+every", "stdin": subprocess.DEVNULL, "stdout": subprocess.PIPE, "stderr": subprocess.STDOUT, "errors": "replace"}
+            ran = subprocess.run([*self.rt.rtlib.guarded(), self.rt.rtlib.RATTLE, "check", *self.words_of_all(folders)], **how)
+        return Check(ran.returncode, messages_of(ran.stdout.replace(f"{room}/", "")))
+
+    def copied(self, crate: str, texts: dict[str, str], room: str) -> str:
+        """Makes a copy of a crate with these texts, and returns its folder."""
+        folder = f"{room}/{crate}"
+        for part in self.rt.rtlib.PARTS:
+            if os.path.isdir(f"{self.folder(crate)}/{part}"):
+                shutil.copytree(f"{self.folder(crate)}/{part}", f"{folder}/{part}")
+        for path, text in texts.items():
+            with open(f"{folder}/{path}", "w", encoding="utf-8") as it:
+                it.write(text)
+        return folder
+
+    def words_of_all(self, folders: dict[str, str]) -> list[str]:
+        """Returns the words by which rattle reads these crates, in their folders, and a crate above them."""
+        lib = self.rt.rtlib
+        crates = list(dict.fromkeys(it for name in folders for it in [*self.crates[name].below(), self.crates[name]]))
+        of_kit = sorted({"core", "std"}.union(*(it.of_kit for it in crates)))
+        words = ["--crate-name", "every", "src/lib.rt"]
+        for name in of_kit:
+            words += ["--extern", f"{name}={lib.KIT}/rlibs/{name}.rlib"]
+        words += ["-L", f"dependency={lib.KIT}/rlibs"]
+        for it in crates:
+            uses = dict.fromkeys(["core", *it.of_kit, *[below.name for below in it.deps]])
+            words += ["--lib", f"{it.name}:{','.join(uses)}={folders.get(it.name, it.folder)}/src/lib.rt"]
+        words += ["--antt-project", f"{lib.KIT}/rattle/logic/antt-project.json", "--logic-built", f"{lib.KIT}/logic_built"]
+        return [*words, "--jobs", "1", "--only", ""]
 
     def files(self, folder: str) -> dict[str, tuple[int, int, int]]:
         """Returns what tells whether a file of the folder was changed, lost or added."""

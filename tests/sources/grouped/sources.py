@@ -96,6 +96,13 @@ def blocks_of(text: str) -> list[tuple[int, int, str]]:
     return found
 
 
+def is_of_trait(function: Function, source: str) -> bool:
+    """Returns whether a function of a file is a method of a trait or of an `impl` of one."""
+    text = blank(source)
+    heads = [it for it in BLOCK.finditer(text) if it.end() <= function.start < closing(text, it.end() - 1)]
+    return any(it[2] == "trait" or re.search(r"\bfor\b", re.sub(r"\bwhere\b.*", "", it[1], flags=re.S)) for it in heads)
+
+
 def functions_of(file: str, source: str) -> list[Function]:
     """Returns the functions of a file that have a body; one inside the body of another is part of that one."""
     text, found, past = blank(source), [], 0

@@ -5,7 +5,7 @@ vim.cmd('source ' .. top .. '/client/editors/nvim/snowbench.lua')
 vim.cmd('filetype plugin on | syntax on')
 local out = io.open(room .. '/seen', 'w')
 local function say(name, value) out:write(name, ': ', tostring(value), '\n') out:flush() end
-local function until_so(what) return vim.wait(60000, function() vim.cmd('doautocmd CursorHold') return what() end, 200) end
+local function until_so(what) return vim.wait(12000, function() vim.cmd('doautocmd CursorHold') return what() end, 200) end
 local function lens(pattern)
   return until_so(function()
     for _, one in ipairs(vim.lsp.codelens.get(0) or {}) do if one.command and one.command.title:match(pattern) then return true end end
