@@ -26,11 +26,11 @@ loop-word-preserved c = λ u are stays.
     let same = ap (λ (l : List (Bor (List ℕ))). texts_of l) c.deref-word-items.ensures.value ∙ c.in_ok-all.ensures in
     let list = c.in_ok-takes.ensures u are stays (ap (is_word _) (sym same) ∙ word_at words i _ c.loop-word-test.true) in (
       one_more (kept_words old) (kept_words new) _ rest (texts_of (drop i words)) _
-      (ap (λ (l : List KeptWord). kept_words l) c.in_ok-push.ensures.items ∙ mapped_more (λ (k : KeptWord). k.word.items) old _ _ c.in_ok-from_slice.ensures.items)
-      at (c.loop-word.invariant u are stays).0,
+          (ap (λ (l : List KeptWord). kept_words l) c.in_ok-push.ensures.items ∙ mapped_more (λ (k : KeptWord). k.word.items) old _ _ c.in_ok-from_slice.ensures.items)
+          at (c.loop-word.invariant u are stays).0,
       λ (t : Take).
-        let run = λ (w : List ℕ). uses s w (Entry t) in
-        one_more (map (has_taken names t) old) (map (has_taken names t) new) _ (map run rest) (map run (texts_of (drop i words))) _
-        (ap (λ (l : List KeptWord). map (has_taken names t) l) c.in_ok-push.ensures.items ∙ mapped_more (has_taken names t) old _ _ (list t))
-        (ap (λ (l : List (List ℕ)). map run l) at) ((c.loop-word.invariant u are stays).1 t),
+          let run = λ (w : List ℕ). uses s w (Entry t) in
+          one_more (map (has_taken names t) old) (map (has_taken names t) new) _ (map run rest) (map run (texts_of (drop i words))) _
+          (ap (λ (l : List KeptWord). map (has_taken names t) l) c.in_ok-push.ensures.items ∙ mapped_more (has_taken names t) old _ _ (list t))
+          (ap (λ (l : List (List ℕ)). map run l) at) ((c.loop-word.invariant u are stays).1 t),
     )
