@@ -59,6 +59,8 @@ class Terminal:
         is_in_shell = words == ("bash",)
         self.child, self.end = pty.fork()
         if self.child == 0:
+            # (a terminal of another test would not be closed as long as this child has it open)
+            os.closerange(3, 4096)
             size = struct.pack("HHHH", lines, columns, 0, 0)
             fcntl.ioctl(0, termios.TIOCSWINSZ, size)
             os.chdir(room)

@@ -4,6 +4,7 @@ import time
 
 from voltizug import layout, loops, near, options, reports, rows, warn
 from voltizug.bench import Edit
+from voltizug.conditions.copies import Shown
 from voltizug.kept import Kept
 from voltizug.places import Places, line_and_column
 from voltizug.program import Reply
@@ -63,9 +64,9 @@ class Others(Case):
     def test_near_names(self):
         found = [near.distance(*pair) for pair in (("substring", "subtring"), ("ab", "ba"), ("", "ab"), ("kitten", "sitting"), ("a", "a"))]
         self.assertEqual(found, [1, 1, 2, None, 0])
-        begin = time.monotonic()
+        begin = time.thread_time()
         near.near("ab" * 100, ["ba" * 99 + "%02d" % (i % 100) for i in range(200000)])
-        self.assertLess(time.monotonic() - begin, 2)
+        self.assertLess(time.thread_time() - begin, 2)
 
     def test_a_place(self):
         text = "\ufeffdefine r as 'é'\n  define s as 'x'\n".encode()
@@ -83,9 +84,10 @@ class Others(Case):
 
     def test_why_shows_the_test_that_was_false(self):
         events = rows.read("events", ["call,0,stem", "call,1,r", "put,1,r,0,1,k,kats", "test,1,r,1,f", "return,1,r,f", "return,0,stem,t", "stem,kats"])
-        found = rows.read("places", ["routine,r,0,20,1,1", "test,r,1,12,15,1,13"])
+        found = rows.read("places", ["routine,r,0,20,1,1"])
         places = Places("my.sbl", b"define r as 'x' and more", b"define r as 'x' and more", found, [])
-        lines = reports.why("cats", events, rows.read("integers", ["steps,5"]), places, {})
+        tests = {("r", "1"): Shown("'x'", 12, "'x'", 12, True, True)}
+        lines = reports.why("cats", events, rows.read("integers", ["steps,5"]), places, tests)
         self.assertEqual(lines[1:3], ["  r     'x' is false   my.sbl:1:13", "  stem  r is false"])
 
     def test_warnings(self):

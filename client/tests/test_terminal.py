@@ -36,7 +36,7 @@ class Sessions(Case):
         terminal.save(AUTHOR + "// new\n")
         self.assertEqual(terminal.enter(""), "no word and no class differs from the mark; put aside: plural (undo brings it back)")
         self.assertIn("(plural)", terminal.enter("quit"))
-        self.assertIn("taken back: the script that was read; 3 words", terminal.enter("undo"))
+        self.assertIn("taken back: the whole script; 3 words", terminal.enter("undo"))
         self.assertEqual(terminal.enter("save new.sbl"), "saved in new.sbl")
 
     def test_a_loop_is_located(self):

@@ -9,12 +9,11 @@ from typing import Any, Callable, Dict, List, NamedTuple, Optional, Sequence, Se
 
 from . import rows
 from .kept import FileState, Kept, is_same, read_file, state_of
-from .places import Places
+from .places import LARGEST, Places
 from .program import BROKEN, DONE, ENDED, LONGEST, USUAL_LIMIT, Moment, Program, Reply
 
 # How often files are looked at, in seconds.
 PERIOD = 0.05
-BLOCKS = ("routine", "among", "grouping", "replace")
 
 
 class Edit(NamedTuple):
@@ -68,6 +67,7 @@ class Bench:
         self.changes: List[Any] = []
         self.size = 0
         self.families, self.pairs = "", None  # type: str, Any
+        self.known_rows: Tuple[Any, List[Any]] = (None, [])
         self.known_names: Tuple[Any, Optional[Names]] = (None, None)
         self.known_places: Tuple[Any, Optional[Places]] = (None, None)
 
@@ -191,6 +191,9 @@ class Bench:
         if word in ("undo", "redo") and step and step.command == "limit":
             limit = ([row.rest[0] for row in done if row.kind == "done" and row.command == "limit"] or [USUAL_LIMIT])[-1]
         program.now = before._replace(text=text, limit=limit)
+        if word == "replace" and " " in command and not command.startswith("replace " + self.kept.folder):
+            # (another file has this text)
+            self.read_texts.add(digest(text))
         former, self.changes = self.changes, rows.read("changes", changes)
         notes = self.notes(word, before, had_fault, steps is not None and steps == history)
         aside = self.note_text(word, before, rows.read("history", history or []))
@@ -276,16 +279,22 @@ class Bench:
 
     # Names and places
 
+    def rows_of_places(self) -> List[Any]:
+        """Returns the rows of `places`, asked once for each text."""
+        if self.known_rows[0] is not self.program.now.text:
+            self.known_rows = (self.program.now.text, rows.read("places", self.known("places")[0] or []))
+        return self.known_rows[1]
+
     def names(self) -> Names:
         """Returns what the script in force defines."""
         if self.known_names[0] is not self.program.now.text:
             names = Names({}, {}, {})
-            for row in rows.read("counts", self.known("counts")[0] or []):
+            for row in self.rows_of_places():
                 if row.kind in ("routine", "grouping"):
                     names.kinds[row.name] = row.kind
                 elif row.kind == "among":
                     names.amongs[row.name] = names.amongs.get(row.name, 0) + 1
-                else:
+                elif row.kind == "entry":
                     names.strings.setdefault((row.name, row.k), []).append(row.string)
             self.known_names = (self.program.now.text, names)
         return self.known_names[1] or Names({}, {}, {})
@@ -294,8 +303,8 @@ class Bench:
         """Returns where everything is in the text in force, as far as the program says it, and in SCRIPT."""
         now = (self.program.now.text, self.file_text)
         if self.known_places[0] is None or self.known_places[0] != now:
-            found, tokens = self.known("places", "tokens")
-            self.known_places = (now, Places(self.script, now[0], now[1], rows.read("places", found or []), rows.tokens(tokens or [])))
+            tokens = self.known("tokens")[0] if len(now[0]) <= LARGEST else None
+            self.known_places = (now, Places(self.script, now[0], now[1], self.rows_of_places(), rows.tokens(tokens or [])))
         places = self.known_places[1] or Places(self.script, b"", None, [], [])
         places.note = ", as it was read" if self.script in self.saved() else ""
         return places

@@ -37,6 +37,7 @@ COMMANDS: Dict[str, Command] = {
     "find": Command("find TEXT", "the words that have TEXT in themselves or in their stems", "text"),
     "grouping": Command("grouping NAME", "replaces a grouping", "grouping", "Then come its terms, as in v + 'y', and a line with a single point."),
     "help": Command("help [COMMAND]", "lists the commands, or describes one", "command"),
+    "history": Command("history", "the edits that undo takes back, and after them those that redo makes again; the oldest first"),
     "integers": Command("integers WORD", "the steps of the run of WORD, and the integer variables at its end", "text"),
     "largest": Command("largest [N]", "the N largest classes, 10 without N", "number"),
     "limit": Command("limit [N]", "lets each run use N steps at most; without N says how many", "number", "100,000 is usual."),
@@ -46,7 +47,9 @@ COMMANDS: Dict[str, Command] = {
     "redo": Command("redo", "makes again what undo took back"),
     "reload": Command("reload", "reads the script again; an empty line does so, too", "", "It puts typed edits aside; undo brings them back."),
     "remove": Command("remove WORD", "takes a word out of the vocabulary", "text"),
-    "replace": Command("replace", "replaces the whole script", "", "Then come its lines, and a line with a single point."),
+    "replace": Command(
+        "replace [FILE]", "replaces the whole script by that of FILE", "file", "Without FILE its lines follow, and a line with a single point."
+    ),
     "rescue": Command("rescue", "brings back edits that you typed before a terminal was closed", "text", '"rescue drop" forgets them.'),
     "routine": Command(
         "routine NAME", "replaces a routine", "routine",
@@ -70,16 +73,18 @@ COMMANDS: Dict[str, Command] = {
 GROUPS: Sequence[Tuple[str, str]] = (
     ("Words", "add remove append words stems classes class stem find largest stats families"),
     ("One word", "why tests trace events integers"),
-    ("The script", "reload script show save undo redo limit runs unused counts uses lint"),
+    ("The script", "reload script show save undo redo history limit runs unused counts uses lint"),
     ("With a block", "routine among grouping replace families"),
     ("Changes", "changes mark approve"),
     ("Others", "help rescue quit"),
 )
+# A block follows one of these and its name; and one of these alone.
+BLOCKS, OPEN_BLOCKS = ("routine", "among", "grouping"), ("families", "replace")
 # A blank at the end of these may belong to a word.
 WITH_TEXT = ("add", "remove", "class", "stem", "find", "trace", "why", "tests", "events", "integers", "changes", "uses", "echo")
 # Reports: they can be written to a file by > FILE, and have a pager.
 REPORTING = (
-    *"changes class classes counts events families find integers largest lint script show".split(), *"stats stem stems tests trace unused uses why".split()
+    *"changes class classes counts events families find history integers largest lint script show".split(), *"stats stem stems tests trace unused uses why".split()
 )
 # Words that other programs have, and what is said of them.
 OTHERS: Dict[str, str] = {

@@ -2,8 +2,7 @@
 from typing import Dict, List, Sequence
 
 from . import layout, loops, rows, words
-from .bench import BLOCKS, Bench, Edit, Watch
-from .bridge import Bridge
+from .bench import Bench, Edit, Watch
 from .completion import Completion
 from .faults import shown as shown_fault
 from .keys import Editor, Hangup
@@ -24,8 +23,10 @@ class Desk:
 
     def __init__(self, bench: Bench, options: Options):
         self.bench, self.options = bench, options
-        self.completion, self.bridge = Completion(bench), Bridge(bench)
-        self.editor = Editor(bench.kept.history, self.completion.complete, bench.saved, self.show_saved)
+        self.completion = Completion(bench)
+        # (a signal rings, too, and without --watch only Enter reads what was saved)
+        saved = bench.saved if options.is_watching else lambda: []
+        self.editor = Editor(bench.kept.history, self.completion.complete, saved, self.show_saved)
         self.screen = Screen(self.editor, options.color, options.has_pager)
         self.watch = Watch(bench, self.editor.ring) if options.is_watching else None
         self.opening = Opening(bench, self.screen, self.then)
@@ -57,7 +58,10 @@ class Desk:
 
     def tell_restart(self, reply: Reply) -> None:
         self.editor.is_interrupted = False
-        why = "The program was ended from outside. It" if reply.state == ENDED else "Breaking off: the program"
+        process = self.bench.program.process
+        status = process.returncode if process else 0
+        how = ", by signal %d" % -status if status and status < 0 else " with status %s" % status
+        why = "The program was ended from outside%s. It" % how if reply.state == ENDED else "Breaking off: the program"
         self.screen.say(why + " is started again with the script in force.")
 
     def is_done(self, reply: Reply, line: str) -> bool:
@@ -80,7 +84,7 @@ class Desk:
             has_name = fault[0] == 48 and not reply.said
             self.screen.say((fault[1] + ". " if has_name else "") + words.sentence(reply, lines, self.bench) + self.out(lines[0], fault[0]))
         self.show_more_faults()
-        if self.editor.pending or lines[0].partition(" ")[0] in BLOCKS or self.is_nonsense(fault[0]):
+        if self.editor.pending or len(lines) > 1 or self.is_nonsense(fault[0]):
             self.drop_pasted()
 
     def out(self, line: str, code: int) -> str:
@@ -121,6 +125,7 @@ class Desk:
     def show_edit(self, edit: Edit, lines: Sequence[str]) -> bool:
         """Shows what an edit changed, as much as the window has room for, and last the summary. Returns whether it was accepted."""
         if not self.settle(edit.reply):
+            self.screen.say("Correct it in %s%s." % (layout.short(self.bench.script), self.then()) if edit.command == "reload" else "")
             return False
         if edit.reply.refusal():
             self.refuse(edit.reply, lines)

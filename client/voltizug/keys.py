@@ -27,6 +27,10 @@ class Dropped(Exception):
     """Ctrl-C dropped the line."""
 
 
+class Broken(Exception):
+    """Ctrl-C came while the client itself worked something out."""
+
+
 class Hangup(BaseException):
     """The terminal is gone, or somebody ends this process."""
 
@@ -92,6 +96,8 @@ class Editor:
         self.quiet = with_interrupt([*self.base[:3], self.base[3] & ~(termios.ECHO | termios.ICANON), *self.base[4:]], INTERRUPT)
         # Whether readline waits for a key; whether a save is shown above a line; whether Ctrl-C came while a command ran.
         self.is_waiting = self.is_above = self.is_interrupted = False
+        # Whether somebody ends this process: it is told so until it hears it.
+        self.is_ended = False
         self.pending: Deque[str] = collections.deque()
         self.found: List[str] = []
         self.main = threading.main_thread().ident
@@ -124,6 +130,18 @@ class Editor:
         self.is_interrupted = True
         self.on_interrupt()
 
+    @contextlib.contextmanager
+    def breakable(self) -> Iterator[None]:
+        """In here Ctrl-C raises Broken. The program must not be asked meanwhile."""
+        def stop() -> None:
+            raise Broken
+
+        before, self.on_interrupt = self.on_interrupt, stop
+        try:
+            yield
+        finally:
+            self.on_interrupt = before
+
     def hear_end(self, number: int, _: object) -> None:
         raise Hangup(number)
 
@@ -149,9 +167,13 @@ class Editor:
         that wait off."""
         while True:
             numbers = os.read(heard, 256)
+            self.is_ended = self.is_ended or signal.SIGHUP in numbers or signal.SIGTERM in numbers
             for pause in (0.02, 0.1, 0.5) if any(number != signal.SIGUSR1 for number in numbers) else ():
                 time.sleep(pause)
                 self.ring()
+            while self.is_ended and self.main:
+                time.sleep(0.1)
+                signal.pthread_kill(self.main, signal.SIGUSR1)
 
     def ring(self) -> None:
         """Breaks off the wait for a key. The watching thread does so until a save is read."""
@@ -159,6 +181,8 @@ class Editor:
             signal.pthread_kill(self.main, signal.SIGUSR1)
 
     def hear_ring(self, *_: object) -> None:
+        if self.is_ended:
+            raise Hangup
         if not self.is_waiting or self.is_above or not self.library.has_line() or not self.saved():
             return
         self.is_above, self.is_waiting = True, False

@@ -147,7 +147,7 @@ def summary(edit: Edit) -> str:
     if edit.was_changed and edit.changes and edit.is_same:
         text += " (this edit changed none)"
     if edit.command in ("undo", "redo"):
-        step = "the script that was read" if edit.step == "script" else short(edit.step)
+        step = "the whole script" if edit.step == "script" else short(edit.step)
         text = "%s%s; %s" % ("taken back" if edit.command == "undo" else "made again", ": " + step if step else "", text)
     if edit.aside is not None:
         names = ", ".join(map(short, edit.aside)) or "what you typed"

@@ -3,7 +3,7 @@ from typing import Iterable, List, Sequence, Set, Tuple
 
 from .bench import Bench, Names
 from .layout import named, short
-from .places import line_and_column
+from .places import LARGEST, line_and_column
 from .rows import Outcome, Token
 
 # (of few words most letters are missing)
@@ -15,6 +15,8 @@ PUTTING = ("<-", "<+", "insert", "attach", "=", "+=", "=>")
 def lints(bench: Bench, has_all: bool = False) -> List[str]:
     """Returns lines on the text in force. All has letters beyond ASCII in literals, too, of which other compilers warn; and of many words only
     that looks at each."""
+    if len(bench.program.now.text) > LARGEST:
+        return ["%s has more than {:,} bytes, and is not looked at".format(LARGEST) % named(bench.script)] if has_all else []
     places, outcomes = bench.places(), bench.outcomes() if has_all or bench.size <= MANY else []
     names = bench.names() if outcomes else Names({}, {}, {})
     tokens = [token for token in places.tokens if token.kind != "comment"]

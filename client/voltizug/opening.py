@@ -37,7 +37,7 @@ class Opening:
 
     def begin(self, warned: List[str]) -> bool:
         """Has the files read, and shows figures; if one has a fault, shows it. Returns whether `work` goes on: it is open, or waits."""
-        bench, screen, before = self.bench, self.screen, self.read
+        bench, screen, before, new = self.bench, self.screen, self.read, []  # type: Bench, Screen, List[Optional[bytes]], List[str]
         self.read = [read_file(path) for path in self.paths]
         if not self.looks_swapped():
             new = [line for line in warnings_on(bench.script, bench.words) if line not in warned]
@@ -55,10 +55,10 @@ class Opening:
             return True
         if reply.state == BROKEN:
             return self.broken_off()
-        return self.wait(reply, is_same=before == self.read)
+        return self.wait(reply, before == self.read, bool(new))
 
     def tell_long(self) -> None:
-        self.screen.say("This takes long. Ctrl-C %s it. It may be that the script loops." % ("breaks off" if self.has_waited else "ends"))
+        self.screen.say("This takes long. Ctrl-C %s. It may be that the script loops." % ("breaks it off" if self.has_waited else "ends it"))
 
     def broken_off(self) -> bool:
         if not self.has_waited:
@@ -67,15 +67,15 @@ class Opening:
             self.screen.say("It was broken off. Correct it in %s%s. quit or Ctrl-D ends." % (short(self.bench.script), self.then()))
         return self.has_waited
 
-    def wait(self, reply: Reply, is_same: bool) -> bool:
-        """Shows why the program has ended. Returns whether `work` waits: a file has a fault that its author can correct there."""
+    def wait(self, reply: Reply, is_same: bool, is_warned: bool) -> bool:
+        """Shows why the program has ended, if no warning does. Returns whether `work` waits: a file has a fault that its author can correct there."""
         bench, code = self.bench, code_of(reply.said)
         name = bench.words if code in OF_WORDS else bench.script
         copy, text = bench.program.copy_path, self.read[0]
         self.screen.write_fault(shown(reply.said, bench.script, copy, text, self.screen.size().columns))
-        if code in OF_WORDS:
+        if code == 44 or code in OF_WORDS and not is_warned:
             self.screen.say(OF_WORDS[code].format(name=short(name or ""), quoted=words.in_shell(name or "")))
-        elif not reply.said:
+        if not reply.said:
             status = bench.program.stop()
             self.screen.say("The program ended at the start, with status %s." % status if reply.state != DONE else words.SENTENCES[49])
         is_swapped = 0 < code < LEAST and (self.looks_swapped() or self.looks_like_words())
@@ -116,7 +116,7 @@ class Opening:
                 events = rows.read("events", self.bench.ask("events " + row.word).lines)
                 turns = words.turning(row.word, loops.turn_of(events), self.bench)
                 first = "The first refused word is %s (%s)." % (words.in_quotes(row.word), row.stem)
-                return '%s "why %s" shows where its run ends. %s' % (first, short(row.word), turns)
+                return ('%s "why %s" shows where its run ends. %s' % (first, short(row.word), turns)).rstrip()
         return ""
 
     def looks_swapped(self) -> bool:

@@ -3,7 +3,7 @@ import os
 import re
 from typing import List, NamedTuple, Optional, Sequence
 
-HAS = "It has --watch, --rows, --text, --color WHEN, --no-pager and --external NAME"
+HAS = "It has --watch, --rows, --text, --color WHEN, --no-pager, --external NAME and --from TEXT"
 WHEN = ("auto", "always", "never")
 
 

@@ -4,6 +4,8 @@ from typing import Any, Dict, List, NamedTuple, Optional, Sequence, Tuple
 from .rows import Token
 
 BOM = b"\xef\xbb\xbf"
+# Of a larger script tokens are not asked: that takes seconds.
+LARGEST = 200000
 # The words of commands that can go round.
 TURNING = ("repeat", "goto", "gopast", "loop", "atleast")
 

@@ -240,8 +240,11 @@ class Program:
 
     def goes_on(self, has_copy: bool) -> bool:
         marked, now, self.has_copy = self.marked, self.now, has_copy
-        self.fill(marked.text)
-        self.begin([] if self.has_copy else ["--from", self.copy_path], self.copy_path if self.has_copy else self.script)
+        try:
+            self.fill(marked.text)
+            self.begin([] if self.has_copy else ["--from", self.copy_path], self.copy_path if self.has_copy else self.script)
+        except OSError:
+            return False
         requests = [["limit " + marked.limit]] if marked.limit != USUAL_LIMIT else []
         requests += [[line] for line in marked.words] + [["mark" + " " * bool(marked.stems) + marked.stems]]
         if not self.is_each_done(requests):

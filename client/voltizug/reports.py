@@ -1,13 +1,15 @@
 """Replies laid out for people: the rows of a report go in, lines come out."""
+from collections import Counter
 from itertools import groupby
 from typing import Any, Callable, Dict, List, Sequence, Tuple
 
 from . import rows
+from .conditions.copies import Found, Shown
 from .layout import COLUMN, columns, counted, listed, named, outcome, padded, percent, short
 from .places import Places
 
-# How many lines of `why` are shown at most, before those that are left out and after them.
-FIRST, LAST = 40, 19
+# How many lines of `why` are shown at most, before those that are left out and after them; how many tests.
+FIRST, LAST, MOST_TESTS = 40, 19, 200
 FIGURES = {
     "refused": "refused", "alone": "classes of one word", "largest": "words in the largest class",
     "unchanged": "words that are their own stem", "runs": "runs so far",
@@ -55,6 +57,11 @@ def families(lines: Sequence[str]) -> List[str]:
         "different stems: {:,} of {}{} within a family".format(apart, counted(within, "pair"), percent(apart, within)),
         "the same stem:   {:,} of {}{} across families".format(joined, counted(across, "pair"), percent(joined, across)),
     ]
+
+
+def history(lines: Sequence[str]) -> List[str]:
+    steps = [(row.kind, " ".join((row.command, *row.rest))) for row in rows.read("history", lines)]
+    return ["  %-10s  %s" % ("made" if kind == "done" else "taken back", "the whole script" if step == "script" else named(step)) for kind, step in steps]
 
 
 def integers(lines: Sequence[str]) -> List[str]:
@@ -108,69 +115,72 @@ def placed(found: Sequence[Tuple[str, str]]) -> List[str]:
     return ["  " + what + ("   " + named(place) if place else "") for what, place in found]
 
 
-def tests(found: Sequence[Any], places: Places) -> List[str]:
-    """The tests without a name of a run; those that were asked several times, one after another, share a line."""
-    lines = []
-    for (name, n, signal), equal in groupby(found, key=lambda row: (row.name, row.n, row.signal)):
-        count, row = len(list(equal)), places.tests.get((name, n))
-        what = "%s  %s is %s" % (name, short(places.slice(row)) if row else "test " + n, "true" if signal == "t" else "false")
-        lines.append((what + ("   .. {:,} times".format(count) if count > 1 else ""), places.of(name, row) if row else ""))
-    return placed(lines[:200])
+def tests(found: Found, places: Places) -> List[str]:
+    """The tests without a name of a run. Of those that come before anything else happens, equal ones share a line."""
+    lines: List[Tuple[str, str, str]] = []
+    for is_test, part in groupby(found.events, key=lambda row: row.kind == "test"):
+        counts = Counter((row.name, row.n, row.signal) for row in part if is_test and found.tests[row.name, row.n].is_listed)
+        for (name, n, signal), count in counts.items():
+            test, times = found.tests[name, n], " {:,} times".format(count) if count > 1 else ""
+            lines.append((name, "%s is %s%s" % (test.text, "true" if signal == "t" else "false", times), places.at(name, test.start)))
+    lines = [*lines[:MOST_TESTS], ("..", "and {:,} more".format(len(lines) - MOST_TESTS), "")] if len(lines) > MOST_TESTS else lines
+    lines += [("..", "the tests after these are not known", "")] if lines and any(row.kind == "unknown" for row in found.events) else []
+    column = max((len(name) for name, _, _ in lines), default=0)
+    return placed([("%-*s  %s" % (column, name, what), place) for name, what, place in lines]) or ["its run asked no test"]
 
 
 class Call:
-    """A call: whether it has searched no among and changed no text so far, whether it took a string or changed the text, and its last test."""
+    """A call: whether it has searched no among and changed no text so far, whether it took a string or changed the text, and the test that came
+    last, if nothing came after it."""
 
     def __init__(self, name: str):
         self.name, self.asks_only, self.acts, self.test = name, True, False, None  # type: str, bool, bool, Any
 
 
-def why(word: str, events: Sequence[Any], figures: Sequence[Any], places: Places, notes: Dict[int, Any]) -> List[str]:
+def why(word: str, events: Sequence[Any], figures: Sequence[Any], places: Places, tests_of: Dict[Tuple[str, str], Shown]) -> List[str]:
     """What took a string, what routines answered when they were asked, each change of the text, and the test that made a routine false which
-    had changed something. `notes` has tests and places that `places` lacks, by the numbers of the events."""
-    text, found, calls = word, [], []  # type: str, List[Tuple[str, str]], List[Call]
-    for i, row in enumerate(events):
-        if row.kind == "call":
+    had changed something. The events may have tests, which are told by the names of their routines and their numbers."""
+    text, shown, calls = word, [], []  # type: str, List[Tuple[str, str]], List[Call]
+    for row in events:
+        if row.kind == "return":
+            shown += returned(calls, row.signal == "t", places, tests_of)
+        elif row.kind == "call":
             calls.append(Call(row.name))
-        elif row.kind == "return":
-            found += returned(calls, row.signal == "t", places, notes.get(i))
-        elif row.kind == "test":
-            calls[-1].test = row
-        elif row.kind in ("search", "none"):
-            calls[-1].asks_only = False
         elif row.kind == "taken":
             calls[-1].asks_only, calls[-1].acts = False, True
             entry = places.entries.get((row.name, row.k, row.string))
-            place = places.of(row.name, entry) if entry else notes.get(i, "")
-            found.append((row.name, ("among %s takes '%s'   %s" % (row.k, short(row.string), place)).rstrip()))
+            place = places.of(row.name, entry) if entry else ""
+            shown.append((row.name, ("among %s takes '%s'   %s" % (row.k, short(row.string), place)).rstrip()))
         elif row.kind == "put":
             calls[-1].asks_only, calls[-1].acts = False, True
             old = text[int(row.start) : int(row.end)]
-            found.append((row.name, "'%s' -> '%s'   %s -> %s" % (short(old), short(row.text), short(text), short(row.after) or "(empty)")))
+            shown.append((row.name, "'%s' -> '%s'   %s -> %s" % (short(old), short(row.text), short(text), short(row.after) or "(empty)")))
             text = row.after
         elif row.kind == "more":
-            found.append(("..", "{:,} more events".format(int(row.count))))
-        else:
+            shown.append(("..", "{:,} more events".format(int(row.count))))
+        elif row.kind in ("stem", "refused"):
             where = " in " + calls[-1].name if row.kind == "refused" and calls else ""
-            found.append((row.kind, "%s%s   %s" % (named(row[1]) or "(empty)", where, values(figures))))
-    is_one = len(found) == 1
-    lines = most_of([(name, what, len(list(equal))) for (name, what), equal in groupby(found)], word)
+            shown.append((row.kind, "%s%s   %s" % (named(row[1]) or "(empty)", where, values(figures))))
+        elif row.kind != "test":
+            calls[-1].asks_only = False
+        if calls:
+            calls[-1].test = row if row.kind == "test" else None
+    is_one = len(shown) == 1
+    lines = most_of([(name, what, len(list(equal))) for (name, what), equal in groupby(shown)], word)
     column = max((len(name) for name, _, _ in lines), default=0)
     nothing = ['  nothing took a string or changed the text: "events %s" shows the searches, "tests %s" the tests' % (short(word), short(word))] if is_one else []
     return nothing + ["  %-*s  %s%s" % (column, name, what, "   .. {:,} times".format(count) if count > 1 else "") for name, what, count in lines]
 
 
-def returned(calls: List[Call], is_true: bool, places: Places, note: Any) -> List[Tuple[str, str]]:
+def returned(calls: List[Call], is_true: bool, places: Places, tests_of: Dict[Tuple[str, str], Shown]) -> List[Tuple[str, str]]:
     """Returns the lines on a routine that ends."""
-    call, found = calls.pop(), []
-    if calls and call.acts and not is_true and call.test is not None and call.test.signal == "f":
-        test = places.tests.get((call.name, call.test.n))
-        note = (short(places.slice(test)), places.of(call.name, test)) if test else note
-    if calls and call.acts and not is_true and note:
-        found.append((call.name, "%s is false   %s" % note))
+    call, shown = calls.pop(), []
+    if calls and call.acts and not is_true and call.test and call.test.signal == "f" and tests_of[call.name, call.test.n].is_cause:
+        test = tests_of[call.name, call.test.n]
+        shown.append((call.name, "%s is false   %s" % (test.row, places.at(call.name, test.row_start))))
     if calls and (call.acts and not is_true or len(calls) > 1 and call.asks_only):
-        found.append((calls[-1].name, "%s is %s" % (call.name, "true" if is_true else "false")))
-    return found
+        shown.append((calls[-1].name, "%s is %s" % (call.name, "true" if is_true else "false")))
+    return shown
 
 
 def most_of(lines: List[Tuple[str, str, int]], word: str) -> List[Tuple[str, str, int]]:
@@ -184,11 +194,11 @@ def most_of(lines: List[Tuple[str, str, int]], word: str) -> List[Tuple[str, str
 # By command, the layout of its rows.
 REPORTS: Dict[str, Callable[[Sequence[str]], List[str]]] = {
     "stems": stems, "find": stems, "uses": stems, "classes": classes, "class": class_of, "stem": class_of, "largest": largest, "stats": stats,
-    "families": families, "integers": integers, "trace": trace,
+    "families": families, "history": history, "integers": integers, "trace": trace,
 }
 PLACED: Dict[str, Callable[[Sequence[str], Places], List[str]]] = {"unused": unused, "counts": counts}
 # What is shown for replies without a row.
 EMPTY = {
     "unused": "some word uses each routine, among, grouping and string", "uses": "no word uses it", "find": "no word and no stem has it",
-    "stems": "there are no words: add WORD", "classes": "there are no classes", "trace": "the run uses no routine, among or grouping",
+    "history": "no edit is held: there is nothing to undo", "stems": "there are no words: add WORD", "classes": "there are no classes", "largest": "there are no classes", "trace": "the run uses no routine, among or grouping",
 }

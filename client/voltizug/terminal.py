@@ -9,10 +9,11 @@ import traceback
 from typing import List, Optional, Sequence
 
 from . import layout, loops, reports, rows, words
-from .bench import BLOCKS, Bench
-from .commands import COMMANDS, REPORTING, WITH_TEXT, overview
+from .bench import Bench
+from .commands import BLOCKS, COMMANDS, OPEN_BLOCKS, REPORTING, WITH_TEXT, overview
+from .conditions.copies import Found, with_tests
 from .desk import Desk
-from .keys import Dropped, Hangup
+from .keys import Broken, Dropped, Hangup
 from .kept import Kept, home, read_file
 from .lints import lints
 from .options import Misuse, options_of
@@ -21,7 +22,7 @@ from .warn import BOM, warnings_on
 
 DEFINITION = re.compile(r"\s*define\s+([A-Za-z][A-Za-z0-9_]*)\s+(as(?=\s|$))?")
 TO_FILE = re.compile(r"(.*\S)\s+>\s*(\S+)\s*\Z")
-USAGE = "usage: ./snowbench work [--watch] [--rows | --text] [--color WHEN] [--no-pager] [--external NAME] SCRIPT [WORDS]"
+USAGE = "usage: ./snowbench work [--watch] [--rows | --text] [--color WHEN] [--no-pager] [--external NAME] [--from TEXT] SCRIPT [WORDS]"
 
 
 class Terminal(Desk):
@@ -40,10 +41,10 @@ class Terminal(Desk):
             self.answer_waiting(line)
         elif len(line.encode("utf-8", "surrogateescape")) > LONGEST:
             self.screen.say(words.SENTENCES[72])
-        elif line in ("", "reload", "undo", "redo") or command == "limit" and argument:
-            self.edit([line or "reload"])
+        elif line in ("", "reload", "undo", "redo") or command in ("limit", "replace") and argument:
             if not line or line == "reload":
                 self.note_words()
+            self.edit([line or "reload"])
         elif line and not line.startswith("#"):
             self.answer_other(line, command, argument)
         return True
@@ -123,13 +124,18 @@ class Terminal(Desk):
         return reports.REPORTS[command](lines) if command in reports.REPORTS else lines
 
     def why(self, word: str, lines: List[str]) -> List[str]:
-        events = rows.read("events", lines)
         figures = rows.read("integers", self.bench.ask("integers " + word).lines)
-        notes = {} if any(row.kind == "test" for row in events) else self.bridge.notes(word, lines, int(figures[0].count))
-        shown = reports.why(word, events, figures, self.bench.places(), notes)
-        turn, last = words.turning(word, loops.turn_of(events), self.bench), events[-1]
+        found = self.with_tests(word, lines, int(figures[0].count))
+        shown, last = reports.why(word, found.events, figures, self.bench.places(), found.tests), found.events[-1]
+        turn = words.turning(word, loops.turn_of(rows.read("events", lines)), self.bench)
         meaning = "%s: %s" % (last.name, words.REFUSALS[last.name]) if last.kind == "refused" and last.name in words.REFUSALS else ""
         return shown + ["  " + line for line in (turn, meaning) if line]
+
+    def with_tests(self, word: str, lines: Sequence[str], steps: int) -> Found:
+        """Returns the events of the run of a word, from their lines, with its tests."""
+        program, tokens = self.bench.program, self.bench.places().tokens
+        with self.editor.breakable():
+            return with_tests(program.command, program.now.text, tokens, word, rows.read("events", lines), steps)
 
     def definition(self, name: str, lines: List[str]) -> List[str]:
         """Returns the lines of a definition as its author wrote it, and before them where it is."""
@@ -230,10 +236,10 @@ class Terminal(Desk):
     def do_tests(self, word: str) -> None:
         reply = self.bench.ask("events " + word)
         if self.is_done(reply, "tests " + word):
-            found = [row for row in rows.read("events", reply.lines) if row.kind == "test"]
             figures = rows.read("integers", self.bench.ask("integers " + word).lines)
-            lines = reports.tests(found, self.bench.places()) or self.bridge.tests(word, reply.lines, int(figures[0].count))
-            self.screen.write(lines or ["The tests of this run cannot be shown: it is too long, or near a limit."], is_report=True)
+            found = self.with_tests(word, reply.lines, int(figures[0].count))
+            lines = reports.tests(found, self.bench.places()) if found.is_known else ["The tests of this run cannot be shown: it is too long, or near a limit."]
+            self.screen.write(lines, is_report=True)
 
     def do_rescue(self, what: str) -> None:
         left = self.bench.kept.left()
@@ -252,7 +258,7 @@ class Terminal(Desk):
 
     def block_of(self, line: str) -> Optional[List[str]]:
         """Returns the lines with which a block begins, or nothing if this line begins none."""
-        if line.partition(" ")[0] in BLOCKS or line == "families":
+        if line.partition(" ")[0] in BLOCKS or line in OPEN_BLOCKS:
             return [line]
         definition = DEFINITION.match(line)
         if not definition:
@@ -316,9 +322,9 @@ class Terminal(Desk):
         there = set((read_file(bench.words) or b"").decode("utf-8", "surrogateescape").splitlines()) if bench.added else set()
         added = [word for word in bench.added if word not in there]
         if added:
-            names, it = layout.in_words(added, "and", 5), "it" if len(added) == 1 else "them"
+            names, (what, it) = layout.in_words(added, "and", 5), ("word that you added is", "it") if len(added) == 1 else ("words that you added are", "them")
             to = "append puts %s into %s" % (it, layout.short(bench.words)) if bench.words else "append FILE writes %s" % it
-            doubts.append("Words that you added are in no file (%s): %s, quit again drops %s." % (names, to, it))
+            doubts.append("The %s in no file (%s): %s, quit again drops %s." % (what, names, to, it))
         self.doubted = "quit" if doubts else ""
         self.screen.say(*doubts)
         return not doubts
@@ -342,6 +348,10 @@ class Terminal(Desk):
         except Dropped:
             self.editor.pending.clear()
             return not self.bench.is_waiting
+        except Broken:
+            self.editor.is_interrupted = False
+            self.screen.say("It was broken off.")
+            return True
         except Exception:
             self.keep_trace()
             return True
@@ -361,9 +371,9 @@ class Terminal(Desk):
         except Hangup:
             pass
         finally:
+            self.editor.end()
             if self.watch:
                 self.watch.stopping.set()
-            self.editor.end()
             # (the room keeps typed edits that no file has if nobody chose to drop them)
             self.bench.close(is_kept=is_gone)
         return 1 if is_gone else self.opening.status

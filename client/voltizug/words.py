@@ -6,7 +6,7 @@ import shlex
 from typing import Dict, List, Optional, Sequence
 
 from .bench import Bench, Edit
-from .commands import COMMANDS, DECLARATIONS, OTHERS
+from .commands import COMMANDS, DECLARATIONS, OPEN_BLOCKS, OTHERS
 from .kept import is_same
 from .layout import counted, in_words, named, short
 from .loops import Turn
@@ -96,11 +96,11 @@ def absent(command: str, word: str, bench: Bench) -> str:
         return "%s needs a word: %s." % (command, COMMANDS[command].usage)
     words = [row.word for row in bench.outcomes()]
     same = [other for other in words if folded(other).strip() == folded(word).strip()]
-    question = meant(word, words) if not same else " Did you mean %s?" % in_words(list(map(in_quotes, same[:4])), "or")
+    found = list(map(in_quotes, same[:4])) if same else near(word, words)
+    question = " Did you mean %s?" % in_words(found, "or") if found else ""
     if same and folded(same[0]) == folded(word) and same[0].casefold() != word.casefold():
         question = " It is there in another form of Unicode (NFC and NFD are different words)."
-    is_near = bool(same or near(word, words)) or command == "remove" or word != word.strip()
-    why = "" if is_near else ' "why %s" shows how it would be stemmed.' % short(word)
+    why = "" if found or command == "remove" or word != word.strip() else ' "why %s" shows how it would be stemmed.' % short(word)
     return "%s is not in the vocabulary.%s%s" % (in_quotes(word), question, why)
 
 
@@ -253,9 +253,7 @@ def early(line: str, bench: Bench) -> str:
     """Returns what is wrong with the line before a block, so that it opens none."""
     command, _, argument = line.partition(" ")
     name, _, k = argument.partition(" ")
-    if command == "replace" and argument:
-        return "replace takes nothing after it: the script goes on the lines after it."
-    if command in ("families", "replace") or not bench.program.knows("counts"):
+    if command in OPEN_BLOCKS or not bench.program.knows("places"):
         return ""
     names = bench.names()
     if names.kinds.get(name) != ("grouping" if command == "grouping" else "routine") or k and command != "among":

@@ -27,7 +27,7 @@ ended_telling() {
 }
 # Waits for a condition, minutes at most: other work on the machine can make a step long. It says so if it waited in vain.
 soon() {
-  local end=$((SECONDS + 240))
+  local end=$((SECONDS + ${PATIENCE:-240}))
   until "$@"; do
     if [ "$SECONDS" -ge "$end" ]; then
       echo "${0##*/}: waited in vain for $*"

@@ -59,7 +59,7 @@ def differing(made: Dict[str, str]) -> Iterator[str]:
 def missing_of_work(definition: Definition) -> Iterator[str]:
     """Yields the commands of `work` that only one of the table and the definitions has."""
     defined = {word for path in DEFINITIONS for word in COMMAND.findall(read_text("crates", path))}
-    listed = set(definition.words_of_work()) - {"#", "tests"}
+    listed = set(definition.words_of_work()) - {"#", "tests", "lint", "rescue"}
     if not defined:
         yield "crates/ has no definitions of the commands of work"
     for word in sorted(defined ^ listed):
@@ -68,10 +68,10 @@ def missing_of_work(definition: Definition) -> Iterator[str]:
 
 def strange_of_client(definition: Definition) -> Iterator[str]:
     """Yields the options of `work` that only one of the table and the client has."""
-    listed = re.search(r"^OPTIONS = \(([^)]*)\)", read_text("client", "voltizug", "__main__.py"), re.M)
+    listed = re.search(r'^HAS = "([^"]*)"', read_text("client", "voltizug", "options.py"), re.M)
     if listed:
         own = {option.name for command in definition.commands if command.name == "work" for option in command.options}
-        for option in sorted(set(re.findall(r'"(--[a-z-]+)"', listed[1])) ^ (own | {"--help"})):
+        for option in sorted(set(re.findall(r"--[a-z-]+", listed[1])) ^ own):
             yield "work: only one of tools/commands.txt and client/ has the option %s" % option
 
 

@@ -27,6 +27,8 @@ complete -c snowbench -n '__fish_seen_subcommand_from help' -a lsp -d 'a languag
 complete -c snowbench -n '__fish_seen_subcommand_from help' -a doctor -d 'what is installed here, what is missing, and what that means'
 complete -c snowbench -n '__fish_seen_subcommand_from work' -l external -x -d 'run this external of the script; without it, stem'
 complete -c snowbench -n '__fish_seen_subcommand_from work' -l watch -d 'read SCRIPT again each time that you save it'
+complete -c snowbench -n '__fish_seen_subcommand_from work' -l color -x -d 'at a terminal: auto, always or never'
+complete -c snowbench -n '__fish_seen_subcommand_from work' -l no-pager -d 'at a terminal: no pager for long reports'
 complete -c snowbench -n '__fish_seen_subcommand_from work' -l rows -d 'rows and no prompt, also at a terminal'
 complete -c snowbench -n '__fish_seen_subcommand_from work' -l text -d 'in a pipe: the places of faults, too, on standard error'
 complete -c snowbench -n '__fish_seen_subcommand_from work' -l from -x -d 'with --rows or in a pipe: begin with the script in this file; reload and save mean SCRIPT'

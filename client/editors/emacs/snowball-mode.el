@@ -3,7 +3,7 @@
 (defvar snowball-program (expand-file-name "../../../snowbench" (file-name-directory (or load-file-name buffer-file-name)))
   "The program that is started with the argument lsp.")
 (defvar snowball-settings nil "Settings of the server, such as (:words \"my.words\" :mark \"HEAD\").")
-(defconst snowball-commands '("mark" "changes" "why" "class" "uses" "unused" "compare" "differ" "families" "stats"))
+(defconst snowball-commands '("mark" "changes" "why" "class" "uses" "unused" "compare" "differ" "families" "counts" "stats"))
 (defvar snowball-mode-syntax-table
   (let ((table (make-syntax-table)))
     (modify-syntax-entry ?/ ". 124" table)
@@ -31,6 +31,10 @@
   (cl-defmethod eglot-initialization-options ((_server snowball-server)) (or snowball-settings (make-hash-table)))
   (cl-defmethod eglot-execute-command ((server snowball-server) command arguments)
     (snowball--show (jsonrpc-request server :workspace/executeCommand `(:command ,(format "%s" command) :arguments ,arguments))))
+  (when (fboundp 'eglot-execute)
+    (cl-defmethod eglot-execute ((server snowball-server) action)
+      (let ((call (if (stringp (plist-get action :command)) action (plist-get action :command))))
+        (if call (eglot-execute-command server (plist-get call :command) (plist-get call :arguments)) (cl-call-next-method)))))
   (dolist (mode '(snowball-mode snowball-words-mode snowball-stems-mode))
     (add-to-list 'eglot-server-programs (cons mode (lambda (&rest _) (list 'snowball-server snowball-program "lsp"))))))
 (with-eval-after-load 'lsp-mode

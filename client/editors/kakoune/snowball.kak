@@ -1,6 +1,7 @@
 # Snowball scripts in Kakoune: source this in kakrc. With kak-lsp add the lines at the end.
 hook global BufCreate .*[.]sbl %{ set-option buffer filetype snowball }
 hook global BufCreate .*[.]words %{ set-option buffer filetype snowball-words }
+hook global BufCreate .*[.]stems %{ set-option buffer filetype snowball-stems }
 hook global WinSetOption filetype=snowball %{
     add-highlighter window/snowball ref snowball
     try %{ set-option buffer comment_line '//' }
@@ -18,9 +19,18 @@ add-highlighter shared/snowball/code/ regex \b(among|and|atleast|backwards|do|fa
 add-highlighter shared/snowball/code/ regex \b(atlimit|atmark|attach|delete|hop|insert|next|set|setmark|tolimit|tomark|unset)\b 0:builtin
 add-highlighter shared/snowball/code/ regex \b(cursor|false|len|lenof|limit|maxint|minint|true|\d+)\b 0:value
 add-highlighter shared/snowball/code/ regex \b(get|reverse|size|sizeof)\b 0:Error
-# In kak-lsp.toml:
+# With kak-lsp 17 and later:
+#   hook global BufSetOption filetype=snowball(-words|-stems)? %{
+#       set-option buffer lsp_servers %{
+#           [snowbench]
+#           root_globs = [".git"]
+#           command = "/path/to/snowbench"
+#           args = ["lsp"]
+#       }
+#   }
+# With an older one in kak-lsp.toml:
 #   [language_server.snowbench]
-#   filetypes = ["snowball", "snowball-words"]
+#   filetypes = ["snowball", "snowball-words", "snowball-stems"]
 #   roots = [".git"]
 #   command = "/path/to/snowbench"
 #   args = ["lsp"]

@@ -3,7 +3,7 @@
 local here = vim.fn.fnamemodify(debug.getinfo(1, 'S').source:sub(2), ':p:h')
 local program = vim.g.snowbench or vim.fn.fnamemodify(here, ':h:h:h') .. '/snowbench'
 local hints = vim.api.nvim_create_namespace('snowbench')
-local client
+local client, asking = nil, {}
 vim.opt.runtimepath:append(vim.fn.fnamemodify(here, ':h') .. '/vim')
 vim.cmd('augroup filetypedetect | runtime! ftdetect/snowball.vim | augroup END')
 
@@ -20,12 +20,13 @@ local function run(command, ...)
   vim.lsp.buf_request(0, 'workspace/executeCommand', { command = 'snowbench.' .. command, arguments = { vim.uri_from_bufnr(0), ... } }, show)
 end
 
--- Numbers beside strings, and stems beside words: for the lines of the window, at the ends of lines.
+-- Numbers beside strings, and stems beside words: for the lines of the window, at the ends of lines. One request at a time.
 local function show_hints(buffer)
   local range = { start = { line = vim.fn.line('w0') - 1, character = 0 }, ['end'] = { line = vim.fn.line('w$'), character = 0 } }
   local asked = vim.lsp.get_client_by_id(client)
-  if not asked then return end
-  asked.request('textDocument/inlayHint', { textDocument = { uri = vim.uri_from_bufnr(buffer) }, range = range }, function(failure, found)
+  if not asked or asking[buffer] then return end
+  asking[buffer] = asked.request('textDocument/inlayHint', { textDocument = { uri = vim.uri_from_bufnr(buffer) }, range = range }, function(failure, found)
+    asking[buffer] = nil
     if failure or not vim.api.nvim_buf_is_valid(buffer) then return end
     vim.api.nvim_buf_clear_namespace(buffer, hints, 0, -1)
     local rows = {}
@@ -52,6 +53,7 @@ end
 
 local function attach(buffer)
   if not client or not vim.lsp.get_client_by_id(client) then
+    asking = {}
     client = (vim.lsp.start_client or vim.lsp.start)({
       name = 'snowbench', cmd = { program, 'lsp' }, root_dir = vim.fn.getcwd(), on_attach = attached,
       init_options = vim.g.snowbench_settings or vim.empty_dict(), flags = { debounce_text_changes = 20 },
@@ -64,7 +66,7 @@ local function attach(buffer)
     gO = vim.lsp.buf.document_symbol, ga = vim.lsp.buf.code_action, gl = vim.lsp.codelens.run,
   }
   for key, what in pairs(keys) do vim.keymap.set('n', key, what, { buffer = buffer }) end
-  for _, name in ipairs({ 'mark', 'changes', 'why', 'class', 'uses', 'unused', 'compare', 'differ', 'families', 'stats' }) do
+  for _, name in ipairs({ 'mark', 'changes', 'why', 'class', 'uses', 'unused', 'compare', 'differ', 'families', 'counts', 'stats' }) do
     local word = name == 'why' or name == 'class' or name == 'uses'
     vim.api.nvim_buf_create_user_command(buffer, 'Snow' .. name:sub(1, 1):upper() .. name:sub(2), function(it)
       run(name, it.args ~= '' and it.args or word and vim.fn.expand('<cword>') or '')

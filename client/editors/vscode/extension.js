@@ -1,7 +1,7 @@
 // Starts the server, and shows what its commands write. `npm install` in this folder first.
 const vscode = require('vscode');
 const { LanguageClient } = require('vscode-languageclient/node');
-const NAMES = ['mark', 'changes', 'why', 'class', 'uses', 'unused', 'compare', 'differ', 'families', 'stats'];
+const NAMES = ['mark', 'changes', 'why', 'class', 'uses', 'unused', 'compare', 'differ', 'families', 'counts', 'stats'];
 let client;
 
 exports.activate = async context => {

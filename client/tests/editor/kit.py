@@ -1,10 +1,14 @@
 """What the tests of the language server share: a client as an editor has it, rows of `work`, and scripts."""
+import atexit
 import csv
 import glob
 import os
 import queue
+import re
+import shutil
 import subprocess
 import sys
+import tempfile
 import threading
 import time
 import unittest
@@ -13,13 +17,32 @@ from typing import Any, Dict, List, Optional, Set
 from voltizug.editor.wire import read_message, write_message
 from voltizug.texts import Text
 
-from ..kit import CLIENT, EXAMPLES, PROGRAM, Case
+from ..kit import CLIENT, EXAMPLES, PROGRAM, Case, write
 
 TOP = os.path.dirname(CLIENT)
-# STORM=10 makes the long tests ten times as long; VOLTIZUG_SCRIPTS is a folder of published scripts.
+# STORM=10 makes the long tests ten times as long; VOLTIZUG_SCRIPTS is a folder of published scripts. What differs here is written as
+# docs/LANGUAGE.md says: the insert characters, the words for lengths, and a starter of an among that has a substring.
 STORM = int(os.environ.get("STORM", "1"))
-SCRIPTS = sorted(glob.glob(os.path.join(os.environ.get("VOLTIZUG_SCRIPTS") or EXAMPLES, "*.sbl")))
+SPELLINGS = (
+    (r"stringescapes\s+(\S)\s+(\S)", r"stringescapes \1\2"), (r"\bsizeof\b", "lenof"), (r"\bsize\b", "len"),
+    (r"\]\s*among\s*\(\s*(\([^()']*\))", r"] \1 among ("),
+)
 REFRESHING = {"workspace": {"codeLens": {"refreshSupport": True}, "inlayHint": {"refreshSupport": True}}}
+
+
+def scripts() -> List[str]:
+    """Returns the paths of the scripts: copies of the published ones, or the examples."""
+    published = os.environ.get("VOLTIZUG_SCRIPTS")
+    if not published:
+        return sorted(glob.glob(os.path.join(EXAMPLES, "*.sbl")))
+    room = tempfile.mkdtemp()
+    atexit.register(shutil.rmtree, room, True)
+    for path in glob.glob(os.path.join(published, "*.sbl")):
+        text = read(path)
+        for pattern, new in SPELLINGS:
+            text = re.sub(pattern, new, text)
+        write(os.path.join(room, os.path.basename(path)), text)
+    return sorted(glob.glob(os.path.join(room, "*.sbl")))
 
 
 def rows_of(script: str, words: str, *commands: str) -> List[List[str]]:
@@ -30,7 +53,7 @@ def rows_of(script: str, words: str, *commands: str) -> List[List[str]]:
 
 
 def accepted() -> List[str]:
-    """Returns the scripts that the program accepts. (Some published ones have stringescapes { }, or words that are left out here.)"""
+    """Returns the scripts that the program accepts."""
     calls = [(path, [PROGRAM, "work", "--rows", path]) for path in SCRIPTS]
     return [path for path, call in calls if subprocess.run(call, input="", capture_output=True, encoding="utf-8").returncode == 0]
 
@@ -161,3 +184,6 @@ class OverServer(Case):
 def read(path: str) -> str:
     with open(path, encoding="utf-8", newline="") as file:
         return file.read()
+
+
+SCRIPTS = scripts()

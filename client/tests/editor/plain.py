@@ -1,24 +1,18 @@
 #!/usr/bin/env python3
-"""A program that lacks the newer rows: the one of SNOWBENCH_PROGRAM, or of dist/, which is not asked for them. ROWS_OF_HELLO is the
-number of its rows."""
+"""A program that lacks the newer rows: the real one, which is not asked for them. ROWS_OF_HELLO is the number of its rows."""
 import os
-import subprocess
-import sys
+from typing import Optional
+
+from passing import pass_on
 
 LACKING = ("hello", "text", "places", "tokens", "faults", "history", "counts", "uses")
-TOP = os.path.dirname(os.path.dirname(os.path.dirname(os.path.dirname(os.path.abspath(__file__)))))
-REAL = os.environ.get("SNOWBENCH_PROGRAM") or os.path.join(TOP, "dist", "snowbench-x86_64-linux")
-real = subprocess.Popen([REAL, *sys.argv[1:]], stdin=subprocess.PIPE, stdout=subprocess.PIPE, close_fds=False)
-for line in sys.stdin.buffer:
+
+
+def refusal(line: bytes) -> Optional[bytes]:
     if line == b"hello\n" and os.environ.get("ROWS_OF_HELLO"):
-        sys.stdout.buffer.write(b"voltizug,9.9.9,rows,%s\n" % os.environ["ROWS_OF_HELLO"].encode())
-    elif line.split()[:1] and line.split()[0].decode() in LACKING:
-        sys.stdout.buffer.write(b"no 52 BadCommand\n")
-    else:
-        real.stdin.write(line + b"echo =end=\n")
-        real.stdin.flush()
-        for answer in iter(real.stdout.readline, b"=end=\n"):
-            if not answer:
-                sys.exit(real.wait())
-            sys.stdout.buffer.write(answer)
-    sys.stdout.flush()
+        return b"voltizug,9.9.9,rows,%s\n" % os.environ["ROWS_OF_HELLO"].encode()
+    words = line.split()
+    return b"no 52 BadCommand\n" if words and words[0].decode() in LACKING else None
+
+
+pass_on(refusal)

@@ -4,8 +4,8 @@ import re
 import tempfile
 import unittest
 
-from voltizug.editor import language
-from voltizug.editor.index import Index
+from voltizug import language
+from voltizug.index import Index
 from voltizug.editor.judge import Judge
 from voltizug.program import DONE, Reply
 from voltizug.texts import Text
@@ -59,7 +59,7 @@ class Rows(unittest.TestCase):
         text = Text("externals ( stem )\ndefine stem as ( '\u00e9' nowhere '\U0001d51e' never )\n")
         lines = [
             'fault,10,Undeclared,41,48,2,22,"nowhere is not declared, and so on"', "fault,10,Undeclared,56,61,2,34,never is not declared",
-            "fault,21,NoExternal,0,0,1,1,no external",
+            "fault,21,NoExternal,,,,,no external",
         ]
         judge = Judge(PROGRAM)
         judge.ask_known = lambda text, external, word: Reply(DONE, lines, [])

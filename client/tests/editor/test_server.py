@@ -4,9 +4,13 @@ import os
 import signal
 import subprocess
 import sys
+import threading
 import time
 
-from ..kit import CLIENT, example, write
+from voltizug.editor.vocabulary import Vocabulary, Wish
+from voltizug.editor.wire import write_message
+
+from ..kit import CLIENT, PROGRAM, example, write
 from .kit import REFRESHING, OverServer, needs_tokens, read, rows_of
 
 PLAIN = os.path.join(os.path.dirname(os.path.abspath(__file__)), "plain.py")
@@ -133,7 +137,7 @@ class Names(OverServer):
         fault = next(one for one in found if one["code"] == "Undeclared")
         actions = self.editor_.about(self.uri, "codeAction", range=fault["range"], context={"diagnostics": [fault]})
         titles = [action["title"] for action in actions if action["kind"] == "quickfix"]
-        self.assertTrue(titles and all(title.startswith("Replace by Step_1") for title in titles), titles)
+        self.assertEqual(titles[:2], ["Replace by Step_1c", "Declare it in routines, and define it"])
 
 
 class Words(OverServer):
@@ -219,10 +223,14 @@ class Words(OverServer):
         self.assertEqual(editor.run("differ", uri), ["walks: expected walk, got walks"])
         editor.change(uri, SHORT.replace("'ed'", "'ed' 's'"))
         self.assertTrue(editor.wait(lambda: not editor.diagnostics[words]["diagnostics"]))
-        editor.open(uri_of(self.folder, "my.stems"), "walk\n", "snowball-stems")
         stems = uri_of(self.folder, "my.stems")
+        editor.open(stems, "walk\nwalks\nwalk\n", "snowball-stems")
         self.assertTrue(editor.wait(lambda: editor.diagnostics[stems]["diagnostics"]))
-        self.assertEqual(editor.diagnostics[stems]["diagnostics"][0]["message"], "1 expected stem, and the vocabulary has 3 words")
+        found = [(one["range"]["start"]["line"], one["message"]) for one in editor.diagnostics[stems]["diagnostics"]]
+        self.assertEqual(found, [(1, "walked: expected walks, got walk")])
+        editor.change(stems, "walk\n")
+        what = "1 expected stem, and the vocabulary has 3 words"
+        self.assertTrue(editor.wait(lambda: [one["message"] for one in editor.diagnostics[stems]["diagnostics"]] == [what]))
 
     def test_settings(self):
         folder = self.room(my_sbl=SHORT, other_list="walking\n", families_txt="walking walks\n", expected_txt="x\n")
@@ -232,6 +240,23 @@ class Words(OverServer):
         self.assertEqual((titles[0], titles[2]), ("1 word, 1 class, 0 refused", "1 word has not the expected stem"))
         editor.tell("workspace/didChangeConfiguration", {"settings": {"snowbench": {"run": "never"}}})
         self.assertEqual(editor.titles(uri), {})
+
+    def test_words_that_run_after_a_save(self):
+        editor, uri = self.begin({"run": "onSave"})
+        self.assertEqual(editor.titles(uri)[0][1], "0 words changed since the mark")
+        editor.change(uri, SHORT.replace("'ed'", "'es'"))
+        self.assertEqual(editor.titles(uri)[0][1], "0 words changed since the mark")
+        editor.tell("textDocument/didSave", {"textDocument": {"uri": uri}})
+        self.assertTrue(editor.wait(lambda: editor.titles(uri)[0][1] == "1 word changed since the mark"))
+
+    @needs_tokens
+    def test_hovers(self):
+        editor, uri = self.begin()
+        editor.titles(uri)
+        hover = lambda what: editor.about(uri, "hover", SHORT.rindex(what) + 1)["contents"]["value"].split("\n")
+        self.assertEqual(hover("'ed'"), ["`'ed'` of among 1 in tail", "", "1 word uses it: walked"])
+        self.assertEqual(hover("tail")[:3], ["**routine** `tail`, declared in line 2, used 1 time", "", "3 words use it: walking, walked, walks"])
+        self.assertIsNone(editor.about(uri, "hover", SHORT.index("delete")))
 
     def test_families(self):
         editor, uri = self.begin(my_families="walking walked walks\n")
@@ -244,14 +269,21 @@ class Words(OverServer):
         self.assertIn("walking -> walk", "\n".join(editor.run("why", uri, "walking")))
         self.assertIn("walk: walked, walking", editor.run("class", uri, "walked")[0])
         self.assertEqual(len(editor.run("uses", uri, "tail 1 ed")), 1)
-        self.assertEqual(editor.run("uses", uri, "tail 1 x"), ["uses tail 1 x: NoString"])
+        self.assertEqual(editor.run("uses", uri, "tail 1 x"), ['tail has no string "x" in among 1. counts lists the strings.'])
+        self.assertEqual(editor.run("uses", uri, "tail 9"), ["tail has 1 among, so K is 1 (those inside others count, too)."])
+        self.assertEqual(editor.run("uses", uri, "tale"), ["uses tale: there is no routine or grouping of this name. Did you mean tail?"])
+        self.assertEqual(editor.run("class", uri, "walkd"), ["walkd is not in the vocabulary. Did you mean walked or walks?"])
+        self.assertEqual(editor.run("why", uri, "x" * 256), ["A word may have 255 characters at most."])
+        self.assertIn("cannot be read: there is no such file", editor.run("families", uri, "/nowhere/families")[0])
+        self.assertIn("ed", "".join(editor.run("counts", uri)))
         self.assertIn("some word uses", editor.run("unused", uri)[0])
         self.assertEqual(editor.run("changes", uri), ["no word and no class differs from the mark"])
-        editor.change(uri, SHORT.replace("'ed'", "'es'"))
-        editor.titles(uri)
-        self.assertTrue(any("walked" in line for line in editor.run("changes", uri)))
-        self.assertEqual(editor.run("mark", uri), ["marked: my.sbl"])
-        self.assertTrue(editor.wait(lambda: editor.run("changes", uri) == ["no word and no class differs from the mark"]))
+        for string, word in (("es", "walked"), ("ed", "walked"), ("es", "walked")):
+            # (neither waits for a rest or for figures)
+            editor.change(uri, SHORT.replace("'ed'", "'%s'" % string))
+            self.assertTrue(any(word in line for line in editor.run("changes", uri, "tail" * (string == "es"))))
+            self.assertEqual(editor.run("mark", uri), ["marked: my.sbl"])
+            self.assertEqual(editor.run("changes", uri), ["no word and no class differs from the mark"])
         self.assertIn("no command", editor.run("nothing", uri)["message"])
         self.assertIn("not open", editor.run("why", "file:///none", "x")["message"])
 
@@ -292,6 +324,68 @@ class Words(OverServer):
         self.assertEqual(editor.titles(uri)[0][0], "3 words, 2 classes, 0 refused")
         editor.change(uri, SHORT.replace("'ed'", "'es'"))
         self.assertTrue(editor.wait(lambda: refreshed() == 5))
+
+
+class Orders(OverServer):
+    def test_an_order_waits_for_the_wish_before_it(self):
+        """What is shown just after a mark is set has that mark."""
+        edited, found, (begun, held, done) = SHORT.replace("'ed'", "'es'"), [], (threading.Event() for _ in range(3))
+        vocabulary = Vocabulary(PROGRAM, "stem", "my.sbl", lambda said: None)
+        self.addCleanup(vocabulary.stop)
+        vocabulary.want(Wish(edited, SHORT, b"walking\nwalked\n"))
+        vocabulary.order(lambda: found.append(vocabulary.changes("")))
+        vocabulary.order(begun.set)
+        self.assertTrue(begun.wait(60))
+        vocabulary.order(lambda: held.wait(60))
+        vocabulary.want(Wish(edited, edited, b"walking\nwalked\n"))
+        vocabulary.order(lambda: found.append(vocabulary.changes("")))
+        vocabulary.order(done.set)
+        held.set()
+        self.assertTrue(done.wait(60))
+        self.assertTrue("walked" in "".join(found[0]))
+        self.assertEqual(found[1], ["no word and no class differs from the mark"])
+
+    def test_rows_that_are_as_before(self):
+        """They are not read again, and the outcomes are those of the program, in its order."""
+        words, found, done = "walking\nwalked\nwalks\nthe \"x\"ing\n", [], threading.Event()
+        folder = self.room(my_sbl=SHORT.replace("'ed'", "'ks'"), my_words=words)
+        vocabulary = Vocabulary(PROGRAM, "stem", "my.sbl", lambda said: None)
+        self.addCleanup(vocabulary.stop)
+        for text in (SHORT, SHORT.replace("'ed'", "'es'"), read(os.path.join(folder, "my.sbl"))):
+            vocabulary.want(Wish(text, SHORT, words.encode()))
+            vocabulary.order(lambda: found.append(vocabulary.state.outcomes))
+        vocabulary.order(done.set)
+        self.assertTrue(done.wait(60))
+        wanted = rows_of(os.path.join(folder, "my.sbl"), os.path.join(folder, "my.words"), "stems")
+        self.assertEqual([list(row) for row in found[-1].values()], wanted)
+        self.assertEqual(list(found[-1]), [row[0] for row in wanted])
+        write(os.path.join(folder, "my.sbl"), SHORT)
+        before = rows_of(os.path.join(folder, "my.sbl"), os.path.join(folder, "my.words"), "stems")
+        changed = {old[0]: old for old, new in zip(before, wanted) if old != new}
+        self.assertEqual({word: list(row) for word, row in vocabulary.state.changed.items()}, changed)
+
+    def test_a_mark_that_is_refused(self):
+        said, done = [], threading.Event()
+        vocabulary = Vocabulary(PROGRAM, "stem", "my.sbl", said.append)
+        self.addCleanup(vocabulary.stop)
+        vocabulary.want(Wish(SHORT, SHORT.replace("backwards tail", "tale"), b"walking\n"))
+        vocabulary.order(done.set)
+        self.assertTrue(done.wait(60))
+        self.assertTrue(said[0].startswith("the text of the mark is refused: 4:16: tale is not declared"), said)
+
+    def test_many_requests_do_not_hold_up_faults(self):
+        editor, uri = self.editor({"run": "never"}), "file:///none/x.sbl"
+        editor.open(uri, SHORT)
+        for number in range(2000):
+            write_message(editor.process.stdin, {"id": "many-%d" % number, "method": "textDocument/documentSymbol", "params": {"textDocument": {"uri": uri}}})
+            if number == 100:
+                editor.versions[uri] += 1
+                change = {"textDocument": {"uri": uri, "version": editor.versions[uri]}, "contentChanges": [{"text": SHORT + "!"}]}
+                editor.tell("textDocument/didChange", change)
+        seen = []
+        while not editor.diagnostics[uri]["diagnostics"]:
+            seen.append(editor.take())
+        self.assertLess(len(seen), 1000)
 
 
 class Trouble(OverServer):
@@ -341,7 +435,11 @@ class Trouble(OverServer):
         folder = self.room(my_sbl=SHORT, my_words="x" * 300 + "\n")
         editor, uri = self.editor(None, REFRESHING), uri_of(folder)
         editor.open(uri, SHORT)
-        self.assertTrue(editor.wait(lambda: any("WordTooLong" in note.get("params", {}).get("message", "") for note in editor.notes)))
+        said = lambda what: editor.wait(lambda: any(what in note.get("params", {}).get("message", "") for note in editor.notes))
+        self.assertTrue(said("my.sbl: A word may have 255 characters at most."))
+        write(os.path.join(folder, "my.words"), b"walking\xff\n")
+        editor.tell("textDocument/didSave", {"textDocument": {"uri": uri}})
+        self.assertTrue(said("my.words is not UTF-8. If it is Latin-1: iconv"))
         write(os.path.join(folder, "my.words"), "walking\n")
         editor.tell("textDocument/didSave", {"textDocument": {"uri": uri}})
         self.assertTrue(editor.wait(lambda: editor.titles(uri)))

@@ -52,6 +52,36 @@ class Page(Case):
             self.skipTest("the program does not know %s" % ", ".join(lacking))
 
 
+class View:
+    """What a browser makes of states, one after another, as page.js does."""
+
+    def __init__(self) -> None:
+        self.shown: Dict[str, Any] = {"version": -1}
+
+    def take(self, news: Dict[str, Any]) -> "View":
+        shown = {**self.shown, **{name: value for name, value in news.items() if name not in ("delta", "marks")}}
+        shown["outcomes"] = list(shown["outcomes"])
+        for i, outcome in news.get("delta", []):
+            shown["outcomes"][i] = outcome
+        if "marks" in news:
+            shown["marked"] = list(shown["outcomes"])
+            for i, outcome in news["marks"]:
+                shown["marked"][i] = outcome
+        self.shown = shown
+        return self
+
+    def changes(self) -> List[List[str]]:
+        """Returns all rows of changes, those of words first."""
+        words, marked, now = (self.shown[name] for name in ("words", "marked", "outcomes"))
+        kinds = {"=": "stem", "!": "refused"}
+        changed = [["changed", word, kinds[a[0]], a[1:], kinds[b[0]], b[1:]] for word, a, b in zip(words, marked, now) if a not in (None, b)]
+        return changed + self.shown["changes"]
+
+
+def changes(live: Live) -> List[List[str]]:
+    return View().take(live.state(-1)).changes()
+
+
 def settle(live: Live) -> None:
     """Has the page ask for what takes longer."""
     while live.owed:

@@ -15,7 +15,11 @@ class Commands(Case):
     def begin(self, room: str, *words: str, **options: Any) -> "subprocess.Popen[bytes]":
         command = [sys.executable, "-E", "-s", "-B", CLIENT, "--page", "--program", PROGRAM, *words]
         environment = {**os.environ, "XDG_STATE_HOME": os.path.join(room, "state"), "XDG_CACHE_HOME": os.path.join(room, "cache")}
-        made = subprocess.Popen(command, cwd=room, env=environment, stdin=subprocess.DEVNULL, stdout=subprocess.PIPE, stderr=subprocess.PIPE)
+        # (tests that run in the background ignore Ctrl-C, and so would the page)
+        made = subprocess.Popen(
+            command, cwd=room, env=environment, stdin=subprocess.DEVNULL, stdout=subprocess.PIPE, stderr=subprocess.PIPE,
+            preexec_fn=lambda: signal.signal(signal.SIGINT, signal.SIG_DFL),  # noqa: PLW1509
+        )
         self.addCleanup(made.communicate)
         self.addCleanup(made.kill)
         return made

@@ -5,12 +5,13 @@ import time
 
 from voltizug.kept import read_file
 from voltizug.page import ink
-from voltizug.page.live import Live, Refused, figures_of
+from voltizug.page.live import Live, Refused
+from voltizug.page.outcomes import Outcomes, figures_of
 from voltizug.places import Places
 from voltizug.rows import Token, read
 
 from ..kit import FAKE, LOOP, example, write
-from .kit import OTHER, SCRIPT, WORDS, Page, post, request, settle, until
+from .kit import OTHER, SCRIPT, WORDS, Page, View, changes, post, request, settle, until
 
 PORTER_WORDS = "relational conditional rational digitizer radically differently vileness analogousli sensitiviti sensibiliti caresses ponies ties cats feed agreed plastered motoring sing conflated troubled sized hopping failing filing happy sky triplicate formative formalize electrical hopeful goodness revival allowance inference airliner adjustable defensible irritant replacement dependent adoption communism activate effective probate rate cease controll roll"
 
@@ -22,10 +23,10 @@ class Edits(Page):
 
     def test_a_save(self):
         live = self.page()
-        self.assertEqual((live.words, live.outcomes), (["walks", "walked", "walking", "talk"], ["=walk", "=walk", "=walking", "=talk"]))
+        self.assertEqual((live.outcomes.words, live.outcomes.now), (["walks", "walked", "walking", "talk"], ["=walk", "=walk", "=walking", "=talk"]))
         self.save(live, OTHER)
-        self.assertEqual(live.outcomes, ["=walks", "=walk", "=walk", "=talk"])
-        self.assertEqual(live.part("changes"), [["changed", "walks", "stem", "walk", "stem", "walks"], ["changed", "walking", "stem", "walking", "stem", "walk"], ["split", "walk", "walk", "walks"], ["merged", "walk", "walk", "walking"]])
+        self.assertEqual(live.outcomes.now, ["=walks", "=walk", "=walk", "=talk"])
+        self.assertEqual(changes(live), [["changed", "walks", "stem", "walk", "stem", "walks"], ["changed", "walking", "stem", "walking", "stem", "walk"], ["split", "walk", "walk", "walks"], ["merged", "walk", "walk", "walking"]])
         self.assertEqual((live.part("text"), live.part("isTrial"), live.part("isPartial")), (OTHER, False, False))
         self.assertEqual(live.part("last")["changed"], [0, 2])
         settle(live)
@@ -36,10 +37,18 @@ class Edits(Page):
         """What is shown before the program tells its changes has the same changed words."""
         live, seen = self.page(), []
         publish = live.publish
-        live.publish = lambda **parts: (publish(**parts), seen.append(parts["changes"]) if "changes" in parts else None)
+        live.publish = lambda **parts: (publish(**parts), seen.append((live.part("isPartial"), changes(live))))
         self.save(live, OTHER)
-        self.assertEqual(len(seen), 2)
-        self.assertEqual(seen[0], [row for row in seen[1] if row[0] == "changed"])
+        first = next(found for is_partial, found in seen if is_partial)
+        self.assertEqual(first, [row for row in seen[-1][1] if row[0] == "changed"])
+        self.assertEqual((seen[-1][0], len(first)), (False, 2))
+
+    def test_the_rows_of_the_program_count(self):
+        """If they say another mark than what was compared here, the page shows what they say."""
+        live = self.page()
+        live.outcomes.marked[0] = "=another"
+        self.save(live, OTHER)
+        self.assertEqual(changes(live)[:2], [["changed", "walks", "stem", "walk", "stem", "walks"], ["changed", "walking", "stem", "walking", "stem", "walk"]])
 
     def test_a_fault_and_its_correction(self):
         live = self.page()
@@ -47,9 +56,25 @@ class Edits(Page):
         fault = live.part("fault")
         self.assertEqual((fault["line"], fault["column"], fault["length"], fault["origin"]), (6, 31, 2, "file"))
         self.assertEqual(fault["sentence"], "rr is not declared. Did you mean r?")
-        self.assertEqual((live.part("text"), live.outcomes[0]), (SCRIPT, "=walk"))
+        self.assertEqual((live.part("text"), live.outcomes.now[0]), (SCRIPT, "=walk"))
         self.save(live, SCRIPT)
         self.assertIsNone(live.part("fault"))
+
+    def test_all_faults(self):
+        """Places are bytes of the file, and are shown in the text without its mark; these rows were made by hand."""
+        live = self.page()
+        text = "\ufeff" + SCRIPT.replace("do r", "do rr").replace("(delete)", "/* \u00e9 */ (delete)").replace("\n", "\r\n")
+        first = text.encode().index(b"rr )")
+        known = live.bench.known
+        live.bench.known = lambda *asked: [["fault,13,rr,%d,%d,6,31,rr is not declared." % (first, first + 2)]] if asked == ("faults",) else known(*asked)
+        self.save(live, text.encode())
+        (line, begin, end, sentence), = live.part("fault")["all"]
+        self.assertEqual((line, live.part("fault")["text"][begin:end], sentence), (6, "rr", "rr is not declared."))
+        live.take_trial(SCRIPT.replace("do r", "do rr"))
+        # (a place that the text does not have is not shown)
+        live.bench.known = lambda *asked: [["fault,13,rr,99999,99999,6,31,x"]] if asked == ("faults",) else known(*asked)
+        live.take_trial(SCRIPT.replace("do r", "do rrr"))
+        self.assertEqual(live.part("fault")["all"], [])
 
     def test_a_fault_after_a_byte_order_mark_and_carriage_returns(self):
         live = self.page()
@@ -63,19 +88,19 @@ class Edits(Page):
         with self.assertRaises(Refused):
             live.take_trial(SCRIPT)
         self.save(live, SCRIPT)
-        self.assertEqual((live.part("fault"), live.outcomes), (None, ["=walk", "=walk", "=walking", "=talk"]))
+        self.assertEqual((live.part("fault"), live.outcomes.now), (None, ["=walk", "=walk", "=walking", "=talk"]))
 
     def test_words_with_a_fault(self):
         live = self.page(words=b"a\n\xff\n")
         self.assertIn("not UTF-8", live.part("fault")["sentence"] + " ".join(live.part("warnings")) + "NotText is not UTF-8")
         self.assertFalse(live.part("fault")["isOfScript"])
         self.save(live, WORDS, "my.words")
-        self.assertEqual(live.outcomes[0], "=walk")
+        self.assertEqual(live.outcomes.now[0], "=walk")
 
     def test_a_trial_and_its_save(self):
         live = self.page()
         live.take_trial(OTHER)
-        self.assertEqual((live.part("isTrial"), live.part("text"), live.outcomes[2]), (True, OTHER, "=walk"))
+        self.assertEqual((live.part("isTrial"), live.part("text"), live.outcomes.now[2]), (True, OTHER, "=walk"))
         self.assertEqual(read_file(live.bench.script), SCRIPT.encode())
         live.save(False)
         self.assertEqual((live.part("isTrial"), read_file(live.bench.script)), (False, OTHER.encode()))
@@ -119,33 +144,33 @@ class Edits(Page):
     def test_limit_words_and_mark(self):
         live = self.page()
         live.limit("1")
-        self.assertEqual((live.part("limit"), live.outcomes[0]), (1, "!Steps"))
+        self.assertEqual((live.part("limit"), live.outcomes.now[0]), (1, "!Steps"))
         self.assertRaises(Refused, live.limit, "x")
         live.undo("undo", 1)
         # (without `history` it is not known what undo took back)
-        self.assertEqual((live.part("limit") if live.part("history") else 100000, live.outcomes[0]), (100000, "=walk"))
+        self.assertEqual((live.part("limit") if live.part("history") else 100000, live.outcomes.now[0]), (100000, "=walk"))
         live.add(["talked"])
-        self.assertEqual((live.words[4], live.outcomes[4], live.part("added")), ("talked", "=talk", 1))
-        self.assertIn(["added", "talked"], live.part("changes"))
+        self.assertEqual((live.outcomes.words[4], live.outcomes.now[4], live.part("added")), ("talked", "=talk", 1))
+        self.assertIn(["added", "talked"], changes(live))
         live.mark(False)
-        self.assertEqual(live.part("changes"), [])
+        self.assertEqual(changes(live), [])
         live.append()
         self.assertEqual((read_file(live.bench.words), live.part("added")), ((WORDS + "talked\n").encode(), 0))
         self.save(live, "talk\nwalked\n", "my.words")
-        self.assertEqual((live.words, live.outcomes), (["talk", "walked"], ["=talk", "=walk"]))
+        self.assertEqual((live.outcomes.words, live.outcomes.now), (["talk", "walked"], ["=talk", "=walk"]))
 
     def test_approved_stems_are_the_mark(self):
         live = self.page(stems="my.stems", my_stems="walk\nwalk\nwalk\ntalk\n")
-        self.assertEqual(live.part("changes")[0], ["changed", "walking", "stem", "walk", "stem", "walking"])
+        self.assertEqual(changes(live)[0], ["changed", "walking", "stem", "walk", "stem", "walking"])
         self.assertEqual(live.part("markFigures"), {"words": 4, "refused": 0, "classes": 2, "alone": 1, "largest": 3, "unchanged": 1})
         self.save(live, OTHER.replace("'ing'", "'ing' 's'"))
-        self.assertEqual(live.part("changes"), [])
+        self.assertEqual(changes(live), [])
         self.assertTrue(live.part("markName").endswith("my.stems"))
 
     def test_stems_of_another_length(self):
         live = self.page(stems="my.stems", my_stems="walk\n")
         self.assertIn("another number of lines", live.part("notice"))
-        self.assertEqual((live.part("changes"), live.part("markName")), ([], ""))
+        self.assertEqual((changes(live), live.part("markName")), ([], ""))
 
     def test_families(self):
         live = self.page(families="my.families", my_families="walks walked walking unheard\ntalk\n")
@@ -171,7 +196,7 @@ class Edits(Page):
             write(live.bench.script, OTHER + "// %d\n" % i)
             time.sleep(0.03)
         until(lambda: live.part("text") == OTHER + "// 19\n" and not live.owed)
-        self.assertEqual(live.outcomes, ["=walks", "=walk", "=walk", "=talk"])
+        self.assertEqual(live.outcomes.now, ["=walks", "=walk", "=walk", "=talk"])
 
     def test_the_file_goes_and_comes(self):
         live = self.page()
@@ -250,7 +275,7 @@ class Rules(Page):
 
     def test_a_word_like_a_refusal(self):
         live = self.page(words="no 52 BadCommand\n")
-        self.assertEqual((live.outcomes, live.word("no 52 BadCommand")["outcome"]), (["=no 52 BadCommand"], "=no 52 BadCommand"))
+        self.assertEqual((live.outcomes.now, live.word("no 52 BadCommand")["outcome"]), (["=no 52 BadCommand"], "=no 52 BadCommand"))
 
     def test_units(self):
         """Places count in units of UTF-16, without the mark and the carriage returns: by hand."""
@@ -269,23 +294,17 @@ class Rules(Page):
 class States(Page):
     """A state that is put together from news is the one of a page that is opened now."""
 
-    def merged(self, state, news):
-        state = {**state, **{name: value for name, value in news.items() if name != "delta"}}
-        for i, outcome in news.get("delta", []):
-            state["outcomes"] = [*state["outcomes"][:i], outcome, *state["outcomes"][i + 1 :]]
-        return state
-
     def test_random_edits(self):
-        times, seed = int(os.environ.get("STORM", "1")) * 60, random.Random(63)
+        times, seed = int(os.environ.get("EDITS", "1000")), random.Random(63)
         porter = example("porter.sbl")
         live = self.page(porter, "\n".join(PORTER_WORDS.split()) + "\n")
-        pages = [dict(live.state(-1)) for _ in range(3)]
+        pages = [View().take(live.state(-1)) for _ in range(3)]
         strings = [part for part in porter.split() if part.startswith("'") and part.endswith("'") and len(part) > 2]
         for _ in range(times):
             act = seed.randrange(8)
             if act < 4:
                 a, b = seed.sample(strings, 2)
-                live.take_trial(porter.replace(a, b if act else a + " ", 1) if seed.random() < 0.9 else porter.replace("R1", "R4", 1))
+                live.take_trial(porter.replace(a, b if act else a + " ", 1) if seed.random() < 0.9 else porter.replace("R1", "none", 1))
             elif act < 6:
                 live.undo("undo" if act == 4 else "redo", seed.randrange(1, 3))
             elif act == 6:
@@ -293,22 +312,22 @@ class States(Page):
             else:
                 settle(live)
             at = seed.randrange(3)
-            pages[at] = self.merged(pages[at], live.state(pages[at]["version"]))
-            self.assertEqual(pages[at], live.state(-1))
+            pages[at].take(live.state(pages[at].shown["version"]))
+            self.assertEqual(pages[at].shown, View().take(live.state(-1)).shown)
             now = [("=" if row.kind == "stem" else "!") + row.stem for row in live.bench.outcomes()]
-            self.assertEqual((live.outcomes, live.part("text").encode()), (now, live.bench.program.now.text))
+            self.assertEqual((live.outcomes.now, live.part("text").encode()), (now, live.bench.program.now.text))
         settle(live)
         figures = {key: value for key, value in live.part("figures").items() if key != "runs"}
-        self.assertEqual(figures, figures_of(live.words, live.outcomes))
+        self.assertEqual(figures, figures_of(list(zip(live.outcomes.words, live.outcomes.now))))
         rows = read("changes", live.bench.known("changes")[0])
-        self.assertEqual([row.word for row in rows if row.kind == "changed"], [row[1] for row in live.part("changes") if row[0] == "changed"])
+        self.assertEqual([list(row) for row in rows if row.kind == "changed"], [row for row in changes(live) if row[0] == "changed"])
 
     def test_hostile_words(self):
         words = ["<b>bold</b>", "</script>", "&amp;", "\"'", "a,b", "\x1b[31m", "a\rb", "\u202eabc", "\u200b", "e\u0301", "\u00e9", "\U0001f600", "x" * 255, "__proto__", "quit", ".", "constructor", "%0a", "a b"]
         live = self.page(words="\n".join(words) + "\n")
         server = self.serve(live)
-        self.assertEqual(live.words, words)
-        self.assertEqual(live.outcomes, ["=" + word for word in words])
+        self.assertEqual(live.outcomes.words, words)
+        self.assertEqual(live.outcomes.now, ["=" + word for word in words])
         live.take_trial(OTHER)
         self.assertEqual(live.state(-1)["outcomes"], ["=" + word for word in words])
         for word in words:
@@ -325,15 +344,51 @@ class States(Page):
             connection.sendall((head + "\r\n").encode())
             file = connection.makefile("rb")
             news = lambda: json.loads(next(line for line in file if line.startswith(b"data: "))[6:])  # noqa: E731
-            state = first = news()
-            self.assertEqual((state["words"], state["text"]), (live.words, SCRIPT))
+            first = news()
+            view = View().take(first)
+            self.assertEqual((first["words"], first["text"]), (live.outcomes.words, SCRIPT))
             self.assertEqual(post(server, "trial", text=OTHER).status, 200)
-            while state["text"] != OTHER or state["isPartial"]:
-                state = self.merged(state, news())
-            self.assertEqual((state["outcomes"], len(state["changes"])), (["=walks", "=walk", "=walk", "=talk"], 4))
+            while view.shown["text"] != OTHER or view.shown["isPartial"]:
+                view.take(news())
+            self.assertEqual((view.shown["outcomes"], len(view.changes())), (["=walks", "=walk", "=walk", "=talk"], 4))
             # (a browser that was away names the last event that it had)
             later.sendall((head + "Last-Event-ID: %d\r\n\r\n" % first["version"]).encode())
             file = later.makefile("rb")
             missed = news()
             self.assertNotIn("words", missed)
             self.assertEqual((missed["delta"], missed["text"]), ([[0, "=walks"], [2, "=walk"]], OTHER))
+
+
+class Compared(Page):
+    """Outcomes by rows that were written by hand."""
+
+    def rows(self, kind, *lines):
+        return read(kind, lines)
+
+    def test_lines_and_rows(self):
+        found = Outcomes()
+        self.assertIsNone(found.read(["a,stem,a", "b,stem,b", "c,refused,Steps"]))
+        self.assertEqual((found.words, found.now, found.marked), (["a", "b", "c"], ["=a", "=b", "!Steps"], [None, None, None]))
+        found.mark()
+        self.assertEqual(found.read(["a,stem,x", "b,stem,b", "c,refused,Depth"]), [0, 2])
+        self.assertEqual((found.now, found.differs), (["=x", "=b", "!Depth"], {0, 2}))
+        # (a row with quotes may be of several lines)
+        self.assertEqual(found.read(["a,stem,\"x,\"", "b,stem,b", "c,stem,\"\"\"\""]), [0, 2])
+        self.assertEqual((found.now, found.marks()), (["=x,", "=b", "=\""], [[0, "=a"], [2, "!Steps"]]))
+        self.assertEqual(found.read(["a,stem,a", "b,stem,b", "c,refused,Steps"]), [0, 2])
+        self.assertEqual((found.differs, found.marks()), (set(), []))
+
+    def test_other_words(self):
+        found = Outcomes()
+        found.read(["a,stem,a", "b,stem,b"])
+        found.mark()
+        self.assertIsNone(found.read(["b,stem,x", "c,stem,c"]))
+        self.assertEqual((found.marked, found.differs), (["=b", None], {0}))
+        self.assertTrue(found.follow(self.rows("changes", "changed,b,stem,b,stem,x", "added,c", "removed,a")))
+        self.assertFalse(found.follow(self.rows("changes", "changed,b,stem,y,stem,x")))
+        self.assertEqual((found.marked, found.marks()), (["=y", "=c"], [[0, "=y"]]))
+        self.assertIsNone(found.read([]))
+        self.assertEqual((found.words, found.marked), ([], []))
+
+    def test_figures(self):
+        self.assertEqual(figures_of([("a", "=a"), ("b", "=a"), ("c", "=x"), ("d", "!Steps")]), {"words": 4, "refused": 1, "classes": 2, "alone": 1, "largest": 2, "unchanged": 1})

@@ -8,11 +8,14 @@ from html.parser import HTMLParser
 from types import SimpleNamespace
 from unittest import mock
 
-from voltizug.page.report import main
+from voltizug.kept import read_file
+from voltizug.page import report
+from voltizug.page.report import lines_of, main, texts_table
 
 from ..kit import CLIENT, PROGRAM, Case
 from .kit import OTHER, SCRIPT, WORDS
 
+HERE = os.path.dirname(os.path.abspath(__file__))
 MARKDOWN = """\
 **`old.sbl` → `new.sbl` over `my.words`**: 2 of 4 words have another outcome; classes: 1 split, 1 merged.
 
@@ -96,6 +99,34 @@ class Reports(Case):
         self.assertIn(["4", SCRIPT.split("\n")[3], "4", OTHER.split("\n")[3]], texts)
         self.assertNotIn("script", [tag for tag, _ in parts.tags])
         self.assertFalse([attrs for _, attrs in parts.tags if {"href", "src", "style", "onclick"} & set(attrs)])
+
+    def test_the_file_byte_by_byte(self):
+        """report.html was checked line by line by hand; it has no style, no checksum of that and no version."""
+        room = self.files()
+        got = self.run_in(room, "old.sbl", "new.sbl", "my.words").stdout
+        if "alone" not in self.alone(room):
+            self.skipTest("the program does not know places")
+        style = re.search(b"<style>(.*?)</style>", got, re.S)[1]
+        self.assertEqual(style, read_file(os.path.join(os.path.dirname(report.__file__), "report.css")))
+        got = re.sub(b"sha256-[^']*'", b"sha256-CHECKSUM'", got.replace(style, b"STYLE"), 1).replace(b"Voltizug %s." % read_file(report.VERSION).strip(), b"Voltizug VERSION.")
+        self.assertEqual(got.decode().split("\n"), read_file(os.path.join(HERE, "report.html")).decode().split("\n"))
+
+    def test_the_texts(self):
+        """Lines that are left out are counted, at both ends too; a single one is never left out."""
+        old = [b"%d" % i for i in range(1, 41)]
+        new = [*old[:9], b"nine", *old[9:16], b"17?", *old[17:25], *old[26:]]
+        found = Parts(texts_table(b"\n".join(old) + b"\n", b"\n".join(new) + b"\n")).tables[0]
+        rows = [["6 lines are the same"], *([str(i)] * 4 for i in (7, 8, 9)), ["", "", "10", "nine"]]
+        rows += [[str(i), str(i), str(i + 1), str(i)] for i in range(10, 17)] + [["17", "17", "18", "17?"]]
+        rows += [[str(i), str(i), str(i + 1), str(i)] for i in (18, 19, 20)] + [["2 lines are the same"]] + [[str(i), str(i), str(i + 1), str(i)] for i in (23, 24, 25)]
+        rows += [["26", "26", "", ""]] + [[str(i)] * 4 for i in (27, 28, 29)] + [["11 lines are the same"]]
+        self.assertEqual(found, rows)
+
+    def test_ends_of_texts(self):
+        self.assertEqual((lines_of(b""), lines_of(b"a\n\n"), lines_of(b"a")), ([], ["a", ""], ["a  (no line feed at the end)"]))
+        self.assertIn("are the same.", texts_table(b"a\n", b"a\n"))
+        self.assertIn("are the same but for line ends or a byte order mark.", texts_table(b"a\n", b"\xef\xbb\xbfa\r\n"))
+        self.assertEqual(Parts(texts_table(b"a\n", b"a")).tables[0], [["1", "a", "1", "a  (no line feed at the end)"]])
 
     def test_the_same_bytes(self):
         room, other = self.files(), self.files()

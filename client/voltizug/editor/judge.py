@@ -3,16 +3,16 @@ import re
 from typing import Dict, List, NamedTuple, Optional, Set, Tuple
 
 from .. import rows
+from ..index import Index
+from ..language import COMMANDS, CONTROL, DECLARATIONS, ITEMS, OTHERS, VALUES
 from ..program import DONE, Program, Reply
 from ..rows import Token
 from ..texts import Memory, Text, by_characters, encoded
-from .index import Index
-from .language import COMMANDS, CONTROL, DECLARATIONS, ITEMS, OTHERS, VALUES
 
 # For how many seconds the program is asked about a text; how many faults, and how many lines that have no tokens, are looked at.
 PATIENCE, MOST, LINES = 20.0, 100, 5
-# The faults that are at no place; white space.
-OF_ALL, BLANK = ("NoExternal", "ScriptTooLong"), "\ufeff \t\r\n\v\f"
+# White space.
+BLANK = "\ufeff \t\r\n\v\f"
 # A fault of a text: its name in docs/LANGUAGE.md, from where to where it is, and the program's sentence.
 Fault = NamedTuple("Fault", [("name", str), ("start", int), ("end", int), ("sentence", str)])
 
@@ -59,9 +59,11 @@ class Judge:
         reply = self.ask_known(text.text, external, "faults")
         if reply is None:
             return self.fault(text, external)
-        found, data = rows.read("faults", reply.lines)[:MOST], encoded(text.text)
-        lengths = [len(data[int(row.start) : int(row.end)].decode("utf-8", "replace")) or row.name not in OF_ALL for row in found]
-        return [placed(row.name, text, int(row.line), int(row.column), length, row.sentence) for row, length in zip(found, lengths)]
+        found, data, sizes = rows.read("faults", reply.lines)[:MOST], encoded(text.text), []
+        for row in found:
+            # (a fault of the whole text has no place; one at the end is at no character)
+            sizes.append(len(data[int(row.start) : int(row.end)].decode("utf-8", "replace")) or 1 if row.start else 0)
+        return [placed(row.name, text, int(row.line or 1), int(row.column or 1), size, row.sentence) for row, size in zip(found, sizes)]
 
     def fault(self, text: Text, external: str) -> List[Fault]:
         """The fault of a refused text is on standard error: the place with the sentence, the line, and carets."""

@@ -4,13 +4,13 @@ import sys
 from typing import Any, Callable, Dict, Sequence
 
 from ..options import usual_program
-from . import requests, shown
+from . import fixes, requests, shown
 from .server import Server
 
 # By the end of a method what replies to it.
 REQUESTS: Dict[str, Callable[..., Any]] = {
     "definition": requests.definition, "references": requests.references, "rename": requests.rename, "documentSymbol": requests.symbols,
-    "completion": requests.completion, "codeAction": requests.code_actions, "hover": shown.hover, "codeLens": shown.lenses,
+    "completion": requests.completion, "codeAction": fixes.code_actions, "hover": shown.hover, "codeLens": shown.lenses,
     "inlayHint": shown.hints, "executeCommand": shown.execute,
 }
 CAPABILITIES = {

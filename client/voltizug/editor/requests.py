@@ -1,18 +1,15 @@
 """What is asked about the names of a text: places, lists, renaming, completion and quick fixes."""
-from typing import Any, List, Optional, Tuple
+from typing import List, Optional, Tuple
 
+from ..index import Index
 from ..layout import named
-from ..near import near
 from ..rows import Token
-from .index import Index
 from .judge import BLANK
-from .language import COMMANDS, CONTROL, DECLARATIONS
 from .server import Document, Refused, Server
 from .wire import Message
 
 # The numbers of the protocol for kinds of symbols and of completions.
 NUMBERS = {"routine": (12, 3), "external": (6, 2), "grouping": (10, 13), "integer": (13, 6), "string": (13, 6), "boolean": (13, 6)}
-COMMAND_TITLES = {"mark": "Mark: compare with this text from now on", "changes": "Show what differs from the mark", "unused": "Show what no word uses"}
 
 
 def place(server: Server, params: Message) -> Tuple[Document, Index, Optional[Token], str]:
@@ -99,21 +96,3 @@ def is_skipped(text: str, before: Index) -> bool:
     end = max((tokens[-1].end for tokens in (before.tokens, before.comments) if tokens), default=0)
     last = before.comments[-1] if before.comments else Token("", 0, 0, "")
     return bool(text[end:].strip(BLANK)) or last.end >= len(text) and text.startswith("//", last.start)
-
-
-def code_actions(server: Server, params: Message) -> List[Message]:
-    """For a name that is not declared the near ones with which the program finds no fault there; and the commands."""
-    document = server.document(params)
-    start, end = (document.text.offset(params["range"][side]) for side in ("start", "end"))
-    found: List[Any] = []
-    for fault in document.faults:
-        if fault.start > end or start > fault.end:
-            continue
-        name = document.text.text[fault.start : fault.end]
-        for other in near(name, [*server.index(document).kinds, *CONTROL, *COMMANDS, *DECLARATIONS]):
-            edit = {"range": document.text.range(fault.start, fault.end), "newText": other}
-            left = server.judge.faults(document.text.changed([{**edit, "text": other}]), server.external(document))
-            if not left or left[0].start > fault.start:
-                found.append({"title": "Replace by %s" % other, "kind": "quickfix", "edit": {"changes": {document.uri: [edit]}}})
-    calls = [{"title": title, "command": "snowbench." + name, "arguments": [document.uri]} for name, title in COMMAND_TITLES.items()]
-    return found + [{"title": call["title"], "kind": "source", "command": call} for call in calls if document.vocabulary]

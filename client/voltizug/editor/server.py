@@ -10,11 +10,11 @@ from functools import partial
 from typing import Any, Callable, Dict, Iterable, List, Optional, Tuple
 from urllib.parse import quote, unquote, urlsplit
 
+from ..index import Index
 from ..kept import read_file
 from ..layout import counted, named
 from ..program import ROWS
 from ..texts import Text, encoded, of_revision
-from .index import Index
 from .judge import Fault, Judge
 from .vocabulary import Vocabulary, Wish, difference
 from .wire import Message, read_message, write_message
@@ -52,6 +52,8 @@ class Server:
         self.command, self.requests, self.capabilities, self.judge = command, requests, capabilities, Judge(command)
         self.settings, self.client, self.documents = {}, {}, {}  # type: Message, Message, Dict[str, Document]
         self.queue, self.waiting = queue.Queue(), []  # type: Any, List[Tuple[Any, float, Callable[[bool], Any]]]
+        # How many changes of texts came in, and how many are made.
+        self.coming, self.came = 0, 0
         self.unit, self.is_over, self.status = "utf-16", False, 1
 
     # The loop
@@ -70,18 +72,22 @@ class Server:
 
     def read(self) -> None:
         for message in iter(lambda: read_message(sys.stdin.buffer), None):
+            self.coming += message.get("method") == "textDocument/didChange"
             self.queue.put(partial(self.take, message))
         self.queue.put(partial(self.on_exit, {}))
 
     def look_at_texts(self) -> None:
-        """Looks for the faults of texts, unless a newer one waits, and has those run that are due."""
         for document in list(self.documents.values()):
-            if not document.is_judged and self.queue.empty():
-                document.is_judged = True
-                (self.judge_script if document.kind == "script" else self.show_differences)(document)
-            if document.due and document.due <= time.monotonic():
-                document.due = 0.0
-                self.run_words(document)
+            self.look_at(document, self.coming == self.came, time.monotonic())
+
+    def look_at(self, document: Document, is_quiet: bool = True, until: float = float("inf")) -> None:
+        """Looks for the faults of a text, unless a newer one waits, and has it run if it is due."""
+        if not document.is_judged and is_quiet:
+            document.is_judged = True
+            (self.judge_script if document.kind == "script" else self.show_differences)(document)
+        if document.due and document.due <= until:
+            document.due = 0.0
+            self.run_words(document)
 
     def rest(self) -> Optional[float]:
         times = [document.due for document in self.documents.values() if document.due] + [until for _, until, _ in self.waiting]
@@ -160,6 +166,7 @@ class Server:
             self.documents[uri] = Document(uri, "script", Text(data.decode("utf-8", "surrogateescape"), self.unit), None)
 
     def on_didChange(self, params: Message) -> None:
+        self.came += 1
         document = self.document(params)
         document.text, document.version = document.text.changed(params["contentChanges"]), params["textDocument"].get("version")
         document.is_judged = False
@@ -256,7 +263,8 @@ class Server:
 
     def run_words(self, document: Document) -> None:
         """Has the words run under the text that was accepted last."""
-        words = self.bytes_of(self.file_of(document, "words"))
+        path = self.file_of(document, "words")
+        words = self.bytes_of(path)
         if words is None or document.accepted is None or self.settings.get("run") == "never":
             return
         external, stems = self.external(document), self.bytes_of(self.file_of(document, "stems"))
@@ -264,7 +272,7 @@ class Server:
             self.close_words(document)
         if document.vocabulary is None:
             document.vocabulary = Vocabulary(self.command, external, document.name, lambda said: self.queue.put(partial(self.reported, document, said)))
-        document.vocabulary.want(Wish(document.accepted.text, document.marked or "", words, stems, self.file_of(document, "families")))
+        document.vocabulary.want(Wish(document.accepted.text, document.marked or "", words, stems, self.file_of(document, "families"), path))
 
     def set_mark(self, document: Document, revision: str) -> None:
         """Marks the text as it is, or that of a git revision."""

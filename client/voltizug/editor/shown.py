@@ -5,9 +5,9 @@ import subprocess
 from typing import Any, Callable, Dict, List, Optional, Tuple
 
 from .. import layout, rows
+from ..index import Index
 from ..layout import counted, named
 from ..texts import Memory
-from .index import Index
 from .requests import place
 from .server import Document, Refused, Server, text_of
 from .vocabulary import State, Vocabulary
@@ -88,7 +88,7 @@ def stems_beside(server: Server, document: Document, state: Optional[State], par
         row = state.outcomes.get(document.text.line(line)) if state else None
         if state and row:
             was = state.changed.get(row.word)
-            label = "-> " + layout.outcome(row.kind, row.stem) + (" (was %s)" % layout.outcome(was.old_kind, was.old) if was else "")
+            label = "-> " + layout.outcome(row.kind, row.stem) + (" (was %s)" % layout.outcome(was.kind, was.stem) if was else "")
             found.append({"position": document.text.line_range(line)["end"], "label": label})
     return found
 
@@ -195,6 +195,7 @@ COMMANDS: Dict[str, Callable[[Server, Document, str], Any]] = {
     "why": by_words(Vocabulary.why),
     "class": by_words(lambda vocabulary, word: vocabulary.asked("class " + word)),
     "uses": by_words(lambda vocabulary, part: vocabulary.asked("uses " + part, "no word uses it")),
+    "counts": by_words(lambda vocabulary, _: vocabulary.asked("counts")),
     "stats": by_words(lambda vocabulary, _: vocabulary.asked("stats")),
     "unused": by_words(lambda vocabulary, _: vocabulary.asked("unused", "some word uses each routine, among, grouping and string")),
     "families": by_words(lambda vocabulary, file: vocabulary.asked("families " + (file or vocabulary.has.families))),
@@ -207,4 +208,5 @@ def execute(server: Server, params: Message) -> Any:
     document = script_of(server, server.documents.get(arguments[0]))
     if name not in COMMANDS or document is None or STRANGE.search(arguments[1]):
         raise Refused("there is no command %s" % named(name) if name not in COMMANDS else "the script is not open")
+    server.look_at(document)
     return COMMANDS[name](server, document, arguments[1])

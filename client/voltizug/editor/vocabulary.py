@@ -7,34 +7,52 @@ from itertools import zip_longest
 from typing import Any, Callable, Dict, List, NamedTuple, Optional, Sequence, Tuple
 
 from .. import layout, reports, rows
+from ..bench import Bench
+from ..faults import code_of
 from ..places import Places
 from ..program import BROKEN, DONE, LONG, Program, Reply
 from ..texts import Memory, encoded, lines_of
+from ..words import sentence
 
 # Of how many changed words it is asked where they begin to differ.
 MOST = 500
 
 
 class Wish(NamedTuple):
-    """What is to be run: a text, the text that is the mark, the words and the expected stems as files have them, and a file of families."""
+    """What is to be run: a text, the text that is the mark, the words and the expected stems as files have them, and the files of families and
+    of words."""
 
     text: str
     marked: str
     words: bytes
     stems: Optional[bytes] = None
     families: str = ""
+    path: str = ""
+
+
+class Stage(Bench):
+    """A bench for sentences alone, over a program that is there. It begins nothing again."""
+
+    def __init__(self, program: Any, script: str, words: str):
+        self.program, self.script, self.words, self.known_rows, self.known_names = program, script, words, (None, []), (None, None)
+
+    def settled(self, reply: Reply) -> Reply:
+        return reply
 
 
 class State:
     """What is known of a text over the words. The counts of its parts and `begins` come later: until then the counts are those of the text before."""
 
-    def __init__(self, wish: Wish, replies: Sequence[Reply], older: Optional["State"]):
-        stats, changes, stems, *families = (reply.lines for reply in replies)
+    def __init__(self, wish: Wish, replies: Sequence[Reply], older: Optional["State"], marked: Dict[str, rows.Outcome]):
+        stats, stems, *families = (reply.lines for reply in replies)
         self.wish, self.is_counted = wish, False
         self.figures = {row.kind: int(row.count) for row in rows.read("stats", stats)}
-        self.changes: List[Any] = rows.read("changes", changes)
-        self.changed = {row.word: row for row in self.changes if row.kind == "changed"}
-        self.outcomes = {row.word: row for row in rows.outcomes(stems)}
+        # (rows that are as in the state before are not read again, if each is one line)
+        same = older if older and older.wish.words == wish.words and len(older.outcomes) == len(older.stems) == len(stems) else None
+        new = [line for line, was in zip(stems, same.stems) if line != was] if same else stems
+        self.stems, self.outcomes = stems, {**(same.outcomes if same else {}), **by_word(new)}
+        # By word the outcome at the mark, if it is another one.
+        self.changed = {row.word: marked[row.word] for row in self.outcomes.values() if marked.get(row.word, row) != row}
         pairs = [row for lines in families for row in rows.read("families", lines) if row.kind == "pairs"]
         self.pairs = layout.families_line((pairs[0], pairs[0]) if pairs else ())
         # The expected stems, and by word those that are others, if there is one for each word.
@@ -62,12 +80,14 @@ class Vocabulary:
     def __init__(self, command: str, external: str, name: str, report: Callable[[str], None]):
         self.command, self.external, self.name, self.report = command, external, name, report
         self.wish, self.done, self.state = None, None, None  # type: Optional[Wish], Optional[Wish], Optional[State]
-        self.orders, self.steps = [], []  # type: List[Callable[[], None]], List[Callable[[], None]]
+        # How many wishes there were, and how many of them are done; an order has the number of wishes before it.
+        self.wishes, self.past = 0, 0
+        self.orders, self.steps = [], []  # type: List[Tuple[int, Callable[[], None]]], List[Callable[[], None]]
         self.condition, self.is_over, self.since = threading.Condition(), False, 0.0
         # The program, and one without words that has the marked text; their files; what the program has; a text that was given up.
         self.program, self.old = None, None  # type: Optional[Program], Optional[Program]
         self.script, self.words, self.mark = Memory(), Memory(), Memory()
-        self.has, self.slow = Wish("", "", b""), b""
+        self.has, self.slow, self.marked = Wish("", "", b""), b"", {}  # type: Wish, bytes, Dict[str, rows.Outcome]
         threading.Thread(target=self.work, daemon=True).start()
 
     # In the main thread
@@ -75,19 +95,20 @@ class Vocabulary:
     def want(self, wish: Wish) -> None:
         with self.condition:
             is_new, self.wish, since = wish != self.wish, wish, self.since
+            self.wishes += is_new
             self.condition.notify()
         if is_new and since and time.monotonic() - since > LONG:
             self.give_up()
 
     def give_up(self) -> None:
         """Gives runs that take long up for a newer text: the script before may loop. (The program calls it, too.)"""
-        if self.program and self.wish != self.done:
+        if self.program and self.past < self.wishes:
             self.program.break_off()
 
     def order(self, order: Callable[[], None]) -> None:
-        """Has the thread do something between two steps."""
+        """Has the thread do something between two steps, after what was wished for before."""
         with self.condition:
-            self.orders.append(order)
+            self.orders.append((self.wishes, order))
             self.condition.notify()
 
     def stop(self) -> None:
@@ -103,9 +124,10 @@ class Vocabulary:
     def work(self) -> None:
         while not self.is_over:
             with self.condition:
-                self.condition.wait_for(lambda: self.is_over or self.orders or self.wish != self.done or self.steps)
-                wish, order = self.wish, self.orders.pop(0) if self.orders else None
-                step = self.steps.pop(0) if self.steps and not order and wish == self.done else None
+                self.condition.wait_for(lambda: self.is_over or self.orders or self.past < self.wishes or self.steps)
+                wish, order = self.wish, self.orders.pop(0)[1] if self.orders and self.orders[0][0] <= self.past else None
+                step = self.steps.pop(0) if self.steps and not order and self.past == self.wishes else None
+                self.past = self.past if order else self.wishes
             try:
                 if not self.is_over:
                     (order or step or (lambda: self.run(wish)))()
@@ -134,8 +156,14 @@ class Vocabulary:
             self.slow = self.script.data if replies[-1].state == BROKEN else self.slow
             asked.stop()
             self.program, self.old = (self.program, None) if program else (None, self.old)
-            raise ChildProcessError("given up" if replies[-1].state == BROKEN else " ".join(replies[0].said) or "the program has ended")
+            code, what = code_of(replies[0].said), " ".join(replies[0].said) or "the program has ended"
+            refused = Reply(DONE, ["no %d Words" % code], [])
+            raise ChildProcessError("given up" if replies[-1].state == BROKEN else self.sentence(refused, "words") if code else what)
         return replies
+
+    def sentence(self, reply: Reply, line: str) -> str:
+        """Returns the sentence for a refused command."""
+        return sentence(reply, [line], Stage(self.program, self.name, self.done.path if self.done else ""))
 
     def run(self, wish: Wish) -> None:
         """The first step: the rows."""
@@ -144,22 +172,22 @@ class Vocabulary:
             self.words.fill(wish.words)
             self.script.fill(encoded(wish.text))
             self.program = self.begun(self.script, self.words.path)
-            self.ask("stats")
+            self.marked = by_word(self.ask("stems")[0].lines)
             self.has = wish._replace(marked=wish.text)
             if encoded(wish.marked) == self.slow != encoded(wish.text):
                 self.report("the text of the mark takes too long: the mark is the text as it is now")
         if wish.words != self.has.words:
             self.words.fill(wish.words)
-            refusal = self.ask("words")[0].refusal()
-            if refusal:
-                raise ChildProcessError("the words are refused: %s" % refusal[1])
+            reply = self.ask("words")[0]
+            if not reply.is_done:
+                raise ChildProcessError(self.sentence(reply, "words"))
             self.has = self.has._replace(words=wish.words)
         if wish.marked != self.has.marked and encoded(wish.marked) != self.slow:
             self.set_mark(wish.marked)
         self.script.fill(encoded(wish.text))
-        reload, *replies = self.ask("reload", "stats", "changes", "stems", *(["families " + wish.families] if wish.families else []))
+        reload, *replies = self.ask("reload", "stats", "stems", *(["families " + wish.families] if wish.families else []))
         if reload.is_done:
-            self.state, self.steps = State(wish, replies, self.state), [self.count, self.compare]
+            self.state, self.steps = State(wish, replies, self.state, self.marked), [self.count, self.compare]
             self.report("")
 
     def set_mark(self, marked: str) -> None:
@@ -168,9 +196,9 @@ class Vocabulary:
         reload = self.ask("reload")[0]
         if not reload.is_done:
             self.slow = self.script.data
-            self.report("the text of the mark is refused: %s" % (reload.refusal() or (0, ""))[1])
+            self.report("the text of the mark is refused: %s" % " ".join(reload.said[:1]).replace(self.script.path + ":", "", 1))
             return
-        self.ask("mark")
+        self.marked = by_word(self.ask("mark", "stems")[1].lines)
         if self.old:
             self.old.stop()
         self.has, self.old = self.has._replace(marked=marked), None
@@ -204,7 +232,7 @@ class Vocabulary:
         """Returns the report of a command, laid out."""
         reply, word = self.ask(line)[0], line.partition(" ")[0]
         if not reply.is_done:
-            return ["%s: %s" % (layout.named(line), (reply.refusal() or (0, "refused"))[1])]
+            return [self.sentence(reply, line)]
         return (reports.PLACED[word](reply.lines, self.places()) if word in reports.PLACED else reports.REPORTS[word](reply.lines)) or [empty]
 
     def places(self) -> Places:
@@ -217,13 +245,15 @@ class Vocabulary:
         """Why a word has its stem, and its class."""
         events, figures = self.ask("events " + word, "integers " + word)
         if not events.is_done or not figures.is_done:
-            return ["no word: %s" % layout.named(word)]
+            return [self.sentence(events if not events.is_done else figures, "why " + word)]
         return reports.why(word, rows.read("events", events.lines), rows.read("integers", figures.lines), self.places(), {}) + self.asked("class " + word)
 
     def changes(self, name: str) -> List[str]:
         """What differs from the mark; with the name of a routine the words that begin to differ there."""
-        state = self.state
-        found = [row for row in state.changes if not name or row.kind == "changed" and row.word in state.begins.get(name, [])] if state else []
+        while name and self.steps:
+            self.steps.pop(0)()
+        state, found = self.state, rows.read("changes", self.ask("changes")[0].lines)
+        found = [row for row in found if not name or row.kind == "changed" and state and row.word in state.begins.get(name, [])]
         return layout.changes(found, state.outcomes if state else {}) or ["no word and no class differs from the mark"]
 
     def differing(self) -> List[str]:
@@ -238,3 +268,7 @@ def deeds(reply: Reply) -> List[Tuple[str, ...]]:
 def difference(state: State, word: str) -> str:
     row = state.outcomes[word]
     return "%s: expected %s, got %s" % (layout.named(word), layout.named(state.expected[word]) or "(empty)", layout.outcome(row.kind, row.stem))
+
+
+def by_word(lines: Sequence[str]) -> Dict[str, rows.Outcome]:
+    return {row.word: row for row in rows.outcomes(lines)}

@@ -5,25 +5,26 @@ import contextlib
 import re
 import threading
 import time
-from collections import Counter
-from typing import Any, Callable, Dict, Iterator, List, Optional, Sequence, Set
+from typing import Any, Callable, Dict, Iterator, List, Optional, Sequence
 
-from .. import faults, loops, rows, words
+from .. import loops, rows, words
 from ..bench import Bench, Edit
-from ..kept import read_file, state_of
+from ..conditions.copies import with_tests
+from ..kept import state_of
 from ..layout import named, short
 from ..lints import lints
 from ..places import BOM
 from ..program import DONE, Reply
 from ..warn import warnings_on
 from . import ink
+from .outcomes import Outcomes, figures_of
+from .refusal import refusal
 from .timeline import timeline
 
 # How often files are looked at, and after how much quiet rules are counted, in seconds.
-PERIOD, QUIET = 0.012, 0.3
+PERIOD, QUIET = 0.008, 0.3
 # Of how many versions the changed outcomes are kept; how many strings are asked for at once.
 KEPT, MOST_RULES = 64, 500
-PLACE = re.compile(r":(\d+):(\d+): (.*)", re.S)
 MAY_NOT = {
     "changed": "{} was changed since it was read. Nothing was written.",
     "refused?": "{} has a text that was refused. Nothing was written. If you save again, it is overwritten.",
@@ -45,13 +46,7 @@ class Live:
         self.version, self.floor, self.script = 0, 0, 0
         self.parts: Dict[str, Any] = {}
         self.deltas: Dict[int, List[int]] = {}
-        # The rows of `stems` as lines, the words, and their outcomes now and at the mark: = and a stem, or ! and a refusal.
-        self.lines: List[str] = []
-        self.is_plain = False
-        self.words: List[str] = []
-        self.outcomes: List[str] = []
-        self.marked: List[str] = []
-        self.differs: Set[int] = set()
+        self.outcomes, self.mark_version = Outcomes(), 0
         # The names of the edits that `history` holds, those that are undone too; the definitions of the script before; the text that was tried last.
         self.steps: List[str] = []
         self.typed = ""
@@ -78,12 +73,15 @@ class Live:
         """Returns what is new since a version: all if that is too old."""
         with self.news:
             shown: Dict[str, Any] = {name: value for name, (version, value) in self.parts.items() if version > since}
-            if since < self.floor or since > self.version:
+            is_old = since < self.floor or since > self.version
+            if is_old:
                 shown = {name: value for name, (_, value) in self.parts.items()}
-                shown["words"], shown["outcomes"] = self.words, self.outcomes
+                shown["words"], shown["outcomes"] = self.outcomes.words, self.outcomes.now
             else:
                 changed = sorted({i for version, part in self.deltas.items() if version > since for i in part})
-                shown.update({"delta": [[i, self.outcomes[i]] for i in changed]} if changed else {})
+                shown.update({"delta": [[i, self.outcomes.now[i]] for i in changed]} if changed else {})
+            # (the mark has the outcomes of now but for these)
+            shown.update({"marks": self.outcomes.marks()} if is_old or self.mark_version > since else {})
             return {**shown, "version": self.version}
 
     def tell_long(self) -> None:
@@ -111,50 +109,29 @@ class Live:
     # Outcomes
 
     def show_outcomes(self) -> None:
-        """Shows the outcomes under the current script, and which words differ from the mark."""
+        """Shows the outcomes under the current script."""
         reply, text = self.bench.program.ask(["stems"]), self.bench.program.text()
         if reply.state != DONE or text is None:
             return
-        changed = self.changed(reply.lines)
         with self.news:
+            changed = self.outcomes.read(reply.lines)
             if changed is None:
                 self.floor = self.version + 1
                 self.deltas.clear()
-                self.differs = {i for i, (old, new) in enumerate(zip(self.marked, self.outcomes)) if old != new} if self.is_like_mark() else set()
             else:
                 self.deltas[self.version + 1] = changed
                 if len(self.deltas) > KEPT:
                     self.floor = min(self.deltas)
                     del self.deltas[self.floor]
-                for i in changed if self.is_like_mark() else ():
-                    (self.differs.add if self.outcomes[i] != self.marked[i] else self.differs.discard)(i)
             self.script += 1
-            if self.is_like_mark():
-                found = [["changed", self.words[i], *pair(self.marked[i]), *pair(self.outcomes[i])] for i in sorted(self.differs)]
-                self.publish(changes=found, isPartial=True)
             last = {"origin": self.origin, "at": time.strftime("%H:%M:%S"), "ms": round(1000 * (time.monotonic() - self.begun)), "changed": changed}
-            self.publish(text=ink.shown_text(text), script=self.script, fault=None, notice="", last=last)
+            self.publish(text=ink.shown_text(text), script=self.script, fault=None, notice="", last=last, isPartial=True)
 
-    def changed(self, lines: List[str]) -> Optional[List[int]]:
-        """Takes the rows of `stems`. Returns the words with another outcome; nothing if the words are others."""
-        before, was_plain, self.lines, self.is_plain = self.lines, self.is_plain, lines, '"' not in "".join(lines)
-        if len(before) == len(lines) and was_plain and self.is_plain:
-            # (a row is a line)
-            places = [i for i, (old, new) in enumerate(zip(before, lines)) if old != new]
-            found = rows.outcomes(lines[i] for i in places)
-            if all(row.word == self.words[i] for i, row in zip(places, found)):
-                outcomes = self.outcomes[:]
-                for i, row in zip(places, found):
-                    outcomes[i] = outcome(row)
-                self.outcomes = outcomes
-                return places
-        all_rows, old = rows.outcomes(lines), self.outcomes
-        is_same, self.outcomes = [row.word for row in all_rows] == self.words and self.version > 1, [outcome(row) for row in all_rows]
-        self.words = self.words if is_same else [row.word for row in all_rows]
-        return [i for i, (a, b) in enumerate(zip(old, self.outcomes)) if a != b] if is_same else None
-
-    def is_like_mark(self) -> bool:
-        return len(self.marked) == len(self.words)
+    def show_mark(self, name: str = "") -> None:
+        then = [(word, old) for word, old in zip(self.outcomes.words, self.outcomes.marked) if old is not None]
+        with self.news:
+            self.mark_version = self.version + 1
+            self.publish(markFigures=figures_of(then), markName=name)
 
     # Beginning, and files
 
@@ -167,12 +144,12 @@ class Live:
             if not reply.is_done:
                 self.show_fault(reply.said or ["The program ended at the start."], "file")
                 return
-            self.words, self.lines, self.steps = [], [], []
+            self.outcomes, self.steps = Outcomes(), []
             self.show_outcomes()
             self.note_mark()
             if self.stems:
                 self.mark_stems()
-            self.show_edit(self.bench.changes)
+            self.show_edit(self.bench.changes if self.stems else [])
 
     def watch(self) -> None:
         """Reads what is saved, and between two looks asks for what takes longer."""
@@ -211,7 +188,8 @@ class Live:
             self.publish(notice=words.sentence(reply, ["words"], self.bench))
             return
         self.show_words()
-        gone = [word for word in added if word not in set(self.words)]
+        left = set(self.outcomes.words)
+        gone = [word for word in added if word not in left]
         self.bench.added = [word for word in added if word not in gone]
         if gone:
             self.publish(added=len(self.bench.added), notice="Words that you added are gone, since the file lacks them: %s." % ", ".join(map(short, gone[:20])))
@@ -278,8 +256,11 @@ class Live:
         """Shows what an edit changed, by the rows of the program, and what follows from it."""
         program = self.bench.program
         text, in_file = ink.shown_text(program.now.text), ink.shown_text(self.bench.file_text or b"")
+        with self.news:
+            if not self.outcomes.follow(changes):
+                self.show_mark(self.part("markName"))
         self.publish(
-            changes=[flat(row) for row in changes], isPartial=False, text=text, isTrial=text != in_file, history=self.history(),
+            changes=[flat(row) for row in changes if row.kind != "changed"], isPartial=False, text=text, isTrial=text != in_file, history=self.history(),
             limit=int(program.now.limit), added=len(self.bench.added),
         )
         if edit and edit.aside is not None:
@@ -306,21 +287,10 @@ class Live:
             self.publish(notice=words.sentence(reply, list(lines), self.bench))
 
     def show_fault(self, said: Sequence[str], origin: str, text: Optional[str] = None) -> None:
-        """Shows what the program said of a text that it refused: place and sentence, if they are of the script."""
-        script, data = self.bench.script, read_file(self.bench.script) or b""
-        lines = faults.shown(said, script, self.bench.program.copy_path, data if text is None else None, 1 << 20) or [named(line) for line in said]
-        places = [PLACE.match(line[len(start) :]) for line in lines for start in (named(script), "replace") if line.startswith(start + ":")]
-        place = next(filter(None, places), None)
-        # (a fault of the words has no place in the script)
-        is_of_script = place is not None or text is not None
-        carets = next((line for line in lines if line.strip() and not line.strip("^ ")), "")
-        fault = {
-            "origin": origin, "isOfScript": is_of_script, "text": (text if text is not None else ink.shown_text(data)) if is_of_script else None,
-            "line": int(place[1]) if place else 0, "column": int(place[2]) if place else 0, "length": carets.count("^"),
-            "sentence": place[3] if place else " ".join(lines),
-        }
-        fault["spans"] = self.tokens(fault["text"]) if is_of_script else []
-        self.publish(fault=fault, last=None if self.bench.is_waiting else self.part("last"))
+        """Shows what the program said of a text that it refused, the file's if it is not another one."""
+        fault = refusal(self.bench, said, text)
+        spans = self.tokens(fault["text"]) if fault["isOfScript"] else []
+        self.publish(fault={**fault, "origin": origin, "spans": spans}, last=None if self.bench.is_waiting else self.part("last"))
 
     # The history by name
 
@@ -411,8 +381,9 @@ class Live:
             self.show_edit(self.bench.changes)
 
     def note_mark(self) -> None:
-        self.marked, self.differs = self.outcomes, set()
-        self.publish(markFigures=figures_of(self.words, self.marked), markName="")
+        with self.news:
+            self.outcomes.mark()
+            self.show_mark()
 
     def mark_stems(self) -> None:
         """Makes the approved stems the mark."""
@@ -420,10 +391,9 @@ class Live:
         if not reply.is_done:
             self.publish(notice=words.sentence(reply, ["mark " + self.stems], self.bench))
             return
-        before = {row.word: row for row in self.bench.changes if row.kind == "changed"}
-        self.marked = [code(before[word].old_kind, before[word].old) if word in before else now for word, now in zip(self.words, self.outcomes)]
-        self.differs = {i for i, word in enumerate(self.words) if word in before}
-        self.publish(markFigures=figures_of(self.words, self.marked), markName=self.stems)
+        with self.news:
+            self.outcomes.follow(self.bench.changes)
+            self.show_mark(self.stems)
 
     # What a page asks
 
@@ -435,14 +405,17 @@ class Live:
             raise Refused(words.sentence(reply, [line], self.bench) if reply.state == DONE else "It was broken off.")
         return reply
 
-    def word(self, word: str) -> Dict[str, Any]:
+    def word(self, word: str, has_tests: bool = False) -> Dict[str, Any]:
+        program = self.bench.program
         with self.asking():
             events = rows.read("events", self.ask("events " + word).lines)
             figures = rows.read("integers", self.ask("integers " + word).lines)
             turn = words.turning(word, loops.turn_of(events), self.bench)
-            found = timeline(word, events, self.bench.places())
+            places = self.bench.places()
+            run = with_tests(program.command, program.now.text, places.tokens, word, events, int(figures[0].count)) if has_tests else None
+        found = timeline(word, run.events if run else events, places, run.tests if run else {})
         named_figures = [[getattr(row, "name", "steps"), getattr(row, "value", getattr(row, "count", ""))] for row in figures]
-        return {**found, "figures": named_figures, "turn": turn, "script": self.script}
+        return {**found, "figures": named_figures, "turn": turn, "hasTests": bool(run and run.is_known), "script": self.script}
 
     def uses(self, rules: Sequence[Sequence[str]]) -> Dict[str, Any]:
         """Returns the places of the words that use one of some rules: name; name and number; or name, number and string."""
@@ -452,7 +425,7 @@ class Live:
         with self.asking():
             replies = self.bench.program.ask_each([[line] for line in lines]) if lines else []
             found = {row.word for reply in replies if reply.is_done for row in rows.outcomes(reply.lines)}
-            return {"words": [i for i, word in enumerate(self.words) if word in found], "script": self.script, "left": len(rules) - len(lines)}
+            return {"words": [i for i, word in enumerate(self.outcomes.words) if word in found], "script": self.script, "left": len(rules) - len(lines)}
 
     def families_now(self) -> Dict[str, Any]:
         with self.asking():
@@ -471,29 +444,6 @@ class Live:
             return ink.spans_of(data, rows.tokens(lines or []))
 
 
-def pair(now: str) -> Iterator[str]:
-    yield "stem" if now[0] == "=" else "refused"
-    yield now[1:]
-
-
-def code(kind: str, text: str) -> str:
-    return ("=" if kind == "stem" else "!") + text
-
-
-def outcome(row: rows.Outcome) -> str:
-    return code(row.kind, row.stem)
-
-
 def flat(row: Any) -> List[str]:
     """Returns a row as the program wrote it."""
     return [part for field in row for part in ([field] if isinstance(field, str) else field)]
-
-
-def figures_of(vocabulary: Sequence[str], outcomes: Sequence[str]) -> Dict[str, int]:
-    """Returns the figures of `stats` for outcomes that the program has no figures of, those of the mark."""
-    sizes = Counter(now for now in outcomes if now[0] == "=")
-    unchanged = sum("=" + word == now for word, now in zip(vocabulary, outcomes))
-    alone = sum(size == 1 for size in sizes.values())
-    refused = sum(now[0] == "!" for now in outcomes)
-    largest = max(sizes.values(), default=0)
-    return {"words": len(vocabulary), "refused": refused, "classes": len(sizes), "alone": alone, "largest": largest, "unchanged": unchanged}

@@ -1,13 +1,13 @@
 'use strict';
 // All text from files goes into the page as text nodes, never as markup. No script is read here: the server says what is where.
 const $ = id => document.getElementById(id);
-const base = location.pathname.replace(/[^/]*$/, ''), ROW = 28, LINE = 20, TOP = 8, GAP = 62, ALL = 400;
+const base = location.pathname.replace(/[^/]*$/, ''), ROW = 28, LINE = 20, TOP = 8, GAP = 80, ALL = 400;
 const VIEWS = ['changes', 'classes', 'word', 'rule', 'families'];
 const S = {
-  st: {}, words: [], out: [], classes: null, view: 'changes', kind: 'changed', fkind: 'under', sort: 'size', desc: true, pick: null, sel: null,
-  word: null, rule: null, fam: null, editing: false, dirty: false, live: false, lines: [], ruleAt: new Map(), counts: new Map(), typed: null, at: 0, idle: 0,
+  st: {}, words: [], out: [], marked: [], classes: null, changed: null, view: 'changes', kind: 'changed', fkind: 'under', sort: 'size', desc: true, pick: null, sel: null,
+  word: null, rule: null, fam: null, editing: false, dirty: false, live: null, lines: [], ruleAt: new Map(), counts: new Map(), typed: null, at: 0, idle: 0, never: 0, oops: [], drawn: new Map(),
 };
-const number = n => n.toLocaleString('en-US');
+const numbers = new Intl.NumberFormat('en-US'), number = n => numbers.format(n);
 const count = (n, one, many) => `${number(n)} ${n === 1 ? one : many || one + 's'}`;
 const later = window.requestIdleCallback || (act => setTimeout(act, 100)), notLater = window.cancelIdleCallback || clearTimeout;
 const kept = { get: key => { try { return localStorage.getItem('voltizug.' + key); } catch (fault) { return null; } }, set: (key, value) => { try { localStorage.setItem('voltizug.' + key, value); } catch (fault) { /* nothing is kept */ } } };
@@ -23,12 +23,6 @@ function el(tag, what, ...children) {
     else if (value !== undefined && value !== null && value !== false) node.setAttribute(key, value === true ? '' : value);
   }
   node.append(...children.flat(9).filter(child => child !== null && child !== undefined && child !== false));
-  return node;
-}
-function svg(tag, what, ...children) {
-  const node = document.createElementNS('http://www.w3.org/2000/svg', tag);
-  for (const [key, value] of Object.entries(what || {})) node.setAttribute(key, value);
-  node.append(...children);
   return node;
 }
 // Control characters, marks of direction and characters without width are named, so that they are seen and not obeyed.
@@ -148,18 +142,32 @@ async function post(path, body) {
 function listen() {
   const stream = new EventSource(base + 'events');
   stream.onmessage = event => { S.live = true; take(JSON.parse(event.data)); };
-  stream.onerror = () => { S.live = false; showStatus(); if (stream.readyState === 2) setTimeout(listen, 1000); };
+  stream.onerror = () => { S.live = false; showLost(); if (stream.readyState === 2) setTimeout(listen, 1000); };
+}
+// Says that the server is gone, or that another one is at this address.
+async function showLost() {
+  showStatus();
+  const status = await fetch(base + 'page.css', { cache: 'no-store' }).then(reply => reply.status, () => 0);
+  if (S.live) return;
+  const had = S.st.names ? ' What you see is what it had last.' : '';
+  $('lost').textContent = status === 404 ? 'This is the address of a page that has ended: open the one that ./snowbench page printed last.' + had : `No connection: ${status ? 'too many pages are open' : './snowbench page has ended, or does not reply'}.${had} The page tries again each second.`;
+  $('lost').hidden = false;
 }
 let ticking = 0;
 function take(news) {
-  const { words, outcomes, delta, ...rest } = news, st = S.st, text = st.text, fault = JSON.stringify(st.fault);
+  const { words, outcomes, delta, marks, ...rest } = news, st = S.st, text = st.text, fault = JSON.stringify(st.fault);
   Object.assign(st, rest);
-  if (words) { S.words = words; S.out = outcomes; S.classes = null; }
-  if (delta) { for (const [i, o] of delta) S.out[i] = o; S.classes = null; }
+  if (words) { S.words = words; S.out = outcomes; }
+  if (delta) for (const [i, o] of delta) S.out[i] = o;
+  // (a word that is new since the mark has no outcome there)
+  if (marks) { S.marked = S.out.slice(); for (const [i, o] of marks) S.marked[i] = o; }
+  if (words || delta || marks) S.classes = S.changed = null;
   if (rest.counts && rest.counts.of) S.counts = new Map(Object.entries(rest.counts.of));
   if (rest.counts && !rest.counts.of) S.counts = new Map();
   if ('script' in rest) S.fam = null;
   if (!st.names) return;
+  for (const id of ['waiting', 'lost']) $(id).hidden = true;
+  for (const id of ['figures', 'main']) $(id).hidden = false;
   clearInterval(ticking);
   if (st.busy) ticking = setInterval(showStatus, 500);
   document.title = `${st.fault ? '✗ ' : ''}${st.names.script.split('/').pop()} – Voltizug`;
@@ -167,7 +175,7 @@ function take(news) {
   if (S.editing && S.dirty && text !== undefined && text !== st.text && st.text !== $('editor').value) say('The script has changed. The text that you type here is kept, and is based on the script of before.', false);
   if (text !== st.text || fault !== JSON.stringify(st.fault) || 'ink' in rest) showScript(); else if ('counts' in rest) layout(); else if ('script' in rest) showHint();
   showEditButtons();
-  if (words || delta || 'changes' in rest || 'script' in rest || 'counts' in rest && S.view === 'rule') show(true);
+  if (words || delta || marks || 'changes' in rest || 'script' in rest || 'counts' in rest && S.view === 'rule') show(true);
   document.documentElement.dataset.version = st.version;
 }
 
@@ -176,13 +184,14 @@ function take(news) {
 function showStatus() {
   const box = $('status'), st = S.st, dot = el('span', { class: 'dot' }), last = st.last;
   box.className = '';
-  if (!S.live) { box.className = 'bad'; box.replaceChildren(dot, 'no connection'); return; }
+  box.title = last ? `${{ start: 'Begun', file: 'Read', words: 'Words read', trial: 'Tried', undo: 'Undone', redo: 'Redone', limit: 'Limit set' }[last.origin]} at ${last.at}; the outcomes of all words came after ${number(last.ms)} ms` : '';
+  if (!S.live) { box.className = S.live === null ? 'busy' : 'bad'; box.replaceChildren(dot, S.live === null ? 'connects' : 'no connection'); return; }
   if (st.busy) {
     box.className = 'busy';
     box.replaceChildren(dot, `runs the words, ${Math.max(0, Math.round((Date.now() - st.busy.since) / 1000))} s `, el('button', { type: 'button', onclick: () => post('stop') }, 'Break off'));
   } else if (st.fault) {
     box.className = 'bad';
-    box.replaceChildren(dot, `fault in ${st.fault.origin === 'trial' ? 'the trial' : st.fault.isOfScript ? 'the file' : 'a file'}`);
+    box.replaceChildren(dot, `${st.fault.all.length > 1 ? st.fault.all.length + ' faults' : 'fault'} in ${st.fault.origin === 'trial' ? 'the trial' : st.fault.isOfScript ? 'the file' : 'a file'}${st.text === undefined ? '' : ': all results are of the text before it'}`);
   } else {
     box.className = st.isTrial ? 'busy' : '';
     box.replaceChildren(dot, st.isTrial ? 'a trial, not in the file' : 'as in the file', last ? ` · ${last.at} · ${number(last.ms)} ms` : '');
@@ -205,6 +214,8 @@ function showTop(news) {
   $('mark-stems').hidden = !st.names.stems;
   if ('limit' in news && document.activeElement !== $('limit')) $('limit').value = st.limit || '';
   if ('history' in news) showHistory();
+  $('figures').hidden = !st.figures;
+  $('figures').className = 'figures' + (st.fault ? ' old' : '');
   if (st.figures) $('figures').replaceChildren(...FIGURES.map(([key, label]) => {
     const n = st.figures[key] || 0, m = st.markFigures ? st.markFigures[key] : n, delta = n - m;
     return el('div', {}, el('dt', {}, label), el('dd', {}, number(n)), delta ? el('dd', { class: 'delta', title: `${number(m)} at the mark` }, (delta > 0 ? '+' : '−') + number(Math.abs(delta))) : null);
@@ -268,20 +279,22 @@ function layout() {
     most = Math.max(most, line.length + (line.includes('\t') ? 7 * line.split('\t').length : 0));
   }
   if (lines.length > 1 && text.endsWith('\n')) lines.pop();
-  Object.assign(S, { shown: text, lines, same: common(text, ink.text), fault, gap: fault && fault.line && !S.editing ? fault.line : 0 });
+  Object.assign(S, { shown: text, lines, same: common(text, ink.text), fault, oops: [], gap: fault && fault.line && !S.editing ? fault.line : 0 });
   S.ruleAt = new Map(ink.rules.map((rule, i) => [rule[5], i]));
   // (a text that is not the current script has colours of its own between its beginning and its end, if they are known)
   S.inked = S.typed && S.typed.text === text ? S.typed.spans : fault ? fault.spans : [];
   $('lines').style.height = TOP + lines.length * LINE + (S.gap ? GAP : 0) + 60 + 'px';
   $('lines').style.width = `max(100%, calc(${most}ch + 150px))`;
-  const news = JSON.stringify(fault);
-  if (fault && fault.line && !S.editing && news !== S.faultShown) toLine(fault.line, true);
-  S.faultShown = news;
-  $('under').hidden = !(S.editing && fault);
-  if (S.editing && fault) $('under').replaceChildren(fault.line ? lineLink(fault.line) : '', ' ', named(fault.sentence));
+  const all = !fault ? [] : fault.all.length ? fault.all : [[fault.line, -1, -1, fault.sentence]];
+  S.oops = all.filter(([, from]) => from >= 0);
+  $('under').hidden = !(fault && (S.editing || all.length > 1));
+  $('under').replaceChildren(el('h3', { class: 'label' }, count(all.length, 'fault')), el('ul', {}, all.map(([n, , , sentence]) => el('li', {}, lineLink(n), ' ', named(sentence)))));
   if (S.editing) sizeEditor();
   showHint();
-  drawLines(true);
+  const shown = JSON.stringify(fault);
+  if (fault && fault.line && !S.editing && shown !== S.faultShown) toLine(fault.line, true);
+  else drawLines(true);
+  S.faultShown = shown;
 }
 const topOf = n => TOP + (n - 1) * LINE + (S.gap && n > S.gap ? GAP : 0);
 // (all lines of a short one when there is time, so that the browser finds text in them)
@@ -293,11 +306,19 @@ function drawLines(isNew, isIdle) {
   if (!isNew && S.from <= from && S.to >= to) return;
   notLater(S.idle);
   if (isShort && !isIdle) S.idle = later(() => drawLines(true, true), { timeout: 500 });
-  const had = document.activeElement?.classList.contains('cov') ? +document.activeElement.dataset.n : 0, nodes = [];
-  [S.from, S.to] = [from, to];
-  for (let k = from; k < to; k++) nodes.push(...drawLine(k));
-  $('lines').replaceChildren(...nodes);
-  if (had) focusCount(had, false);
+  const had = document.activeElement?.classList.contains('cov') ? +document.activeElement.dataset.n : 0, nodes = [], before = S.drawn;
+  [S.from, S.to, S.drawn] = [from, to, new Map()];
+  for (let k = from; k < to; k++) nodes.push(...drawLine(k, before));
+  $('lines').classList.toggle('old', isOld());
+  place($('lines'), nodes);
+  if (had && document.activeElement?.dataset.n !== String(had)) focusCount(had, false);
+}
+// Makes these nodes the children; those that are there already stay, so that a browser lays out only what is new.
+function place(host, nodes) {
+  const wanted = new Set(nodes);
+  for (const node of [...host.childNodes]) if (!wanted.has(node)) node.remove();
+  let next = host.firstChild;
+  for (const node of nodes) { if (node === next) next = next.nextSibling; else host.insertBefore(node, next); }
 }
 // The coloured parts of a line: text, class, rule.
 function pieces(start, end) {
@@ -313,41 +334,69 @@ function pieces(start, end) {
     at = to;
   }
   if (at < b) found.push([S.shown.slice(at - a + start, end), '', undefined]);
-  return found;
+  return S.oops.length ? withFaults(found, start, end) : found;
+}
+// The same parts, cut at the faults: with the sentence of the fault as the fourth.
+function withFaults(found, start, end) {
+  const bad = S.oops.filter(([, from, to]) => from < end && to > start || from === to && from >= start && from <= end), cuts = [];
+  if (!bad.length) return found;
+  let at = start;
+  for (const [text, cls, rule] of found) {
+    const places = [at, ...bad.flatMap(([, from, to]) => [from, to]).filter(place => place > at && place < at + text.length).sort((a, b) => a - b), at + text.length];
+    places.slice(1).forEach((to, k) => { const from = places[k], oops = bad.find(([, a, b]) => a <= from && to <= b); if (to > from) cuts.push([S.shown.slice(from, to), cls, k ? undefined : rule, oops && oops[3]]); });
+    at += text.length;
+  }
+  return cuts;
 }
 const isOld = () => !S.st.counts || S.st.counts.script !== S.st.script;
 const usesOf = rule => S.counts.get(rule[0]) ?? 0;
-function drawLine(k) {
-  const [start, end] = S.lines[k], n = k + 1, ink = S.st.ink, rules = [], fault = S.fault, tx = el('span', { class: 'tx' });
-  const chosen = S.view === 'rule' && S.rule ? new Set(S.rule) : null, isCounted = S.counts.size > 0;
-  for (const [text, cls, i] of pieces(start, end)) {
-    const rule = i === undefined ? null : ink.rules[i];
+// (a rule that is new since the last count is not known yet)
+const isUnknown = rule => isOld() && !S.counts.has(rule[0]);
+const isNever = rule => S.counts.size > 0 && S.words.length > 0 && !usesOf(rule) && !isUnknown(rule);
+function drawLine(k, before) {
+  const [start, end] = S.lines[k], n = k + 1, fault = S.fault, found = pieces(start, end).map(([text, cls, i, oops]) => [text, cls, i === undefined ? null : S.st.ink.rules[i], oops]);
+  const chosen = S.view === 'rule' && S.rule ? S.rule : [], isCounted = S.counts.size > 0, look = 'ln' + (S.at === n ? ' at' : '') + (fault && (fault.line === n || S.oops.some(([line]) => line === n)) ? ' wrong' : '');
+  const key = JSON.stringify([n, topOf(n), look, isCounted && S.words.length, found.map(([text, cls, rule, oops]) => rule ? [text, cls, rule[0], S.counts.get(rule[0]), isUnknown(rule), chosen.includes(rule[0]), oops] : [text, cls, oops])]), old = before.get(n);
+  if (S.gap !== n && old && old.key === key) { S.drawn.set(n, old); return [old.line]; }
+  const tx = el('span', { class: 'tx' }), rules = [];
+  for (const [text, cls, rule, oops] of found) {
     if (rule) rules.push(rule);
-    const never = rule && isCounted && !isOld() && S.words.length && !usesOf(rule) ? ' never' : '';
-    if (cls) tx.append(el('span', { class: cls + (rule ? ' rule' + never + (chosen && chosen.has(rule[0]) ? ' on' : '') : ''), 'data-i': i, title: rule && isCounted ? ruleName(rule) + ': ' + count(usesOf(rule), 'word') : null }, narrow(text)));
-    else tx.append(...narrow(text));
+    if (!cls && !oops) { tx.append(...narrow(text)); continue; }
+    const is = cls + (oops ? ' oops' : '') + (rule ? ' rule' + (isNever(rule) ? ' never' : '') + (chosen.includes(rule[0]) ? ' on' : '') : '');
+    tx.append(el('span', { class: is, 'data-rule': rule && rule[0], title: oops ? named(oops) : rule && isCounted && !isUnknown(rule) ? ruleName(rule) + ': ' + count(usesOf(rule), 'word') : null }, narrow(text)));
   }
-  const line = el('div', { class: 'ln' + (S.at === n ? ' at' : '') + (fault && fault.line === n ? ' wrong' : '') }, countCell(n, rules, isCounted), el('span', { class: 'no', 'aria-hidden': 'true' }, String(n)), tx);
+  const line = el('div', { class: look }, countCell(n, rules, isCounted), el('span', { class: 'no', 'aria-hidden': 'true' }, String(n)), tx);
+  S.drawn.set(n, { key, line });
   line.style.top = topOf(n) + 'px';
   if (S.gap !== n) return [line];
   const indent = S.shown.slice(start, start + fault.column - 1).replace(/[^\t]/g, ' ');
-  const box = el('div', { class: 'fault', role: 'alert' }, el('pre', { 'aria-hidden': 'true' }, indent + '^'.repeat(Math.max(1, fault.length))), el('p', {}, named(fault.sentence)));
+  const more = fault.all.length > 1 ? ` (${count(fault.all.length - 1, 'more fault')} below)` : '';
+  const box = el('div', { class: 'fault', role: 'alert' }, el('pre', { 'aria-hidden': 'true' }, indent + '^'.repeat(Math.max(1, fault.length))), el('p', {}, named(fault.sentence) + more));
   box.style.top = topOf(n) + LINE + 'px';
   return [line, box];
 }
 function countCell(n, rules, isCounted) {
   if (!rules.length || !isCounted) return el('span', { class: 'cov' });
   const taken = rules.filter(rule => rule[1] === 'entry'), meant = taken.length ? taken : rules.slice(0, 1), sum = meant.reduce((all, rule) => all + usesOf(rule), 0);
-  const zero = isOld() || !S.words.length ? 0 : (taken.length ? taken : rules).filter(rule => !usesOf(rule)).length, bar = el('i');
+  const zero = (taken.length ? taken : rules).filter(isNever).length, bar = el('i');
+  if (meant.some(isUnknown)) return el('span', { class: 'cov' }, '…');
   bar.style.width = (54 * Math.min(1, Math.log1p(sum) / (Math.log1p(S.words.length) || 1))).toFixed(1) + 'px';
   const title = taken.length > 1 ? `${number(sum)} in all: for each of these ${taken.length} strings the words that take it` : `${count(sum, 'word')} ${sum === 1 ? 'uses' : 'use'} this`;
-  const never = zero ? `; ${count(zero, 'is', 'are')} never ${taken.length ? 'taken' : 'used'}` : '';
-  return el('button', { type: 'button', class: 'cov' + (zero ? ' has0' : '') + (isOld() ? ' old' : ''), tabindex: -1, 'data-n': n, title: title + never, 'aria-label': `line ${n}: ${title}${never}`, onclick: () => go('rule', meant.map(rule => rule[0]).join('\n')) }, bar, zero && sum ? '○ ' : '', number(sum));
+  const never = zero ? `; ${count(zero, 'is', 'are')} never ${taken.length ? 'taken' : 'used'}` : '', scale = '. The bar grows with the logarithm of the number.';
+  return el('button', { type: 'button', class: 'cov' + (zero ? ' has0' : ''), tabindex: -1, 'data-n': n, title: title + never + scale, 'aria-label': `line ${n}: ${title}${never}`, onclick: () => go('rule', meant.map(rule => rule[0]).join('\n')) }, bar, zero && sum ? '○ ' : '', number(sum));
 }
 function showHint() {
   const rules = S.st.ink ? S.st.ink.rules : [], never = rules.filter(rule => rule[1] === 'entry' && !usesOf(rule)).length;
   const known = S.counts.size && rules.length, pending = isOld() && S.st.text !== undefined && !S.st.fault;
-  $('hint').textContent = !known ? (S.st.counts && S.st.ink && !S.st.fault && S.words.length ? 'this program writes no places or no counts' : '') : pending ? 'counting the words of each rule' : !S.words.length ? '' : never ? `${count(never, 'string')} that no word takes` : 'some word takes each string';
+  const said = !known ? (S.st.counts && S.st.ink && !S.st.fault && S.words.length ? 'this program writes no places or no counts' : '') : pending ? 'counting the words of each rule' : !S.words.length ? '' : never ? '' : 'some word takes each string';
+  $('hint').replaceChildren(said || (known && never ? el('button', { type: 'button', class: 'link', id: 'next-never', title: 'Go to the next one (n)', onclick: toNever }, `${count(never, 'string')} that no word takes`) : ''));
+}
+// Goes to the next string that no word takes.
+function toNever() {
+  const lines = [...new Set((S.st.ink ? S.st.ink.rules : []).filter(rule => rule[1] === 'entry' && !usesOf(rule)).map(rule => rule[7]))];
+  if (!lines.length || isOld()) return;
+  S.never = lines.find(n => n > S.never) || lines[0];
+  toLine(S.never);
 }
 const ruleName = ([, kind, name, k, string]) => kind === 'entry' ? `${name}, among ${k}, '${named(string)}'` : kind === 'among' ? `${name}, among ${k}` : `${kind} ${name}`;
 function toLine(n, isFault) {
@@ -446,17 +495,28 @@ function route() {
   show(false);
   if (before === 'rule' || S.view === 'rule') drawLines(true);
 }
+// All rows of changes: those of words by their outcomes now and at the mark.
+function changes() {
+  if (!S.changed) {
+    S.changed = [];
+    const pair = o => [o[0] === '=' ? 'stem' : 'refused', o.slice(1)];
+    S.marked.forEach((old, i) => { if (old !== null && old !== S.out[i]) S.changed.push(['changed', S.words[i], ...pair(old), ...pair(S.out[i])]); });
+  }
+  return S.changed.concat(S.st.changes);
+}
 function show(isNew) {
+  const isThere = S.st.text !== undefined && S.st.changes !== undefined;
+  $('no-results').hidden = isThere;
   for (const tab of document.querySelectorAll('[role="tab"]')) {
     const on = tab.dataset.view === S.view;
     tab.setAttribute('aria-selected', on);
     tab.tabIndex = on ? 0 : -1;
-    $('view-' + tab.dataset.view).hidden = !on;
+    $('view-' + tab.dataset.view).hidden = !on || !isThere;
   }
-  if (!S.st.changes) return;
-  const kinds = S.kinds = new Map();
-  for (const row of S.st.changes) kinds.set(row[0], (kinds.get(row[0]) || 0) + 1);
-  $('count-changes').textContent = S.st.changes.length ? number(kinds.get('changed') || S.st.changes.length) : '';
+  if (!isThere) return;
+  const rows = changes(), kinds = S.kinds = new Map();
+  for (const row of rows) kinds.set(row[0], (kinds.get(row[0]) || 0) + 1);
+  $('count-changes').textContent = rows.length ? number(kinds.get('changed') || rows.length) : '';
   ({ changes: showChanges, classes: showClasses, word: showWord, rule: showRule, families: showFamilies })[S.view](isNew);
 }
 function showChanges(isNew) {
@@ -464,11 +524,12 @@ function showChanges(isNew) {
   const options = [['changed', 'Words'], ['split', 'Split'], ['merged', 'Merged'], ['renamed', 'Renamed'], ['added', 'Added'], ['removed', 'Removed']].map(([key, label]) => [key, label, st.isPartial && key !== 'changed' ? '…' : S.kinds.get(key) || 0]).filter(([key, , n], i) => i < 4 || n && n !== '…');
   if (!options.some(([key]) => key === S.kind)) S.kind = 'changed';
   segments($('change-kinds'), options, S.kind, key => { S.kind = key; showChanges(); });
-  const since = st.changes.length ? `Compared with ${st.markName ? 'the stems of ' + file(st.markName) : 'the mark'}.` : 'No word and no class differs from the mark.';
+  const all = changes(), since = `Compared with ${st.markName ? 'the stems of ' + file(st.markName) : 'the mark'}.`;
   const doing = { file: 'The last save', trial: 'The last trial', undo: 'Undo', redo: 'Redo', limit: 'The limit' }[last ? last.origin : ''];
-  $('change-lead').replaceChildren(since, ...(doing && changed ? [` ${doing} changed `, el('b', {}, count(changed.length, 'word')), '.'] : []));
+  $('change-lead').replaceChildren(all.length ? since : '', ...(doing && changed && (all.length || changed.length) ? [` ${doing} changed `, el('b', {}, count(changed.length, 'word')), '.'] : []));
+  for (const id of ['change-tools', 'change-cols']) $(id).hidden = !all.length;
   const text = $('change-search').value, only = $('change-last').checked && changed ? new Set(changed.map(i => S.words[i])) : null;
-  let rows = st.changes.filter(row => row[0] === S.kind);
+  let rows = all.filter(row => row[0] === S.kind);
   if (text) rows = rows.filter(row => row.some((part, i) => i && part.includes(text) && !(row[0] === 'changed' && (i === 2 || i === 4))));
   if (only && S.kind === 'changed') rows = rows.filter(row => only.has(row[1]));
   const looks = {
@@ -479,7 +540,7 @@ function showChanges(isNew) {
   };
   const [cls, labels, render] = looks[S.kind] || (S.kind === 'renamed' ? looks.split : looks.added), top = lists.changes.host.scrollTop;
   header('change-cols', cls, labels);
-  lists.changes.set(rows, render, cls, text || only ? 'Nothing found.' : S.kind === 'changed' ? 'No word has another stem than at the mark.' : 'None.');
+  lists.changes.set(rows, render, cls, !all.length ? `No word and no class differs from ${st.markName ? 'the stems of ' + file(st.markName) : 'the mark'}. Save ${file(st.names.script)} in your editor, or press Edit: what that changes is shown here.` : text || only ? 'Nothing found.' : 'None.');
   if (isNew) lists.changes.host.scrollTop = top;
 }
 function openChange(row) {
@@ -493,27 +554,20 @@ function classes() {
   return S.classes = [...by].map(([o, words]) => ({ stem: o.slice(1), words }));
 }
 const size = text => { for (let i = 0; i < text.length; i++) { const c = text.charCodeAt(i); if (c > 0xd7ff && c < 0xe000) return [...text].length; } return text.length; };
-const short = n => n >= 10000 ? Math.round(n / 1000) + 'k' : n >= 1000 ? (n / 1000).toFixed(1) + 'k' : String(n);
+// A picture of numbers: a row with its bar for each, of which one can be chosen.
 function histogram(host, values, label, pick) {
-  const full = Math.max(220, host.clientWidth), most = Math.max(1, ...values.map(v => v.n)), n = values.length, step = full / Math.max(n, 6), had = host.contains(document.activeElement);
-  const root = svg('svg', { class: 'hist', viewBox: `0 0 ${full} 104`, role: 'group', tabindex: 0, 'aria-label': `${label}: ${values.map(v => `${v.name}: ${number(v.n)}`).join(', ')}. Arrows and Enter choose.` });
-  let at = -1;
-  const groups = values.map((v, i) => {
-    const h = v.n ? Math.max(1.5, 64 * v.n / most) : 0, wide = Math.min(46, step - 6), x = i * step + step / 2, tip = svg('title', {}), name = svg('text', { x, y: 100 }), top = svg('text', { x, y: 79 - h });
-    tip.textContent = `${v.label}: ${number(v.n)}`;
-    name.textContent = v.name;
-    top.textContent = v.n ? short(v.n) : '';
-    const group = svg('g', S.pick && S.pick.pic === v.pic && S.pick.key === v.key ? { class: 'on' } : {}, tip, svg('rect', { class: 'b', x: x - wide / 2, y: 84 - h, width: wide, height: h, rx: 2 }), name, top, svg('rect', { class: 'hit', x: i * step + 1, y: 1, width: step - 2, height: 102, rx: 4 }));
-    group.addEventListener('click', () => pick(v));
-    return group;
-  });
-  root.addEventListener('keydown', event => {
-    const by = { ArrowRight: 1, ArrowLeft: -1 }[event.key];
-    if (by) { event.preventDefault(); groups[at]?.classList.remove('cur'); at = Math.max(0, Math.min(n - 1, at + by)); groups[at].classList.add('cur'); } else if (event.key === 'Enter' && at >= 0) { event.preventDefault(); pick(values[at]); }
-  });
-  root.append(svg('rect', { class: 'base', x: 0, y: 84, width: n * step, height: 1 }), ...groups);
-  host.replaceChildren(root);
-  if (had) root.focus();
+  const most = Math.max(1, ...values.map(v => v.n)), isOn = v => Boolean(S.pick && S.pick.pic === v.pic && S.pick.key === v.key), had = host.contains(document.activeElement) ? [...host.children].indexOf(document.activeElement) : -1;
+  host.setAttribute('aria-label', label);
+  host.replaceChildren(...values.map((v, i) => {
+    const bar = el('i');
+    bar.style.width = v.n ? `max(1px, ${(100 * v.n / most).toFixed(2)}%)` : 0;
+    return el('button', { type: 'button', class: isOn(v) ? 'on' : '', 'aria-pressed': isOn(v), tabindex: i ? -1 : 0, 'aria-label': `${v.label}: ${number(v.n)}`, title: `${v.label}: ${number(v.n)}`, onclick: () => pick(v) }, el('span', {}, v.name), el('span', { class: 'track' }, bar), el('b', {}, number(v.n)));
+  }));
+  host.onkeydown = event => {
+    const by = { ArrowDown: 1, ArrowRight: 1, ArrowUp: -1, ArrowLeft: -1 }[event.key], rows = [...host.children], next = rows[rows.indexOf(document.activeElement) + by];
+    if (by) { event.preventDefault(); next?.focus(); }
+  };
+  if (had >= 0) host.children[Math.min(had, values.length - 1)]?.focus();
 }
 const sizeOf = c => Math.min(c.words.length, 12);
 const removedOf = (i, stem) => Math.max(-2, Math.min(10, size(S.words[i]) - stem));
@@ -521,8 +575,8 @@ function showPictures(pick) {
   const sizes = new Map(), removed = new Map(), add = (map, key) => map.set(key, (map.get(key) || 0) + 1);
   for (const c of classes()) { const stem = size(c.stem); add(sizes, sizeOf(c)); for (const i of c.words) add(removed, removedOf(i, stem)); }
   const range = (from, to) => Array.from({ length: to - from + 1 }, (_, i) => from + i), low = Math.min(0, ...removed.keys()), high = Math.max(4, ...removed.keys());
-  histogram($('pic-sizes'), range(1, Math.max(4, ...sizes.keys())).map(s => ({ pic: 'size', key: s, name: s === 12 ? '12+' : String(s), n: sizes.get(s) || 0, label: 'classes of ' + (s === 12 ? '12 words or more' : count(s, 'word')) })), 'Classes by their number of words', pick);
-  histogram($('pic-removed'), range(low, high).map(d => ({ pic: 'removed', key: d, name: d === 10 ? '10+' : d < 0 ? '+' + -d + (d === -2 ? '…' : '') : String(d), n: removed.get(d) || 0, label: 'words with ' + (d < 0 ? 'a longer stem' : d === 10 ? '10 characters or more removed' : count(d, 'character') + ' removed') })), 'Words by the characters removed', pick);
+  histogram($('pic-sizes'), range(1, Math.max(4, ...sizes.keys())).map(s => ({ pic: 'size', key: s, name: s === 12 ? '12 or more' : String(s), n: sizes.get(s) || 0, label: 'classes of ' + (s === 12 ? '12 words or more' : count(s, 'word')) })), 'Classes by their number of words', pick);
+  histogram($('pic-removed'), range(low, high).map(d => ({ pic: 'removed', key: d, name: d === 10 ? '10 or more' : d === -2 ? 'longer' : d < 0 ? 'longer by 1' : String(d), n: removed.get(d) || 0, label: 'words with ' + (d === -1 ? 'a stem longer by one character' : d < 0 ? 'a stem longer by 2 characters or more' : d === 10 ? '10 characters or more removed' : count(d, 'character') + ' removed') })), 'Words by the characters removed', pick);
 }
 function showClasses(isNew) {
   const all = classes(), pick = v => { S.pick = S.pick && S.pick.pic === v.pic && S.pick.key === v.key ? null : v; showClasses(); }, box = $('class-search'), text = box.value;
@@ -560,7 +614,7 @@ function showClass(c) {
 
 // A word's way to its stem
 
-const verdict = isTrue => el('span', { class: isTrue ? 't' : 'f' }, isTrue ? 'true' : 'false');
+const verdict = isTrue => el('span', { class: isTrue ? 't' : 'f', title: isTrue ? 'it signalled t' : 'it signalled f' }, isTrue ? 'true' : 'false');
 const mono = text => el('span', { class: 'name' }, named(text));
 function says(step) {
   if (step.kind === 'put') {
@@ -569,7 +623,7 @@ function says(step) {
   }
   return ({
     taken: () => [`among ${step.k} takes `, el('span', { class: 'lit' }, "'", step.string ? parts(step.string) : '', "'")], none: () => [`among ${step.k} takes nothing`], call: () => ['calls ', mono(step.what)],
-    done: () => [mono(step.what), ' ends ', verdict(step.true)], more: () => [`${number(+step.what)} more events`],
+    unknown: () => ['the tests after these are not known'], more: () => [`${number(+step.what)} more events`],
   }[step.kind] || (() => [mono(step.what), ' is ', verdict(step.true), step.times ? `, ${step.times} times` : null]))();
 }
 // Equal steps one after another are one with their number.
@@ -589,7 +643,7 @@ async function showWord(isNew) {
   if (!word) { out.replaceChildren(el('p', { class: 'none' }, 'Type a word, or choose one in another view: you see how it comes to its stem.')); return; }
   if (S.st.text === undefined) return;
   let data;
-  try { data = await ask('word', { word }); } catch (fault) { if (turn === wordTurn) out.replaceChildren(el('p', { class: 'none refused' }, named(fault.message))); return; }
+  try { data = await ask('word', { word, all: $('word-all').checked ? 1 : '' }); } catch (fault) { if (turn === wordTurn) out.replaceChildren(el('p', { class: 'none refused' }, named(fault.message))); return; }
   if (turn !== wordTurn) return;
   const all = $('word-all').checked, steps = folded(data.steps.filter(step => all || !step.minor)), bad = data.outcome[0] === '!', top = out.scrollTop, isKnown = S.words.includes(word);
   const items = steps.map(step => el('li', { class: `${step.kind}${step.minor ? ' minor' : ''}${step.kind === 'failed' || step.true === false ? ' no' : ''}` }, el('span', { class: 'who' }, step.routine), el('span', { class: 'pin' }), el('span', {}, says(step)), lineLink(step.line)));
@@ -605,11 +659,12 @@ function wordSentence(word, data, isKnown, isEmpty) {
   if (data.turn) said.push(named(data.turn) + ' ');
   if (data.outcome[0] === '=') {
     const others = (classes().find(c => c.stem === data.outcome.slice(1)) || { words: [] }).words.filter(i => S.words[i] !== word);
-    if (others.length) said.push(isKnown ? 'In a class with ' : 'It would come to ', ...others.slice(0, 8).flatMap((i, k) => [k ? ', ' : '', el('button', { type: 'button', onclick: () => toWord(S.words[i]) }, w(S.words[i]))]), others.length > 8 ? ` and ${number(others.length - 8)} more` : '', '. ');
+    if (others.length) said.push(isKnown ? 'In a class with ' : 'Words with this stem: ', ...others.slice(0, 8).flatMap((i, k) => [k ? ', ' : '', el('button', { type: 'button', onclick: () => toWord(S.words[i]) }, w(S.words[i]))]), others.length > 8 ? ` and ${number(others.length - 8)} more` : '', '. ');
     else said.push(isKnown ? 'No other word has this stem. ' : 'No word of the list has this stem. ');
   }
-  const mark = S.st.changes.find(row => row[0] === 'changed' && row[1] === word);
+  const mark = changes().find(row => row[0] === 'changed' && row[1] === word);
   if (mark) said.push(S.st.markName ? 'Its approved stem is ' : 'At the mark it was ', w(mark[2] === 'stem' ? mark[3] : 'refused: ' + mark[3]), '. ');
+  if ($('word-all').checked && !data.hasTests) said.push('The tests of this run are not known. ');
   if (isEmpty) said.push('Nothing took a string or changed the text. ');
   return said;
 }
@@ -695,7 +750,7 @@ function setUpViews() {
 function setUpScript() {
   $('code').addEventListener('scroll', () => drawLines(false), { passive: true });
   new ResizeObserver(() => { if (S.editing) sizeEditor(); drawLines(true); }).observe($('code'));
-  $('lines').addEventListener('click', event => { const rule = event.target.closest('.rule'); if (rule) go('rule', S.st.ink.rules[rule.dataset.i][0]); });
+  $('lines').addEventListener('click', event => { const rule = event.target.closest('.rule'); if (rule) go('rule', rule.dataset.rule); });
   $('lines').addEventListener('keydown', event => {
     const by = { ArrowDown: 1, ArrowUp: -1 }[event.key];
     if (by && event.target.matches('button.cov')) { event.preventDefault(); focusCount(+event.target.dataset.n, by); }
@@ -734,9 +789,10 @@ function setUpTop() {
 function press(event) {
   if (event.key === 'Escape') { for (const menu of document.querySelectorAll('details.menu[open]')) { menu.open = false; menu.querySelector('summary').focus(); } }
   if (event.ctrlKey || event.metaKey || event.altKey || event.target.closest('input, textarea, dialog')) return;
-  const key = event.key, view = VIEWS[key - 1], acts = { u: 'undo', r: 'redo', m: 'mark', d: 'theme', '?': 'keys', e: 'edit' };
+  const key = event.key, view = VIEWS[key - 1], acts = { u: 'undo', r: 'redo', m: 'mark', d: 'theme', '?': 'keys', e: 'edit', n: 'next-never' };
   if (view) { const tab = $('tab-' + view); if (!tab.hidden) { tab.click(); tab.focus(); } }
-  else if (acts[key]) { event.preventDefault(); $(acts[key]).click(); }
+  else if (acts[key]) { event.preventDefault(); $(acts[key])?.click(); }
+  else if (key === 'h' || key === 'a') { event.preventDefault(); const menu = $(key === 'h' ? 'history' : 'more'); menu.open = !menu.open; (menu.open && menu.querySelector('.sheet button:not(:disabled), .sheet textarea') || menu.querySelector('summary')).focus(); }
   else if (key === '/') { event.preventDefault(); $('view-' + S.view).querySelector('input[type="search"], input[type="text"]')?.focus(); }
   else if (key === 'w') { event.preventDefault(); go('word', S.word || undefined); setTimeout(() => { $('word-input').focus(); $('word-input').select(); }); }
   else if (key === 'g') { event.preventDefault(); focusCount(Math.max(0, Math.floor(($('code').scrollTop - TOP) / LINE)), 1); }
@@ -748,4 +804,5 @@ document.addEventListener('keydown', press);
 addEventListener('hashchange', route);
 addEventListener('beforeunload', event => { if (S.dirty) event.preventDefault(); });
 route();
+showStatus();
 listen();

@@ -26,9 +26,14 @@ FIGURES = {
     "words": "words", "classes": "classes", "alone": "classes of one word", "largest": "words in the largest class",
     "unchanged": "words that are their own stem", "refused": "words refused",
 }
-KINDS = {"changed": "words have another stem", "split": "classes split", "merged": "classes merged", "renamed": "classes renamed"}
+KINDS = {
+    "changed": ("word has another stem", "words have another stem"), "split": ("class split", "classes split"),
+    "merged": ("class merged", "classes merged"), "renamed": ("class renamed", "classes renamed"),
+}
 # Of so many parts that differ it is tried what each changes alone; so many rows of a kind has the summary.
 MOST_PARTS, FEW = 40, 5
+# So many lines are shown around those that differ.
+CONTEXT = 3
 
 
 class Fault(Exception):
@@ -157,6 +162,10 @@ def parts_table(found: Comparison) -> str:
     return table(["part", "words that it changes alone"], lines, 1) if lines else "<p>The scripts differ in nothing but layout and comments.</p>\n"
 
 
+def label(kind: str, count: int) -> str:
+    return KINDS[kind][count != 1]
+
+
 def changes_of(found: Comparison) -> str:
     """Returns the lists of changes. Long ones are closed at first."""
 
@@ -165,7 +174,7 @@ def changes_of(found: Comparison) -> str:
 
     def section(kind: str, heads: Sequence[str], lines: List[Sequence[str]]) -> str:
         body = table(heads, lines) if lines else "<p>None.</p>\n"
-        return "<details%s><summary>%s %s</summary>\n%s</details>\n" % (" open" * (len(lines) <= 500), "{:,}".format(len(lines)), KINDS[kind], body)
+        return "<details%s><summary>%s %s</summary>\n%s</details>\n" % (" open" * (len(lines) <= 500), "{:,}".format(len(lines)), label(kind, len(lines)), body)
 
     changed, split, merged, renamed = (found.changes.get(kind, []) for kind in KINDS)
     return (
@@ -176,21 +185,29 @@ def changes_of(found: Comparison) -> str:
     )
 
 
-def texts_table(old: str, new: str) -> str:
-    """Returns both texts side by side, where they differ."""
-    ours, theirs = old.split("\n"), new.split("\n")
+def texts_table(old: bytes, new: bytes) -> str:
+    """Returns both texts side by side: what differs, and the lines around it."""
+    ours, theirs = lines_of(old), lines_of(new)
+    if ours == theirs:
+        return "<p>The texts are the same%s.</p>\n" % ("" if old == new else " but for line ends or a byte order mark")
     found: List[str] = []
-    for group in difflib.SequenceMatcher(None, ours, theirs, autojunk=False).get_grouped_opcodes(3):
-        found += ['<tr class="gap"><td colspan="4">\u22ef</td></tr>'] if found else []
-        for tag, a, b, c, d in group:
-            for i in range(max(b - a, d - c)):
-                left, right = (side(lines, at + i, at + i < end, kind * (tag != "equal")) for lines, at, end, kind in ((ours, a, b, "old"), (theirs, c, d, "new")))
-                found.append("<tr>%s%s</tr>" % (left, right))
-    return '<div class="texts"><table>\n%s\n</table></div>\n' % "\n".join(found) if found else "<p>The texts are the same.</p>\n"
+    for tag, a, b, c, d in difflib.SequenceMatcher(None, ours, theirs, autojunk=False).get_opcodes():
+        kinds = ("", "") if tag == "equal" else ("old", "new")
+        shown = ["<tr>%s%s</tr>" % (side(ours, a + i, b, kinds[0]), side(theirs, c + i, d, kinds[1])) for i in range(max(b - a, d - c))]
+        first, last = CONTEXT if a else 0, len(shown) - (CONTEXT if b < len(ours) or d < len(theirs) else 0)
+        if tag == "equal" and last - first > 1:
+            shown[first:last] = ['<tr class="gap"><td colspan="4">{:,} lines are the same</td></tr>'.format(last - first)]
+        found += shown
+    return '<div class="texts"><table>\n%s\n</table></div>\n' % "\n".join(found)
 
 
-def side(lines: Sequence[str], at: int, is_there: bool, kind: str) -> str:
-    if not is_there:
+def lines_of(text: bytes) -> List[str]:
+    *lines, last = shown_text(text).split("\n")
+    return lines + [last + "  (no line feed at the end)"] if last else lines
+
+
+def side(lines: Sequence[str], at: int, end: int, kind: str) -> str:
+    if at >= end:
         return '<td class="n"></td><td></td>'
     look = ' class="%s"' % kind if kind else ""
     return '<td class="n">%d</td><td%s>%s</td>' % (at + 1, look, html.escape(named(lines[at])))
@@ -201,7 +218,8 @@ def report(found: Comparison, names: Sequence[str], files: Sequence[bytes]) -> s
     style = (read_file(os.path.join(HERE, "report.css")) or b"").decode()
     safe = [html.escape(named(os.path.basename(name))) for name in names]
     policy = "default-src 'none'; style-src 'sha256-%s'; base-uri 'none'; form-action 'none'" % base64.b64encode(hashlib.sha256(style.encode()).digest()).decode()
-    cards = "".join('<div class="card"><b>{:,}</b>{}</div>'.format(len(found.changes.get(kind, [])), label) for kind, label in KINDS.items())
+    counts = [(kind, len(found.changes.get(kind, []))) for kind in KINDS]
+    cards = "".join('<div class="card"><b>{:,}</b>{}</div>'.format(count, label(kind, count)) for kind, count in counts)
     sums = ", ".join("%s sha256 %s" % (name, hashlib.sha256(data).hexdigest()[:16]) for name, data in zip(safe, files))
     return (
         '<!doctype html>\n<html lang="en"><head><meta charset="utf-8">\n<meta http-equiv="Content-Security-Policy" content="%s">\n' % policy
@@ -210,7 +228,7 @@ def report(found: Comparison, names: Sequence[str], files: Sequence[bytes]) -> s
         + '<div class="cards">%s</div>\n<div class="pair"><section><h2>Figures</h2>\n%s</section>\n' % (cards, figures_table(found, safe))
         + "<section><h2>What differs</h2>\n%s</section></div>\n" % parts_table(found)
         + changes_of(found)
-        + "<h2>The texts</h2>\n%s" % texts_table(shown_text(files[0]), shown_text(files[1]))
+        + "<h2>The texts</h2>\n%s" % texts_table(files[0], files[1])
         + "<footer>Voltizug %s. %s</footer>\n</body></html>\n" % (html.escape((read_file(VERSION) or b"").decode().strip()), sums)
     )
 

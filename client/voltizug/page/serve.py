@@ -114,7 +114,7 @@ class Handler(BaseHTTPRequestHandler):
             return
         path, query, live = found[0] or "page.html", found[1], self.server.live
         asked: Dict[str, Callable[[], Any]] = {
-            "word": lambda: live.word(query["word"]), "uses": lambda: live.uses(json.loads(query["rules"])), "families": live.families_now,
+            "word": lambda: live.word(query["word"], bool(query.get("all"))), "uses": lambda: live.uses(json.loads(query["rules"])), "families": live.families_now,
         }
         if path in KINDS:
             with open(os.path.join(HERE, path), "rb") as file:

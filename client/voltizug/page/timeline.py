@@ -1,7 +1,8 @@
 """Why a word has its stem, as steps for people, by the rows of `events`: strings that were taken, what other routines signalled, the text before
 and after."""
-from typing import Any, Dict, List, Sequence
+from typing import Any, Dict, List, Sequence, Tuple
 
+from ..conditions.copies import Shown
 from ..places import Places
 
 # How many steps are shown, at most.
@@ -18,8 +19,8 @@ class Call:
 class Timeline:
     """Reads events one after another. A minor step is shown only if all are asked for."""
 
-    def __init__(self, word: str, places: Places):
-        self.now, self.places = word, places
+    def __init__(self, word: str, places: Places, tests: Dict[Tuple[str, str], Shown]):
+        self.now, self.places, self.tests = word, places, tests
         self.steps: List[Dict[str, Any]] = []
         self.calls: List[Call] = []
 
@@ -52,8 +53,12 @@ class Timeline:
         self.note("taken", self.line(self.places.entries.get((row.name, row.k, row.string))), k=row.k, string=row.string)
 
     def read_test(self, row: Any) -> None:
-        place = self.places.tests.get((row.name, row.n))
-        self.note("test", self.line(place), True, what=self.places.slice(place) if place else "test " + row.n, true=row.signal == "t")
+        test = self.tests.get((row.name, row.n))
+        if test and test.is_listed:
+            self.note("test", self.places.text.count(b"\n", 0, test.start) + 1, True, what=test.text, true=row.signal == "t")
+
+    def read_unknown(self, row: Any) -> None:
+        self.note("unknown", 0, True)
 
     def read_put(self, row: Any) -> None:
         self.calls[-1].asks_only, self.calls[-1].acts = False, True
@@ -77,9 +82,9 @@ class Timeline:
                 self.note("asked" if call.asks_only else "done", line, is_minor, what=call.name, true=is_true)
 
 
-def timeline(word: str, events: Sequence[Any], places: Places) -> Dict[str, Any]:
+def timeline(word: str, events: Sequence[Any], places: Places, tests: Dict[Tuple[str, str], Shown]) -> Dict[str, Any]:
     """Returns the steps of a run and its outcome. Of very many steps there are the first and the last ones."""
-    line = Timeline(word, places)
+    line = Timeline(word, places, tests)
     line.read(events)
     end, steps = events[-1], line.steps
     if len(steps) > MOST:

@@ -1,15 +1,19 @@
-//! Laws of sbl_explain (specs/UsesLaws.antt), written out.
+//! Laws of sbl_explain (specs/UsesLaws.antt, specs/EventsStay.antt), written out.
 
 ghost use Rattle.std.specs.Prelude.{◌≡◌, ℕ, List, length};
 ghost use Rattle.std.specs.List.{list_any};
-ghost use Rattle.sbl_rows.specs.Setting.{Setting};
+ghost use Rattle.sbl_ast.specs.Source.{Source};
+ghost use Rattle.sbl_rows.specs.Setting.{Setting, under};
 ghost use Rattle.sbl_machine.specs.BuiltFrom.{is_affected_by};
+ghost use Rattle.sbl_semantics.specs.Outcome.{events_of};
 ghost use Rattle.sbl_semantics.specs.TouchedItems.{Item', touched_items};
 ghost use Rattle.sbl_explain.specs.Unused.{unused_rows};
-ghost use Rattle.sbl_explain.specs.Used.{Usable, Whole, number_using, rows_using, uses};
-ghost use Rattle.law_tests.specs.Uses.{rows_of_zeros};
+ghost use Rattle.sbl_explain.specs.Used.{Usable, Whole, number_using, rows_using, takes_of, uses};
+ghost use Rattle.law_tests.specs.Uses.{MissesWhatDiffers, rows_of_zeros};
 
-use sbl_explain::laws::{counts_are_of_uses, unused_have_number_zero, uses_agree_with_traces};
+use sbl_explain::laws::{
+    counts_are_of_uses, takes_stay, unused_have_number_zero, uses_agree_with_traces,
+};
 
 /// Needs the whole of the law `counts_are_of_uses`.
 pub fn needs_counts_are_of_uses()
@@ -30,4 +34,12 @@ pub fn needs_uses_agree_with_traces()
     ensures { (s : Setting) (w : List ℕ) (x : Item') → uses s w (Whole x) ≡ list_any (is_affected_by s.script x) (touched_items s.script w s.limit) }
 {
     uses_agree_with_traces();
+}
+
+/// Needs the whole of the law `takes_stay`.
+pub fn needs_takes_stay()
+    ensures events { (s t : Source) (xs : List Item') (w : List ℕ) (l : ℕ) → MissesWhatDiffers s t xs w l → events_of t w l ≡ events_of s w l }
+    ensures takes { (s t : Source) (xs : List Item') (w : List ℕ) (l : ℕ) → MissesWhatDiffers s t xs w l → takes_of (under t l) w ≡ takes_of (under s l) w }
+{
+    takes_stay();
 }

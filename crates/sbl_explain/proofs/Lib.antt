@@ -21,3 +21,7 @@ pub mod TakeFacts
 pub mod UserFacts
 pub mod Defined
 pub mod AskedFacts
+pub mod EventsFrame
+pub mod EventsStay
+pub mod KeptSets
+pub mod KeptFacts

@@ -87,7 +87,7 @@ unused_are s words parts =
 -- ---- one value after another
 
 -- each of some values passes a test, so that at an index does
-pub all_at : {X : Type 0} (test : Usable → Bool) (f : X → Usable) (xs : List X) (i : ℕ) (d : X) → list_all test (map f xs) ≡ true → i < length xs → test (f (get_or xs i d)) ≡ true
+pub all_at : {X Y : Type 0} (test : Y → Bool) (f : X → Y) (xs : List X) (i : ℕ) (d : X) → list_all test (map f xs) ≡ true → i < length xs → test (f (get_or xs i d)) ≡ true
 all_at test f [] i d h lt = absurd (omega (arith, lt))
 all_at test f (x ∷ xs) i d h lt = by (test (f x)) refl (list_all test (map f xs)) refl (λ k rest le. all_at test f xs k d rest le) i lt
   where

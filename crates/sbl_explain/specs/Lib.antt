@@ -10,6 +10,7 @@ pub mod Unused
 pub mod Uses
 pub mod Counts
 pub mod UsesLaws
+pub mod EventsStay
 -- what the functions inside the crate promise each other: nothing in these need be believed
 pub mod OpenSearches
 pub mod EventViews
@@ -19,3 +20,4 @@ pub mod TakesRows
 pub mod UnusedViews
 pub mod TakeNumbers
 pub mod UsableViews
+pub mod Kept

@@ -7,6 +7,7 @@ use Rattle.sbl_semantics.specs.TouchedItems.{Item', names_of}
 use Rattle.sbl_ast.specs.Source.{Source}
 use Rattle.sbl_rows.specs.Rows.{Row}
 use Rattle.sbl_bench.specs.KeptRuns.{KeptRuns, setting_of}
+use Rattle.sbl_io.specs.Records.{records_text}
 use Rattle.sbl_explain.specs.Counts.{count_row, usable_row}
 use Rattle.sbl_explain.specs.Used.{Entry, Usable, Whole, number_using, rows_using}
 use Rattle.sbl_explain.specs.declared.counts.Count.{Count}
@@ -46,6 +47,10 @@ number_for bench u = number_using (setting_of bench) bench.words u
 
 abbrev pub row_for : KeptRuns → Usable → List (List ℕ)
 row_for bench u = count_row (setting_of bench) bench.words u
+
+-- the rows of some parts
+abbrev pub rows_text : KeptRuns → List Usable → List ℕ
+rows_text bench us = records_text (map (row_for bench) us)
 
 abbrev pub next_row : KeptRuns → declared.Usable → List (List ℕ)
 next_row bench usable = row_for bench (view_usable usable)

@@ -5,10 +5,12 @@ ghost use Rattle.csv.specs.Records.{fields_of, partial_of};
 ghost use Rattle.sbl_bench.specs.KeptRuns.{setting_of};
 ghost use Rattle.sbl_explain.specs.Counts as spec;
 ghost use Rattle.sbl_explain.specs.TakeNumbers.{KeepsNumbers};
-ghost use Rattle.sbl_explain.specs.UsableViews.{AreDefined, Defines, next_row, number_for, number_row, number_rows, row_for, view_usable, view_usables};
+ghost use Rattle.sbl_explain.specs.UsableViews.{AreDefined, Defines, next_row, number_for, number_row, number_rows, row_for, rows_text, view_usable, view_usables};
+ghost use Rattle.sbl_explain.specs.Kept.{KeepsWords};
 
-use crate::bench_words::words_of;
 use crate::event_rows::push_number;
+use crate::kept_takes::KeptTakes;
+use crate::kept_words::KeptWord;
 use crate::take_counts::{TakeCounts, counts_by_words, number_taking};
 use crate::unused::{kind, push_place};
 use crate::usables::{Usable, own_item, usables_of};
@@ -111,16 +113,35 @@ fn counts_of<'a>(
     Ok(counts)
 }
 
+/// Returns the rows of parts of the script, given what the words take. Returns `AllocError` if an allocation fails.
+fn text_of_counts(
+    alloc: Global,
+    bench: &Bench,
+    usables: &[Usable<'_>],
+    words: &[KeptWord],
+) -> Result<Vec<u8>, AllocError>
+    ensures { AreDefined bench.now (view_usables usables.now) → KeepsWords bench.now words.now → IfOk result (λ text. text.items ≡ rows_text bench.now (view_usables usables.now)) }
+{
+    let taken = counts_by_words(alloc, bench, words)?;
+    let counts = counts_of(alloc, bench, &taken, usables)?;
+    records_text(alloc, &counts)
+}
+
 /// Returns a row for each routine, external and grouping of the script, in the order of the text, with the number of words whose
 /// run uses it; after a routine its amongs, by number, and after each among its strings. Runs that are refused count.
 ///
-/// Returns `AllocError` if an allocation fails.
-pub fn counts_text(alloc: Global, bench: &Bench) -> Result<Vec<u8>, AllocError>
+/// Runs only the words that an edit since the last question can concern, as far as `kept` has the others. Returns `AllocError` if an
+/// allocation fails.
+pub fn counts_text(
+    alloc: Global,
+    bench: &Bench,
+    kept: &mut KeptTakes,
+) -> Result<Vec<u8>, AllocError>
     ensures { IfOk result (λ text. text.items ≡ spec.counts_text (setting_of bench.now) bench.now.words) }
 {
     let usables = usables_of(alloc, bench.script())?;
-    let words = words_of(alloc, bench)?;
-    let taken = counts_by_words(alloc, bench, &words)?;
-    let counts = counts_of(alloc, bench, &taken, &usables)?;
-    records_text(alloc, &counts)
+    let words = kept.words_now(alloc, bench)?;
+    let text = text_of_counts(alloc, bench, &usables, &words)?;
+    kept.keep(alloc, bench, words)?;
+    Ok(text)
 }

@@ -1,7 +1,10 @@
-//! Laws of the searches of a run, and of what words use.
+//! Laws of the searches of a run, of its events under an edit, and of what words use.
 
 ghost use Rattle.sbl_explain.specs.Searches.{EachSearchTakesFirst, PlainTakesLongest, PlainTakesOne, SearchesTakeFirst};
+ghost use Rattle.sbl_explain.specs.EventsStay.{EventsStay, TakesStay};
 ghost use Rattle.sbl_explain.specs.UsesLaws.{NumbersAreOfRows, UnusedHaveNumberZero, UsesAgreeWithTraces};
+
+use sbl_machine::laws::differing_agree;
 
 /// A search takes the first of the strings of its among that fit between the cursor and the limit, the longest first, that
 /// has no condition or whose condition signals t. It takes none if each of them has a condition that signals f. It calls
@@ -37,3 +40,12 @@ pub fn unused_have_number_zero()
 pub fn uses_agree_with_traces()
     ensures { UsesAgreeWithTraces }
 {}
+
+/// In a well-declared script, a word whose run met nothing that an edit of one of the differing items affects has the same
+/// events under the other script, and takes the same strings there.
+pub fn takes_stay()
+    ensures events { EventsStay }
+    ensures takes { TakesStay }
+{
+    differing_agree();
+}

@@ -4,11 +4,14 @@ ghost use Rattle.std.specs.Prelude.{◌≡◌, ◌+◌, OnOk, IfOk};
 ghost use Rattle.std.specs.List.{list_any};
 ghost use Rattle.sbl_bench.specs.KeptRuns.{setting_of};
 ghost use Rattle.sbl_machine.specs.ItemRefs.{item_of_ref};
-ghost use Rattle.sbl_explain.specs.TakeNumbers.{AreCounted, number_of, one_if};
-ghost use Rattle.sbl_explain.specs.UnusedViews.{take_of, takes_in, texts_of};
-ghost use Rattle.sbl_explain.specs.Used.{Entry, Take, same_take, uses};
+ghost use Rattle.sbl_explain.specs.TakeNumbers.{number_kept, number_of, one_if};
+ghost use Rattle.sbl_explain.specs.Kept.{has_taken};
+ghost use Rattle.sbl_explain.specs.UnusedViews.{take_of, takes_in};
+ghost use Rattle.sbl_explain.specs.WhyRows.{routine_names};
+ghost use Rattle.sbl_explain.specs.Used.{Take, same_take};
 
-use crate::takes::{Takes, takes_by_words};
+use crate::kept_words::{KeptWord, takes_of_word};
+use crate::takes::Takes;
 use sbl_bench::Bench;
 use sbl_machine::ItemRef;
 use std::alloc::{AllocError, Global};
@@ -51,26 +54,26 @@ fn count_each<'a>(counts: &mut TakeCounts<'a>, takes: Takes<'a>) -> Result<(), A
     Ok(())
 }
 
-/// Counts a word at each string that its run takes. Returns `AllocError` as `count_one` and `takes_by_words` do.
-fn count_word<'a>(
+/// Counts a word at each string that its run takes. Returns `AllocError` as `count_one` does, or if an allocation fails.
+fn count_word<'b>(
     alloc: Global,
-    counts: &mut TakeCounts<'a>,
-    bench: &'a Bench,
-    word: &[char],
+    counts: &mut TakeCounts<'b>,
+    bench: &'b Bench,
+    word: &KeptWord,
 ) -> Result<(), AllocError>
-    ensures { OnOk result ((t : Take) → number_of counts.new t ≡ number_of counts.old t + one_if (uses (setting_of bench.now) word.now (Entry t))) }
+    ensures { OnOk result ((t : Take) → number_of counts.new t ≡ number_of counts.old t + one_if (has_taken (routine_names (setting_of bench.now)) t word.now)) }
 {
-    let takes = takes_by_words(alloc, bench, &[word])?;
+    let takes = takes_of_word(alloc, bench, word)?;
     count_each(counts, takes)
 }
 
 /// Returns how many of some words take each string of an among. Returns `AllocError` as `count_word` does.
-pub(crate) fn counts_by_words<'a>(
+pub(crate) fn counts_by_words<'b>(
     alloc: Global,
-    bench: &'a Bench,
-    words: &[&[char]],
-) -> Result<TakeCounts<'a>, AllocError>
-    ensures { IfOk result (AreCounted (setting_of bench.now) (texts_of words.now)) }
+    bench: &'b Bench,
+    words: &[KeptWord],
+) -> Result<TakeCounts<'b>, AllocError>
+    ensures { IfOk result (λ counts. (t : Take) → number_of counts t ≡ number_kept (routine_names (setting_of bench.now)) t words.now) }
 {
     let mut counts = BTreeMap::new(alloc);
     for word in words {

@@ -22,7 +22,7 @@ pub(crate) type Takes<'a> = BTreeSet<(ItemRef<'a>, Vec<char>)>;
 
 /// Adds an among and a string. Returns `AllocError` if an allocation fails.
 #[tactic(auto, using(crate::proofs::Sets::take_added))]
-fn add_take<'a>(
+pub(crate) fn add_take<'a>(
     takes: &mut Takes<'a>,
     among: ItemRef<'a>,
     string: Vec<char>,

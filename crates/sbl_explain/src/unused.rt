@@ -8,12 +8,15 @@ ghost use Rattle.sbl_rows.specs.Setting.{Setting};
 ghost use Rattle.sbl_machine.specs.ItemRefs.{item_of_ref};
 ghost use Rattle.sbl_io.specs.Records.{record_line};
 ghost use Rattle.sbl_io.specs.Reports.{TakesMore};
-ghost use Rattle.sbl_explain.specs.TakesRows.{TakesRows};
+ghost use Rattle.sbl_explain.specs.TakesRows.{TakesRows, parts_text};
 ghost use Rattle.sbl_explain.specs.Unused as spec;
 ghost use Rattle.sbl_explain.specs.UnusedViews.{HasMet, HasTaken, Words, part_of, parts_in, texts_of};
+ghost use Rattle.sbl_explain.specs.Kept.{KeepsWords};
 
 use crate::bench_words::words_of;
-use crate::takes::{Takes, has_take, takes_by_words};
+use crate::kept_takes::KeptTakes;
+use crate::kept_words::{KeptWord, takes_of_words};
+use crate::takes::{Takes, has_take};
 use crate::touched_items::{has_item, met_by_words};
 use crate::usable_parts::{Parts, parts_of};
 use csv::ByteRecord;
@@ -192,21 +195,48 @@ fn push_rows<'a, T: Report>(
     push_entries(alloc, out, met, taken, parts)
 }
 
+/// Returns the rows of what no word uses, given what the words meet and take. Returns `AllocError` if an allocation fails.
+fn text_of_rows<'a>(
+    alloc: Global,
+    met: &BTreeSet<ItemRef<'a>>,
+    taken: &Takes<'a>,
+    parts: &Parts<'a>,
+) -> Result<Vec<u8>, AllocError>
+    ensures { (s : Setting) (words : Words) → HasMet s words met.now → HasTaken s words taken.now → IfOk result (λ text. text.items ≡ parts_text s words (parts_in parts.now)) }
+{
+    let mut length = ReportLength::new();
+    push_rows(alloc, &mut length, met, taken, parts)?;
+    let mut out = ReportText::with_length(alloc, &length)?;
+    push_rows(alloc, &mut out, met, taken, parts)?;
+    out.into_bytes()
+}
+
+/// Returns the rows of what no word uses, given what the words take. Returns `AllocError` if an allocation fails.
+fn text_of_unused(alloc: Global, bench: &Bench, words: &[KeptWord]) -> Result<Vec<u8>, AllocError>
+    ensures { KeepsWords bench.now words.now → IfOk result (λ text. text.items ≡ spec.unused_text (setting_of bench.now) bench.now.words) }
+{
+    let parts = parts_of(alloc, bench.script())?;
+    let all = words_of(alloc, bench)?;
+    let met = met_by_words(alloc, bench, &all)?;
+    let taken = takes_of_words(alloc, bench, words)?;
+    text_of_rows(alloc, &met, &taken, &parts)
+}
+
 /// Returns the rows of what no word of the vocabulary uses, under the script and the limit of the bench: the routines, amongs and
 /// groupings that the run of no word touches, in their order, and then the strings of the other amongs that the run of no word
 /// takes. A grouping counts as touched if one that is built from it is. Runs that are refused count.
 ///
-/// Returns `AllocError` if an allocation fails.
-pub fn unused_text(alloc: Global, bench: &Bench) -> Result<Vec<u8>, AllocError>
+/// Runs only the words that an edit since the last question can concern, as far as `kept` has the others. Returns `AllocError` if an
+/// allocation fails.
+pub fn unused_text(
+    alloc: Global,
+    bench: &Bench,
+    kept: &mut KeptTakes,
+) -> Result<Vec<u8>, AllocError>
     ensures { IfOk result (λ text. text.items ≡ spec.unused_text (setting_of bench.now) bench.now.words) }
 {
-    let parts = parts_of(alloc, bench.script())?;
-    let words = words_of(alloc, bench)?;
-    let met = met_by_words(alloc, bench, &words)?;
-    let taken = takes_by_words(alloc, bench, &words)?;
-    let mut length = ReportLength::new();
-    push_rows(alloc, &mut length, &met, &taken, &parts)?;
-    let mut out = ReportText::with_length(alloc, &length)?;
-    push_rows(alloc, &mut out, &met, &taken, &parts)?;
-    out.into_bytes()
+    let words = kept.words_now(alloc, bench)?;
+    let text = text_of_unused(alloc, bench, &words)?;
+    kept.keep(alloc, bench, words)?;
+    Ok(text)
 }

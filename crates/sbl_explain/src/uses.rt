@@ -11,12 +11,14 @@ ghost use Rattle.sbl_script.specs.ParsedScript.{source_of};
 ghost use Rattle.sbl_ast.specs.View.{view_row as view_body};
 ghost use Rattle.sbl_explain.specs.UsableViews.{is_defined, rows_for, view_usable};
 ghost use Rattle.sbl_explain.specs.UnusedViews.{texts_of};
-ghost use Rattle.sbl_explain.specs.Used.{Entry, uses};
+ghost use Rattle.sbl_explain.specs.Used.{Entry};
+ghost use Rattle.sbl_explain.specs.Kept.{KeepsWords};
 ghost use Rattle.sbl_explain.specs.Uses as spec;
 ghost use Rattle.sbl_explain.specs.Uses.{IsResult, question_of};
 
 use crate::amongs::{amongs_of, strings_in};
-use crate::takes::{has_take, takes_by_words};
+use crate::kept_takes::KeptTakes;
+use crate::kept_words::{KeptWord, has_string as has_kept_string};
 use crate::usables::{Usable, own_item};
 use sbl_ast::{Plain, RowOfCommands};
 use sbl_bench::{Bench, Row};
@@ -166,68 +168,81 @@ fn usable_for<'q>(
     }
 }
 
-/// Returns whether the run of a word takes a string of an among. Returns `AllocError` if an allocation fails, or as
-/// `takes_by_words` does.
-fn word_takes<'a>(
-    alloc: Global,
-    bench: &'a Bench,
-    word: &[char],
-    among: &ItemRef<'a>,
-    string: &[char],
-) -> Result<bool, AllocError>
-    ensures { IfOk result (λ b. b ≡ uses (setting_of bench.now) word.now (Entry (item_of_ref among.now, string.now))) }
-{
-    let takes = takes_by_words(alloc, bench, &[word])?;
-    has_take(alloc, &takes, among, string)
-}
-
-/// Returns the rows of the words whose runs take a string of an among. Returns `AllocError` as `word_takes` does.
+/// Returns the rows of the words that take a string of an among, given what the words take. Returns `AllocError` if an allocation
+/// fails, or if there are fewer words than rows.
+#[tactic(auto, using(crate::proofs::KeptFacts::rows_match))]
 fn rows_taking<'b>(
     alloc: Global,
     bench: &'b Bench,
-    among: &ItemRef<'b>,
+    words: &[KeptWord],
+    among: &ItemRef<'_>,
     string: &[char],
 ) -> Result<Vec<Row<'b>>, AllocError>
-    ensures { IfOk result (λ rows. map view_row rows.items ≡ rows_for bench.now (Entry (item_of_ref among.now, string.now))) }
+    ensures { KeepsWords bench.now words.now → IfOk result (λ rows. map view_row rows.items ≡ rows_for bench.now (Entry (item_of_ref among.now, string.now))) }
 {
     let mut rows = Vec::new(alloc);
+    let mut rest = words;
     for row in bench.rows()? {
-        if word_takes(alloc, bench, row.word, among, string)? {
+        let Some((word, after)) = rest.split_first() else {
+            return Err(AllocError);
+        };
+        if has_kept_string(bench, word, among, string) {
             rows.push(row)?;
         }
+        rest = after;
     }
     Ok(rows)
 }
 
-/// Returns the rows of the words whose runs use a part of the script. Returns `AllocError` as `word_takes` does.
+/// Returns the rows of the words whose runs take a string of an among. Returns `AllocError` if an allocation fails.
+fn rows_of_takers<'b>(
+    alloc: Global,
+    bench: &'b Bench,
+    kept: &mut KeptTakes,
+    among: &ItemRef<'_>,
+    string: &[char],
+) -> Result<Vec<Row<'b>>, AllocError>
+    ensures { IfOk result (λ rows. map view_row rows.items ≡ rows_for bench.now (Entry (item_of_ref among.now, string.now))) }
+{
+    let words = kept.words_now(alloc, bench)?;
+    let rows = rows_taking(alloc, bench, &words, among, string)?;
+    kept.keep(alloc, bench, words)?;
+    Ok(rows)
+}
+
+/// Returns the rows of the words whose runs use a part of the script. Returns `AllocError` if an allocation fails.
 fn rows_of_users<'b>(
     alloc: Global,
     bench: &'b Bench,
-    usable: &Usable<'b>,
+    kept: &mut KeptTakes,
+    usable: &Usable<'_>,
 ) -> Result<Vec<Row<'b>>, AllocError>
     ensures { is_defined (setting_of bench.now).script (view_usable usable.now) ≡ true → IfOk result (λ rows. map view_row rows.items ≡ rows_for bench.now (view_usable usable.now)) }
 {
     match usable {
         Usable::Whole(item) => bench.rows_meeting(&own_item(alloc, item)?),
-        Usable::Entry(among, string) => rows_taking(alloc, bench, among, string),
+        Usable::Entry(among, string) => rows_of_takers(alloc, bench, kept, among, string),
     }
 }
 
 /// Returns the rows of the words whose runs use a part of the script, in vocabulary order: enter the routine or external, search the
 /// among, test the grouping or one that is built from it, or take the string of the among. Runs that are refused count.
 ///
+/// For a string, runs only the words that an edit since the last question can concern, as far as `kept` has the others.
+///
 /// # Errors
 ///
 /// Returns `NoRoutine` if the script has no definition of the name that can be used so, `NoAmong` if its routine has no among of
 /// this number, `NoString` if the among has no such string, and `OutOfMemory` if an allocation fails.
-pub fn uses_text<'a>(
+pub fn uses_text(
     alloc: Global,
-    bench: &'a Bench,
-    question: Question<'a>,
+    bench: &Bench,
+    kept: &mut KeptTakes,
+    question: Question<'_>,
 ) -> Result<Vec<u8>, UsesFault>
     ensures { IsResult (λ text. text.items) result (spec.uses_text (setting_of bench.now) bench.now.words (question_of question.entry)) }
 {
     let usable = usable_for(alloc, bench.script(), question)?;
-    let rows = rows_of_users(alloc, bench, &usable)?;
+    let rows = rows_of_users(alloc, bench, kept, &usable)?;
     Ok(records_text(alloc, &rows)?)
 }

@@ -3,3 +3,4 @@ pub mod TextFacts
 pub mod Utf8
 pub mod Taking
 pub mod ReportFacts
+pub mod HeldFacts

@@ -1,7 +1,7 @@
 -- The input that is left of a `Lines`: the bytes in its buffer, and then the bytes left in its reader.
-use Rattle.std.specs.Prelude.{◌≡◌, ◌≢◌, ◌⊎◌, ◌<◌, ◌≤◌, ◌+◌, ◌*◌, ◌-◌, min, ℕ, true, false, if◌then◌else◌, ⊤, List, [], ◌∷◌, ◌++◌}
+use Rattle.std.specs.Prelude.{◌≡◌, ◌≢◌, ◌⊎◌, ◌<◌, ◌≤◌, ◌+◌, ◌*◌, ◌-◌, ◌==◌, min, ℕ, Bool, true, false, if◌then◌else◌, ⊤, List, [], ◌∷◌, ◌++◌}
 use Rattle.std.specs.Prelude.{length, slice_range, Option, Some, None, Result, Err, IfErr, IfSome, MatchOption, OnOk}
-use Rattle.std.specs.List.{AllByRecursion}
+use Rattle.std.specs.List.{AllByRecursion, list_any}
 use Rattle.std.specs.Option.{option_map}
 use Rattle.std.specs.Io.KnownBytes.{Consumes, IsAtEnd, Keeps, prepend_known}
 use Rattle.sbl_io.specs.Devices.{Tally, max_count, max_tries}
@@ -23,10 +23,18 @@ TookWhole old new = (prefix : List ℕ) × Consumes old new prefix × AreWhole p
 abbrev pub max_reads : ℕ
 max_reads = 1099511627776
 
+-- a line feed is among the bytes
+abbrev pub has_feed : List ℕ → Bool
+has_feed bytes = list_any (λ b. b == 10) bytes
+
 module _ {R : Type 0} where
   -- the bytes that were read but not taken yet
   abbrev pub held_of : Lines R → List ℕ
   held_of l = slice_range l.chunk.items l.at l.end
+
+  -- they have a whole line, up to its line feed
+  abbrev pub HoldsLine : Lines R → Type 0
+  HoldsLine l = has_feed (held_of l) ≡ true
 
   abbrev pub line_of : Lines R → List ℕ
   line_of l = l.line.items

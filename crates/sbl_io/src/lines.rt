@@ -1,5 +1,5 @@
 //! The lines of a reader, in buffers of fixed size.
-ghost use Rattle.std.specs.Prelude.{◌≡◌, ◌≢◌, ◌+◌, ◌≤◌, ◌<◌, ◌⊎◌, ℕ, List, Option, vec_len, vec_capacity, OnOk, OnErr, IfOk, IfErr, MatchOption, Some, None, Ok, Err, true, false, length, min, IsSome};
+ghost use Rattle.std.specs.Prelude.{◌≡◌, ◌≢◌, ◌+◌, ◌≤◌, ◌<◌, ◌⊎◌, [], ℕ, List, Option, vec_len, vec_capacity, OnOk, OnErr, IfOk, IfErr, MatchOption, Some, None, Ok, Err, true, false, length, min, slice_index, IsSome};
 ghost use Rattle.std.specs.Io.KnownBytes.{Consumes, IsAtEnd, Keeps};
 ghost use Rattle.sbl_io.specs.LinesOf.{without_carriage_return, max_line};
 
@@ -49,7 +49,7 @@ pub struct Lines<R> {
 
 impl<R: Source + Drop> Lines<R> {
     ghost use Rattle.sbl_io.specs.Devices.{IsUnused, max_count};
-    ghost use Rattle.sbl_io.specs.HeldInput.{fuel_of, line_of, fault_of, input_of, max_reads, reads_bound, AsksInTime, BeginsLong, BreaksOff, HasCause, InTime, IsDrained, KeepsTime, StaysEnded, TakesFeeds, TakesByte, TakesLine, NoFeed, GivesLine};
+    ghost use Rattle.sbl_io.specs.HeldInput.{fuel_of, has_feed, held_of, line_of, fault_of, input_of, max_reads, reads_bound, AsksInTime, BeginsLong, BreaksOff, HasCause, HoldsLine, InTime, IsDrained, KeepsTime, StaysEnded, TakesFeeds, TakesByte, TakesLine, NoFeed, GivesLine};
 
     /// Returns the lines of `reader`, which is read at most 1,099,511,627,776 times. Allocates all buffers. Returns
     /// `AllocError` if an allocation fails.
@@ -97,6 +97,14 @@ impl<R: Source + Drop> Lines<R> {
         ensures { result.now ≡ line_of self.now }
     {
         self.line.as_slice()
+    }
+
+    /// Tells whether the bytes that were read and not taken have a whole line, up to its line feed. Then `next_line` returns that line
+    /// and reads nothing.
+    pub fn holds_line(&self) -> bool
+        ensures { result ≡ has_feed (held_of self.now) }
+    {
+        self.chunk[self.at..self.end].contains(&b'\n')
     }
 
     /// Reads more bytes into the chunk, after all bytes in it were used. It reads none only at the end of input. After
@@ -158,6 +166,7 @@ impl<R: Source + Drop> Lines<R> {
         ensures why { IfErr result (λ fault. (fault ≡ LineFault.Read) × HasCause R.tally self.old self.new) }
         ensures asks { AsksInTime R.tally self.old self.new }
         ensures rested { OnOk result ((R.tally self.old.reader).interruptions ≡ 0 → (R.tally self.new.reader).interruptions ≡ 0) }
+        ensures held { self.old.at < self.old.end → (result ≡ Ok (Some (slice_index self.old.chunk.items self.old.at))) × (self.new.reader ≡ self.old.reader) }
     {
         if self.at == self.end {
             self.fill()?;
@@ -180,6 +189,7 @@ impl<R: Source + Drop> Lines<R> {
         ensures fuel { length (line_of self.new) + fuel_of self.new ≤ length (line_of self.old) + fuel_of self.old }
         ensures falls { fuel_of self.new ≤ fuel_of self.old }
         ensures same { (self.new.reader ≡ self.old.reader) × (self.new.ended ≡ self.old.ended) × (self.new.reads_left ≡ self.old.reads_left) × (self.new.fault ≡ self.old.fault) }
+        ensures feed { line_of self.old ≡ [] → HoldsLine self.old → (self.new.at < self.new.end) × (slice_index self.new.chunk.items self.new.at ≡ 10) × (length (line_of self.new) ≤ max_line) }
     {
         let held = &self.chunk[self.at..self.end];
         let room = MAX_LINE + 1 - self.line.len();
@@ -205,6 +215,7 @@ impl<R: Source + Drop> Lines<R> {
         ensures why { IfErr result (λ fault. (fault ≡ LineFault.Read) × HasCause R.tally self.old self.new) }
         ensures asks { AsksInTime R.tally self.old self.new }
         ensures rested { OnOk result ((R.tally self.old.reader).interruptions ≡ 0 → (R.tally self.new.reader).interruptions ≡ 0) }
+        ensures held { HoldsLine self.old → (result ≡ Ok LineEnd.Feed) × (self.new.reader ≡ self.old.reader) × (length (line_of self.new) ≤ max_line) }
     {
         self.line.clear();
         loop {
@@ -240,6 +251,7 @@ impl<R: Source + Drop> Lines<R> {
         ensures why { IfErr result (λ fault. fault ≡ LineFault.Read → HasCause R.tally self.old self.new) }
         ensures asks { AsksInTime R.tally self.old self.new }
         ensures rested { OnOk result ((R.tally self.old.reader).interruptions ≡ 0 → (R.tally self.new.reader).interruptions ≡ 0) }
+        ensures held { HoldsLine self.old → (result ≡ Ok true) × (self.new.reader ≡ self.old.reader) }
     {
         let end = self.take_line()?;
         if end == LineEnd::Input && self.line.is_empty() {
@@ -278,6 +290,7 @@ impl<R: Source + Drop> Lines<R> {
         ensures bound { reads_bound R.tally self.new ≡ reads_bound R.tally self.old }
         ensures why { IfErr result (λ fault. fault ≡ LineFault.Read → HasCause R.tally self.old self.new ⊎ (fault_of self.old ≡ Some fault)) }
         ensures in_time { KeepsTime R.tally self.old self.new }
+        ensures held { HoldsLine self.old → fault_of self.old ≡ None → (result ≡ Ok true) × (self.new.reader ≡ self.old.reader) }
     {
         if let Some(fault) = self.fault {
             return Err(fault);

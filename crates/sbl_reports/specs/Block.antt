@@ -1,5 +1,5 @@
 -- A block of lines, up to a line `.`.
-use Rattle.std.specs.Prelude.{◌≡◌, ◌≢◌, ◌<◌, ◌≤◌, ℕ, List, [], ◌∷◌, ◌++◌, Option, Some, None, Result, Ok, Err, length}
+use Rattle.std.specs.Prelude.{◌≡◌, ◌≢◌, ◌<◌, ◌≤◌, ◌^◌, ◌-◌, min, ℕ, List, [], ◌∷◌, ◌++◌, Option, Some, None, Result, Ok, Err, length}
 use Rattle.std.specs.List.{AllByRecursion, flat_map}
 use Rattle.std.specs.Io.KnownBytes.{IsAtEnd}
 pub use Rattle.sbl_script.specs.Reading.{max_script}
@@ -52,8 +52,12 @@ KeepsText (kept.Whole bytes) lines = HasText None bytes.items lines
 KeepsText (kept.Counted n) lines = (n ≡ length (made_text lines)) × HasText (Some OutOfMemory) [] lines
 KeepsText kept.TooLong lines = HasText (Some TooLong) [] lines
 
+-- the greatest number of lines that is counted
+abbrev pub max_lines : ℕ
+max_lines = 2 ^ 64 - 1
+
 abbrev pub HoldsText : BlockText → List (List ℕ) → Type 0
-HoldsText text lines = KeepsText text.kept lines
+HoldsText text lines = KeepsText text.kept lines × (text.lines ≡ min (length lines) max_lines)
 
 -- The result of reading a block: its text, or why a block that was read to its end has none; or why there is no whole block.
 abbrev pub ReadsBlock : Option (List ℕ) → Option (List ℕ) → Result BlockText ServeFault → Type 0

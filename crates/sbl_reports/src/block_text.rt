@@ -1,7 +1,7 @@
 //! The text of a block: the lines up to a line `.`.
-ghost use Rattle.std.specs.Prelude.{◌≡◌, ◌+◌, ◌++◌, [], ◌∷◌, List, ℕ, OnOk, IfOk, IfErr, None, Some, length, nat_le};
+ghost use Rattle.std.specs.Prelude.{◌≡◌, ◌+◌, ◌++◌, [], ◌∷◌, List, ℕ, OnOk, IfOk, IfErr, None, Some, length, min, nat_le};
 ghost use Rattle.std.specs.Io.KnownBytes.{Keeps};
-ghost use Rattle.sbl_reports.specs.Block.{HasText, HoldsText, KeepsText, ReadsBlock, max_script};
+ghost use Rattle.sbl_reports.specs.Block.{HasText, HoldsText, KeepsText, ReadsBlock, max_lines, max_script};
 ghost use Rattle.sbl_io.specs.Faults.{serve_fault_of};
 ghost use Rattle.sbl_io.specs.HeldInput.{Reading, fault_of, input_of};
 ghost use Rattle.sbl_io.specs.declared.faults.LineFault.{LineFault};
@@ -23,6 +23,8 @@ pub enum BlockFault {
 #[derive(Drop)]
 pub struct BlockText {
     kept: KeptText,
+    /// The number of its lines.
+    lines: u64,
 }
 
 /// What is kept of a text. After a failed allocation its bytes are still counted: a text that gets too long is refused for that,
@@ -44,6 +46,7 @@ impl BlockText {
     {
         BlockText {
             kept: KeptText::Whole(Vec::new(alloc)),
+            lines: 0,
         }
     }
 
@@ -52,6 +55,14 @@ impl BlockText {
         ensures { (lines : List (List ℕ)) → HoldsText self.old lines → HoldsText self.new (lines ++ line.now ∷ []) }
     {
         self.kept.push_line(line);
+        self.lines = self.lines.saturating_add(1);
+    }
+
+    /// Returns the number of lines, without the line `.`; the greatest `u64` if there are more.
+    pub fn line_count(&self) -> u64
+        ensures { (lines : List (List ℕ)) → HoldsText self.now lines → result ≡ min (length lines) max_lines }
+    {
+        self.lines
     }
 
     /// Returns the text, or the fault: `TooLong` exactly if the text is too long, whatever memory there was.

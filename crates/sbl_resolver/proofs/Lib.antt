@@ -8,3 +8,4 @@ pub mod Extends
 pub mod Sound
 pub mod Resolving
 pub mod Numbered
+pub mod Listed

@@ -5,6 +5,7 @@ pub mod Checks
 pub mod Amongs
 pub mod Laws
 pub mod Subjects
+pub mod AllFaults
 -- what the functions inside the crate promise each other; no public contract depends on these
 pub mod OccurrenceView
 pub mod MetNames

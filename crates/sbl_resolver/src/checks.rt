@@ -178,7 +178,7 @@ pub struct CheckState<'a> {
     pub waits: bool,
 }
 
-fn kind_of(met: &CheckState, name: &str) -> Option<DeclarationKind>
+pub(crate) fn kind_of(met: &CheckState, name: &str) -> Option<DeclarationKind>
     ensures { result ≡ at_name met.now.kinds name.now }
 {
     met.kinds.get(name).copied()
@@ -192,7 +192,7 @@ fn definition_of(sites: &BTreeMap<&str, Site>, name: &str) -> Option<Site>
 
 /// Returns the fault of an occurrence, given the occurrences after it, the first definition of each name, and what the
 /// checks remember of the occurrences before it.
-fn fault_at<'a>(
+pub(crate) fn fault_at<'a>(
     occurrence: &Occurrence<'a>,
     after: &[Occurrence<'a>],
     sites: &BTreeMap<&'a str, Site>,
@@ -273,7 +273,10 @@ fn keep_string<'a>(
 }
 
 /// Updates what the checks remember after an occurrence. Returns `AllocError` if an allocation fails.
-fn note<'a>(occurrence: &Occurrence<'a>, met: &mut CheckState<'a>) -> Result<(), AllocError>
+pub(crate) fn note<'a>(
+    occurrence: &Occurrence<'a>,
+    met: &mut CheckState<'a>,
+) -> Result<(), AllocError>
     ensures { OnOk result (Notes met.old met.new (view_occurrence occurrence.now)) }
 {
     match occurrence.notice {
@@ -314,7 +317,7 @@ fn note_definition<'a>(
 }
 
 /// Returns the site of the first definition of each name. Returns `AllocError` if an allocation fails.
-fn sites_of<'a>(
+pub(crate) fn sites_of<'a>(
     alloc: Global,
     occurrences: &[Occurrence<'a>],
 ) -> Result<BTreeMap<&'a str, Site>, AllocError>
@@ -328,7 +331,7 @@ fn sites_of<'a>(
 }
 
 /// Returns the state before the first occurrence.
-fn met_nothing<'a>(alloc: Global) -> CheckState<'a>
+pub(crate) fn met_nothing<'a>(alloc: Global) -> CheckState<'a>
     ensures { HasMet result [] }
 {
     CheckState {
@@ -339,7 +342,10 @@ fn met_nothing<'a>(alloc: Global) -> CheckState<'a>
 }
 
 /// Returns the occurrences after the one at `index`.
-fn following<'a, 'b>(occurrences: &'b [Occurrence<'a>], index: usize) -> &'b [Occurrence<'a>]
+pub(crate) fn following<'a, 'b>(
+    occurrences: &'b [Occurrence<'a>],
+    index: usize,
+) -> &'b [Occurrence<'a>]
     requires { index < length occurrences.now }
     ensures { result.now ≡ drop (index + 1) occurrences.now }
 {
@@ -348,7 +354,7 @@ fn following<'a, 'b>(occurrences: &'b [Occurrence<'a>], index: usize) -> &'b [Oc
 
 /// Returns the number of tokens that the checks have looked at after this one, given the number before it. There is no
 /// token at the end of a region.
-fn number_after(notice: Notice<'_>, number: usize) -> usize
+pub(crate) fn number_after(notice: Notice<'_>, number: usize) -> usize
     requires { number < 18446744073709551615 }
     ensures { result ≡ one_more (subject_of (view_notice notice.entry)) number }
 {
@@ -429,6 +435,16 @@ pub fn check(alloc: Global, items: &[ScriptItem], external: &str) -> Result<(), 
     check_external(kind_of(&met, external), body_in(items, external))
 }
 
+/// Returns whether a name that is declared as this kind and has this body is an external with a body.
+pub(crate) fn is_external(kind: Option<DeclarationKind>, body: Option<&RowOfCommands>) -> bool
+    ensures { result ≡ (spec.is_some_and (spec.is_kind DeclarationKind.Externals) kind && is_some body.entry) }
+{
+    match kind {
+        Some(DeclarationKind::Externals) => body.is_some(),
+        _ => false,
+    }
+}
+
 /// Checks that the external is declared as an external and has a body.
 fn check_external(
     kind: Option<DeclarationKind>,
@@ -436,8 +452,9 @@ fn check_external(
 ) -> Result<(), ScriptFault>
     ensures { Finds result (if spec.is_some_and (spec.is_kind DeclarationKind.Externals) kind && is_some body.entry then None else Some ScriptFault.NoExternal) }
 {
-    match kind {
-        Some(DeclarationKind::Externals) if body.is_some() => Ok(()),
-        _ => Err(ScriptFault::NoExternal),
+    if is_external(kind, body) {
+        Ok(())
+    } else {
+        Err(ScriptFault::NoExternal)
     }
 }

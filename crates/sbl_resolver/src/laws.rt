@@ -1,5 +1,6 @@
 //! Laws of the checks.
 
+ghost use Rattle.sbl_resolver.specs.AllFaults.{EachFaultIsListed, FaultIsFirstOfAll};
 ghost use Rattle.sbl_resolver.specs.Amongs.{AmongsAreSound};
 ghost use Rattle.sbl_resolver.specs.Laws.{FaultIsFirst, NamesResolve, SubstringsArePaired, WellDeclaredPasses};
 
@@ -29,4 +30,14 @@ pub fn names_resolve()
 /// Each `substring` in a well declared script has its `among`.
 pub fn substrings_are_paired()
     ensures { SubstringsArePaired }
+{}
+
+/// The fault of a script is the first of all its faults. There are none if the script is accepted.
+pub fn fault_is_first_of_all()
+    ensures { FaultIsFirstOfAll }
+{}
+
+/// All faults of a script contain the fault of each occurrence at which a check fails.
+pub fn each_fault_is_listed()
+    ensures { EachFaultIsListed }
 {}

@@ -3,6 +3,7 @@
 
 mod bodies;
 mod checks;
+mod fault_list;
 pub mod laws;
 mod noting;
 mod occurrences;
@@ -10,4 +11,5 @@ mod sofar;
 
 pub use bodies::body_in;
 pub use checks::{check, first_fault};
+pub use fault_list::all_faults;
 pub use occurrences::{Site, Use};

@@ -17,6 +17,7 @@ use crate::reports::{
 };
 use crate::session_commands::{Command, asks_block, command_of, keep_line};
 use crate::session_edits::{add_word, edit_script, remove_word};
+use crate::watching::{NoWatch, RefusedEdit, Watch};
 use sbl_bench::{Bench, EditFault};
 use sbl_io::{Lines, ServeFault, Sink, Source};
 use sbl_reports::read_block;
@@ -48,21 +49,39 @@ pub fn answer_line(alloc: Global, bench: &mut Bench, line: &[u8]) -> Reply
     }
 }
 
+/// The reply to a request, the edit if it was refused, and the number of lines of the block with its line `.`.
+#[derive(Drop)]
+struct Answered {
+    reply: Reply,
+    refused: Option<RefusedEdit>,
+    lines: u64,
+}
+
 /// Makes the edit or the report that the current line asks for, with the block after it if it asks for one, and returns the
 /// reply. If the block is not read to its end, makes no edit and returns the fault: `Cut` if the input ends before the line `.`,
 /// and `Read` and `LineTooLong` as the lines return them.
-fn answer<R: Source + Drop>(bench: &mut Bench, lines: &mut Lines<R>) -> Result<Reply, ServeFault>
+fn answer<R: Source + Drop>(bench: &mut Bench, lines: &mut Lines<R>) -> Result<Answered, ServeFault>
     requires ready { fault_of lines.old ≡ None }
-    ensures answered { IfOk result (λ reply. IsAnswered (input_of R.left lines.old) (input_of R.left lines.new) (line_of lines.old) (contents_of bench.old) reply (contents_of bench.new)) }
+    ensures answered { IfOk result (λ answered. IsAnswered (input_of R.left lines.old) (input_of R.left lines.new) (line_of lines.old) (contents_of bench.old) answered.reply (contents_of bench.new)) }
     ensures broken { IfErr result (λ fault. BreaksBlock (input_of R.left lines.old) (input_of R.left lines.new) (line_of lines.old) fault × (contents_of bench.new ≡ contents_of bench.old)) }
     ensures reading { Reading R.left R.tally lines.old lines.new result }
 {
     if !asks_block(lines.line()) {
-        return Ok(answer_line(lines.alloc(), bench, lines.line()));
+        return Ok(Answered {
+            reply: answer_line(lines.alloc(), bench, lines.line()),
+            refused: None,
+            lines: 0,
+        });
     }
     let kept = keep_line(lines.alloc(), lines.line());
     let block = read_block(lines)?;
-    Ok(Reply::Fixed(edit_script(bench, kept, block)))
+    let count = block.line_count();
+    let edited = edit_script(bench, kept, block);
+    Ok(Answered {
+        reply: Reply::Fixed(edited.text),
+        refused: edited.refused,
+        lines: count.saturating_add(1),
+    })
 }
 
 /// Replies to each request of the input in turn, up to the end of input. A request is a line and, if its command word is
@@ -105,9 +124,37 @@ pub fn serve<R: Source + Drop, W: Sink>(
     ensures reads_in_time { KeepsTime R.tally lines.old lines.new }
     ensures writes_in_time { WritesInTime W.tally writer.old writer.new }
 {
+    serve_watched(bench, lines, writer, &mut NoWatch {})
+}
+
+/// Does what `serve` does, and tells `watch` of each edit of the script that is refused: after its reply, before the next line is
+/// read. What `watch` does has no part in the session.
+pub fn serve_watched<R: Source + Drop, W: Sink, S: Watch>(
+    bench: &mut Bench,
+    lines: &mut Lines<R>,
+    writer: &mut W,
+    watch: &mut S,
+) -> Result<(), ServeFault>
+    ensures session { fault_of lines.old ≡ None → IsSession (moment R.left W.held lines.old writer.old bench.old) (moment R.left W.held lines.new writer.new bench.new) result }
+    ensures ends { Ends R.tally W.tally lines.old lines.new writer.old writer.new result }
+    ensures steady { OnOk result (((R.tally lines.new.reader).failures ≡ (R.tally lines.old.reader).failures) × ((W.tally writer.new).failures ≡ (W.tally writer.old).failures)) }
+    ensures whole { OnOk result (IsAtEnd (input_of R.left lines.new)) }
+    ensures drained { result ≡ Err ServeFault.Read → fault_of lines.old ≡ None → IsDrained lines.new }
+    ensures remembered { fault_of lines.new ≡ left_by result }
+    ensures again { (fault : LineFault) → fault_of lines.old ≡ Some fault → ReturnsAgain fault (moment R.left W.held lines.old writer.old bench.old) (moment R.left W.held lines.new writer.new bench.new) result }
+    ensures bound { reads_bound R.tally lines.new ≡ reads_bound R.tally lines.old }
+    ensures reads_in_time { KeepsTime R.tally lines.old lines.new }
+    ensures writes_in_time { WritesInTime W.tally writer.old writer.new }
+{
+    let mut row: u64 = 0;
     while lines.next_line()? {
-        let reply = answer(bench, lines)?;
-        write_reply(writer, &reply)?;
+        row = row.saturating_add(1);
+        let answered = answer(bench, lines)?;
+        write_reply(writer, &answered.reply)?;
+        if let Some(edit) = &answered.refused {
+            watch.see_refused(bench, edit, row);
+        }
+        row = row.saturating_add(answered.lines);
     }
     Ok(())
 }

@@ -21,7 +21,7 @@ use crate::text_replies::{file_tokens_reply, hello_reply, places_reply, text_rep
 use crate::whys::{integers_reply, why_reply};
 use crate::word_files::words_reply;
 use sbl_bench::{Bench, EditFault};
-use sbl_explain::unused_text;
+use sbl_explain::{KeptTakes, unused_text};
 use sbl_history::Desk;
 use sbl_io::first_line;
 use sbl_reports::{changes_text, largest_text, stats_text};
@@ -90,10 +90,10 @@ fn stats(alloc: Global, bench: &Bench) -> Reply
 }
 
 /// Returns the reply to `unused`.
-fn unused_reply(alloc: Global, bench: &Bench) -> Reply
+fn unused_reply(alloc: Global, bench: &Bench, kept: &mut KeptTakes) -> Reply
     ensures { (d : State) → IsWorkAnswer (contents_of bench.now) d spec.Unused result (contents_of bench.now) d }
 {
-    report(unused_text(alloc, bench))
+    report(unused_text(alloc, bench, kept))
 }
 
 /// Returns the reply to `largest`.
@@ -218,6 +218,7 @@ pub(crate) fn answer_line(
     alloc: Global,
     desk: &mut Desk,
     bench: &mut Bench,
+    kept: &mut KeptTakes,
     line: &[u8],
     file: Option<&[u8]>,
 ) -> Reply
@@ -235,14 +236,14 @@ pub(crate) fn answer_line(
         Request::Words => words_reply(alloc, bench, file),
         Request::Changes => changes(alloc, desk, bench),
         Request::Stats => stats(alloc, bench),
-        Request::Unused => unused_reply(alloc, bench),
+        Request::Unused => unused_reply(alloc, bench, kept),
         Request::Largest(argument) => largest(alloc, bench, argument),
         Request::Families(_) => families(alloc, bench, file),
         Request::Replace(_) => reload(desk, bench, file),
         Request::Why(word) => why(alloc, bench, word),
         Request::Integers(word) => integers(alloc, bench, word),
-        Request::Uses(text) => uses_reply(alloc, bench, text),
-        Request::Counts => counts_reply(alloc, bench),
+        Request::Uses(text) => uses_reply(alloc, bench, kept, text),
+        Request::Counts => counts_reply(alloc, bench, kept),
         Request::Find(text) => find_reply(alloc, bench, text),
         Request::Stem(text) => stem_reply(alloc, bench, text),
         Request::Show(name) => show(alloc, bench, name),

@@ -17,7 +17,7 @@ ghost use Rattle.sbl_work.specs.ReplyViews.{IsWorkAnswer};
 use crate::replies::{NO_CLASS, NO_STRING, edit_reply};
 use crate::whys::characters_of;
 use sbl_bench::{Bench, EditFault};
-use sbl_explain::{Question, UsesFault, counts_text, uses_text};
+use sbl_explain::{KeptTakes, Question, UsesFault, counts_text, uses_text};
 use sbl_reports::{found_text, stem_text};
 use sbl_sessions::{BAD_COMMAND, Reply, number_in, report};
 use std::alloc::Global;
@@ -46,29 +46,43 @@ fn fault_reply(fault: UsesFault) -> Reply
 }
 
 /// Returns the reply with the words that use a part of the script, or with why there is no such part.
-fn users_reply(alloc: Global, bench: &Bench, question: Question<'_>) -> Reply
+fn users_reply(alloc: Global, bench: &Bench, kept: &mut KeptTakes, question: Question<'_>) -> Reply
     ensures { IsReply result (uses_reply_text (contents_of bench.now) (question_of question.entry)) ⊎ IsReply result (edit_text (Some EditFault.OutOfMemory)) }
 {
-    match uses_text(alloc, bench, question) {
+    match uses_text(alloc, bench, kept, question) {
         Ok(text) => Reply::Report(text),
         Err(fault) => fault_reply(fault),
     }
 }
 
 /// Returns the reply with the words that use a string of an among.
-fn string_users_reply(alloc: Global, bench: &Bench, name: &str, number: u64, string: &str) -> Reply
+fn string_users_reply(
+    alloc: Global,
+    bench: &Bench,
+    kept: &mut KeptTakes,
+    name: &str,
+    number: u64,
+    string: &str,
+) -> Reply
     ensures { (d : State) → IsWorkAnswer (contents_of bench.now) d (spec.Uses (OfString name.now number (chars string.now))) result (contents_of bench.now) d }
 {
     match characters_of(alloc, string) {
         Ok(characters) => {
-            users_reply(alloc, bench, Question::OfString(name, number, &characters))
+            let question = Question::OfString(name, number, &characters);
+            users_reply(alloc, bench, kept, question)
         }
         Err(_) => edit_reply(Err(EditFault::OutOfMemory)),
     }
 }
 
 /// Returns the reply with the words that use an among, or a string of it, given the text after the name and a space.
-fn among_users_reply(alloc: Global, bench: &Bench, name: &str, text: &str) -> Reply
+fn among_users_reply(
+    alloc: Global,
+    bench: &Bench,
+    kept: &mut KeptTakes,
+    name: &str,
+    text: &str,
+) -> Reply
     ensures { (d : State) → IsWorkAnswer (contents_of bench.now) d (option_map_or spec.Uses (among_question name.now text.now) (spec.Session Bad)) result (contents_of bench.now) d }
 {
     let (digits, string) = split_at_space(text);
@@ -76,13 +90,13 @@ fn among_users_reply(alloc: Global, bench: &Bench, name: &str, text: &str) -> Re
         return Reply::Fixed(BAD_COMMAND);
     };
     match string {
-        Some(string) => string_users_reply(alloc, bench, name, number, string),
-        None => users_reply(alloc, bench, Question::OfAmong(name, number)),
+        Some(string) => string_users_reply(alloc, bench, kept, name, number, string),
+        None => users_reply(alloc, bench, kept, Question::OfAmong(name, number)),
     }
 }
 
 /// Returns the reply to `uses`.
-pub(crate) fn uses_reply(alloc: Global, bench: &Bench, text: &str) -> Reply
+pub(crate) fn uses_reply(alloc: Global, bench: &Bench, kept: &mut KeptTakes, text: &str) -> Reply
     ensures { (d : State) → IsWorkAnswer (contents_of bench.now) d (spec.uses_command text.now) result (contents_of bench.now) d }
 {
     let (name, rest) = split_at_space(text);
@@ -90,16 +104,16 @@ pub(crate) fn uses_reply(alloc: Global, bench: &Bench, text: &str) -> Reply
         return Reply::Fixed(BAD_COMMAND);
     }
     match rest {
-        Some(rest) => among_users_reply(alloc, bench, name, rest),
-        None => users_reply(alloc, bench, Question::OfName(name)),
+        Some(rest) => among_users_reply(alloc, bench, kept, name, rest),
+        None => users_reply(alloc, bench, kept, Question::OfName(name)),
     }
 }
 
 /// Returns the reply to `counts`.
-pub(crate) fn counts_reply(alloc: Global, bench: &Bench) -> Reply
+pub(crate) fn counts_reply(alloc: Global, bench: &Bench, kept: &mut KeptTakes) -> Reply
     ensures { (d : State) → IsWorkAnswer (contents_of bench.now) d spec.Counts result (contents_of bench.now) d }
 {
-    report(counts_text(alloc, bench))
+    report(counts_text(alloc, bench, kept))
 }
 
 /// Returns the reply to `find`.

@@ -24,6 +24,7 @@ use crate::stem_files::{approve_by_file, mark_by_file};
 use crate::text_replies::tokens_by_file;
 use crate::word_files::words_by_file;
 use sbl_bench::{Bench, EditFault};
+use sbl_explain::KeptTakes;
 use sbl_history::Desk;
 use sbl_input::LoadFault;
 use sbl_io::{Lines, ServeFault, Sink, Source, write_all};
@@ -40,13 +41,15 @@ const PROMPT: &[u8] = b"> ";
 /// What is written if an allocation fails for the line that says why there is no desk.
 const NO_MEMORY: &[u8] = b"snowbench: 49 OutOfMemory\n";
 
-/// The files of work, the bytes that were read last from the file of the script, and the words that were added.
+/// The files of work, the bytes that were read last from the file of the script, the words that were added, and what is kept for
+/// questions about uses.
 #[derive(Drop)]
 struct Folder<'a, F> {
     files: &'a F,
     paths: &'a Paths,
     seen: Vec<u8>,
     added: Added,
+    kept: KeptTakes,
 }
 
 /// Writes the text of the current script to a file.
@@ -73,22 +76,57 @@ fn answer_alone<F: Files + AllocGlobal>(
     match request_of(line) {
         Request::Reload => match read_file(folder.files, folder.paths.script.as_str()) {
             Ok(bytes) => {
-                let reply = answer_line(alloc, desk, bench, line, Some(bytes.as_slice()));
+                let reply = answer_line(
+                    alloc,
+                    desk,
+                    bench,
+                    &mut folder.kept,
+                    line,
+                    Some(bytes.as_slice()),
+                );
                 folder.seen = bytes;
                 reply
             }
-            Err(ReadFault::Unreadable) => answer_line(alloc, desk, bench, line, None),
+            Err(ReadFault::Unreadable) => answer_line(
+                alloc,
+                desk,
+                bench,
+                &mut folder.kept,
+                line,
+                None,
+            ),
             Err(ReadFault::OutOfMemory) => edit_reply(Err(EditFault::OutOfMemory)),
         },
         Request::Families(path) => match read_file(folder.files, path) {
-            Ok(bytes) => answer_line(alloc, desk, bench, line, Some(bytes.as_slice())),
-            Err(ReadFault::Unreadable) => answer_line(alloc, desk, bench, line, None),
+            Ok(bytes) => answer_line(
+                alloc,
+                desk,
+                bench,
+                &mut folder.kept,
+                line,
+                Some(bytes.as_slice()),
+            ),
+            Err(ReadFault::Unreadable) => answer_line(
+                alloc,
+                desk,
+                bench,
+                &mut folder.kept,
+                line,
+                None,
+            ),
             Err(ReadFault::OutOfMemory) => edit_reply(Err(EditFault::OutOfMemory)),
         },
         Request::Save(path) => match save_text(folder, desk, bench, path) {
-            Ok(()) => answer_line(alloc, desk, bench, line, Some(b"".as_slice())),
+            Ok(()) => answer_line(
+                alloc,
+                desk,
+                bench,
+                &mut folder.kept,
+                line,
+                Some(b"".as_slice()),
+            ),
             Err(SaveFault::OutOfMemory) => edit_reply(Err(EditFault::OutOfMemory)),
-            Err(_) => answer_line(alloc, desk, bench, line, None),
+            Err(_) => answer_line(alloc, desk, bench, &mut folder.kept, line, None),
         },
         Request::Append(path) => match append(
             folder.files,
@@ -97,9 +135,16 @@ fn answer_alone<F: Files + AllocGlobal>(
             bench,
             path,
         ) {
-            Ok(lines) => answer_line(alloc, desk, bench, line, Some(lines.as_slice())),
+            Ok(lines) => answer_line(
+                alloc,
+                desk,
+                bench,
+                &mut folder.kept,
+                line,
+                Some(lines.as_slice()),
+            ),
             Err(SaveFault::OutOfMemory) => edit_reply(Err(EditFault::OutOfMemory)),
-            Err(_) => answer_line(alloc, desk, bench, line, None),
+            Err(_) => answer_line(alloc, desk, bench, &mut folder.kept, line, None),
         },
         Request::Replace(path) => replace_by_file(
             folder.files,
@@ -119,7 +164,7 @@ fn answer_alone<F: Files + AllocGlobal>(
             bench,
         ),
         Request::TokensOf(path) => tokens_by_file(folder.files, alloc, path),
-        _ => answer_line(alloc, desk, bench, line, None),
+        _ => answer_line(alloc, desk, bench, &mut folder.kept, line, None),
     }
 }
 
@@ -271,6 +316,7 @@ fn work_on<F: Files + AllocGlobal, R: Source + Drop, W: Sink>(
         paths,
         seen,
         added,
+        kept: KeptTakes::new(files.alloc()),
     };
     let served = serve_bench(&mut folder, &mut bench, text, prompt, lines, writer);
     bench.leak();

@@ -18,7 +18,7 @@ use sbl_command_line::{Verb, Wanted};
 use sbl_input::{LoadFault, load_rows, load_with_keys, read_script};
 use sbl_io::{Lines, ServeFault, Sink, Source, write_all};
 use sbl_script::Script;
-use sbl_sessions::serve;
+use sbl_sessions::{NoWatch, Watch, serve_watched};
 use std::alloc::{AllocError, Global};
 use std::fmt::InlineText;
 
@@ -85,7 +85,26 @@ pub fn run_with<R: Source + Drop, W: Sink, E: Sink>(
     ensures writes_in_time { WritesInTime W.tally writer.old writer.new }
     ensures errors_in_time { WritesInTime E.tally errors.old errors.new }
 {
-    match answer(wanted, keys, lines, writer) {
+    run_watched(wanted, keys, lines, writer, errors, &mut NoWatch {})
+}
+
+/// Does what `run_with` does, and tells `watch` of each edit of a session that is refused, as `serve_watched` does.
+pub fn run_watched<R: Source + Drop, W: Sink, E: Sink, S: Watch>(
+    wanted: &Wanted,
+    keys: WordKeys,
+    lines: &mut Lines<R>,
+    writer: &mut W,
+    errors: &mut E,
+    watch: &mut S,
+) -> u8
+    ensures runs { fault_of lines.old ≡ None → Runs R.left R.tally W.held W.tally E.held E.tally wanted.now lines.old lines.new writer.old writer.new errors.old errors.new result }
+    ensures status { result ≤ 1 }
+    ensures bound { reads_bound R.tally lines.new ≡ reads_bound R.tally lines.old }
+    ensures reads_in_time { KeepsTime R.tally lines.old lines.new }
+    ensures writes_in_time { WritesInTime W.tally writer.old writer.new }
+    ensures errors_in_time { WritesInTime E.tally errors.old errors.new }
+{
+    match answer(wanted, keys, lines, writer, watch) {
         Ok(0) => 0,
         Ok(_) => 1,
         Err(fault) => {
@@ -116,11 +135,12 @@ fn line_of_fault(fault: LoadFault) -> InlineText<MAX_FAULT_LINE>
 }
 
 /// Does what the command line asks for, and returns the number of differences.
-fn answer<R: Source + Drop, W: Sink>(
+fn answer<R: Source + Drop, W: Sink, S: Watch>(
     wanted: &Wanted,
     keys: WordKeys,
     lines: &mut Lines<R>,
     writer: &mut W,
+    watch: &mut S,
 ) -> Result<u64, LoadFault>
     ensures answers { fault_of lines.old ≡ None → IsAnswer wanted.now.verb (string_bytes wanted.now.external) (input_of R.left lines.old) (input_of R.left lines.new) (W.held writer.old) (W.held writer.new) result }
     ensures answering { Answering R.tally W.tally lines.old lines.new writer.old writer.new result }
@@ -129,7 +149,7 @@ fn answer<R: Source + Drop, W: Sink>(
     let external = wanted.external.as_str();
     match wanted.verb {
         Verb::Session => {
-            session(lines, keys, external, writer)?;
+            session(lines, keys, external, writer, watch)?;
             Ok(0)
         }
         Verb::Stem => {
@@ -147,18 +167,20 @@ fn answer<R: Source + Drop, W: Sink>(
 }
 
 /// Loads a bench and answers the commands after it.
-fn session<R: Source + Drop, W: Sink>(
+fn session<R: Source + Drop, W: Sink, S: Watch>(
     lines: &mut Lines<R>,
     keys: WordKeys,
     external: &str,
     writer: &mut W,
+    watch: &mut S,
 ) -> Result<(), LoadFault>
     ensures session { fault_of lines.old ≡ None → IsWholeSession (input_of R.left lines.old) (input_of R.left lines.new) external.now (W.held writer.old) (W.held writer.new) result }
     ensures answering { Answering R.tally W.tally lines.old lines.new writer.old writer.new result }
     ensures bound { reads_bound R.tally lines.new ≡ reads_bound R.tally lines.old }
 {
     let mut bench = load_with_keys(lines, keys, external)?;
-    let served = serve(&mut bench, lines, writer);
+    watch.begin(&bench);
+    let served = serve_watched(&mut bench, lines, writer, watch);
     bench.leak();
     served?;
     Ok(())

@@ -1,7 +1,7 @@
 //! Work on the files of a script and of words.
 
 use crate::messages::{FAILED, NO_KEYS, REFUSED, fail_memory, print_line};
-use crate::talk::{Lead, Talk};
+use crate::talk::Talk;
 use crate::watching::{Context, Quiet, WatchedReader, file_text};
 use sbl_diagnostics::fault_of;
 use sbl_work::{Paths, work};
@@ -57,7 +57,7 @@ pub(crate) fn start_work(rt: &HostRuntime, wanted: Wanted) -> u8 {
     let is_terminal = rt.stdin().is_terminal() && rt.stdout().is_terminal();
     let prompts = is_terminal && face != Some(Face::Rows);
     let ended = if shows_places(rt, face) {
-        let talk = RefCell::new(Talk::new(rt.alloc(), Lead::Work));
+        let talk = RefCell::new(Talk::new(rt.alloc()));
         work_in_text(rt, keys, &paths, prompts, &talk)
     } else {
         work_in_rows(rt, keys, &paths, prompts)
@@ -105,8 +105,7 @@ fn work_in_text(
 ) -> Result<u8, AllocError> {
     let context = Context {
         external: paths.external.as_str(),
-        input: None,
-        script: Some(paths.script.as_str()),
+        script: paths.script.as_str(),
         prompts,
     };
     let reader = Device::new(WatchedReader::new(rt, context, rt.stdin(), talk)?);

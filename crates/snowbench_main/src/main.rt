@@ -8,6 +8,7 @@ mod comparisons;
 mod fault_texts;
 mod file_names;
 mod messages;
+mod place_watch;
 mod run_result;
 mod sessions;
 mod streams;

@@ -4,11 +4,12 @@ use crate::blocks::{compose, line_count, point_line, script_block};
 use crate::fault_texts::{hint, run_fault_text, word_fault_text};
 use crate::file_names::{FileNames, STANDARD_INPUT, file_name, reads_twice};
 use crate::messages::{FAILED, NO_KEYS, REFUSED, count_and_word, fail_memory, print_line};
+use crate::place_watch::PlaceWatch;
 use crate::run_result::RunResult;
 use crate::streams::{FirstBytes, FirstBytesReader, Output};
-use crate::talk::{Lead, Talk};
-use crate::watching::{Context, Quiet, WatchedReader};
-use snowbench::{Device, Lines, Source, Verb, Wanted, WordKeys, run_filter as run_words, run_with};
+use snowbench::{
+    Device, Lines, NoWatch, Verb, Wanted, Watch, WordKeys, run_filter as run_words, run_watched,
+};
 use std::alloc::{AllocError, Global};
 use std::cell::RefCell;
 use std::fs::File;
@@ -22,50 +23,23 @@ pub(crate) const CLOSED_PIPE: u8 = 141;
 /// How many bytes the line of a fault has at most.
 pub(crate) const MAX_FAULT_LINE: usize = 96;
 
-/// Runs what the command line asks for over the lines of a reader.
-fn run_lines<R: Source + Drop>(
+/// Runs what the command line asks for over a reader.
+fn run_reader<R: Read + Drop, S: Watch>(
     rt: &HostRuntime,
     wanted: &Wanted,
-    lines: &mut Lines<R>,
+    reader: R,
+    watch: &mut S,
 ) -> Result<RunResult, AllocError> {
     let Ok(keys) = RandomState::new(rt) else {
         return without_keys(rt.alloc());
     };
+    let mut lines = Lines::new(rt.alloc(), Device::new(reader))?;
     let said = Vec::with_capacity(rt.alloc(), MAX_FAULT_LINE)?;
     let mut writer = Device::new(Output::new(rt.stdout()));
     let mut errors = Device::new(said);
     let keys = WordKeys::new(keys);
-    let status = run_with(wanted, keys, lines, &mut writer, &mut errors);
+    let status = run_watched(wanted, keys, &mut lines, &mut writer, &mut errors, watch);
     let output = writer.into_inner();
-    Ok(RunResult::new(status, errors.into_inner(), &output))
-}
-
-/// Runs a session over a reader, and shows the place of each block that is refused. `input` is the name of the text in which the
-/// commands are.
-fn run_watched<'x, R: Read + Drop>(
-    rt: &'x HostRuntime,
-    wanted: &'x Wanted,
-    input: &'x str,
-    reader: R,
-    talk: &'x RefCell<Talk>,
-) -> Result<RunResult, AllocError> {
-    let Ok(keys) = RandomState::new(rt) else {
-        return without_keys(rt.alloc());
-    };
-    let context = Context {
-        external: wanted.external.as_str(),
-        input: Some(input),
-        script: None,
-        prompts: false,
-    };
-    let reader = WatchedReader::new(rt, context, reader, talk)?;
-    let mut lines = Lines::new(rt.alloc(), Device::new(reader))?;
-    let said = Vec::with_capacity(rt.alloc(), MAX_FAULT_LINE)?;
-    let mut writer = Device::new(Quiet::new(Output::new(rt.stdout()), talk));
-    let mut errors = Device::new(said);
-    let keys = WordKeys::new(keys);
-    let status = run_with(wanted, keys, &mut lines, &mut writer, &mut errors);
-    let output = writer.into_inner().into_inner();
     Ok(RunResult::new(status, errors.into_inner(), &output))
 }
 
@@ -120,8 +94,7 @@ fn print_fault(
 /// Runs what the command line asks for over standard input, and returns the exit status.
 pub(crate) fn run_input(rt: &HostRuntime, wanted: &Wanted) -> u8 {
     let kept = RefCell::new(FirstBytes::new(rt.alloc(), wanted.options.shows_places));
-    let talk = RefCell::new(Talk::new(rt.alloc(), Lead::Session));
-    let Ok(ended) = run_standard_input(rt, wanted, &kept, &talk) else {
+    let Ok(ended) = run_standard_input(rt, wanted, &kept) else {
         return fail_memory(rt);
     };
     if !wanted.options.shows_places {
@@ -140,14 +113,14 @@ fn run_standard_input(
     rt: &HostRuntime,
     wanted: &Wanted,
     kept: &RefCell<FirstBytes>,
-    talk: &RefCell<Talk>,
 ) -> Result<RunResult, AllocError> {
-    let first_reader = FirstBytesReader::new(rt.stdin(), kept);
-    if wanted.options.shows_places && wanted.verb == Verb::Session {
-        return run_watched(rt, wanted, STANDARD_INPUT, first_reader, talk);
+    let reader = FirstBytesReader::new(rt.stdin(), kept);
+    if wanted.options.shows_places {
+        let external = wanted.external.as_str();
+        let mut watch = PlaceWatch::new(rt, external, STANDARD_INPUT, Some(kept));
+        return run_reader(rt, wanted, reader, &mut watch);
     }
-    let mut lines = Lines::new(rt.alloc(), Device::new(first_reader))?;
-    run_lines(rt, wanted, &mut lines)
+    run_reader(rt, wanted, reader, &mut NoWatch {})
 }
 
 /// Prints a hint if the input is not read to its end.
@@ -230,24 +203,18 @@ pub(crate) fn run_session(rt: &HostRuntime, wanted: &Wanted, names: FileNames<'_
 }
 
 /// Runs a session over these bytes, and shows the place of each block that is refused.
-fn run_commands(
-    rt: &HostRuntime,
-    wanted: &Wanted,
-    names: FileNames<'_>,
-    input: &[u8],
+fn run_commands<'x>(
+    rt: &'x HostRuntime,
+    wanted: &'x Wanted,
+    names: FileNames<'x>,
+    input: &'x [u8],
 ) -> Result<RunResult, AllocError> {
     let name = match names.rest {
         None => STANDARD_INPUT,
         Some(path) => file_name(path),
     };
-    let talk = RefCell::new(Talk::new(rt.alloc(), Lead::Commands));
-    run_watched(rt, wanted, name, input, &talk)
-}
-
-/// Runs what the command line asks for over these bytes.
-fn run_bytes(rt: &HostRuntime, wanted: &Wanted, input: &[u8]) -> Result<RunResult, AllocError> {
-    let mut lines = Lines::new(rt.alloc(), Device::new(input))?;
-    run_lines(rt, wanted, &mut lines)
+    let mut watch = PlaceWatch::new(rt, wanted.external.as_str(), name, None);
+    run_reader(rt, wanted, input, &mut watch)
 }
 
 /// Returns the input of a session. Without a file of commands the command is `stems`.
@@ -372,7 +339,7 @@ pub(crate) fn run_check(
         Ok(read) => read,
         Err(status) => return status,
     };
-    let Ok(ended) = run_bytes(rt, wanted, &input) else {
+    let Ok(ended) = run_reader(rt, wanted, input.as_slice(), &mut NoWatch {}) else {
         return fail_memory(rt);
     };
     let status = print_fault(rt, wanted, Some(names), &input, &ended);

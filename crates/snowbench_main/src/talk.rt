@@ -1,6 +1,5 @@
-//! What is said between an input and the replies to it: which block a reply refuses.
+//! What is said between the commands of `work` and the replies to them: which block a reply refuses.
 
-use sbl_sessions::asks_block as asks_part;
 use sbl_work::block_request;
 use std::alloc::Global;
 
@@ -16,35 +15,19 @@ pub(crate) const PROMPT: &[u8] = b"> ";
 /// What the next line of the input is.
 #[derive(Clone, Copy, PartialEq, Eq)]
 enum Next {
-    Script,
-    Words,
     Command,
     Block,
-}
-
-/// What the lines of the input are.
-#[derive(Clone, Copy, PartialEq, Eq)]
-pub(crate) enum Lead {
-    /// A script, words, and commands. All lines are counted.
-    Session,
-    /// A script, words, and commands. The commands are a text of their own.
-    Commands,
-    /// Commands of `work`.
-    Work,
 }
 
 /// The last command with its block, the first bytes of its reply, and the script in force if it was asked for.
 #[derive(Drop)]
 pub(crate) struct Talk {
     alloc: Global,
-    lead: Lead,
     next: Next,
-    rows: usize,
     line: Vec<u8>,
     command: Vec<u8>,
     has_block: bool,
     block: Vec<u8>,
-    block_row: usize,
     reply: Vec<u8>,
     script: Vec<u8>,
     is_asking: bool,
@@ -66,22 +49,14 @@ fn cut_end(line: &[u8]) -> &[u8] {
 
 impl Talk {
     /// Returns the talk before its first line.
-    pub(crate) fn new(alloc: Global, lead: Lead) -> Talk {
-        let next = if lead == Lead::Work {
-            Next::Command
-        } else {
-            Next::Script
-        };
+    pub(crate) fn new(alloc: Global) -> Talk {
         Talk {
             alloc,
-            lead,
-            next,
-            rows: 0,
+            next: Next::Command,
             line: Vec::new(alloc),
             command: Vec::new(alloc),
             has_block: false,
             block: Vec::new(alloc),
-            block_row: 1,
             reply: Vec::new(alloc),
             script: Vec::new(alloc),
             is_asking: false,
@@ -97,11 +72,6 @@ impl Talk {
     /// Returns the lines of its block.
     pub(crate) fn block(&self) -> &[u8] {
         self.block.as_slice()
-    }
-
-    /// Returns the row of the input in which the block begins, from 1.
-    pub(crate) fn block_row(&self) -> usize {
-        self.block_row
     }
 
     /// Returns the script that was asked for, without a prompt after it.
@@ -170,12 +140,8 @@ impl Talk {
 
     /// Notes the end of a line.
     fn note_line(&mut self) {
-        self.rows = self.rows.saturating_add(1);
         let is_point = cut_end(&self.line) == b".".as_slice();
         match self.next {
-            Next::Script if is_point => self.next = Next::Words,
-            Next::Words if is_point => self.begin_commands(),
-            Next::Script | Next::Words => {}
             Next::Command => self.note_command(),
             Next::Block if is_point => {
                 self.next = Next::Command;
@@ -189,24 +155,15 @@ impl Talk {
         }
     }
 
-    /// Notes that the next line is the first command.
-    fn begin_commands(&mut self) {
-        self.next = Next::Command;
-        if self.lead == Lead::Commands {
-            self.rows = 0;
-        }
-    }
-
     /// Notes a line with a command.
     fn note_command(&mut self) {
         self.reply.clear();
         self.command.clear();
         self.block.clear();
         self.is_lost = !push(&mut self.command, cut_end(&self.line));
-        self.has_block = asks_block(self.alloc, self.lead, &self.command);
+        self.has_block = block_request(self.alloc, &self.command).is_some();
         if self.has_block {
             self.next = Next::Block;
-            self.block_row = self.rows.saturating_add(1);
         }
     }
 
@@ -228,14 +185,5 @@ impl Talk {
         if !push(&mut self.reply, first) {
             self.is_lost = true;
         }
-    }
-}
-
-/// Returns whether a block follows a command.
-fn asks_block(alloc: Global, lead: Lead, line: &[u8]) -> bool {
-    if lead == Lead::Work {
-        block_request(alloc, line).is_some()
-    } else {
-        asks_part(line)
     }
 }

@@ -15,14 +15,12 @@ use std::{fs, io};
 /// The line that asks for the script in force.
 const QUESTION: &[u8] = b"script\n";
 
-/// What is known of a run beside its input.
+/// What is known of the work beside its input.
 #[derive(Clone, Copy)]
 pub(crate) struct Context<'a> {
     pub(crate) external: &'a str,
-    /// The name of the text in which the commands are, if it is shown.
-    pub(crate) input: Option<&'a str>,
     /// The file that `reload` reads.
-    pub(crate) script: Option<&'a str>,
+    pub(crate) script: &'a str,
     /// Whether a prompt is written before each command.
     pub(crate) prompts: bool,
 }
@@ -63,7 +61,7 @@ fn line_length(bytes: &[u8]) -> usize {
 /// Returns the file by which a command replaces the whole script, if it does so by one.
 fn whole_file<'x>(context: Context<'x>, command: &'x [u8]) -> Option<&'x str> {
     if command == b"reload".as_slice() {
-        return context.script;
+        return Some(context.script);
     }
     match str::from_utf8(command.strip_prefix(b"replace ".as_slice())?) {
         Ok(path) => Some(path),
@@ -98,13 +96,12 @@ fn block_text<'x>(
     context: Context<'x>,
     talk: &'x Talk,
 ) -> Result<Option<String>, AllocError> {
-    let source = context.input.map(|name| (name, talk.block_row()));
     let typed = TypedBlock {
         block: talk.block(),
         script: talk.script(),
         external: context.external,
-        takes_heads: context.script.is_some(),
-        source,
+        takes_heads: true,
+        source: None,
     };
     let command = talk.command();
     if command == b"replace".as_slice() {

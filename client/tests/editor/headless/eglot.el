@@ -1,7 +1,7 @@
 ;; What Emacs with eglot shows of examples/porter.sbl in the folder ROOM: a line for each trial, with what it saw.
 (package-initialize)
 (require 'eglot)
-(setq eglot-sync-connect 20 snowball-program (concat (getenv "ROOM") "/snowbench"))
+(setq eglot-sync-connect 100 eglot-connect-timeout 100 snowball-program (concat (getenv "ROOM") "/snowbench"))
 (load (concat (getenv "TOP") "/client/editors/emacs/snowball-mode.el") nil t)
 (defun say (name value) (princ (format "%s: %s\n" name value)))
 (defun until-so (test) (let ((n 0)) (while (and (not (funcall test)) (< n 600)) (accept-process-output nil 0.1) (setq n (1+ n))) (funcall test)))

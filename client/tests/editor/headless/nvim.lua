@@ -1,11 +1,15 @@
--- What Neovim shows of examples/porter.sbl in the folder ROOM: a line for each trial, with what it saw.
+-- What Neovim shows of examples/porter.sbl in the folder ROOM: a line for each trial, with what it saw. It ends whatever happens.
 local room, top = vim.env.ROOM, vim.env.TOP
-vim.g.snowbench = room .. '/snowbench'
-vim.cmd('source ' .. top .. '/client/editors/nvim/snowbench.lua')
-vim.cmd('filetype plugin on | syntax on')
 local out = io.open(room .. '/seen', 'w')
-local function say(name, value) out:write(name, ': ', tostring(value), '\n') out:flush() end
-local function until_so(what) return vim.wait(12000, function() vim.cmd('doautocmd CursorHold') return what() end, 200) end
+local function say(name, value) out:write(name, ': ', (tostring(value):gsub('\n', ' ')), '\n') out:flush() end
+-- (`vim.wait` looks after each event, so nothing may be asked of the server there)
+local function until_so(what)
+  for _ = 1, 150 do
+    vim.cmd('doautocmd CursorHold')
+    if vim.wait(200, what, 20) then return true end
+  end
+  return false
+end
 local function lens(pattern)
   return until_so(function()
     for _, one in ipairs(vim.lsp.codelens.get(0) or {}) do if one.command and one.command.title:match(pattern) then return true end end
@@ -19,26 +23,33 @@ local function hints()
   end
   return found
 end
-vim.cmd('edit ' .. room .. '/porter.sbl')
-say('syntax', vim.b.current_syntax)
-say('lenses', lens('^8 words, 8 classes'))
-local line = vim.api.nvim_buf_get_lines(0, 27, 28, false)[1]
-vim.api.nvim_buf_set_lines(0, 27, 28, false, { (line:gsub('%(<%-.ss.%)', '(nowhere)')) })
-say('fault', until_so(function() return #vim.diagnostic.get(0) > 0 end) and vim.diagnostic.get(0)[1].message)
-vim.api.nvim_buf_set_lines(0, 27, 28, false, { (line:gsub('%(<%-.ss.%)', '(delete)')) })
-say('corrected', until_so(function() return #vim.diagnostic.get(0) == 0 end))
-say('changed', lens('^1 word changed since the mark'))
-vim.fn.search('do Step_1a')
-vim.cmd('normal! w')
-local before = vim.fn.line('.')
-vim.lsp.buf.definition()
-say('definition', until_so(function() return vim.fn.line('.') ~= before end) and vim.fn.getline('.'))
-vim.cmd('SnowWhy caresses')
-say('why', until_so(function() return vim.bo.buftype == 'nofile' end) and vim.fn.getline(1))
-vim.cmd('bwipeout')
-vim.lsp.buf.rename('first')
-say('rename', until_so(function() return vim.fn.search('do first', 'nw') > 0 end))
-vim.cmd('edit! ' .. room .. '/porter.words')
-say('words', until_so(function() return #hints() == 8 end) and hints()[1])
+local function trial()
+  vim.g.snowbench = room .. '/snowbench'
+  vim.cmd('source ' .. top .. '/client/editors/nvim/snowbench.lua')
+  vim.cmd('filetype plugin on | syntax on')
+  vim.cmd('edit ' .. room .. '/porter.sbl')
+  say('syntax', vim.b.current_syntax)
+  say('lenses', lens('^8 words, 8 classes'))
+  local line = vim.api.nvim_buf_get_lines(0, 27, 28, false)[1]
+  vim.api.nvim_buf_set_lines(0, 27, 28, false, { (line:gsub('%(<%-.ss.%)', '(nowhere)')) })
+  say('fault', until_so(function() return #vim.diagnostic.get(0) > 0 end) and vim.diagnostic.get(0)[1].message)
+  vim.api.nvim_buf_set_lines(0, 27, 28, false, { (line:gsub('%(<%-.ss.%)', '(delete)')) })
+  say('corrected', until_so(function() return #vim.diagnostic.get(0) == 0 end))
+  say('changed', lens('^1 word changed since the mark'))
+  vim.fn.search('do Step_1a')
+  vim.cmd('normal! w')
+  local before = vim.fn.line('.')
+  vim.lsp.buf.definition()
+  say('definition', until_so(function() return vim.fn.line('.') ~= before end) and vim.fn.getline('.'))
+  vim.cmd('SnowWhy caresses')
+  say('why', until_so(function() return vim.bo.buftype == 'nofile' end) and vim.fn.getline(1))
+  vim.cmd('bwipeout!')
+  vim.lsp.buf.rename('first')
+  say('rename', until_so(function() return vim.fn.search('do first', 'nw') > 0 end))
+  vim.cmd('edit! ' .. room .. '/porter.words')
+  say('words', until_so(function() return #hints() == 8 end) and hints()[1])
+end
+local is_done, why = pcall(trial)
+if not is_done then say('failed', why) end
 out:close()
 vim.cmd('qall!')

@@ -36,10 +36,10 @@ returns-then-not-asks_block-clause-reading g c = record {
 pub returns-clause-answered : goal.returns-clause-answered
 returns-clause-answered g c =
     let s = contents_of c.args.bench.now in
-    let t = contents_of c.edit_script.new.bench in
+    let t = contents_of c.edit_script-edited.new.bench in
     let left = g.R.Source.left in
     let line = line_of c.args.lines.now in
     let asked : asks_block line ≡ true = search rules in
     let keeps : KeepsLine c.keep_line-kept.result line = subst (λ (x : List ℕ). KeepsLine c.keep_line-kept.result x) c.line-2.ensures c.keep_line-kept.ensures in
-    answered_block (input_of left c.args.lines.now) (input_of left c.read_block.new.lines) line s t c.in_ok-block.block c.edit_script.result.now (reply.Fixed c.edit_script.result) asked
-    (c.in_ok-block.ensures.reads c.requires.ready) (λ lines holds. c.edit_script.ensures line lines keeps holds) refl
+    answered_block (input_of left c.args.lines.now) (input_of left c.read_block.new.lines) line s t c.in_ok-block.block c.edit_script-edited.result.text.now (reply.Fixed c.edit_script-edited.result.text) asked
+    (c.in_ok-block.ensures.reads c.requires.ready) (λ lines holds. c.edit_script-edited.ensures line lines keeps holds) refl

@@ -11,7 +11,7 @@ returns-in_default-clause-text c = λ utf8. absurd (c.in_default.ensures.cases.0
 pub returns-clause-text : goal.returns-clause-text
 returns-clause-text c = λ utf8.
     let what = view_part c.args.part in
-    replaced_text c.replace.result (contents_of c.args.bench.now) (contents_of c.replace.new.self) what what c.in-Ok.text.now c.args.text.now _ refl c.in-Ok.ensures.cases.0 c.replace.ensures.edits c.edit_text-2.ensures
+    replaced_text c.replace.result (contents_of c.args.bench.now) (contents_of c.replace.new.self) what what c.in-Ok.text.now c.args.text.now _ refl c.in-Ok.ensures.cases.0 c.replace.ensures.edits refl
 
 pub returns-clause-bytes : goal.returns-clause-bytes
 returns-clause-bytes c = λ bytes.

@@ -1,10 +1,11 @@
-use Rattle.std.proofs.Common.{rules, length, length-append, arith, ap, ◌≡◌, ◌≢◌, ◌∙◌, ◌++◌, [], ◌∷◌, List, ℕ, true}
+use Rattle.std.proofs.Common.{rules, length, length-append, arith, ap, refl, ◌≡◌, ◌≢◌, ◌∙◌, ◌++◌, [], ◌∷◌, List, ℕ, true}
 use Rattle.std.specs.Result.{is_ok}
 use Rattle.std.specs.Io.KnownBytes.{Consumes}
 use Rattle.std.proofs.KnownBytes.{Consumes-trans}
 use Rattle.sbl_io.specs.Devices.{Tally}
 use Rattle.sbl_io.specs.HeldInput.{line_of, input_of}
 use Rattle.sbl_io.proofs.Bytes.{no_feed_push}
+use Rattle.sbl_io.proofs.HeldFacts.{some_is}
 use Rattle.sbl_io.proofs.lines.Lines.take_line.Goals as goal
 
 pub loop-byte-preserved : goal.loop-byte-preserved
@@ -28,6 +29,12 @@ loop-byte-preserved g c =
       search rules,
       search rules,
       search rules,
+      λ has.
+          let so = invariant.10 has in
+          let feed = c.take_held.ensures.feed so.2 so.0 in
+          let is = rw c.in-Some.is at (c.in_ok-next_byte.ensures.held feed.0).0 in
+          let ten : c.in-Some.byte ≡ 10 = some_is is ∙ feed.1 in
+          absurd (other ten),
     )
 
 pub returns-then-len-gt-MAX_LINE-clause-takes : goal.returns-then-len-gt-MAX_LINE-clause-takes
@@ -38,3 +45,31 @@ returns-then-len-gt-MAX_LINE-clause-takes g c =
     let step : Consumes (input_of left held) (input_of left c.next_byte.new.self) (byte ∷ []) = rw c.in-Some.is at c.in_ok-next_byte.ensures.byte in
     let other : byte ≢ 10 = search rules in
     (search rules, byte, other, rw c.next_byte.ensures.line (Consumes-trans _ _ _ _ _ (c.take_held.ensures.takes _ c.loop-byte.invariant.0) step))
+
+pub returns-in_err-next_byte-clause-held : goal.returns-in_err-next_byte-clause-held
+returns-in_err-next_byte-clause-held g c = λ has.
+    let so = c.loop-byte.invariant.10 has in
+    let feed = c.take_held.ensures.feed so.2 so.0 in
+    let is = (c.in_err-next_byte.ensures.held feed.0).0 in cc is
+
+pub returns-in-None-clause-held : goal.returns-in-None-clause-held
+returns-in-None-clause-held g c = λ has.
+    let so = c.loop-byte.invariant.10 has in
+    let feed = c.take_held.ensures.feed so.2 so.0 in
+    let is = rw c.in-None.is at (c.in_ok-next_byte.ensures.held feed.0).0 in cc is
+
+pub returns-in-Some-eq10-clause-held : goal.returns-in-Some-eq10-clause-held
+returns-in-Some-eq10-clause-held g c = λ has.
+    let so = c.loop-byte.invariant.10 has in
+    let feed = c.take_held.ensures.feed so.2 so.0 in
+    let reader = (c.in_ok-next_byte.ensures.held feed.0).1 in
+    (refl, reader ∙ c.take_held.ensures.same.0 ∙ so.1, rw c.next_byte.ensures.line feed.2)
+
+pub returns-then-len-gt-MAX_LINE-clause-held : goal.returns-then-len-gt-MAX_LINE-clause-held
+returns-then-len-gt-MAX_LINE-clause-held g c = λ has.
+    let so = c.loop-byte.invariant.10 has in
+    let feed = c.take_held.ensures.feed so.2 so.0 in
+    let is = rw c.in-Some.is at (c.in_ok-next_byte.ensures.held feed.0).0 in
+    let ten : c.in-Some.byte ≡ 10 = some_is is ∙ feed.1 in
+    let other : c.in-Some.byte ≢ 10 = search rules in
+    absurd (other ten)

@@ -1,6 +1,6 @@
-use Rattle.std.proofs.Common.{◌≡◌, ◌≤◌, ◌+◌, vec_len}
+use Rattle.std.proofs.Common.{◌≡◌, ◌≤◌, ◌+◌, [], vec_len}
 use Rattle.std.specs.Io.KnownBytes.{Consumes}
-use Rattle.sbl_io.specs.HeldInput.{AsksInTime, fuel_of, line_of, input_of, reads_bound, NoFeed, StaysEnded}
+use Rattle.sbl_io.specs.HeldInput.{AsksInTime, HoldsLine, fuel_of, line_of, input_of, reads_bound, NoFeed, StaysEnded}
 use Rattle.sbl_io.proofs.lines.Lines.take_line.Given as goal
 
 abbrev pub invariant-loop-byte : goal.invariant-loop-byte
@@ -12,6 +12,7 @@ invariant-loop-byte g l = Consumes (input_of g.R.Source.left l.fn.self) (input_o
     × AsksInTime g.R.Source.tally l.fn.self l.self
     × ((g.R.Source.tally l.fn.self.reader).interruptions ≡ 0 → (g.R.Source.tally l.self.reader).interruptions ≡ 0)
     × StaysEnded l.fn.self l.self
+    × (HoldsLine l.fn.self → HoldsLine l.self × (l.self.reader ≡ l.fn.self.reader) × (line_of l.self ≡ []))
 
 abbrev pub decreases-loop-byte : goal.decreases-loop-byte
 decreases-loop-byte g l = fuel_of l.self

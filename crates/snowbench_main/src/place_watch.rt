@@ -1,0 +1,101 @@
+//! The places of edits that a session refuses, on standard error.
+
+use crate::messages::print_line;
+use crate::streams::FirstBytes;
+use sbl_bench::{Bench, EditFault};
+use sbl_diagnostics::{TypedBlock, part_text};
+use sbl_sessions::part_of;
+use snowbench::{RefusedEdit, Watch};
+use std::alloc::AllocError;
+use std::cell::RefCell;
+
+/// Prints what is wrong with each block that is refused for its text.
+#[derive(Drop)]
+pub(crate) struct PlaceWatch<'a> {
+    rt: &'a HostRuntime,
+    external: &'a str,
+    /// The name of the text in which the commands are.
+    input: &'a str,
+    /// The first bytes of this text, if it begins with the script and the words.
+    kept: Option<&'a RefCell<FirstBytes>>,
+    /// The number of its lines before the commands.
+    lines_before: usize,
+}
+
+/// Returns the number of lines up to and including the first line `.`.
+fn lines_to_point(bytes: &[u8]) -> usize {
+    let mut count: usize = 0;
+    for line in bytes.split(|byte| *byte == b'\n') {
+        count = count.saturating_add(1);
+        if line == b".".as_slice() || line == b".\r".as_slice() {
+            return count;
+        }
+    }
+    count
+}
+
+impl<'a> PlaceWatch<'a> {
+    /// Returns the watch before the session.
+    pub(crate) fn new(
+        rt: &'a HostRuntime,
+        external: &'a str,
+        input: &'a str,
+        kept: Option<&'a RefCell<FirstBytes>>,
+    ) -> PlaceWatch<'a> {
+        PlaceWatch {
+            rt,
+            external,
+            input,
+            kept,
+            lines_before: 0,
+        }
+    }
+
+    /// Returns the lines on the fault of the block.
+    fn text(
+        &self,
+        bench: &Bench,
+        edit: &RefusedEdit,
+        row: u64,
+    ) -> Result<Option<String>, AllocError> {
+        let Some(part) = part_of(edit.line.as_str()) else {
+            return Ok(None);
+        };
+        let script = bench.script().print(self.rt.alloc())?;
+        let row = usize::try_from(row).unwrap_or(usize::MAX);
+        let first = self.lines_before.saturating_add(row).saturating_add(1);
+        let typed = TypedBlock {
+            block: edit.text.as_slice(),
+            script: script.as_bytes(),
+            external: self.external,
+            takes_heads: false,
+            source: Some((self.input, first)),
+        };
+        part_text(self.rt.alloc(), typed, part)
+    }
+}
+
+impl Watch for PlaceWatch<'_> {
+    fn begin(&mut self, bench: &Bench) {
+        let Some(kept) = self.kept else {
+            return;
+        };
+        if let Ok(kept) = kept.try_borrow() {
+            let script = lines_to_point(kept.bytes());
+            // The words are one on a line, and a line `.` ends them.
+            self.lines_before = script.saturating_add(bench.len()).saturating_add(1);
+        }
+    }
+
+    fn see_refused(&mut self, bench: &Bench, edit: &RefusedEdit, row: u64) {
+        match edit.fault {
+            EditFault::Script(_) | EditFault::AmongCount => {
+                // If there is no memory for it, nothing is shown.
+                if let Ok(Some(text)) = self.text(bench, edit, row) {
+                    print_line(self.rt, Ok(text), 0);
+                }
+            }
+            _ => {}
+        }
+    }
+}
