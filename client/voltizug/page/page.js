@@ -135,7 +135,7 @@ async function ask(path, query, body) {
 }
 async function post(path, body) {
   try { await ask(path, null, body || {}); return true; } catch (fault) {
-    say(fault.isReply ? fault.message : 'The server is gone: is ./snowbench page still running?', true);
+    say(fault.isReply ? fault.message : 'The server is gone: is snowbench page still running?', true);
     return false;
   }
 }
@@ -150,7 +150,7 @@ async function showLost() {
   const status = await fetch(base + 'page.css', { cache: 'no-store' }).then(reply => reply.status, () => 0);
   if (S.live) return;
   const had = S.st.names ? ' What you see is what it had last.' : '';
-  $('lost').textContent = status === 404 ? 'This is the address of a page that has ended: open the one that ./snowbench page printed last.' + had : `No connection: ${status ? 'too many pages are open' : './snowbench page has ended, or does not reply'}.${had} The page tries again each second.`;
+  $('lost').textContent = status === 404 ? 'This is the address of a page that has ended: open the one that snowbench page printed last.' + had : `No connection: ${status ? 'too many pages are open' : 'snowbench page has ended, or does not reply'}.${had} The page tries again each second.`;
   $('lost').hidden = false;
 }
 let ticking = 0;

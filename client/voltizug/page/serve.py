@@ -32,7 +32,8 @@ HEADERS = {
     "Cross-Origin-Opener-Policy": "same-origin", "Cross-Origin-Resource-Policy": "same-origin", "Cache-Control": "no-store",
 }
 ELSEWHERE = "Another page may not ask."
-NO_PAGE = "There is no such page: take the whole address that ./snowbench page printed."
+NO_PAGE = "There is no such page: take the whole address that snowbench page printed."
+USAGE = "snowbench page [--port N] [--external NAME] [--families FILE] [--open] SCRIPT [WORDS [STEMS]]"
 
 
 class Server(ThreadingHTTPServer):
@@ -193,7 +194,7 @@ def in_json(data: Any) -> bytes:
 
 
 def options_of(given: Sequence[str]) -> argparse.Namespace:
-    parser = argparse.ArgumentParser(prog="./snowbench page", allow_abbrev=False)
+    parser = argparse.ArgumentParser(prog="snowbench page", usage=USAGE, add_help=False, allow_abbrev=False)
     parser.add_argument("--program", default=usual_program(), help=argparse.SUPPRESS)
     parser.add_argument("--port", type=int, metavar="N")
     parser.add_argument("--external", metavar="NAME")
