@@ -100,6 +100,11 @@ class InBrowser(Page):
             self.assertEqual((self.text(tab, "status"), tab.run("$('main').hidden")), ("connects", True))
         tab.wait("$('waiting').hidden && !$('main').hidden && S.words.length === 4")
 
+    def test_figures_of_one(self):
+        tab = self.open(words="walks\n")
+        labels = tab.wait("$('figures').querySelector('dt') && [...$('figures').querySelectorAll('dt')].map(node => node.textContent)")
+        self.assertEqual(labels, ["word", "class", "class of one word", "word in the largest class", "words are their own stem", "refused"])
+
     def test_the_server_is_gone(self):
         room = self.room(my_sbl=SCRIPT, my_words=WORDS)
         state = {**os.environ, "XDG_STATE_HOME": os.path.join(room, "state"), "XDG_CACHE_HOME": os.path.join(room, "cache")}

@@ -197,7 +197,11 @@ function showStatus() {
     box.replaceChildren(dot, st.isTrial ? 'a trial, not in the file' : 'as in the file', last ? ` · ${last.at} · ${number(last.ms)} ms` : '');
   }
 }
-const FIGURES = [['words', 'words'], ['classes', 'classes'], ['alone', 'classes of one word'], ['largest', 'words in the largest class'], ['unchanged', 'words are their own stem'], ['refused', 'refused']];
+// (of a figure what it counts, and that of one)
+const FIGURES = [
+  ['words', 'words', 'word'], ['classes', 'classes', 'class'], ['alone', 'classes of one word', 'class of one word'],
+  ['largest', 'words in the largest class', 'word in the largest class'], ['unchanged', 'words are their own stem', 'word is its own stem'], ['refused', 'refused', 'refused'],
+];
 const file = path => named(path.split('/').pop());
 function showTop(news) {
   const st = S.st;
@@ -216,9 +220,9 @@ function showTop(news) {
   if ('history' in news) showHistory();
   $('figures').hidden = !st.figures;
   $('figures').className = 'figures' + (st.fault ? ' old' : '');
-  if (st.figures) $('figures').replaceChildren(...FIGURES.map(([key, label]) => {
+  if (st.figures) $('figures').replaceChildren(...FIGURES.map(([key, many, one]) => {
     const n = st.figures[key] || 0, m = st.markFigures ? st.markFigures[key] : n, delta = n - m;
-    return el('div', {}, el('dt', {}, label), el('dd', {}, number(n)), delta ? el('dd', { class: 'delta', title: `${number(m)} at the mark` }, (delta > 0 ? '+' : '−') + number(Math.abs(delta))) : null);
+    return el('div', {}, el('dt', {}, n === 1 ? one : many), el('dd', {}, number(n)), delta ? el('dd', { class: 'delta', title: `${number(m)} at the mark` }, (delta > 0 ? '+' : '−') + number(Math.abs(delta))) : null);
   }));
   if ('warnings' in news) {
     $('warnings-button').hidden = !st.warnings.length;
