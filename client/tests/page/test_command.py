@@ -50,6 +50,12 @@ class Commands(Case):
             self.assertIn(said, page.stderr.read().decode())
             self.assertEqual(page.wait(60), 2, words)
 
+    def test_words_with_a_fault(self):
+        page = self.begin(self.room(my_sbl=SCRIPT, my_words="a\n" + "b" * 256 + "\n"), "my.sbl", "my.words")
+        self.assertTrue(page.stdout.readline().startswith(b"http://127.0.0.1:"))
+        page.stderr.readline()
+        self.assertEqual(page.stderr.readline(), b"The page waits: my.words has a word of more than 255 characters.\n")
+
     def test_a_script_with_a_fault(self):
         page = self.begin(self.room(my_sbl="externals ( stem )\n"), "my.sbl")
         self.assertTrue(page.stdout.readline().startswith(b"http://127.0.0.1:"))

@@ -241,7 +241,8 @@ def serve(given: argparse.Namespace, bench: Bench) -> int:
     live.open()
     fault = live.part("fault")
     said: List[str] = ["Open this address in a browser on this machine. Who has it can read the script and write it. Ctrl-C ends."]
-    said += ["%s has a fault, and the page waits: %s" % (named(given.script), fault["sentence"])] if fault else []
+    if fault:
+        said += ["%s: %s" % ("The page waits" if fault["isOfWords"] else "%s has a fault, and the page waits" % named(given.script), fault["sentence"])]
     print(server.address(), flush=True)
     print("\n".join(said), file=sys.stderr, flush=True)
     threading.Thread(target=live.watch, daemon=True, name="watch").start()
