@@ -4,7 +4,7 @@ import time
 
 from voltizug import layout, loops, near, options, reports, rows, warn
 from voltizug.bench import Edit
-from voltizug.conditions.copies import Shown
+from voltizug.copies import Shown
 from voltizug.kept import Kept
 from voltizug.places import Places, line_and_column
 from voltizug.program import Reply
@@ -63,7 +63,7 @@ class Loops(Case):
 class Others(Case):
     def test_near_names(self):
         found = [near.distance(*pair) for pair in (("substring", "subtring"), ("ab", "ba"), ("", "ab"), ("kitten", "sitting"), ("a", "a"))]
-        self.assertEqual(found, [1, 1, 2, None, 0])
+        self.assertEqual(found, [1, 1, 2, near.MOST + 1, 0])
         begin = time.thread_time()
         near.near("ab" * 100, ["ba" * 99 + "%02d" % (i % 100) for i in range(200000)])
         self.assertLess(time.thread_time() - begin, 2)
@@ -72,10 +72,10 @@ class Others(Case):
         text = "\ufeffdefine r as 'é'\n  define s as 'x'\n".encode()
         found = rows.read("places", ["routine,s,22,37,2,3", "entry,s,1,x,34,37,2,15"])
         places = Places("my.sbl", text, text, found, [])
-        self.assertEqual([line_and_column(text, 3), places.of("s"), places.of("s", found[1]), places.of("r")], [(1, 1), "my.sbl:2:3", "my.sbl:2:15", ""])
+        self.assertEqual([line_and_column(text, 3), places.of("s"), places.of("s", "1", "x"), places.of("r")], [(1, 1), "my.sbl:2:3", "my.sbl:2:15", ""])
         self.assertEqual(places.definition("s"), ["  define s as 'x'"])
         moved = Places("my.sbl", text, b"// new\n" + text, found, [])
-        self.assertEqual((moved.of("s", found[1]), moved.is_typed("s")), ("my.sbl:3:15", False))
+        self.assertEqual((moved.of("s", "1", "x"), moved.is_typed("s")), ("my.sbl:3:15", False))
         typed = Places("my.sbl", text, b"define s as 'y'", found, [])
         self.assertEqual((typed.of("s"), typed.is_typed("s")), ("not in my.sbl: line 1 of s", True))
 

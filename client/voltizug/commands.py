@@ -86,17 +86,22 @@ WITH_TEXT = ("add", "remove", "class", "stem", "find", "trace", "why", "tests", 
 REPORTING = (
     *"changes class classes counts events families find history integers largest lint script show".split(), *"stats stem stems tests trace unused uses why".split()
 )
-# Words that other programs have, and what is said of them.
-OTHERS: Dict[str, str] = {
-    **dict.fromkeys(("q", ":q", ":q!", ":wq", "bye", "exit!"), "quit or Ctrl-D ends."), "clear": "Ctrl-L clears the screen. quit or Ctrl-D ends.",
-    **dict.fromkeys("ls cd cat vi vim nano emacs edit grep less git man".split(), "{c} is a command of a shell: use another window."),
-    "check": "check is not a command here. In a shell: ./snowbench check SCRIPT WORDS STEMS.",
-    "compare": "compare is not a command here. In a shell: ./snowbench compare OLD NEW WORDS.",
-    "filter": "filter is not a command here. In a shell: ./snowbench filter SCRIPT < WORDS.",
-    "run": "run is not a command here. In a shell: ./snowbench run SCRIPT WORDS.",
-    "work": "work is not a command here. In a shell: ./snowbench work SCRIPT WORDS.",
-}
-DECLARATIONS = ("externals", "routines", "groupings", "strings", "integers", "booleans", "stringescapes", "stringdef", "backwardmode")
+# By the beginning of a line that is no command what is said of it. {c} is its first word.
+IN_SHELL = {"check": "SCRIPT WORDS STEMS", "compare": "OLD NEW WORDS", "filter": "SCRIPT < WORDS", "run": "SCRIPT WORDS", "work": "SCRIPT WORDS"}
+STRANGE: Sequence[Tuple[str, str]] = (
+    (r"\s*\.\s*\Z", "A line with a single point ends a block, and no block is open."),
+    (r"(q|:q|:q!|:wq|bye|exit!)( |\Z)", "quit or Ctrl-D ends."),
+    (r"clear( |\Z)", "Ctrl-L clears the screen. quit or Ctrl-D ends."),
+    (r"(ls|cd|cat|vi|vim|nano|emacs|edit|grep|less|git|man)( |\Z)", "{c} is a command of a shell: use another window."),
+    *((r"%s( |\Z)" % verb, "{c} is not a command here. In a shell: ./snowbench {c} %s." % files) for verb, files in IN_SHELL.items()),
+    (r"\s*(//|/\*)", "A comment begins with # at the beginning of the line."),
+    (r"define( |\Z)", "A definition begins with define NAME as, or define NAME and the terms of a grouping, in one line."),
+    (
+        r"(externals|routines|groupings|strings|integers|booleans|stringescapes|stringdef|backwardmode)( |\Z)",
+        "This looks like a script. replace takes a whole one, up to a line with a single point."
+    ),
+    (r"\s+(%s)( |\Z)" % "|".join(COMMANDS), "A command begins at the beginning of the line."),
+)
 
 
 def overview() -> List[str]:

@@ -44,6 +44,10 @@ class Kept:
             elif os.path.exists(about):
                 os.remove(about)
 
+    def keep(self, file: str, text: bytes) -> None:
+        with contextlib.suppress(OSError), open(os.path.join(self.room, file), "wb") as kept:
+            kept.write(text)
+
     def has_edits(self) -> bool:
         return os.path.exists(os.path.join(self.room, "about"))
 

@@ -27,10 +27,6 @@ class Dropped(Exception):
     """Ctrl-C dropped the line."""
 
 
-class Broken(Exception):
-    """Ctrl-C came while the client itself worked something out."""
-
-
 class Hangup(BaseException):
     """The terminal is gone, or somebody ends this process."""
 
@@ -44,9 +40,9 @@ class Library:
             library: Any = ctypes.CDLL(readline.__file__)
             self.clear_line, self.on_new_line = library.rl_clear_visible_line, library.rl_on_new_line
             self.redisplay, self.prepare, self.restore = library.rl_forced_update_display, library.rl_prep_terminal, library.rl_deprep_terminal
-            self.library = library
+            self.state, self.mode = ctypes.c_ulong.in_dll(library, "rl_readline_state"), ctypes.c_int.in_dll(library, "rl_editing_mode")
             self.is_whole = True
-        except (OSError, AttributeError):
+        except (OSError, AttributeError, ValueError):
             self.is_whole = False
 
     def clear(self) -> None:
@@ -56,10 +52,10 @@ class Library:
 
     def has_line(self) -> bool:
         """Whether readline still waits for the end of a line: a signal may be heard only after Enter."""
-        return self.is_whole and bool(ctypes.c_ulong.in_dll(self.library, "rl_readline_state").value & CALLBACK)
+        return self.is_whole and bool(self.state.value & CALLBACK)
 
     def is_vi(self) -> bool:
-        return self.is_whole and ctypes.c_int.in_dll(self.library, "rl_editing_mode").value == 0
+        return self.is_whole and self.mode.value == 0
 
     def draw(self) -> None:
         """Draws the line again, below what is on the screen."""
@@ -68,15 +64,20 @@ class Library:
         self.redisplay()
 
 
-def set_keys(settings: List[Any]) -> None:
-    """Has the terminal take these settings. (A signal may break the call off, and Python does not try it again.)"""
+def set_keys(settings: List[Any]) -> bool:
+    """Has the terminal take these settings. Returns false if it is gone. (A signal may break the call off, and Python does not try it again.)"""
     while True:
         try:
             termios.tcsetattr(0, termios.TCSANOW, settings)
-            return
+            return True
         except termios.error as why:
             if why.args[0] != errno.EINTR:
-                raise Hangup from None
+                return False
+
+
+def need_keys(settings: List[Any]) -> None:
+    if not set_keys(settings):
+        raise Hangup
 
 
 def with_interrupt(settings: List[Any], character: bytes) -> List[Any]:
@@ -114,33 +115,20 @@ class Editor:
         os.set_blocking(bell, False)
         signal.set_wakeup_fd(bell, warn_on_full_buffer=False)
         threading.Thread(target=self.repeat, args=(heard,), daemon=True).start()
-        set_keys(self.quiet)
+        need_keys(self.quiet)
         self.open_history()
 
     def end(self) -> None:
         """Gives the keys back. A second signal does not break this off."""
         for number in (signal.SIGHUP, signal.SIGTERM, signal.SIGUSR1):
             signal.signal(number, signal.SIG_IGN)
-        with contextlib.suppress(Hangup):
-            set_keys(self.base)
+        set_keys(self.base)
 
     # Signals
 
     def hear_interrupt(self, *_: object) -> None:
         self.is_interrupted = True
         self.on_interrupt()
-
-    @contextlib.contextmanager
-    def breakable(self) -> Iterator[None]:
-        """In here Ctrl-C raises Broken. The program must not be asked meanwhile."""
-        def stop() -> None:
-            raise Broken
-
-        before, self.on_interrupt = self.on_interrupt, stop
-        try:
-            yield
-        finally:
-            self.on_interrupt = before
 
     def hear_end(self, number: int, _: object) -> None:
         raise Hangup(number)
@@ -156,8 +144,7 @@ class Editor:
         signal.signal(signal.SIGTSTP, self.hear_stop)
 
     def hear_continue(self, *_: object) -> None:
-        with contextlib.suppress(Hangup):
-            set_keys(self.typing if self.is_waiting else self.quiet)
+        set_keys(self.typing if self.is_waiting else self.quiet)
         if self.is_waiting and self.library.is_whole:
             self.library.prepare(1)
             self.library.draw()
@@ -205,19 +192,18 @@ class Editor:
             print(prompt + self.pending[0], flush=True)
             return self.pending.popleft()
         sys.stdout.flush()
-        set_keys(self.typing)
+        need_keys(self.typing)
         try:
             self.is_waiting = True
             text = input(prompt)
         except EOFError:
             # (a terminal that is gone ends its input, too)
-            set_keys(self.typing)
+            need_keys(self.typing)
             print(flush=True)
             return None
         finally:
             self.is_waiting = self.is_interrupted = False
-            with contextlib.suppress(Hangup):
-                set_keys(self.quiet)
+            set_keys(self.quiet)
         if text.endswith("\x03"):
             raise Dropped
         # (an empty line at the end of a paste is no wish to reload)
@@ -255,8 +241,7 @@ class Editor:
             yield
         finally:
             self.is_interrupted = False
-            with contextlib.suppress(Hangup):
-                set_keys(self.quiet)
+            set_keys(self.quiet)
 
     # History and TAB
 

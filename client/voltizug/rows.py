@@ -35,22 +35,9 @@ KINDS = {
 csv.field_size_limit(1 << 30)
 
 
-class Outcome(NamedTuple):
-    word: str
-    kind: str
-    stem: str
-
-
-class Class(NamedTuple):
-    stem: str
-    words: Tuple[str, ...]
-
-
-class Token(NamedTuple):
-    kind: str
-    start: int
-    end: int
-    text: str
+Outcome = NamedTuple("Outcome", [("word", str), ("kind", str), ("stem", str)])
+Class = NamedTuple("Class", [("stem", str), ("words", Tuple[str, ...])])
+Token = NamedTuple("Token", [("kind", str), ("start", int), ("end", int), ("text", str)])
 
 
 def rows_of(lines: Iterable[str]) -> List[List[str]]:
@@ -60,13 +47,13 @@ def rows_of(lines: Iterable[str]) -> List[List[str]]:
 
 def read(report: str, lines: Iterable[str]) -> List[Any]:
     """Returns the rows of a report as tuples with the fields of its table. A row of a kind that is not in the table is left out."""
-    table, kinds = TABLE[report], KINDS[report]
-    return [made(kinds[row[0]], row, "*" in table[row[0]]) for row in rows_of(lines) if row and row[0] in kinds]
-
-
-def made(kind: Any, row: Sequence[str], has_tail: bool) -> Any:
-    size = len(kind._fields)
-    return kind(*row[: size - 1], tuple(row[size - 1 :])) if has_tail else kind(*row[:size])
+    table, found = KINDS[report], []
+    for row in rows_of(lines):
+        if row and row[0] in table:
+            kind, has_tail = table[row[0]], "*" in TABLE[report][row[0]]
+            size = len(kind._fields) - has_tail
+            found.append(kind(*row[:size], *([tuple(row[size:])] if has_tail else [])))
+    return found
 
 
 def outcomes(lines: Iterable[str]) -> List[Outcome]:

@@ -10,7 +10,9 @@ from . import layout
 from .keys import Editor, Hangup
 
 # A terminal that does not tell its size, and the least that is taken as one.
-USUAL, LEAST = os.terminal_size((80, 24)), os.terminal_size((12, 4))
+USUAL, LEAST = (80, 24), (12, 4)
+# How many lines are written before it is looked whether Ctrl-C came.
+PART = 200
 
 
 def has_colour(wish: str) -> bool:
@@ -26,12 +28,10 @@ class Screen:
 
     def size(self) -> os.terminal_size:
         try:
-            size = os.get_terminal_size(1)
+            size = tuple(os.get_terminal_size(1))
         except OSError:
-            return USUAL
-        return os.terminal_size((
-            size.columns if size.columns >= LEAST.columns else USUAL.columns, size.lines if size.lines >= LEAST.lines else USUAL.lines
-        ))
+            size = USUAL
+        return os.terminal_size(there if there >= least else usual for there, least, usual in zip(size, LEAST, USUAL))
 
     def broken(self, lines: Sequence[str]) -> List[str]:
         width = self.size().columns
@@ -45,11 +45,10 @@ class Screen:
         if self.has_colour and not is_text:
             shown = list(map(layout.coloured, shown))
         try:
-            for at in range(0, len(shown), 200):
-                if self.editor.is_interrupted and not self.editor.is_above:
-                    break
-                sys.stdout.write("".join(line + "\n" for line in shown[at : at + 200]))
+            while shown and (self.editor.is_above or not self.editor.is_interrupted):
+                sys.stdout.write("".join(line + "\n" for line in shown[:PART]))
                 sys.stdout.flush()
+                del shown[:PART]
         except OSError:
             raise Hangup from None
 
@@ -76,13 +75,14 @@ class Screen:
             process.wait()
         return True
 
-    def to_file(self, path: str, lines: Sequence[str]) -> str:
-        """Writes a report to a new file; returns the sentence on it."""
-        try:
-            with open(path, "x", encoding="utf-8", errors="surrogateescape") as file:
-                file.write("".join(line + "\n" for line in lines))
-        except FileExistsError:
-            return "%s is there already, and is not overwritten. Nothing was written: name a new file." % layout.short(path)
-        except OSError as why:
-            return "%s cannot be written: %s." % (layout.short(path), why.strerror)
-        return "%s in %s" % (layout.counted(len(lines), "line"), layout.short(path))
+
+def to_file(path: str, lines: Sequence[str]) -> str:
+    """Writes a report to a new file; returns the sentence on it."""
+    try:
+        with open(path, "x", encoding="utf-8", errors="surrogateescape") as file:
+            file.write("".join(line + "\n" for line in lines))
+    except FileExistsError:
+        return "%s is there already, and is not overwritten. Nothing was written: name a new file." % layout.short(path)
+    except OSError as why:
+        return "%s cannot be written: %s." % (layout.short(path), why.strerror)
+    return "%s in %s" % (layout.counted(len(lines), "line"), layout.short(path))

@@ -2,7 +2,7 @@
 and after."""
 from typing import Any, Dict, List, Sequence, Tuple
 
-from ..conditions.copies import Shown
+from ..copies import Shown
 from ..places import Places
 
 # How many steps are shown, at most.
