@@ -4,7 +4,7 @@ import time
 
 from voltizug import layout, loops, near, options, reports, rows, warn
 from voltizug.bench import Edit
-from voltizug.copies import Shown
+from voltizug.conditions import Routine
 from voltizug.kept import Kept
 from voltizug.places import Places, line_and_column
 from voltizug.program import Reply
@@ -86,7 +86,8 @@ class Others(Case):
         events = rows.read("events", ["call,0,stem", "call,1,r", "put,1,r,0,1,k,kats", "test,1,r,1,f", "return,1,r,f", "return,0,stem,t", "stem,kats"])
         found = rows.read("places", ["routine,r,0,20,1,1"])
         places = Places("my.sbl", b"define r as 'x' and more", b"define r as 'x' and more", found, [])
-        tests = {("r", "1"): Shown("'x'", 12, "'x'", 12, True, True)}
+        routine = Routine("r", rows.tokens(["word,0,6,define", "name,7,8,r", "word,9,11,as", "literal,12,15,'x'"]), {}, False)
+        tests = {("r", "1"): (routine, routine.tests[0])}
         lines = reports.why("cats", events, rows.read("integers", ["steps,5"]), places, tests)
         self.assertEqual(lines[1:3], ["  r     'x' is false   my.sbl:1:13", "  stem  r is false"])
 

@@ -4,6 +4,7 @@ found by the tokens and the definitions that the program tells.
 from itertools import takewhile
 from typing import Dict, List, Optional, Sequence, Tuple
 
+from .layout import named
 from .places import Places
 from .rows import Token
 
@@ -16,16 +17,26 @@ PARTS: Dict[str, str] = {
     **dict.fromkeys("[ ] substring tolimit delete true next atlimit false".split(), ""),
 }
 TESTS, TURNERS, COMPARISONS = "hop atmark tomark next atlimit false".split(), ("not", "fail"), "== != < <= > >=".split()
+# How many letters of a row of commands are shown at most.
+LONGEST = 60
 
 
 class Test:
-    """A test of a routine, from a token up to another one, by their numbers. `rows` are the rows of commands that it is a part of, the smallest
-    first, as far as the body of the routine or the command of an among. Of `not` and `fail` the command is false if it signals t."""
+    """A test of a routine: its tokens, and whether it is in a backward mode. `rows` are the rows of commands that it is a part of, the smallest
+    first, as far as the body of the routine or the command of an among. A `not` or `fail` is turned: it is false if its command signals t."""
 
-    def __init__(self, start: int, end: int, is_turned: bool, is_backward: bool):
-        self.start, self.end, self.is_turned, self.is_backward = start, end, is_turned, is_backward
-        self.rows: List[Tuple[int, int]] = []
-        self.is_closed = False
+    def __init__(self, tokens: Sequence[Token], is_backward: bool):
+        self.tokens, self.is_backward, self.is_turned, self.is_closed = tokens, is_backward, tokens[0].text in TURNERS, False
+        self.rows: List[Sequence[Token]] = []
+
+    @property
+    def text(self) -> str:
+        return text_of(self.tokens)
+
+    @property
+    def row(self) -> Sequence[Token]:
+        """The largest row that is not too long to be shown."""
+        return next((row for row in (self.rows[-1], self.rows[0]) if len(text_of(row)) <= LONGEST), self.tokens)
 
 
 class Routine:
@@ -56,9 +67,9 @@ class Routine:
             self.command()
         for test in self.tests[first:]:
             if not test.is_closed and not (is_body and test.rows):
-                test.rows.append((begin, self.at))
+                test.rows.append(self.tokens[begin : self.at])
 
-    def rows(self) -> None:
+    def bracket(self) -> None:
         """Reads commands up to a closing parenthesis, and counts the amongs whose substring is among these commands."""
         is_open = False
         while self.peek() != ")":
@@ -78,7 +89,7 @@ class Routine:
         self.is_turned_back = was_turned_back
         is_test = word in TESTS or word in TURNERS or word.startswith("'") or self.is_test.get(word, False)
         if word == "(":
-            self.rows()
+            self.bracket()
         elif word == "among":
             self.among()
         elif word == "$":
@@ -89,14 +100,14 @@ class Routine:
         elif not is_test and word not in PARTS and word not in self.is_test:
             raise ValueError(word)
         if is_test:
-            self.tests.append(Test(begin, self.at, word in TURNERS, self.is_turned_back))
+            self.tests.append(Test(self.tokens[begin : self.at], self.is_turned_back))
 
     def among(self) -> None:
         first = len(self.tests)
         self.at += 1
         while self.peek() != ")":
             if self.take() == "(":
-                self.rows()
+                self.bracket()
         self.at += 1
         for test in self.tests[first:]:
             test.is_closed = True
@@ -140,3 +151,8 @@ def routines_of(places: Places) -> List[Routine]:
         if row and row.kind == "routine":
             found.append((row.name, list(takewhile(lambda other: other.end <= int(row.end), tokens[i:])), depth > 0))
     return [Routine(name, part, is_test, is_backward) for name, part, is_backward in found]
+
+
+def text_of(tokens: Sequence[Token]) -> str:
+    """Returns the text of tokens as the author wrote it but for comments and line ends."""
+    return named(tokens[0].text + "".join(" " * (token.start > before.end) + token.text for before, token in zip(tokens, tokens[1:])))

@@ -4,7 +4,8 @@ from itertools import groupby
 from typing import Any, Callable, Dict, List, Sequence, Tuple
 
 from . import rows
-from .copies import Found, Shown
+from .conditions import Routine, Test, text_of
+from .copies import Found
 from .layout import COLUMN, columns, counted, listed, named, outcome, padded, percent, short
 from .places import Places
 
@@ -16,6 +17,8 @@ FIGURES = {
 }
 # A line in two or three parts: what it is about, what is said, and a place.
 Line = Tuple[str, str, str]
+# Tests with their routines, by the names of these and by their numbers.
+Tests = Dict[Tuple[str, str], Tuple[Routine, Test]]
 
 
 def stems(lines: Sequence[str]) -> List[str]:
@@ -111,10 +114,10 @@ def tests(found: Found, places: Places) -> List[str]:
     """The tests without a name of a run. Of those that come before anything else happens, equal ones share a line."""
     lines: List[Line] = []
     for is_test, part in groupby(found.events, key=lambda row: row.kind == "test"):
-        counts = Counter((row.name, row.n, row.signal) for row in part if is_test and found.tests[row.name, row.n].is_listed)
+        counts = Counter((row.name, row.n, row.signal) for row in part if is_test and not found.tests[row.name, row.n][1].is_turned)
         for (name, n, signal), count in counts.items():
-            test, times = found.tests[name, n], " {:,} times".format(count) if count > 1 else ""
-            lines.append((name, "%s is %s%s" % (test.text, "true" if signal == "t" else "false", times), places.at(name, test.start)))
+            test, times = found.tests[name, n][1], " {:,} times".format(count) if count > 1 else ""
+            lines.append((name, "%s is %s%s" % (test.text, "true" if signal == "t" else "false", times), places.at(name, test.tokens[0].start)))
     lines = [*lines[:MOST_TESTS], ("..", "and {:,} more".format(len(lines) - MOST_TESTS), "")] if len(lines) > MOST_TESTS else lines
     lines += [("..", "the tests after these are not known", "")] if lines and any(row.kind == "unknown" for row in found.events) else []
     return in_columns(lines) or ["its run asked no test"]
@@ -133,7 +136,7 @@ class Call:
         self.acts = self.acts or row.kind in ("taken", "put")
 
 
-def why(word: str, events: Sequence[Any], figures: Sequence[Any], places: Places, tests_of: Dict[Tuple[str, str], Shown]) -> List[str]:
+def why(word: str, events: Sequence[Any], figures: Sequence[Any], places: Places, tests_of: Tests) -> List[str]:
     """What took a string, what routines answered when they were asked, each change of the text, and the test that made a routine false which
     had changed something. The events may have tests, which are told by the names of their routines and their numbers."""
     text, shown, calls = word, [], []  # type: str, List[Line], List[Call]
@@ -163,13 +166,14 @@ def why(word: str, events: Sequence[Any], figures: Sequence[Any], places: Places
     return [nothing] * (len(shown) == 1) + in_columns(lines)
 
 
-def returned(calls: List[Call], is_true: bool, places: Places, tests_of: Dict[Tuple[str, str], Shown]) -> List[Line]:
+def returned(calls: List[Call], is_true: bool, places: Places, tests_of: Tests) -> List[Line]:
     """Returns the lines on a routine that ends."""
     call, shown = calls.pop(), []  # type: Call, List[Line]
     is_failed = call.acts and not is_true
-    test = tests_of.get((call.name, call.test.n)) if calls and is_failed and call.test and call.test.signal == "f" else None
-    if test and test.is_cause:
-        shown.append((call.name, test.row + " is false", places.at(call.name, test.row_start)))
+    if calls and is_failed and call.test and call.test.signal == "f":
+        routine, test = tests_of[call.name, call.test.n]
+        if routine.is_plain:
+            shown.append((call.name, text_of(test.row) + " is false", places.at(call.name, test.row[0].start)))
     if calls and (is_failed or len(calls) > 1 and call.asks_only):
         shown.append((calls[-1].name, "%s is %s" % (call.name, "true" if is_true else "false"), ""))
     return shown

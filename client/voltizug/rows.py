@@ -1,7 +1,7 @@
 """The rows of replies as named tuples, by the tables of docs/REFERENCE.md."""
 import csv
 from collections import namedtuple
-from typing import Any, Dict, Iterable, List, NamedTuple, Sequence, Tuple
+from typing import Any, Callable, Dict, Iterable, List, NamedTuple, Sequence, Tuple
 
 PLACE = " start end line column"
 # By report the kinds of its rows with their fields; one that begins with a star takes all that is left.
@@ -47,13 +47,13 @@ def rows_of(lines: Iterable[str]) -> List[List[str]]:
 
 def read(report: str, lines: Iterable[str]) -> List[Any]:
     """Returns the rows of a report as tuples with the fields of its table. A row of a kind that is not in the table is left out."""
-    table, found = KINDS[report], []
-    for row in rows_of(lines):
-        if row and row[0] in table:
-            kind, has_tail = table[row[0]], "*" in TABLE[report][row[0]]
-            size = len(kind._fields) - has_tail
-            found.append(kind(*row[:size], *([tuple(row[size:])] if has_tail else [])))
-    return found
+    make = {kind: with_tail(row) if "*" in TABLE[report][kind] else row._make for kind, row in KINDS[report].items()}
+    return [make[row[0]](row) for row in rows_of(lines) if row and row[0] in make]
+
+
+def with_tail(kind: Any) -> Callable[[List[str]], Any]:
+    last = len(kind._fields) - 1
+    return lambda row: kind(*row[:last], tuple(row[last:]))
 
 
 def outcomes(lines: Iterable[str]) -> List[Outcome]:
