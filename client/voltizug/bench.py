@@ -3,7 +3,6 @@ own, and makes no sentence.
 """
 import contextlib
 import os
-import threading
 from typing import Any, Callable, Dict, List, NamedTuple, Optional, Sequence, Set, Tuple
 
 from . import rows
@@ -11,8 +10,6 @@ from .kept import FileState, Kept, is_same, read_file, state_of
 from .places import LARGEST, Places
 from .program import BROKEN, DONE, ENDED, LONGEST, USUAL_LIMIT, Moment, Program, Reply, encoded
 
-# How often files are looked at, in seconds; and how soon again after a change, since a file may still be being written.
-PERIOD, SOON = 0.02, 0.005
 
 
 class Edit(NamedTuple):
@@ -22,7 +19,6 @@ class Edit(NamedTuple):
     command: str
     reply: Reply
     changes: List[Any] = []
-    was_changed: bool = False
     is_same: bool = False
     step: str = ""
     aside: Optional[Tuple[str, ...]] = None
@@ -77,9 +73,10 @@ class Bench:
         """Notes files as they are now, all without names: they are read next."""
         self.seen.update({path: state_of(path) for path in paths or (self.script, self.words) if path})
 
-    def saved(self) -> List[str]:
-        """Returns the files that were saved since they were read."""
-        return [path for path, state in self.seen.items() if state_of(path) not in (None, state)]
+    def saved(self) -> Dict[str, FileState]:
+        """Returns the files that were saved since they were read, with their states. (An editor may take a file away for a moment.)"""
+        now = {path: (state_of(path), state) for path, state in dict(self.seen).items()}
+        return {path: state for path, (state, before) in now.items() if state not in (None, before)}
 
     def close(self, is_kept: bool) -> None:
         """Ends the program. The room may be kept if it has typed edits."""
@@ -142,11 +139,10 @@ class Bench:
 
     def settled(self, reply: Reply) -> Reply:
         """After a program that is gone: begins it again. The state of the reply stays; it is `lost` if that fails."""
-        if reply.state != DONE:
-            self.on_restart(reply)
-        if reply.state != DONE and not self.program.begin_anew():
-            return reply._replace(state="lost")
-        return reply
+        if reply.state == DONE:
+            return reply
+        self.on_restart(reply)
+        return reply if self.program.begin_anew() else reply._replace(state="lost")
 
     # Editing
 
@@ -187,7 +183,7 @@ class Bench:
         found = pairs_of(*pairs)
         figures, self.pairs = (*(self.pairs or found), *found) if found else (), found or self.pairs
         return edit._replace(
-            changes=self.changes, was_changed=bool(former), is_same=former == self.changes, pairs=figures,
+            changes=self.changes, is_same=former == self.changes, pairs=figures,
             step=" ".join((step.command, *step.rest)) if step and word in ("undo", "redo") else "",
             notes=self.notes(word, before, had_fault, done == history), aside=self.note_text(word, before, history),
         )
@@ -279,21 +275,3 @@ def typed_names(history: Sequence[Any]) -> Tuple[str, ...]:
     done = [row for row in history if row.kind == "done"]
     last = max((i for i, row in enumerate(done) if row.command == "script"), default=-1)
     return tuple(dict.fromkeys(row.rest[0] for row in done[last + 1 :] if row.command != "limit" and row.rest))
-
-
-class Watch(threading.Thread):
-    """Calls `ring` each time that it looks, as long as a file was saved that is not read yet and is not being written."""
-
-    def __init__(self, bench: Bench, ring: Callable[[], None]):
-        super().__init__(daemon=True)
-        self.bench, self.ring, self.stopping = bench, ring, threading.Event()
-
-    def run(self) -> None:
-        before: Dict[str, FileState] = {}
-        now = before
-        while not self.stopping.wait(PERIOD if now == before else SOON):
-            seen = dict(self.bench.seen)
-            # (an editor may take a file away for a moment)
-            before, now = now, {path: state_of(path) or state for path, state in seen.items()}
-            if now == before and now != seen:
-                self.ring()

@@ -3,7 +3,7 @@ from typing import Dict, List, NamedTuple, Sequence, Tuple
 
 
 class Command(NamedTuple):
-    """`takes` says what may follow: text, file, routine, grouping, name, among, part, number, command, or nothing; `more` is told by help COMMAND."""
+    """`takes` says what may follow: text, file, routine, grouping, name, among, part, number, command, or nothing; `more` is for help COMMAND."""
 
     usage: str
     does: str
@@ -42,7 +42,9 @@ COMMANDS: Dict[str, Command] = {
     "largest": Command("largest [N]", "the N largest classes, 10 without N", "number"),
     "limit": Command("limit [N]", "lets each run use N steps at most; without N says how many", "number", "100,000 is usual."),
     "lint": Command("lint", "what may not be meant: empty slices, letters that no word has, letters beyond ASCII in literals, capitals"),
-    "mark": Command("mark [FILE]", "changes are told since now, or since the stems of FILE", "file", "FILE has a line for each word, as of approve."),
+    "mark": Command(
+        "mark [FILE]", "changes are told since now, or since the stems of FILE", "file", "FILE has a line for each word, as of approve."
+    ),
     "quit": Command("quit", "ends; so does Ctrl-D"),
     "redo": Command("redo", "makes again what undo took back"),
     "reload": Command("reload", "reads the script again; an empty line does so, too", "", "It puts typed edits aside; undo brings them back."),
@@ -84,7 +86,8 @@ BLOCKS, OPEN_BLOCKS = ("routine", "among", "grouping"), ("families", "replace")
 WITH_TEXT = ("add", "remove", "class", "stem", "find", "trace", "why", "tests", "events", "integers", "changes", "uses", "echo")
 # Reports: they can be written to a file by > FILE, and have a pager.
 REPORTING = (
-    *"changes class classes counts events families find history integers largest lint script show".split(), *"stats stem stems tests trace unused uses why".split()
+    "changes class classes counts events families find history integers largest lint script show stats stem stems".split()
+    + "tests trace unused uses why".split()
 )
 # By the beginning of a line that is no command what is said of it. {c} is its first word.
 IN_SHELL = {"check": "SCRIPT WORDS STEMS", "compare": "OLD NEW WORDS", "filter": "SCRIPT < WORDS", "run": "SCRIPT WORDS", "work": "SCRIPT WORDS"}

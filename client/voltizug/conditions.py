@@ -65,9 +65,10 @@ class Routine:
         while self.peek() in ("or", "and"):
             self.at += 1
             self.command()
+        tokens = self.tokens[begin : self.at]
         for test in self.tests[first:]:
             if not test.is_closed and not (is_body and test.rows):
-                test.rows.append(self.tokens[begin : self.at])
+                test.rows.append(tokens)
 
     def bracket(self) -> None:
         """Reads commands up to a closing parenthesis, and counts the amongs whose substring is among these commands."""

@@ -2,7 +2,7 @@
 from typing import Any, Dict, List, Sequence
 
 from . import faults, layout, loops, rows, words
-from .bench import Bench, Edit, Watch
+from .bench import Bench, Edit
 from .completion import Completion
 from .keys import Editor, Hangup
 from .kept import read_file
@@ -23,11 +23,8 @@ class Desk:
     def __init__(self, bench: Bench, options: Options):
         self.bench, self.options = bench, options
         self.completion = Completion(bench)
-        # (a signal rings, too, and without --watch only Enter reads what was saved)
-        saved = bench.saved if options.is_watching else lambda: []
-        self.editor = Editor(bench.kept.history, self.completion.complete, saved, self.show_saved)
+        self.editor = Editor(bench.kept.history, self.completion.complete, bench.saved if options.is_watching else None, self.show_saved)
         self.screen = Screen(self.editor, options.color, options.has_pager)
-        self.watch = Watch(bench, self.editor.ring) if options.is_watching else None
         # Warnings that were given; lines in a row that are no command.
         self.warned, self.nonsense = [], 0  # type: List[str], int
         bench.program.on_long, self.editor.on_interrupt, bench.on_restart = self.tell_long, bench.program.break_off, self.tell_restart
@@ -87,8 +84,8 @@ class Desk:
 
     def drop_pasted(self) -> None:
         count = self.editor.drop_pasted()
-        if count:
-            self.screen.say("The line that came with it was dropped." if count == 1 else "The {:,} lines that came with it were dropped.".format(count))
+        lines = "line that came with it was" if count == 1 else "{:,} lines that came with it were".format(count)
+        self.screen.say("The %s dropped." % lines if count else "")
 
     def show_fault(self, said: Sequence[str]) -> None:
         self.screen.write_fault(faults.shown(said, self.bench.script, read_file(self.bench.script), self.screen.size().columns))

@@ -37,7 +37,8 @@ def with_file(line: str, script: str) -> str:
     fault = CANNOT_BE_READ.fullmatch(line)
     if fault:
         return "snowbench: %s cannot be read: %s" % (fault[1], unreadable(fault[1]))
-    return line.replace("OLD > NEW", "%s > NEW. Then, if NEW is right: mv NEW %s" % (in_shell(script), in_shell(script))) if line.endswith(" OLD > NEW") else line
+    name = in_shell(script)
+    return line.replace("OLD > NEW", "%s > NEW. Then, if NEW is right: mv NEW %s" % (name, name)) if line.endswith(" OLD > NEW") else line
 
 
 def without_mark(lines: List[str], script: str) -> List[str]:

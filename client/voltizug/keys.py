@@ -18,6 +18,8 @@ import time
 from typing import Any, Callable, Deque, Iterator, List, Optional
 
 HISTORY, INTERRUPT, PAUSE = 2000, b"\x03", 0.1
+# How often files are looked at, and for how long a signal is repeated, in seconds.
+PERIOD, ECHO = 0.01, 1.0
 POINT = re.compile(rb"[\r\n][ \t]*\.[ \t]*[\r\n]")
 # Of readline's state: its callbacks are installed.
 CALLBACK = 0x80000
@@ -25,6 +27,10 @@ CALLBACK = 0x80000
 
 class Dropped(Exception):
     """Ctrl-C dropped the line."""
+
+
+class Broken(Exception):
+    """Ctrl-C came while the client itself worked something out."""
 
 
 class Hangup(BaseException):
@@ -90,7 +96,7 @@ class Editor:
     looks for signals only when one breaks its wait for a key off, so one that comes between two keys would drop a later line. While a command
     runs it is a signal, and no key is shown."""
 
-    def __init__(self, history: str, complete: Callable[[str, str], List[str]], saved: Callable[[], Any], show_saved: Callable[[], None]):
+    def __init__(self, history: str, complete: Callable[[str, str], List[str]], saved: Optional[Callable[[], Any]], show_saved: Callable[[], None]):
         self.library, self.history, self.complete_text, self.saved, self.show_saved = Library(), history, complete, saved, show_saved
         self.base = termios.tcgetattr(0)
         self.typing = with_interrupt(self.base, b"\0")
@@ -101,7 +107,7 @@ class Editor:
         self.is_ended = False
         self.pending: Deque[str] = collections.deque()
         self.found: List[str] = []
-        self.main = threading.main_thread().ident
+        self.main = threading.main_thread().ident or 0
         self.on_interrupt: Callable[[], None] = lambda: None
 
     def begin(self) -> None:
@@ -114,7 +120,7 @@ class Editor:
         heard, bell = os.pipe()
         os.set_blocking(bell, False)
         signal.set_wakeup_fd(bell, warn_on_full_buffer=False)
-        threading.Thread(target=self.repeat, args=(heard,), daemon=True).start()
+        threading.Thread(target=self.ring, args=(heard,), daemon=True).start()
         need_keys(self.quiet)
         self.open_history()
 
@@ -149,28 +155,26 @@ class Editor:
             self.library.prepare(1)
             self.library.draw()
 
-    def repeat(self, heard: int) -> None:
-        """In a thread: rings after each signal. CPython hears one that comes just before readline waits for a key only when another one breaks
-        that wait off."""
+    def ring(self, heard: int) -> None:
+        """In a thread: breaks off the wait for a key by a signal, for a while after each other one (CPython hears one that comes just before
+        readline waits for a key only when another one breaks that wait off), and as long as a file was saved that is not being written."""
+        before, until = None, 0.0
         while True:
-            numbers = os.read(heard, 256)
-            self.is_ended = self.is_ended or signal.SIGHUP in numbers or signal.SIGTERM in numbers
-            for pause in (0.02, 0.1, 0.5) if any(number != signal.SIGUSR1 for number in numbers) else ():
-                time.sleep(pause)
-                self.ring()
-            while self.is_ended and self.main:
-                time.sleep(0.1)
+            is_soon = self.saved or self.is_ended or time.monotonic() < until
+            if select.select([heard], [], [], PERIOD if is_soon else None)[0]:
+                numbers = set(os.read(heard, 256)) - {signal.SIGUSR1}
+                self.is_ended = self.is_ended or bool(numbers & {signal.SIGHUP, signal.SIGTERM})
+                until = time.monotonic() + ECHO if numbers else until
+                continue
+            now = self.saved() if self.saved and self.is_waiting else None
+            if self.is_ended or self.is_waiting and (time.monotonic() < until or now and now == before):
                 signal.pthread_kill(self.main, signal.SIGUSR1)
-
-    def ring(self) -> None:
-        """Breaks off the wait for a key. The watching thread does so until a save is read."""
-        if self.is_waiting and self.main:
-            signal.pthread_kill(self.main, signal.SIGUSR1)
+            before = now
 
     def hear_ring(self, *_: object) -> None:
         if self.is_ended:
             raise Hangup
-        if not self.is_waiting or self.is_above or not self.library.has_line() or not self.saved():
+        if not self.is_waiting or self.is_above or not self.library.has_line() or not (self.saved and self.saved()):
             return
         self.is_above, self.is_waiting = True, False
         now = termios.tcgetattr(0)

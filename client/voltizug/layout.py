@@ -145,7 +145,7 @@ def figures(found: Sequence[Any]) -> str:
 def summary(edit: Edit) -> str:
     """Returns the line that stands last after an edit."""
     text = figures(edit.changes)
-    if edit.was_changed and edit.changes and edit.is_same:
+    if edit.changes and edit.is_same:
         text += " (this edit changed none)"
     if edit.command in ("undo", "redo"):
         step = "the whole script" if edit.step == "script" else short(edit.step)

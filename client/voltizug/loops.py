@@ -54,7 +54,7 @@ def open_calls(rows: Sequence[Any]) -> List[str]:
 
 
 def period(keys: Sequence[Any], times: int) -> Tuple[int, int]:
-    """Returns the least length such that the last so many keys were there so many times, one after another, and how often; zeros if there is none."""
+    """Returns how many keys at the end were there so many times, at least, one after another, and how often; zeros if none were."""
     for length in range(1, min(LONGEST, len(keys) // times) + 1):
         same = next((i for i in range(len(keys) - length) if keys[-1 - i] != keys[-1 - i - length]), len(keys) - length)
         if same // length + 1 >= times:

@@ -59,7 +59,7 @@ class Opening(Desk):
             super().tell_long()
 
     def wait(self, reply: Reply, is_same: bool, is_warned: bool) -> bool:
-        """Shows why the program has ended, if no warning does. Returns whether `work` waits: a file has a fault that its author can correct there."""
+        """Shows why the program has ended, if no warning does. Returns whether `work` waits: a file has a fault that its author can correct."""
         bench, say, code = self.bench, self.screen.say, faults.code_of(reply.said)
         name = (bench.words if code in OF_WORDS else bench.script) or ""
         self.show_fault(reply.said)

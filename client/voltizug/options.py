@@ -5,6 +5,7 @@ from typing import Dict, List, NamedTuple, Optional, Sequence
 
 HAS = "It has --watch, --rows, --text, --color WHEN, --no-pager, --external NAME and --from TEXT"
 FLAGS, VALUES = ("--watch", "--no-pager", "--rows", "--text"), ("--program", "--color", "--external", "--from")
+COMMANDS_COME = "Its standard input has the commands"
 
 
 class Misuse(Exception):
@@ -53,7 +54,7 @@ def options_of(given: Sequence[str]) -> Options:
         (color not in ("auto", "always", "never"), "--color takes auto, always or never, and not %s" % color),
         (not files, "work needs a script"),
         (len(files) > 2, "work takes a script and a list of words, and no third file: %s" % "".join(files[2:3])),
-        ("-" in files and not os.path.exists("-"), "work reads a script and words from files, and there is no file -. Its standard input has the commands"),
+        ("-" in files and not os.path.exists("-"), "work reads a script and words from files, and there is no file -. " + COMMANDS_COME),
     ):
         if is_wrong:
             raise Misuse(why)

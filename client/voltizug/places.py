@@ -71,8 +71,9 @@ class Places:
             return []
         start = self.text.rfind(b"\n", 0, int(home.start)) + 1
         indent, end = self.text[start : int(home.start)] if not self.text[start : int(home.start)].strip() else b"", int(home.end)
-        comments = [token.end for token in self.tokens if token.kind == "comment" and token.start > end and not self.text[end : token.start].strip(b" \t")]
-        end = comments[0] if comments else end
+        comments = [token for token in self.tokens if token.kind == "comment" and token.start > end]
+        if comments and not self.text[end : comments[0].start].strip(b" \t"):
+            end = comments[0].end
         return (indent + self.text[int(home.start) : end]).decode("utf-8", "surrogateescape").replace("\r\n", "\n").split("\n")
 
     def slice(self, row: Any) -> str:

@@ -3,6 +3,7 @@ No sentence is made here, and nothing is laid out.
 """
 import contextlib
 import os
+import re
 import selectors
 import subprocess
 import time
@@ -36,7 +37,8 @@ class Reply(NamedTuple):
 
 
 class Moment(NamedTuple):
-    """What a new start brings back: a text, a limit, the commands that added and removed words since WORDS was read, and a file of stems that is the mark."""
+    """What a new start brings back: a text, a limit, the commands that added and removed words since WORDS was read, and a file of stems that
+    is the mark."""
 
     text: bytes = b""
     limit: str = USUAL_LIMIT
@@ -75,7 +77,7 @@ class Program:
     def begin(self, options: Sequence[str], script: str) -> None:
         self.stop()
         words = [*self.command, *options, "--", script, *([self.words] if self.words else [])]
-        pipe, files = subprocess.PIPE, [int(name[8:]) for name in words if name.startswith("/dev/fd/") and name[8:].isdigit() and os.path.exists(name)]
+        pipe, files = subprocess.PIPE, [int(name[8:]) for name in words if re.fullmatch("/dev/fd/[0-9]+", name) and os.path.exists(name)]
         # (with its signals as they are here, a write to a file that may not grow fails, and ends nothing)
         self.process = subprocess.Popen(
             words, stdin=pipe, stdout=pipe, stderr=pipe, bufsize=0, start_new_session=True, restore_signals=False, pass_fds=files

@@ -47,7 +47,8 @@ def stats(lines: Sequence[str]) -> List[str]:
 
 def families(lines: Sequence[str]) -> List[str]:
     found = rows.read("families", lines)
-    unknown = [counted(int(row.count), "word is", "words are") + " not in the vocabulary" for row in found if row.kind == "unknown" and row.count != "0"]
+    lacking = [int(row.count) for row in found if row.kind == "unknown" and row.count != "0"]
+    unknown = [counted(count, "word is", "words are") + " not in the vocabulary" for count in lacking]
     within, apart, across, joined = (int(number) for row in found if row.kind == "pairs" for number in row[1:])
     if within == across == 0:
         return ["the vocabulary has no two words of these families with a stem"] + unknown
@@ -60,8 +61,8 @@ def families(lines: Sequence[str]) -> List[str]:
 
 
 def history(lines: Sequence[str]) -> List[str]:
-    steps = [(row.kind, " ".join((row.command, *row.rest))) for row in rows.read("history", lines)]
-    return ["  %-10s  %s" % ("made" if kind == "done" else "taken back", "the whole script" if step == "script" else named(step)) for kind, step in steps]
+    steps = [("made" if row.kind == "done" else "taken back", " ".join((row.command, *row.rest))) for row in rows.read("history", lines)]
+    return ["  %-10s  %s" % (what, "the whole script" if step == "script" else named(step)) for what, step in steps]
 
 
 def integers(lines: Sequence[str]) -> List[str]:
@@ -157,8 +158,10 @@ def why(word: str, events: Sequence[Any], figures: Sequence[Any], places: Places
             shown.append((row.kind, "%s%s   %s" % (named(row[1]) or "(empty)", where, values(figures)), ""))
         if calls:
             calls[-1].note(row)
-    equal = [(line, len(list(part))) for line, part in groupby(shown)]
-    lines = [(name, what, "   ".join(filter(None, [place, ".. {:,} times".format(count) if count > 1 else ""]))) for (name, what, place), count in equal]
+    lines = []
+    for (name, what, place), equal in groupby(shown):
+        count = len(list(equal))
+        lines.append((name, what, "   ".join(filter(None, [place, ".. {:,} times".format(count) if count > 1 else ""]))))
     nothing = '  nothing took a string or changed the text: "events %s" shows the searches, "tests %s" the tests' % (short(word), short(word))
     if len(lines) > FIRST + 1 + LAST:
         left_out = '{:,} rows are left out: "events {}" shows the events'.format(len(lines) - FIRST - LAST, short(word))

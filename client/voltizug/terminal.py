@@ -10,7 +10,7 @@ from . import commands, layout, loops, reports, rows, words
 from .bench import Bench
 from .commands import BLOCKS, COMMANDS, OPEN_BLOCKS, REPORTING, WITH_TEXT
 from .copies import Found, with_tests
-from .keys import Dropped, Hangup
+from .keys import Broken, Dropped, Hangup
 from .kept import Kept, home, read_file
 from .layout import in_words, short
 from .lints import lints
@@ -159,7 +159,10 @@ class Terminal(Opening):
     def run_of(self, word: str, lines: Sequence[str]) -> Tuple[List[Any], Found]:
         """Returns the figures of the run of a word, and its events, from their lines, with its tests."""
         figures = self.bench.read("integers " + word)
-        return figures, with_tests(self.bench.program, self.bench.places(), word, rows.read("events", lines), figures)
+        found = with_tests(self.bench.program, self.bench.places(), word, rows.read("events", lines), figures)
+        if self.editor.is_interrupted:
+            raise Broken
+        return figures, found
 
     # Commands that are more than a request
 
@@ -317,7 +320,7 @@ class Terminal(Opening):
     def turn(self) -> bool:
         """Reads what was saved and answers a line; returns whether `work` goes on. A fault of this client ends no work."""
         try:
-            if self.watch and not self.editor.is_interrupted and self.bench.saved():
+            if self.options.is_watching and not self.editor.is_interrupted and self.bench.saved():
                 self.show_saved()
             line = self.editor.read("> ")
             if line is None:
@@ -327,6 +330,10 @@ class Terminal(Opening):
         except Dropped:
             self.editor.pending.clear()
             return not self.bench.is_waiting
+        except Broken:
+            self.editor.is_interrupted = False
+            self.screen.say("It was broken off.")
+            return True
         except Exception:
             path = os.path.join(self.bench.kept.folder, "fault")
             with contextlib.suppress(OSError), open(path, "w", encoding="utf-8") as file:
@@ -341,8 +348,6 @@ class Terminal(Opening):
         try:
             self.editor.begin()
             if self.open():
-                if self.watch:
-                    self.watch.start()
                 while self.turn():
                     pass
             is_gone = False
@@ -350,8 +355,6 @@ class Terminal(Opening):
             pass
         finally:
             self.editor.end()
-            if self.watch:
-                self.watch.stopping.set()
             # (the room keeps typed edits that no file has if nobody chose to drop them)
             self.bench.close(is_kept=is_gone)
         return 1 if is_gone else self.status

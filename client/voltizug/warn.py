@@ -32,7 +32,10 @@ DECOMPOSED: Kind = (
 LONG_LINE: Kind = (is_overlong, "more than 65,536 bytes", ". run, check, filter and session refuse such a line (72 LineTooLong). Break it")
 LONG_WORD: Kind = (is_overlong, "more than 65,536 bytes, which no line may have", ". Write one word on each line")
 OF_WORDS: Sequence[Kind] = (
-    (has(r"^[^\S\n]|[^\S\n]$"), "a blank at an end of the word, which belongs to it", ". To take them away: sed -i 's/^[ \\t]*//; s/[ \\t]*$//' {file}"),
+    (
+        has(r"^[^\S\n]|[^\S\n]$"), "a blank at an end of the word, which belongs to it",
+        ". To take them away: sed -i 's/^[ \\t]*//; s/[ \\t]*$//' {file}",
+    ),
     (lambda text: " " in text.strip(), "a blank inside the word, which belongs to it", ". A line is one word"),
     (lambda text: "\t" in text.strip(), "a tab inside the word, which belongs to it", ". If this is a table: cut -f1 {file} > NEW"),
     (has(r"^\.$"), "a single point. In a session it ends the list; here it is a word", ""),
@@ -66,7 +69,8 @@ def on_file(path: str, is_list: bool) -> List[str]:
     data, name = read_file(path), named(path)
     if data is None or on_whole(path, data):
         return [on_whole(path, data)] if data else []
-    said = [name + ":1: a byte order mark, which is left out. To take it away: sed -i '1s/^\\xEF\\xBB\\xBF//' " + in_shell(path)] * data.startswith(BOM)
+    mark = "%s:1: a byte order mark, which is left out. To take it away: sed -i '1s/^\\xEF\\xBB\\xBF//' %s" % (name, in_shell(path))
+    said = [mark] if data.startswith(BOM) else []
     text = data.removeprefix(BOM).decode("utf-8", "surrogateescape")
     text = re.sub(r"\r(?=\n|\Z)", "", text).removesuffix("\n")
     kinds = [NOT_UTF8 if NOT_UTF8[0](text) else DECOMPOSED, LONG_WORD if is_list else LONG_LINE]

@@ -66,9 +66,9 @@ def sentence(reply: Reply, lines: Sequence[str], bench: Bench) -> str:
     if code in (47, 48) and len(lines) > 2:
         return "Nothing changed. The up arrow brings the lines of the block back."
     command, _, argument = line.partition(" ")
-    name, _, rest = argument.partition(" ")
-    k, _, string = rest.partition(" ")
-    return SENTENCES.get(code, "Nothing changed.").format(c=command, a=short(argument), k=k, string=short(string), name=short(name), usage=usage(command))
+    name, k, string = [*argument.split(" ", 2), "", ""][:3]
+    said = SENTENCES.get(code, "Nothing changed.")
+    return said.format(c=command, a=short(argument), k=k, string=short(string), name=short(name), usage=usage(command))
 
 
 def usage(command: str) -> str:
@@ -122,7 +122,8 @@ def no_name(line: str, bench: Bench) -> str:
     if name in there and command == "show":
         return "show takes one name."
     if name in there and rest:
-        return '%sthe text goes on the lines after it, and a line with a single point ends it. Type only "%s %s" first.' % (begin, command, short(name))
+        first = ' Type only "%s %s" first.' % (command, short(name))
+        return begin + "the text goes on the lines after it, and a line with a single point ends it." + first
     if kind and command == "uses":
         return '%sthis is a grouping, and has no among. Use "uses %s".' % (begin, short(name))
     if kind:
@@ -150,8 +151,8 @@ def unknown(line: str, bench: Bench) -> str:
         return "The line is not UTF-8. Set the terminal to UTF-8 and type it again."
     if command in ("among", "uses"):
         known = " " + amongs_of(line, bench) if bench.places().kind(argument.partition(" ")[0]) == "routine" else ""
-        what = "a name: %s." % usage(command) if command == "uses" else "a name and a number: among NAME K, then an among, then a line with a single point."
-        return "%s needs %s%s" % (command, what, known)
+        what = ": %s." % usage(command) if command == "uses" else " and a number: among NAME K, then an among, then a line with a single point."
+        return "%s needs a name%s%s" % (command, what, known)
     if command in COMMANDS:
         return "%s needs more: %s." % (command, usage(command)) if COMMANDS[command].takes else "%s takes nothing after it." % command
     for begins, said in STRANGE:
