@@ -61,6 +61,8 @@ class Bench:
         self.refused_text: Optional[bytes] = None
         self.read_texts: Set[bytes] = set()
         self.is_older = False
+        # By the checksum of a text that was saved to SCRIPT, what SCRIPT had before.
+        self.replaced: Dict[bytes, bytes] = {}
         # The texts that reload put aside, with the names of their edits; the words that were added.
         self.aside: List[Tuple[bytes, Tuple[str, ...]]] = []
         self.added: List[str] = []
@@ -101,6 +103,12 @@ class Bench:
         known = digest(text)
         kept = any(other == known and state_of(path) == state for path, (state, other) in self.written.items())
         return known not in self.read_texts and not kept and read_file(self.script) != text
+
+    def has_saved(self, text: bytes, now: bytes) -> bool:
+        """Whether a text was saved to SCRIPT, and a later one of SCRIPT has what that changed: its new lines, and none of those that it replaced."""
+        former = self.replaced.get(digest(text))
+        old, new, lines = (set(part.splitlines()) for part in (former or b"", text, now))
+        return former is not None and new - old <= lines and not (old - new) & lines
 
     def put_aside(self) -> List[str]:
         """Returns the names of the typed edits that reload put aside and that no file has, some name for each."""
@@ -221,7 +229,7 @@ class Bench:
             self.is_older = True
         if word == "reload":
             self.file_text, self.is_older = now.text, False
-            if before.text != now.text and self.is_unsaved(before.text):
+            if before.text != now.text and self.is_unsaved(before.text) and not self.has_saved(before.text, now.text):
                 aside = typed_names(history)
                 self.aside.append((before.text, aside))
                 with contextlib.suppress(OSError), open(os.path.join(self.kept.room, "aside"), "wb") as file:
@@ -267,6 +275,8 @@ class Bench:
             self.written[os.path.realpath(path)] = (state_of(path), digest(self.program.now.text))
             if is_same(path, self.script):
                 self.look(self.script)
+                if self.file_text not in (None, self.program.now.text):
+                    self.replaced[digest(self.program.now.text)] = self.file_text or b""
                 self.file_text, self.refused_text, self.is_older = self.program.now.text, None, False
             self.keep()
         return reply
