@@ -16,6 +16,7 @@ class Layouts(Case):
     def test_a_line_fits(self):
         self.assertEqual(layout.broken("  one two three", 9), ["  one two", "      three"])
         self.assertEqual(layout.broken("Keys    one two three four five", 24), ["Keys    one two three", "        four five"])
+        self.assertEqual(layout.broken("of 1,234,567 pairs, a,b", 10), ["of", "    1,234,567", "    pairs,", "    a,b"])
         self.assertEqual([layout.columns(text) for text in ("ab", "漢字", "e\u0301", "\t")], [2, 4, 1, 8])
         self.assertEqual([layout.cut("漢字漢字", 6), layout.cut("abcdef", 6), layout.cut("abcdefg", 6)], ["漢字..", "abcdef", "abcd.."])
 

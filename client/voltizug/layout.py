@@ -46,14 +46,14 @@ def padded(text: str, column: int) -> str:
 
 
 def broken(line: str, width: int) -> List[str]:
-    """Returns a line as lines that fit: broken at blanks and commas. From the second on they are indented, below a text that follows a label."""
+    """Returns a line as lines that fit: broken at blanks and commas, but not in a number. From the second on they are indented, below a text that follows a label."""
     if columns(line) <= width:
         return [line]
     lines: List[str] = []
     label = LABEL.match(line)
     hang = " " * label.end() if label and label.end() <= width // 3 else line[: len(line) - len(line.lstrip())] + "    "
     row = ""
-    for part in re.split(r"(?<=[ ,])(?! )", line):
+    for part in re.split(r"(?<=[ ,])(?! |(?<=\d,)\d)", line):
         if row.strip() and columns(row + part.rstrip()) > width:
             lines, row = lines + [row.rstrip()], hang
         row += part
