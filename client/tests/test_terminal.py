@@ -85,6 +85,13 @@ class Sessions(Case):
         terminal.type("\x03")
         self.assertIn("ity", terminal.type("uses ending 1 it\t", rb"ity ?$", 3))
 
+    def test_blanks_before_a_name_or_a_number(self):
+        terminal = self.begin()
+        self.assertIn("univers: ", terminal.enter("largest  1"))
+        self.assertEqual(terminal.enter("limit  1000"), "no word and no class differs from the mark")
+        self.assertIn("define plural as", terminal.enter("show  plural"))
+        self.assertIn("3 words, 3 split", terminal.enter("among  plural  1", "among ( 'sss' )", "."))
+
     def test_history_over_starts(self):
         terminal = self.begin()
         terminal.enter("stats", "quit")

@@ -35,6 +35,10 @@ class Terminal(Desk):
         if line.split(" ")[:1] != self.doubted.split(" ")[:1]:
             self.doubted = ""
         command, _, argument = line.partition(" ")
+        if command in COMMANDS and COMMANDS[command].takes not in ("", "text"):
+            # (TAB writes a blank after the command, and one types another)
+            argument = " ".join(argument.split()) if command == "among" else argument.lstrip()
+            line = command + " " * bool(argument) + argument
         if line == "quit":
             return not self.may_end()
         if self.bench.is_waiting:
