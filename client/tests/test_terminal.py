@@ -85,6 +85,10 @@ class Sessions(Case):
         terminal.type("\x03")
         self.assertIn("ity", terminal.type("uses ending 1 it\t", rb"ity ?$", 3))
 
+    def test_the_pager_says_how_one_goes_on(self):
+        terminal = self.begin(lines=6, term="xterm", PAGER="sh -c 'cat; echo $LESSSECURE $LESS'")
+        self.assertRegex(terminal.type("stems\r", rb"goes back"), r"university +univers\n1 FRXPs.*q goes back")
+
     def test_blanks_before_a_name_or_a_number(self):
         terminal = self.begin()
         self.assertIn("univers: ", terminal.enter("largest  1"))

@@ -12,6 +12,9 @@ from .keys import Editor, Hangup
 # A terminal that does not tell its size, and the least that is taken as one.
 USUAL, LEAST = os.terminal_size((80, 24)), os.terminal_size((12, 4))
 
+# How less is run if its own variables say nothing else: it says how one goes on and back, and writes no file for a command that is typed there.
+LESS = {"LESS": "FRXPs?ethe end, q goes back:space shows more, q goes back.$", "LESSSECURE": "1"}
+
 
 def has_colour(wish: str) -> bool:
     """Whether lines have colours: as --color wishes, by default if nothing speaks against them."""
@@ -68,7 +71,7 @@ class Screen:
             return False
         with self.editor.lent():
             try:
-                process = subprocess.Popen(shlex.split(pager), stdin=subprocess.PIPE, env={"LESS": "FRX", **os.environ})
+                process = subprocess.Popen(shlex.split(pager), stdin=subprocess.PIPE, env={**LESS, **os.environ})
             except (OSError, ValueError):
                 return False
             with contextlib.suppress(BrokenPipeError):
