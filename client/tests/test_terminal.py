@@ -55,6 +55,16 @@ class Sessions(Case):
         self.assertIn("my.sbl:2:43: 'q' has q, which no word has and no command puts in", shown)
         self.assertIn("'é' has a letter beyond ASCII", shown)
 
+    def test_lint_has_the_warnings_on_the_files(self):
+        terminal = self.begin(words="cats \ndogs\n")
+        self.assertIn("my.words:1: a blank at an end of the word", terminal.enter("lint"))
+        self.assertEqual(terminal.enter("warnings"), "lint lists what may not be meant in the script and the words.")
+
+    def test_a_script_that_is_gone(self):
+        terminal = self.begin()
+        os.remove(os.path.join(self.folder, "my.sbl"))
+        self.assertEqual(terminal.enter(""), "my.sbl cannot be read: there is no such file. The script that was read stays: save FILE keeps it.")
+
     def test_families_are_remembered(self):
         terminal = self.begin()
         with open(os.path.join(self.folder, "fam"), "w") as file:
@@ -68,6 +78,8 @@ class Sessions(Case):
         self.assertEqual(terminal.enter("y").split("\n"), ["hundo is added: hundo", "kato is added: kato"])
         terminal.type("add a b\r", rb"nothing: $")
         self.assertEqual(terminal.enter(""), "")
+        terminal.type("add a b\r", rb"nothing: $")
+        self.assertEqual(terminal.enter("stats"), 'Nothing was added: "stats" is no answer to this.')
         self.assertIn("kato", terminal.enter("quit"))
         self.assertEqual(terminal.enter("append"), "2 words are now at the end of my.words.")
 

@@ -41,7 +41,9 @@ COMMANDS: Dict[str, Command] = {
     "integers": Command("integers WORD", "the steps of the run of WORD, and the integer variables at its end", "text"),
     "largest": Command("largest [N]", "the N largest classes, 10 without N", "number"),
     "limit": Command("limit [N]", "lets each run use N steps at most; without N says how many", "number", "100,000 is usual."),
-    "lint": Command("lint", "what may not be meant: empty slices, letters that no word has, letters beyond ASCII in literals, capitals"),
+    "lint": Command(
+        "lint", "what may not be meant: empty slices, letters that no word has, letters beyond ASCII in literals, capitals; and the warnings on the files"
+    ),
     "mark": Command("mark [FILE]", "changes are told since now, or since the stems of FILE", "file", "FILE has a line for each word, as of approve."),
     "quit": Command("quit", "ends; so does Ctrl-D"),
     "redo": Command("redo", "makes again what undo took back"),
@@ -89,7 +91,9 @@ REPORTING = (
 # Words that other programs have, and what is said of them.
 OTHERS: Dict[str, str] = {
     **dict.fromkeys(("q", ":q", ":q!", ":wq", "bye", "exit!"), "quit or Ctrl-D ends."), "clear": "Ctrl-L clears the screen. quit or Ctrl-D ends.",
-    **dict.fromkeys("ls cd cat vi vim nano emacs edit grep less git man".split(), "{c} is a command of a shell: use another window."),
+    **dict.fromkeys("ls cd cat vi vim nano emacs grep less git man tail head wc".split(), "{c} is a command of a shell: use another window."),
+    "edit": "Change the script in your editor, and save it; or type routine NAME, among NAME K or grouping NAME, and the new text.",
+    "warnings": "lint lists what may not be meant in the script and the words.",
     "check": "check is not a command here. In a shell: ./snowbench check SCRIPT WORDS STEMS.",
     "compare": "compare is not a command here. In a shell: ./snowbench compare OLD NEW WORDS.",
     "filter": "filter is not a command here. In a shell: ./snowbench filter SCRIPT < WORDS.",

@@ -178,12 +178,14 @@ class Terminal(Desk):
                 for part in parts:
                     self.ask("add " + part)
             if reply != "one":
+                self.screen.say("" if reply in ("", "y", "yes") else "Nothing was added: %s is no answer to this." % words.in_quotes(reply, True))
                 return
         self.ask("add " + text)
 
     def do_lint(self, _: str) -> None:
         self.screen.say("" if self.bench.program.rows else "The program does not tell tokens and places yet: only words are looked at.")
-        self.screen.write(lints(self.bench, has_all=True) or ["nothing was found"], is_report=True)
+        found = [*warnings_on(self.bench.script, self.bench.words), *lints(self.bench, has_all=True)]
+        self.screen.write(found or ["nothing was found"], is_report=True)
 
     def do_save(self, path: str) -> None:
         path = path.strip()

@@ -192,8 +192,10 @@ def bad_file(code: int, command: str, argument: str, bench: Bench) -> str:
     path = (bench.words if command == "words" else argument or bench.script) or ""
     if code == 75:
         return "%s is not UTF-8. If it is Latin-1: %s" % (short(path), converting("latin1", path))
-    keeps = ". The script that was read is in force: save FILE keeps it." if command == "reload" else ""
-    return "%s cannot be read: %s%s" % (short(path), unreadable(path), keeps)
+    if command == "reload":
+        # (another file is no question: SCRIPT stays the file)
+        return "%s cannot be read: %s. The script that was read stays: save FILE keeps it." % (short(path), unreadable(path).partition(".")[0])
+    return "%s cannot be read: %s" % (short(path), unreadable(path))
 
 
 def not_written(command: str, path: str, bench: Bench) -> str:
