@@ -159,7 +159,8 @@ def why(word: str, events: Sequence[Any], figures: Sequence[Any], places: Places
         elif row.kind == "more":
             shown.append(("..", "{:,} more events".format(int(row.count))))
         elif row.kind in ("stem", "refused"):
-            where = " in " + calls[-1].name if row.kind == "refused" and calls else ""
+            name = calls[-1].name if row.kind == "refused" and calls else ""
+            where = " in %s%s" % (name, " (%s)" % places.of(name) if places.of(name) else "") if name else ""
             shown.append((row.kind, "%s%s   %s" % (named(row[1]) or "(empty)", where, values(figures))))
         elif row.kind != "test":
             calls[-1].asks_only = False

@@ -57,6 +57,8 @@ REFUSALS: Dict[str, str] = {
     "is missing before it, or in the wrong order: forwards [ sets the left end, backwards the right end.",
     "Cursor": "the cursor would be outside the text, or insert, <+ or attach found it beyond the limit. Look for a delete or <- that makes the text "
     "shorter before a command puts the cursor back (do, test, not, try, or, and, repeat, goto, backwards) or sends it to a limit.",
+    "Integer": "a number would be below -2147483648 or above 2147483647. Look for a $ or a hop, loop, atleast, tomark or atmark with arithmetic.",
+    "Divide": "a number would be divided by 0. Look for a / or /=.",
     "TooLong": "the text would have more than 1,024 characters. Look for <+, insert, attach or <- in a repeat or a loop.",
 }
 
