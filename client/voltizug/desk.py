@@ -84,16 +84,16 @@ class Desk:
             has_name = fault[0] == 48 and not reply.said
             self.screen.say((fault[1] + ". " if has_name else "") + words.sentence(reply, lines, self.bench) + self.out(lines[0], fault[0]))
         self.show_more_faults()
-        if self.editor.pending or len(lines) > 1 or self.is_nonsense(fault[0]):
+        if self.editor.pending or len(lines) > 1 or self.is_nonsense(fault[0], lines[0]):
             self.drop_pasted()
 
     def out(self, line: str, code: int) -> str:
         return ' "remove %s" takes the word out that you added.' % layout.short(self.bench.added[-1]) if code == 54 and self.bench.added else ""
 
-    def is_nonsense(self, code: int) -> bool:
-        """Whether this is one of many lines that are no command, as of a text that was pasted."""
+    def is_nonsense(self, code: int, line: str) -> bool:
+        """Whether this is one of many lines that are no command, as of a text that was pasted. Of a script one line is enough."""
         self.nonsense = self.nonsense + 1 if code == 52 and self.editor.has_key() else 0
-        return self.nonsense >= NONSENSE
+        return self.nonsense >= (1 if words.is_of_script(line) else NONSENSE)
 
     def drop_pasted(self) -> None:
         count = self.editor.drop_pasted()

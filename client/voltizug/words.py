@@ -155,6 +155,11 @@ def amongs_of(name: str, bench: Bench) -> str:
     return "%s has %s, so K is %s (those inside others count, too)." % (short(name), counted(count, "among"), numbers)
 
 
+def is_of_script(line: str) -> bool:
+    """Whether a line that is no command is a comment or a declaration of a script."""
+    return line.lstrip().startswith(("//", "/*")) or line.partition(" ")[0] in DECLARATIONS
+
+
 def unknown(line: str, bench: Bench) -> str:
     """The sentence for what is no command, or one that lacks something or has too much."""
     command, _, argument = line.partition(" ")
