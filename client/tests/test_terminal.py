@@ -55,6 +55,17 @@ class Sessions(Case):
         self.assertIn("my.sbl:2:43: 'q' has q, which no word has and no command puts in", shown)
         self.assertIn("'é' has a letter beyond ASCII", shown)
 
+    def test_lints_on_alternatives_and_macros(self):
+        script = "stringescapes {}\nstringdef oe hex 'F8'\nexternals ( stem )\nroutines ( a b )\ndefine a as ( [ among ( '{oe}' 'zz' ) ] <- 'o' )\ndefine b as 'b'\n%s\n"
+        terminal = self.begin(script % "define stem as ( do a or b )", "abo\nb\u00f8k\n")
+        self.assertEqual(self.start.split("\n")[0], "my.sbl:7:18: do never fails, so what is after this or never runs: do ( .. or .. ) is meant, perhaps")
+        self.assertIn("my.sbl:5:32: 'zz' has z, which no word has and no command puts in", terminal.enter("lint"))
+        for body in ("do ( a or b )", "not do a or b", "( a and do ( a ) or b )", "do a do b"):
+            terminal.save(script % "define stem as ( %s )" % body)
+            self.assertNotIn("never fails", terminal.enter("", "lint"))
+        terminal.save(script % "define stem as ( try ( a b ) or b )")
+        self.assertIn("my.sbl:7:18: try never fails", terminal.enter(""))
+
     def test_lint_has_the_warnings_on_the_files(self):
         terminal = self.begin(words="cats \ndogs\n")
         self.assertIn("my.words:1: a blank at an end of the word", terminal.enter("lint"))

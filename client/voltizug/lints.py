@@ -11,6 +11,11 @@ MOST, FEW, MANY = 5, 50, 5000
 # A literal after one of these is put into the text.
 PUTTING = ("<-", "<+", "insert", "attach", "=", "+=", "=>")
 
+# They signal t, whatever the command after them does.
+SURE = ("do", "try", "repeat")
+# Before those these make something else of it.
+NOT_SURE = ("not", "fail", "for", "and")
+
 
 def lints(bench: Bench, has_all: bool = False) -> List[str]:
     """Returns lines on the text in force. All has letters beyond ASCII in literals, too, of which other compilers warn; and of many words only
@@ -20,7 +25,7 @@ def lints(bench: Bench, has_all: bool = False) -> List[str]:
     places, outcomes = bench.places(), bench.outcomes() if has_all or bench.size <= MANY else []
     names = bench.names() if outcomes else Names({}, {}, {})
     tokens = [token for token in places.tokens if token.kind != "comment"]
-    found = list(empty_slices(tokens)) + (list(strange_strings(bench, names, outcomes, tokens)) if has_all or bench.size >= FEW else [])
+    found = [*empty_slices(tokens), *sure_alternatives(tokens)] + (list(strange_strings(bench, names, outcomes, tokens)) if has_all or bench.size >= FEW else [])
     beyond = "%s has a letter beyond ASCII: other compilers ask for a stringdef"
     found += [(token.start, beyond % short(token.text)) for token in tokens if has_all and token.kind == "literal" and not token.text.isascii()]
     shown = ["%s:%d:%d: %s" % (named(bench.script), *line_and_column(places.text, start), what) for start, what in sorted(found)]
@@ -36,14 +41,35 @@ def empty_slices(tokens: Sequence[Token]) -> Iterable[Tuple[int, str]]:
             yield left.start, "the slice is empty here: " + what.get(after.text, "it has no character to delete")
 
 
+def sure_alternatives(tokens: Sequence[Token]) -> Iterable[Tuple[int, str]]:
+    """What is after `or` never runs if `do X` is before it. X is a name, a literal or a bracket."""
+    for at, token in enumerate(tokens[:-1]):
+        if token.kind == "word" and token.text in SURE and not (at and tokens[at - 1].text in NOT_SURE):
+            after = end_of(tokens, at + 1)
+            if after and [other.text for other in tokens[after : after + 1]] == ["or"]:
+                yield token.start, "%s never fails, so what is after this or never runs: %s ( .. or .. ) is meant, perhaps" % (token.text, token.text)
+
+
+def end_of(tokens: Sequence[Token], at: int) -> int:
+    """Returns the number of the token after a name, a literal or a bracket; 0 if another command begins there."""
+    if tokens[at].kind in ("name", "literal"):
+        return at + 1
+    depth = 0
+    for i in range(at, len(tokens) if tokens[at].text == "(" else 0):
+        depth += (tokens[i].text == "(") - (tokens[i].text == ")")
+        if not depth:
+            return i + 1
+    return 0
+
+
 def strange_strings(bench: Bench, names: Names, outcomes: Sequence[Outcome], tokens: Sequence[Token]) -> Iterable[Tuple[int, str]]:
-    """The strings of amongs that have a letter which no word has and no command puts in. (Macros hide what is put in.)"""
-    if not outcomes or not tokens or any(token.kind == "inserts" for token in tokens):
+    """The strings of amongs that have a letter which no word has and no command puts in. (Macros hide what is put in: if a literal that is put
+    in may have one, no string is looked at.)"""
+    put = [token.text for before, token in zip(tokens, tokens[1:]) if token.kind == "literal" and before.text in PUTTING]
+    signs = set("".join(token.text for token in tokens if token.kind == "inserts"))
+    if not outcomes or not tokens or any(signs & set(text) for text in put):
         return
-    there: Set[str] = set("".join(row.word + row.stem * (row.kind == "stem") for row in outcomes))
-    for before, token in zip(tokens, tokens[1:]):
-        if token.kind == "literal" and before.text in PUTTING:
-            there |= set(token.text)
+    there: Set[str] = set("".join([row.word + row.stem * (row.kind == "stem") for row in outcomes] + put))
     for (name, k), strings in names.strings.items():
         for string in strings:
             strange, row = "".join(sorted(set(string) - there)), bench.places().entries.get((name, k, string))
