@@ -82,6 +82,8 @@ GROUPS: Sequence[Tuple[str, str]] = (
 )
 # A block follows one of these and its name; and one of these alone.
 BLOCKS, OPEN_BLOCKS = ("routine", "among", "grouping"), ("families", "replace")
+# Of the commands' words these are the language's, too.
+LANGUAGE = ("among", "integers", "limit")
 # A blank at the end of these may belong to a word.
 WITH_TEXT = ("add", "remove", "class", "stem", "find", "trace", "why", "tests", "events", "integers", "changes", "uses", "echo")
 # Reports: they can be written to a file by > FILE, and have a pager.

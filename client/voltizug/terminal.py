@@ -10,7 +10,7 @@ from typing import List, Optional, Sequence
 
 from . import layout, loops, reports, rows, words
 from .bench import Bench
-from .commands import BLOCKS, COMMANDS, OPEN_BLOCKS, REPORTING, WITH_TEXT, overview
+from .commands import BLOCKS, COMMANDS, LANGUAGE, OPEN_BLOCKS, REPORTING, WITH_TEXT, overview
 from .conditions.copies import Found, with_tests
 from .desk import Desk
 from .keys import Broken, Dropped, Hangup
@@ -304,9 +304,16 @@ class Terminal(Desk):
             line = self.editor.read("| ")
             if line is None or line.strip() == ".":
                 return line is not None
-            if line.strip() in ("quit", "exit", "help", "?"):
+            if self.is_command(line, block[0]):
                 self.screen.say("This line is a part of the block. A line with a single point ends the block, Ctrl-C drops it.")
             block.append(line)
+
+    def is_command(self, line: str, block: str) -> bool:
+        """Whether a line of a block is meant as a command, by its first word. (A family may have any word.)"""
+        word = line.split()[0] if line.strip() else ""
+        if line.strip() in ("quit", "exit", "help", "?"):
+            return True
+        return block != "families" and word in COMMANDS and word not in LANGUAGE and word not in self.bench.names().kinds
 
     def keep_lines(self, block: Sequence[str]) -> None:
         for line in block[1:]:
