@@ -71,6 +71,12 @@ class Sessions(Case):
         self.assertIn("my.words:1: a blank at an end of the word", terminal.enter("lint"))
         self.assertEqual(terminal.enter("warnings"), "lint lists what may not be meant in the script and the words.")
 
+    def test_words_that_are_read_again_are_warned_of(self):
+        terminal = self.begin()
+        terminal.save(WORDS + "a b\n", "my.words")
+        self.assertEqual(terminal.enter("words").split("\n"), ["my.words:9: a blank inside the word, which belongs to it. A line is one word", "9 words"])
+        self.assertEqual(terminal.enter("words"), "9 words")
+
     def test_a_script_that_is_gone(self):
         terminal = self.begin()
         os.remove(os.path.join(self.folder, "my.sbl"))

@@ -1,5 +1,5 @@
 """The bench at a terminal: what is shown of replies, refusals and edits, and what is said if the program is gone."""
-from typing import Dict, List, Sequence
+from typing import Dict, List, Optional, Sequence
 
 from . import layout, loops, rows, words
 from .bench import Bench, Edit, Watch
@@ -111,9 +111,9 @@ class Desk:
         self.screen.say(*("also %s:%s: %s" % (row.line, row.column, layout.short(row.sentence)) for row in found[:most]))
         self.screen.say("{:,} more faults".format(len(found) - most) if len(found) > most else "")
 
-    def warn(self) -> None:
-        """Gives the warnings on the files that were not given before."""
-        new = [line for line in warnings_on(self.bench.script) if line not in self.warned]
+    def warn(self, list_of_words: Optional[str] = None) -> None:
+        """Gives the warnings on the script, and on a list of words, that were not given before."""
+        new = [line for line in warnings_on(self.bench.script, list_of_words) if line not in self.warned]
         self.warned += new
         self.screen.write(new, is_text=True)
 

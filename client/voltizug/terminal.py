@@ -234,6 +234,7 @@ class Terminal(Desk):
         added = self.bench.added
         if not self.is_done(self.bench.ask("words"), "words"):
             return
+        self.warn(self.bench.words)
         self.bench.added, now = [], {row.word for row in self.bench.outcomes()}
         gone = [word for word in added if word not in now]
         them = "it" if len(gone) == 1 else "them"
