@@ -87,6 +87,8 @@ class Sessions(Case):
         with open(os.path.join(self.folder, "fam"), "w") as file:
             file.write("universe universes\nglass glasses\nbell\n")
         self.assertIn("1 word is not in the vocabulary", terminal.enter("families fam"))
+        self.assertIn("No line has two words of the vocabulary: a family is", terminal.enter("families my.words"))
+        self.assertNotIn("No line has two", terminal.enter("families fam"))
         self.assertIn("families: understemmed 0 -> 2 of 2 pairs (100.0 %), ", terminal.enter("routine plural", "true", "."))
 
     def test_several_words_are_asked_about(self):

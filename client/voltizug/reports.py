@@ -53,7 +53,8 @@ def families(lines: Sequence[str]) -> List[str]:
     if pairs is None or pairs.within == pairs.across == "0":
         return ["the vocabulary has no two words of these families with a stem"] + unknown
     apart, within, joined, across = (int(number) for number in (pairs.apart, pairs.within, pairs.joined, pairs.across))
-    return shown + unknown + [
+    alone = ["No line has two words of the vocabulary: a family is a line of words that belong together."] if pairs.within == "0" else []
+    return shown + unknown + alone + [
         "different stems: {:,} of {}{} within a family".format(apart, counted(within, "pair"), percent(apart, within)),
         "the same stem:   {:,} of {}{} across families".format(joined, counted(across, "pair"), percent(joined, across)),
     ]
