@@ -115,6 +115,10 @@ class Sessions(Case):
         self.assertIn("routine plural", terminal.type("routine pl\t", rb"plural ?$", 3))
         terminal.type("\x03")
         self.assertIn("ity", terminal.type("uses ending 1 it\t", rb"ity ?$", 3))
+        terminal.type("\x03")
+        self.assertIn("class glass", terminal.type("class gl\t", rb"glass$", 3))
+        terminal.type("\x03")
+        self.assertIn("stem univers", terminal.type("stem un\t", rb"univers ?$", 3))
 
     def test_the_pager_says_how_one_goes_on(self):
         terminal = self.begin(lines=6, term="xterm", PAGER="sh -c 'cat; echo $LESSSECURE $LESS'")

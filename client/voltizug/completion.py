@@ -1,12 +1,15 @@
-"""What TAB completes: commands, names of the script, numbers and strings of amongs, files."""
+"""What TAB completes: commands, names of the script, numbers and strings of amongs, files, words and stems."""
 import glob
 import os
 from typing import List
 
+from . import rows
 from .bench import Bench
 from .commands import COMMANDS
 
 KINDS = {"routine": ("routine",), "among": ("routine",), "grouping": ("grouping",), "name": ("routine", "grouping"), "part": ("routine", "grouping")}
+# These take a word of the vocabulary.
+WITH_WORD = ("class", "remove", "why", "tests", "trace", "events", "integers")
 
 
 class Completion:
@@ -25,7 +28,16 @@ class Completion:
         takes = COMMANDS[command].takes if command in COMMANDS else ""
         if takes == "file" or line.endswith("> " + text):
             return files(rest if takes == "file" else text, text)
+        if command in WITH_WORD or command == "stem":
+            return self.words(rest, command == "stem")
         return self.parts(takes, rest, text) if takes in KINDS else []
+
+    def words(self, text: str, is_stem: bool) -> List[str]:
+        """Completions of a word or a stem without blanks."""
+        reply = self.bench.ask("find " + text) if text and " " not in text else None
+        found = rows.outcomes(reply.lines) if reply and reply.is_done else []
+        texts = {row.stem if is_stem else row.word for row in found if row.kind == "stem" or not is_stem}
+        return sorted(name for name in texts if name.startswith(text) and " " not in name)
 
     def parts(self, takes: str, rest: str, text: str) -> List[str]:
         """Completions of a name of the script, the number of an among, or one of its strings."""
