@@ -42,6 +42,8 @@ class Sessions(Case):
     def test_a_loop_is_located(self):
         terminal = self.begin(LOOP, "abc\n", program=FAKE)
         self.assertIn("In the run of abc the repeat of my.sbl:4:18 in stem goes round: it calls r again and again, ", self.start)
+        terminal.save(LOOP + "// new\n")
+        self.assertIn("the repeat of my.sbl:4:18, as it was read, in stem goes round", terminal.enter("why abc"))
         terminal.save(LOOP.replace("repeat ", ""))
         terminal.enter("")
         terminal.save("externals ( stem )\nroutines ( r s )\ndefine r as do s\ndefine s as do r\ndefine stem as do r\n")
