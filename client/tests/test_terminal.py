@@ -241,6 +241,25 @@ class Traps(Case):
                 self.assertIn("plural as true", again.enter("script"))
                 self.assertIn("in no file", again.enter("quit"))
 
+    def test_added_words_survive_a_closed_terminal(self):
+        terminal = self.begin()
+        terminal.enter("add hundo", "add kato")
+        os.kill(terminal.child, signal.SIGHUP)
+        self.assertEqual(terminal.ended(), 1)
+        again = self.terminal(self.folder)
+        self.assertIn("closed (2 added words): rescue brings them back", again.got())
+        self.assertEqual(again.enter("rescue").split("\n"), ["hundo is added: hundo", "kato is added: kato"])
+        self.assertEqual(again.enter("rescue"), "No typed edits were left behind.")
+        again.enter("routine plural", "true", ".")
+        os.kill(again.child, signal.SIGKILL)
+        self.assertEqual(again.ended(), -signal.SIGKILL)
+        third = self.terminal(self.folder)
+        self.assertIn("closed (plural and 2 added words): rescue", third.got())
+        self.assertIn("3 words, 3 split, 2 words added since the mark", third.enter("rescue"))
+        third.enter("append", "save my.sbl", "quit")
+        self.assertEqual(third.ended(), 0)
+        self.assertIn("10 words", self.terminal(self.folder).got())
+
     def test_nothing_is_left_behind_if_nothing_was_typed(self):
         terminal = self.begin()
         os.kill(terminal.child, signal.SIGTERM)

@@ -95,7 +95,7 @@ class Bench:
     def close(self, is_kept: bool) -> None:
         """Ends the program. The room may be kept if it has typed edits."""
         self.program.stop()
-        if not (is_kept and self.kept.has_edits()):
+        if not (is_kept and (self.kept.has_edits() or self.kept.has_words())):
             self.kept.forget(self.kept.room)
 
     def is_unsaved(self, text: bytes) -> bool:
@@ -136,12 +136,16 @@ class Bench:
         if word in ("add", "remove"):
             program.now = program.now._replace(words=(*program.now.words, line))
             self.added = [*self.added, argument] if word == "add" else [other for other in self.added if other != argument]
+            self.kept.note_words(self.added)
         elif word == "words":
             program.now = program.now._replace(words=())
             self.look(self.words or "")
+            self.added = []
+            self.kept.note_words([])
         elif word == "append":
             self.look(self.words or "")
             self.added = []
+            self.kept.note_words([])
         elif word == "mark":
             program.marked = program.now._replace(stems=os.path.realpath(argument) if argument else "")
             self.changes = rows.read("changes", (self.known("changes")[0] or []) if argument else [])

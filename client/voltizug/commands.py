@@ -52,7 +52,7 @@ COMMANDS: Dict[str, Command] = {
     "replace": Command(
         "replace [FILE]", "replaces the whole script by that of FILE", "file", "Without FILE its lines follow, and a line with a single point."
     ),
-    "rescue": Command("rescue", "brings back edits that you typed before a terminal was closed", "text", '"rescue drop" forgets them.'),
+    "rescue": Command("rescue", "brings back edits that you typed, and words that you added, before a terminal was closed", "text", '"rescue drop" forgets them.'),
     "routine": Command(
         "routine NAME", "replaces a routine", "routine",
         "Then comes its text, with define NAME as before it or without, and a line with a single point. A line define NAME as .. begins this, too."

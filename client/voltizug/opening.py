@@ -102,7 +102,8 @@ class Opening:
         screen.say(*new)
         screen.say(self.refused() if figures["refused"] else "")
         for left in bench.kept.left()[-1:]:
-            edits = "Edits that you typed before were left behind when the terminal was closed (%s)" % in_words(left.edits, "and", 5)
+            names = left.edits + [counted(len(left.words), "added word")] * bool(left.words)
+            edits = "Edits that you typed before were left behind when the terminal was closed (%s)" % in_words(names, "and", 5)
             screen.say(edits + ": rescue brings them back, rescue drop forgets them.")
         if not figures["words"] and not bench.words:
             screen.say("To see stems: add WORD, or start with a file of words: ./snowbench work SCRIPT WORDS")

@@ -256,10 +256,22 @@ class Terminal(Desk):
             self.screen.say("They are forgotten.")
         elif not left:
             self.screen.say("No typed edits were left behind.")
-        else:
+        elif self.add_again(left[-1].words) and not left[-1].path:
+            self.bench.kept.forget(left[-1].room)
+        elif left[-1].path:
             lines = (read_file(left[-1].path) or b"").decode("utf-8", "surrogateescape").removesuffix("\n").split("\n")
             if self.edit(["replace " + left[-1].path] if self.bench.program.rows else ["replace", *lines, "."]):
                 self.bench.kept.forget(left[-1].room)
+
+    def add_again(self, added: Sequence[str]) -> bool:
+        """Adds words that were left behind; those that are there now are left out."""
+        for word in added:
+            reply = self.bench.ask("add " + word)
+            if reply.is_done:
+                self.tell_done("add", word)
+            elif not self.settle(reply):
+                return False
+        return True
 
     # Blocks
 
