@@ -104,8 +104,17 @@ class Sessions(Case):
         self.assertIn("kato", terminal.enter("quit"))
         self.assertEqual(terminal.enter("append"), "2 words are now at the end of my.words.")
 
+    def test_why_of_a_word_that_is_misspelt(self):
+        terminal = self.begin()
+        self.assertEqual(terminal.enter("why univrse").split("\n")[-1], "  univrse is not in the vocabulary. Did you mean universe?")
+        self.assertNotIn("vocabulary", terminal.enter("why universe"))
+        self.assertNotIn("vocabulary", terminal.enter("why elephant"))
+
     def test_a_report_in_a_file(self):
         terminal = self.begin()
+        for line in ("classes >", "find a >", "class glass | wc"):
+            self.assertEqual(terminal.enter(line), "A report goes into a file by > FILE, as in: classes > my.classes. There are no pipes here.")
+        self.assertEqual(terminal.enter("find >"), "no word and no stem has it")
         self.assertEqual(terminal.enter("classes > out"), "3 lines in out")
         self.assertIn("is there already", terminal.enter("classes > out"))
 

@@ -38,7 +38,8 @@ class Screen:
 
     def broken(self, lines: Sequence[str]) -> List[str]:
         width = self.size().columns
-        return [part for line in lines for part in layout.broken(layout.named(line), width)]
+        # (a command that is to be copied is not broken: the terminal does that)
+        return [part for line in lines for part in (layout.broken(layout.named(line), width) if " > NEW" not in line else [layout.named(line)])]
 
     def write(self, lines: Sequence[str], is_report: bool = False, is_text: bool = False) -> None:
         """Writes lines; those of a text are an author's, and are not broken. A report may go to the pager. Ctrl-C ends it."""

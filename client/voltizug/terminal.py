@@ -81,6 +81,9 @@ class Terminal(Desk):
         found = TO_FILE.match(line) if line.partition(" ")[0] in REPORTING else None
         line, path = (found[1], found[2]) if found else (line, "")
         command, _, argument = line.partition(" ")
+        if command in REPORTING and command != "uses" and (" | " in argument or argument.endswith(" >") or argument == ">" and not COMMANDS[command].takes):
+            self.screen.say("A report goes into a file by > FILE, as in: classes > my.classes. There are no pipes here.")
+            return
         reply = self.bench.ask({"largest": "largest 10"}.get(line, "changes" if command == "changes" else line))
         if not self.is_done(reply, line):
             return
@@ -133,7 +136,7 @@ class Terminal(Desk):
         shown, last = reports.why(word, found.events, figures, self.bench.places(), found.tests), found.events[-1]
         turn = words.turning(word, loops.turn_of(rows.read("events", lines)), self.bench)
         meaning = "%s: %s" % (last.name, words.REFUSALS[last.name]) if last.kind == "refused" and last.name in words.REFUSALS else ""
-        return shown + ["  " + line for line in (turn, meaning) if line]
+        return shown + ["  " + line for line in (turn, meaning, words.misspelt(word, self.bench)) if line]
 
     def with_tests(self, word: str, lines: Sequence[str], steps: int) -> Found:
         """Returns the events of the run of a word, from their lines, with its tests."""

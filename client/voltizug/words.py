@@ -106,6 +106,13 @@ def absent(command: str, word: str, bench: Bench) -> str:
     return "%s is not in the vocabulary.%s%s" % (in_quotes(word), question, why)
 
 
+def misspelt(word: str, bench: Bench) -> str:
+    """Returns the question on a word that is not in the vocabulary, but near one that is; otherwise nothing."""
+    code = (bench.ask("class " + word).refusal() or (0, ""))[0] if bench.size else 0
+    question = meant(word, [row.word for row in bench.outcomes()]) if code == 41 else ""
+    return "%s is not in the vocabulary.%s" % (in_quotes(word), question) if question else ""
+
+
 def no_class(stem: str, bench: Bench) -> str:
     if not stem:
         return "No word has the empty stem."
@@ -211,7 +218,8 @@ def not_written(command: str, path: str, bench: Bench) -> str:
         return "There is no file of words: append FILE writes a new one."
     path = path or (bench.words or "" if command == "append" else "")
     if not path:
-        return "%s needs a file: %s." % (command, COMMANDS[command].usage)
+        such = ", such as save %s" % short(bench.script) if command == "save" else ""
+        return "%s needs a file: %s%s." % (command, COMMANDS[command].usage, such)
     folder = os.path.dirname(path) or "."
     other = "save to another file" if command == "save" else "name another file"
     if command != "save" and is_same(path, bench.script):
