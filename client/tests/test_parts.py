@@ -36,6 +36,7 @@ class Layouts(Case):
         self.assertEqual(layout.summary(aside), "no word and no class differs from the mark; put aside: long, r (undo brings them back)")
 
     def test_families_are_compared(self):
+        self.assertEqual([layout.percent(*pair) for pair in ((0, 9), (14, 1223147), (1, 2000), (1, 0))], [" (0.0 %)", " (less than 0.1 %)", " (0.1 %)", ""])
         pairs = rows.read("families", ["pairs,23854,735,9,121", "pairs,23854,168,9,2"])
         self.assertEqual(
             layout.families_line(tuple(pairs)),

@@ -156,6 +156,8 @@ def summary(edit: Edit) -> str:
 
 
 def percent(part: int, whole: int) -> str:
+    if part and 2000 * part < whole:
+        return " (less than 0.1 %)"
     return " ({:.1f} %)".format(100 * part / whole) if whole else ""
 
 
