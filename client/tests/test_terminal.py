@@ -250,6 +250,20 @@ class Traps(Case):
                 self.assertIn("plural as true", again.enter("script"))
                 self.assertIn("in no file", again.enter("quit"))
 
+    def test_two_works_leave_edits_behind(self):
+        first = self.begin()
+        second = self.terminal(self.folder)
+        second.got()
+        first.enter("routine plural", "true", ".")
+        second.enter("routine ending", "true", ".")
+        for terminal in (first, second):
+            os.kill(terminal.child, signal.SIGHUP)
+            self.assertEqual(terminal.ended(), 1)
+        third = self.terminal(self.folder)
+        self.assertIn("(ending): rescue brings them back, rescue drop forgets them. Older ones are there, too", third.got())
+        third.enter("rescue")
+        self.assertIn("3 words, 3 split", third.enter("rescue"))
+
     def test_added_words_survive_a_closed_terminal(self):
         terminal = self.begin()
         terminal.enter("add hundo", "add kato")

@@ -101,10 +101,12 @@ class Opening:
         warned += new
         screen.say(*new)
         screen.say(self.refused() if figures["refused"] else "")
-        for left in bench.kept.left()[-1:]:
+        all_left = bench.kept.left()
+        for left in all_left[-1:]:
             names = left.edits + [counted(len(left.words), "added word")] * bool(left.words)
             edits = "Edits that you typed before were left behind when the terminal was closed (%s)" % in_words(names, "and", 5)
-            screen.say(edits + ": rescue brings them back, rescue drop forgets them.")
+            older = " Older ones are there, too: rescue brings them back when it is typed again." if len(all_left) > 1 else ""
+            screen.say(edits + ": rescue brings them back, rescue drop forgets them." + older)
         if not figures["words"] and not bench.words:
             screen.say("To see stems: add WORD, or start with a file of words: ./snowbench work SCRIPT WORDS")
         size = counted(figures["words"], "word"), counted(figures["classes"], "class", "classes")

@@ -208,8 +208,8 @@ class Terminal(Desk):
     def lost(self, before: Optional[int], path: str) -> str:
         now = self.comments(path)
         count = before - now if before is not None and now is not None else 0
-        what = "1 comment of the parts that you typed is" if count == 1 else "{:,} comments of the parts that you typed are".format(count)
-        return "%s no longer in %s." % (what, layout.short(path)) if count > 0 else ""
+        # (of the parts that were typed, or of a change of SCRIPT that undo took back)
+        return "%s no longer in %s." % (layout.counted(count, "comment is", "comments are"), layout.short(path)) if count > 0 else ""
 
     def do_approve(self, path: str) -> None:
         path = path.strip()
