@@ -17,7 +17,7 @@ MOST = 200
 def refusal(bench: Bench, said: Sequence[str], typed: Optional[str] = None) -> Dict[str, Any]:
     """Returns what is shown. The text is that of the file if none was typed."""
     script, data = bench.script, read_file(bench.script) or b""
-    lines = faults.shown(said, script, bench.program.copy_path, data if typed is None else None, 1 << 20) or [named(line) for line in said]
+    lines = faults.shown(said, script, data if typed is None else None, 1 << 20) or [named(line) for line in said]
     places = [PLACE.match(line[len(start) :]) for line in lines for start in (named(script), "replace") if line.startswith(start + ":")]
     place = next(filter(None, places), None)
     # (a fault of the words has no place in the script)

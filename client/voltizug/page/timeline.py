@@ -1,8 +1,8 @@
 """Why a word has its stem, as steps for people, by the rows of `events`: strings that were taken, what other routines signalled, the text before
 and after."""
-from typing import Any, Dict, List, Sequence, Tuple
+from typing import Any, Dict, List, Sequence
 
-from ..conditions.copies import Shown
+from ..reports import Tests
 from ..places import Places
 
 # How many steps are shown, at most.
@@ -19,7 +19,7 @@ class Call:
 class Timeline:
     """Reads events one after another. A minor step is shown only if all are asked for."""
 
-    def __init__(self, word: str, places: Places, tests: Dict[Tuple[str, str], Shown]):
+    def __init__(self, word: str, places: Places, tests: Tests):
         self.now, self.places, self.tests = word, places, tests
         self.steps: List[Dict[str, Any]] = []
         self.calls: List[Call] = []
@@ -53,9 +53,9 @@ class Timeline:
         self.note("taken", self.line(self.places.entries.get((row.name, row.k, row.string))), k=row.k, string=row.string)
 
     def read_test(self, row: Any) -> None:
-        test = self.tests.get((row.name, row.n))
-        if test and test.is_listed:
-            self.note("test", self.places.text.count(b"\n", 0, test.start) + 1, True, what=test.text, true=row.signal == "t")
+        _, test = self.tests[row.name, row.n]
+        if not test.is_turned:
+            self.note("test", self.places.text.count(b"\n", 0, test.tokens[0].start) + 1, True, what=test.text, true=row.signal == "t")
 
     def read_unknown(self, row: Any) -> None:
         self.note("unknown", 0, True)
@@ -82,7 +82,7 @@ class Timeline:
                 self.note("asked" if call.asks_only else "done", line, is_minor, what=call.name, true=is_true)
 
 
-def timeline(word: str, events: Sequence[Any], places: Places, tests: Dict[Tuple[str, str], Shown]) -> Dict[str, Any]:
+def timeline(word: str, events: Sequence[Any], places: Places, tests: Tests) -> Dict[str, Any]:
     """Returns the steps of a run and its outcome. Of very many steps there are the first and the last ones."""
     line = Timeline(word, places, tests)
     line.read(events)

@@ -8,7 +8,7 @@ import subprocess
 from itertools import accumulate
 from typing import Any, Dict, List, Optional, Sequence
 
-from .rows import Token
+from ..rows import Token
 
 # For how many seconds git may run.
 PATIENCE = 10

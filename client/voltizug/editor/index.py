@@ -5,7 +5,7 @@ from bisect import bisect_right
 from typing import Dict, List, NamedTuple, Optional, Sequence, Tuple
 
 from .language import AFTER, ARITHMETIC, AS_COMMAND, AS_CONDITION, DECLARATIONS, ITEMS
-from .rows import Token
+from ..rows import Token
 
 # A definition: the token of its name, its first and last tokens by number, whether it is of a routine, and whether it is backward.
 Item = NamedTuple("Item", [("name", Token), ("first", int), ("last", int), ("is_routine", bool), ("is_backward", bool)])
