@@ -22,8 +22,8 @@ pub data WorkCommand : Type 0 where
   Session : session.Command → WorkCommand
   -- a text replaces a part of the script
   EditPart : ScriptEdit → List ℕ → WorkCommand
-  -- a text for a part of the script that has this fault before it is read
-  NoPart : ScriptFault → WorkCommand
+  -- bytes for a part of the script that are no text, with their fault
+  NoPart : ScriptEdit → List ℕ → ScriptFault → WorkCommand
   -- these bytes replace the whole script
   EditWhole : List ℕ → WorkCommand
   -- takes back the last edit that undo can take back: one of the script, or a limit
@@ -202,10 +202,10 @@ abbrev pub asks_work_block : List ℕ → Bool
 asks_work_block line = asks_block line || (is_replace line || bytes_eq line (codes "families"))
 
 -- A line that is bad comes before a fault of its block.
-abbrev pub part_command : Option ScriptEdit → Result (List ℕ) ScriptFault → WorkCommand
-part_command None text = Session session.Bad
-part_command (Some what) (Ok text) = EditPart what text
-part_command (Some what) (Err f) = NoPart f
+abbrev pub part_command : Option ScriptEdit → List ℕ → Result (List ℕ) ScriptFault → WorkCommand
+part_command None bytes text = Session session.Bad
+part_command (Some what) bytes (Ok text) = EditPart what text
+part_command (Some what) bytes (Err f) = NoPart what bytes f
 
 abbrev pub families_command : List (List ℕ) → WorkCommand
 families_command lines =
@@ -213,7 +213,7 @@ families_command lines =
 
 abbrev pub block_command : List ℕ → List (List ℕ) → WorkCommand
 block_command line lines =
-    if asks_block line then part_command (session.target_of line) (session.text_of_block lines)
+    if asks_block line then part_command (session.target_of line) (made_text lines) (session.text_of_block lines)
     else (if is_replace line then EditWhole (made_text lines)
     else families_command lines)
 

@@ -92,6 +92,9 @@ abbrev pub kept_after_turn : Result (Unit {0}) HistoryFault → State → State
 kept_after_turn (Ok u) d = record d { refused = None }
 kept_after_turn (Err f) d = d
 
--- the bytes of a whole script, unless there are too many
-abbrev pub whole_refused : List ℕ → ScriptFault → RefusedText
-whole_refused bytes f = if nat_lt max_script (length bytes) then LongText else WholeText bytes
+-- the bytes of a whole script, or for a part of it, unless there are too many
+abbrev pub refused_whole : List ℕ → ScriptFault → RefusedText
+refused_whole bytes f = if nat_lt max_script (length bytes) then LongText else WholeText bytes
+
+abbrev pub refused_part : ScriptEdit → List ℕ → ScriptFault → RefusedText
+refused_part what bytes f = if nat_lt max_script (length bytes) then LongText else PartText what bytes f

@@ -26,7 +26,7 @@ use Rattle.sbl_explain.specs.WhyRows as rows
 use Rattle.sbl_work.specs.Commands.{WorkCommand, Nothing, Session, EditPart, EditWhole, Undo, Redo, Mark, Changes, Stats}
 use Rattle.sbl_work.specs.Commands.{Unused, Largest, Families, Why, Integers, Uses, Counts, Find, Stem, Show, Saved, NoWords, NoFile, Echo}
 use Rattle.sbl_work.specs.Commands.{MarkStems, Approve, Words, Text, Places, Tokens, TokensOf, Hello, History, NoPart, Faults, FaultsOf}
-use Rattle.sbl_work.specs.FaultReplies.{IsFaultsText, IsRefusedText, kept_after, kept_after_turn, whole_refused}
+use Rattle.sbl_work.specs.FaultReplies.{IsFaultsText, IsRefusedText, kept_after, kept_after_turn, refused_part, refused_whole}
 use Rattle.sbl_input.specs.FileWords.{file_lines, file_words, first_line_fault}
 use Rattle.sbl_io.specs.LinesOf.{lines_of}
 use Rattle.sbl_input.specs.declared.faults.LoadFault.{LoadFault}
@@ -39,7 +39,7 @@ use Rattle.sbl_history.specs.Desks.{Redoes, State, Undoes, text_in}
 use Rattle.sbl_history.specs.Editing.{IsLimitNoted, Replaces, ReplacesPart}
 use Rattle.sbl_history.specs.History.{OfScript}
 use Rattle.sbl_history.specs.Listing.{history_text}
-use Rattle.sbl_history.specs.Refused.{RefusedText, PartText, LongText}
+use Rattle.sbl_history.specs.Refused.{RefusedText}
 use Rattle.sbl_reports.specs.Families.{families_in, families_text}
 use Rattle.sbl_source_map.specs.Heads.{IsWithoutHead}
 use Rattle.sbl_text_rows.specs.PlaceRows.{IsPlacesText}
@@ -176,7 +176,7 @@ ReplacesWhole result bytes s d t e = Replaces result OfScript (Whole bytes) (Som
 
 -- the same, and the bytes are kept if they have a fault
 abbrev pub ReplacesKept : Result (Unit {0}) EditFault → List ℕ → Contents → State → Contents → State → Type 0
-ReplacesKept result bytes s d t e = (mid : State) × ReplacesWhole result bytes s d t mid × (e ≡ kept_after result (whole_refused bytes) mid)
+ReplacesKept result bytes s d t e = (mid : State) × ReplacesWhole result bytes s d t mid × (e ≡ kept_after result (refused_whole bytes) mid)
 
 abbrev pub IsWholeReply : List ℕ → Contents → State → List ℕ → Contents → State → Type 0
 IsWholeReply bytes s d text t e =
@@ -186,7 +186,7 @@ IsWholeReply bytes s d text t e =
 abbrev pub IsPartReply : ScriptEdit → List ℕ → Contents → State → List ℕ → Contents → State → Type 0
 IsPartReply what block s d text t e =
     (rest : List ℕ) × (result : Result (Unit {0}) EditFault) × (mid : State) × IsWithoutHead what block rest
-    × ReplacesPart result what rest s d t mid × (e ≡ kept_after result (PartText what block) mid) × (text ≡ edit_text (fault_in result))
+    × ReplacesPart result what rest s d t mid × (e ≡ kept_after result (refused_part what block) mid) × (text ≡ edit_text (fault_in result))
 
 -- an edit is undone or redone; then no refused text is kept
 abbrev pub IsTurnReply : (Result (Unit {0}) HistoryFault → Contents → State → Contents → State → Type 0)
@@ -194,9 +194,10 @@ abbrev pub IsTurnReply : (Result (Unit {0}) HistoryFault → Contents → State 
 IsTurnReply Turns turn_reply s d text t e =
     (result : Result (Unit {0}) HistoryFault) × (mid : State) × Turns result s d t mid × (e ≡ kept_after_turn result mid) × (text ≡ turn_reply result)
 
--- a text for a part is too long
-abbrev pub IsLongReply : ScriptFault → Contents → State → List ℕ → Contents → State → Type 0
-IsLongReply f s d text t e = (text ≡ edit_text (Some (edit.Script f))) × (t ≡ s) × (e ≡ record d { refused = Some LongText })
+-- bytes for a part are no text, and are kept
+abbrev pub IsNoPartReply : ScriptEdit → List ℕ → ScriptFault → Contents → State → List ℕ → Contents → State → Type 0
+IsNoPartReply what bytes f s d text t e =
+    (text ≡ edit_text (Some (edit.Script f))) × (t ≡ s) × (e ≡ record d { refused = Some (refused_part what bytes f) })
 
 -- the rows of all faults of a text; or an allocation fails
 abbrev pub TellsFaults : (List ℕ → Type 0) → Contents → State → List ℕ → Contents → State → Type 0
@@ -239,7 +240,7 @@ abbrev pub IsWorkReply : Contents → State → WorkCommand → List ℕ → Con
 IsWorkReply s d Nothing text t e = TellsAlone [] s d text t e
 IsWorkReply s d (Session command) text t e = IsTextAnswer s command text t × IsLimitNoted s t d e
 IsWorkReply s d (EditPart what block) text t e = IsPartReply what block s d text t e ⊎ TellsMemory s d text t e
-IsWorkReply s d (NoPart f) text t e = IsLongReply f s d text t e ⊎ TellsMemory s d text t e
+IsWorkReply s d (NoPart what bytes f) text t e = IsNoPartReply what bytes f s d text t e ⊎ TellsMemory s d text t e
 IsWorkReply s d (EditWhole bytes) text t e = IsWholeReply bytes s d text t e
 IsWorkReply s d Undo text t e = IsTurnReply Undoes undo_text s d text t e
 IsWorkReply s d Redo text t e = IsTurnReply Redoes redo_text s d text t e

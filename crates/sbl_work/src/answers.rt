@@ -14,7 +14,7 @@ ghost use Rattle.sbl_work.specs.ReplyViews.{IsWorkAnswer, view_file};
 use crate::fault_replies::{faults_reply, file_faults_reply};
 use crate::lookups::{counts_reply, find_reply, stem_reply, uses_reply};
 use crate::parts::families_reply;
-use crate::refusals::{note_turn, note_whole, whole_refused};
+use crate::refusals::{note_turn, note_whole, refused_whole};
 use crate::replies::{
     BAD_NUMBER, NO_FILE, NOTHING_TO_APPEND, edit_reply, memory_reply, redo_reply, undo_reply,
 };
@@ -41,7 +41,7 @@ fn replace_by_bytes(
 ) -> Result<(), EditFault>
     ensures { ReplacesKept result bytes.now (contents_of bench.old) (state_of desk.old) (contents_of bench.new) (state_of desk.new) }
 {
-    let refused = whole_refused(alloc, bytes)?;
+    let refused = refused_whole(alloc, bytes)?;
     let answer = desk.replace(bench, bytes);
     note_whole(desk, answer, refused)
 }

@@ -88,7 +88,7 @@ fn edit_part(
     part: Part<'_>,
     block: BlockText,
 ) -> Reply
-    ensures { (lines : List (List ℕ)) → HoldsText block lines → Answers bench.old desk.old (spec.part_command (Some (view_part part.entry)) (text_of_block lines)) result bench.new desk.new }
+    ensures { (lines : List (List ℕ)) → HoldsText block lines → Answers bench.old desk.old (spec.part_command (Some (view_part part.entry)) (made_text lines) (text_of_block lines)) result bench.new desk.new }
 {
     match text_of(block) {
         Ok(text) => edit_reply(replace_part_kept(alloc, desk, bench, part, text)),

@@ -3,7 +3,7 @@ ghost use Rattle.std.specs.Prelude.{◌≡◌, IfOk};
 ghost use Rattle.sbl_history.specs.Desks.{state_of};
 ghost use Rattle.sbl_history.specs.Refused.{PartText, view_held, view_refused};
 ghost use Rattle.sbl_text.specs.declared.fault.ScriptFault.{ScriptFault as Fault};
-ghost use Rattle.sbl_work.specs.FaultReplies.{kept_after, kept_after_turn, whole_refused};
+ghost use Rattle.sbl_work.specs.FaultReplies.{kept_after, kept_after_turn, refused_whole};
 
 use sbl_bench::EditFault;
 use sbl_history::{Desk, HeldPart, HistoryFault, Refused};
@@ -11,8 +11,8 @@ use sbl_script::MAX_SCRIPT;
 use std::alloc::{AllocError, Global};
 
 /// Returns the bytes of a whole script, to be kept if they are refused. Returns `AllocError` if an allocation fails.
-pub(crate) fn whole_refused(alloc: Global, bytes: &[u8]) -> Result<Refused, AllocError>
-    ensures { IfOk result (λ refused. (f : Fault) → view_refused refused ≡ whole_refused bytes.now f) }
+pub(crate) fn refused_whole(alloc: Global, bytes: &[u8]) -> Result<Refused, AllocError>
+    ensures { IfOk result (λ refused. (f : Fault) → view_refused refused ≡ refused_whole bytes.now f) }
 {
     if bytes.len() > MAX_SCRIPT {
         return Ok(Refused::TooLong);
