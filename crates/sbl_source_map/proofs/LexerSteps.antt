@@ -1,5 +1,5 @@
 -- The tokens of a text up to the fault of the lexer, and the insert characters after them.
-use Rattle.std.proofs.Common.{◌≡◌, ℕ, List, [], ◌∷◌, ◌++◌, map, Option, Some, None, Ok, refl, sym, ap, subst, ◌∙◌}
+use Rattle.std.proofs.Common.{◌≡◌, ◌⊎◌, inl, inr, ◌<◌, ℕ, List, [], ◌∷◌, ◌++◌, length, map, Option, Some, None, Ok, Err, refl, sym, ap, subst, ◌∙◌}
 use Rattle.sbl_token.specs.declared.token.Kind.{Kind}
 use Rattle.sbl_token.specs.declared.token.Kind.TheVariants as kind
 use Rattle.sbl_token.specs.declared.token.Token.{Token}
@@ -9,12 +9,31 @@ use Rattle.sbl_token.specs.declared.words.Word.TheVariants as words
 use Rattle.sbl_token.specs.Lexemes.{lexeme_by, word}
 use Rattle.sbl_text.specs.Directives.{Defining, Directives, after, defined_as, defined_by, start, value_for_macro}
 use Rattle.sbl_text.specs.Escapes.{InForce}
-use Rattle.sbl_text.specs.Tokens.{Advances, ArePlaced, PlacedToken, Reading, beginning, placed_of}
+use Rattle.sbl_text.specs.Tokens.{Advances, ArePlaced, IsNext, PlacedToken, Reading, Stops, beginning, placed_of}
 use Rattle.sbl_text.specs.declared.fault.ScriptFault.{ScriptFault}
-use Rattle.sbl_text.proofs.Lists.{SoFar, all_placed, next_shorter, none_yet, over_gaps, with_next}
+use Rattle.sbl_text.specs.declared.fault.ScriptFault.TheVariants as fault
+use Rattle.sbl_text.proofs.Lists.{SoFar, all_placed, next_advances, next_shorter, none_yet, over_gaps, still_none, with_next}
 use Rattle.sbl_source_map.specs.FaultRanges.{StopsIn}
 use Rattle.sbl_source_map.specs.LexerStops.{IsStep}
 use Rattle.sbl_source_map.specs.declared.fault_ranges.Step.TheVariants as step
+
+-- ---- the next step
+
+pub takes : (r t : Reading) (token : Token) → r.fault ≡ None → IsNext r t (Ok (Some token)) → IsStep r t (step.Next token)
+takes r t token none next = (next_advances r t (Ok (Some token)) none next, still_none r t (Some token) none next)
+
+pub ends : (r t : Reading) → r.fault ≡ None → IsNext r t (Ok None) → IsStep r t step.End
+ends r t none next = next_advances r t (Ok None) none next
+
+pub stops : (r t : Reading) (f : ScriptFault) → r.fault ≡ None → IsNext r t (Err f) → (f ≡ fault.OutOfMemory → ⊥) → IsStep r t (step.Fault f)
+stops r t f none next other = by (next_advances r t (Err f) none next).2
+  where
+    by : (f ≡ fault.OutOfMemory) ⊎ Stops r.text r.state r.rest f → Stops r.text r.state r.rest f
+    by (inl memory) = absurd (other memory)
+    by (inr h) = h
+
+pub shorter : (r t : Reading) (token : Token) → IsStep r t (step.Next token) → length t.rest < length r.rest
+shorter r t token taken = next_shorter r.text r.state r.rest t.state t.rest token taken.0
 
 -- ---- what was read so far
 

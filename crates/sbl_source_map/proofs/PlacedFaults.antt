@@ -1,7 +1,8 @@
 -- Faults that have a place, and bytes that are not UTF-8.
 use Rattle.std.proofs.Common.{◌≡◌, ◌⊎◌, ℕ, ◌+◌, Bool, true, false, ◌&&◌, ◌||◌, ◌==◌, List, [], ◌∷◌, Option, Some, None, is_some, Result, Ok, Err, refl, sym, ap, subst, ◌∙◌, inl, inr, if◌then◌else◌}
 use Rattle.std.specs.List.{list_all}
-use Rattle.std.specs.Str.{IsUtf8}
+use Rattle.std.specs.Prelude.{MatchOption}
+use Rattle.std.specs.Str.{IsUtf8, chars}
 use Rattle.sbl_text.specs.declared.escapes.Inserts.{Inserts}
 use Rattle.sbl_text.specs.declared.fault.ScriptFault.{ScriptFault}
 use Rattle.sbl_text.specs.declared.fault.ScriptFault.TheVariants as fault
@@ -14,12 +15,15 @@ use Rattle.sbl_text.specs.Codes.{code_of}
 use Rattle.sbl_text.specs.Directives.{Directives}
 use Rattle.sbl_text.specs.Escapes.{InForce, opens, find}
 use Rattle.sbl_text.specs.Literals.{Refusal, byte_length, code_or_fault, character_named, value_or_character, insertion_value, IsWrong}
-use Rattle.sbl_text.specs.Tokens.{PlacedToken, starts_star, pair_fault, token_fault, fault_at, IsRefused, IsFirstFaultFrom}
+use Rattle.sbl_text.specs.Tokens.{PlacedToken, starts_star, pair_fault, token_fault, fault_at, IsRefused, IsFirstFaultFrom, ArePlaced}
 use Rattle.sbl_ast.specs.Texts.{Text}
 use Rattle.sbl_parser.specs.Reading.{IsSyntaxAt, IsTooDeepAt, IsOutOfProfileAt}
 use Rattle.sbl_script.specs.Reading.{IsUnread, place_of, lexemes}
 use Rattle.sbl_source_map.specs.FaultLists.{IsUnreadText}
 use Rattle.sbl_source_map.specs.FaultPlaces.{place_in}
+use Rattle.sbl_source_map.specs.FaultRanges.{IsEndAt, IsRange, IsRefusedEnd, StopsIn}
+use Rattle.sbl_source_map.specs.LexerStops.{IsStopOf}
+use Rattle.sbl_source_map.specs.declared.fault_ranges.Stop.{Stop}
 
 abbrev is_placed : ScriptFault → Bool
 is_placed f = is_some (place_in f)
@@ -115,3 +119,20 @@ is_text bytes f place (inl (inl (long, same))) at = let e : None ≡ Some place 
 is_text bytes f place (inl (inr (inl (short, not_text, same)))) at = let e : None ≡ Some place = sym (ap place_in same) ∙ at in absurd (cc e)
 is_text bytes f place (inl (inr (inr (short, text, h)))) at = text
 is_text bytes f place (inr (ts, tokens, h)) at = tokens.text
+
+-- the range of a fault other than that of bytes that are not UTF-8
+pub is_range : (bytes : List ℕ) (f : ScriptFault) (range : Option (ℕ × ℕ)) → (f ≡ fault.NotUtf8 → ⊥)
+    → MatchOption (place_in f) (range ≡ None) (λ place. (end : ℕ) × IsEndAt (chars bytes) place end × (range ≡ Some (place, end))) → IsRange bytes f range
+is_range bytes fault.NotUtf8 range other h = absurd (other refl)
+is_range bytes _ range other h = h
+
+-- ---- the end of what is at a place
+
+pub by_stop : (text : List ℕ) (o : Option Stop) (stop : Stop) (place end : ℕ) → o ≡ Some stop → IsStopOf text o → IsRefusedEnd text stop.inserts stop.fault place end → IsEndAt text place end
+by_stop text o stop place end is stops refused =
+    let h : (s : Directives) × StopsIn text s stop.fault × (stop.inserts ≡ s.escapes.inserts) = rw is at stops in
+    inr (h.0, stop.fault, h.1, subst (λ (i : Option Inserts). IsRefusedEnd text i stop.fault place end) h.2 refused)
+
+pub by_none : (text : List ℕ) (o : Option Stop) (place end : ℕ) → o ≡ None → IsStopOf text o → ((ts : List PlacedToken) → ArePlaced text ts → ⊥) → IsEndAt text place end
+by_none text o place end is stops none =
+    let h : (ts : List PlacedToken) × ArePlaced text ts = rw is at stops in absurd (none h.0 h.1)
