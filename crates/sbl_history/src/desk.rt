@@ -228,7 +228,7 @@ impl Desk {
     }
 
     /// Returns the text that was refused last, if one is kept.
-    pub fn refused(&self) -> Option<&Refused>
+    pub fn refused_text(&self) -> Option<&Refused>
         ensures { option_map (λ r. view_refused r.now) result ≡ (state_of self.now).refused }
     {
         self.refused.as_ref()

@@ -190,7 +190,7 @@ fn long_text(alloc: Global) -> Result<Vec<u8>, AllocError>
 }
 
 /// Returns the rows of all faults of a text that was refused.
-fn refused_text(alloc: Global, bench: &Bench, refused: &Refused) -> Result<Vec<u8>, AllocError>
+fn text_of_refused(alloc: Global, bench: &Bench, refused: &Refused) -> Result<Vec<u8>, AllocError>
     ensures { IfOk result (λ report. listed.IsRefusedText (contents_of bench.now) (view_refused refused.now) report.items) }
 {
     match refused {
@@ -204,8 +204,8 @@ fn refused_text(alloc: Global, bench: &Bench, refused: &Refused) -> Result<Vec<u
 pub(crate) fn faults_reply(alloc: Global, desk: &Desk, bench: &Bench) -> Reply
     ensures { IsWorkAnswer (contents_of bench.now) (state_of desk.now) spec.Faults result (contents_of bench.now) (state_of desk.now) }
 {
-    match desk.refused() {
-        Some(refused) => report(refused_text(alloc, bench, refused)),
+    match desk.refused_text() {
+        Some(refused) => report(text_of_refused(alloc, bench, refused)),
         None => Reply::Fixed(""),
     }
 }
