@@ -14,3 +14,4 @@ pub mod LexerSteps
 pub mod Rests
 pub mod PlacedFaults
 pub mod RangesOf
+pub mod BlockFacts

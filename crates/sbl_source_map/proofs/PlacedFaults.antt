@@ -136,3 +136,10 @@ by_stop text o stop place end is stops refused =
 pub by_none : (text : List ℕ) (o : Option Stop) (place end : ℕ) → o ≡ None → IsStopOf text o → ((ts : List PlacedToken) → ArePlaced text ts → ⊥) → IsEndAt text place end
 by_none text o place end is stops none =
     let h : (ts : List PlacedToken) × ArePlaced text ts = rw is at stops in absurd (none h.0 h.1)
+
+pub is_range_at : (bytes : List ℕ) (f : ScriptFault) (place end : ℕ) → (f ≡ fault.NotUtf8 → ⊥) → place_in f ≡ Some place → IsEndAt (chars bytes) place end → IsRange bytes f (Some (place, end))
+is_range_at bytes f place end other is at =
+    let pair : ℕ × ℕ = (place, end) in
+    let range : Option (ℕ × ℕ) = Some pair in
+    let P : Option ℕ → Type 0 = λ o. MatchOption o (range ≡ None) (λ p. (e : ℕ) × IsEndAt (chars bytes) p e × (range ≡ Some (p, e))) in
+    is_range bytes f range other (subst P (sym is) (end, at, refl))

@@ -19,7 +19,9 @@ counted_from begin r = (r.0 - begin, r.1 - begin)
 -- a fault of the text, if its range begins in what is typed; this begins at one byte and ends at another
 abbrev pub fault_within : ℕ → ℕ → PlacedFault → Option PlacedFault
 fault_within begin end x =
-    option_and_then (λ (r : ℕ × ℕ). if nat_le begin r.0 && nat_lt r.0 end then Some (record { fault = x.fault; range = Some (counted_from begin r) }) else None)
+    option_and_then
+    (λ (r : ℕ × ℕ).
+    if nat_le begin r.0 && nat_lt r.0 end then Some (record { fault = x.fault; range = Some (counted_from begin r) }) else None)
     x.range
 
 -- the faults of the checks at tokens of the block, as those of the whole text
@@ -28,17 +30,21 @@ AreCheckFaultsIn before head block after external faults =
     (all : List PlacedFault) × AreFaultsOf (up_to_block before head block ++ after) external all
     × (faults ≡ filter_map (fault_within (length before) (length (up_to_block before head block))) all)
 
--- the range of what is at this place of the block, if the place is in the block
+-- the range of what is at this place of the block, if the place is in the block and the text up to its end is UTF-8
 abbrev pub IsRangeIn : Bool → (before : List ℕ) → ℕ → (block : List ℕ) → ℕ → Option (ℕ × ℕ) → Type 0
 IsRangeIn false before head block place range = range ≡ None
 IsRangeIn true before head block place range =
     (end : ℕ) × IsEndAt (chars (up_to_block before head block)) (length before + head + place) end
     × (range ≡ Some (head + place, end - length before))
 
+abbrev pub IsBlockRange : (before : List ℕ) → ℕ → (block : List ℕ) → ℕ → Option (ℕ × ℕ) → Type 0
+IsBlockRange before head block place range =
+    IsRangeIn (nat_le place (length block) && is_utf8 (up_to_block before head block)) before head block place range
+
 -- All faults of a block, given the fault with which the edit by it is refused: this one if it has a place in the block, otherwise
 -- those of the checks. Their ranges are those in what is typed.
 abbrev pub AreBlockFaults : (before : List ℕ) → ℕ → (block after external : List ℕ) → ScriptFault → List PlacedFault → Type 0
 AreBlockFaults before head block after external f faults =
     MatchOption (place_in f) (AreCheckFaultsIn before head block after external faults)
-    (λ place. (range : Option (ℕ × ℕ)) × IsRangeIn (nat_le place (length block) && is_utf8 (up_to_block before head block)) before head block place range
+    (λ place. (range : Option (ℕ × ℕ)) × IsBlockRange before head block place range
     × (faults ≡ record { fault = f; range = range } ∷ []))

@@ -39,13 +39,15 @@ check_faults ts items external = map (fault_at (subject_tokens ts)) (faults_of i
 abbrev pub AreFaultsOf : (bytes external : List ℕ) → List PlacedFault → Type 0
 AreFaultsOf bytes external faults =
     ((ts : List PlacedToken) × (items : List Item) × IsReadText bytes ts items × (faults ≡ check_faults ts items external))
-    ⊎ ((f : ScriptFault) × (range : Option (ℕ × ℕ)) × IsUnreadText bytes f × IsRange bytes f range × (faults ≡ record { fault = f; range = range } ∷ []))
+    ⊎ ((f : ScriptFault) × (range : Option (ℕ × ℕ)) × IsUnreadText bytes f × IsRange bytes f range
+    × (faults ≡ record { fault = f; range = range } ∷ []))
 
 -- ---- laws
 
 -- the first of all faults is the fault of the bytes
 abbrev pub FirstIsFault : Type 0
-FirstIsFault = (bytes external : List ℕ) (x : PlacedFault) (xs : List PlacedFault) → AreFaultsOf bytes external (x ∷ xs) → IsFaultOf bytes external x.fault
+FirstIsFault =
+    (bytes external : List ℕ) (x : PlacedFault) (xs : List PlacedFault) → AreFaultsOf bytes external (x ∷ xs) → IsFaultOf bytes external x.fault
 
 -- there is no fault exactly if the bytes are a script
 abbrev pub NoneIsScript : Type 0

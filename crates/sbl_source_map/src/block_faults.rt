@@ -1,7 +1,6 @@
 //! All faults of a block that is put into a script.
 
-ghost use Rattle.std.specs.Prelude.{◌≡◌, ◌+◌, ◌++◌, ◌&&◌, nat_le, IfOk, MatchOption, Some, filter_map, length, replicate};
-ghost use Rattle.std.specs.Str.{is_utf8};
+ghost use Rattle.std.specs.Prelude.{◌≡◌, IfOk, filter_map};
 ghost use Rattle.sbl_source_map.specs.BlockFaults as spec;
 
 use crate::fault_lists::{PlacedFault, faults_of_text};
@@ -100,7 +99,7 @@ fn range_in(
     place: usize,
 ) -> Result<Option<(usize, usize)>, AllocError>
     requires { text.now ≡ spec.up_to_block typed.before.now typed.head typed.block.now }
-    ensures { IfOk result (λ range. spec.IsRangeIn (nat_le place (length typed.entry.block.now) && is_utf8 (spec.up_to_block typed.entry.before.now typed.entry.head typed.entry.block.now)) typed.entry.before.now typed.entry.head typed.entry.block.now place range) }
+    ensures { IfOk result (λ range. spec.IsBlockRange typed.entry.before.now typed.entry.head typed.entry.block.now place range) }
 {
     if place > typed.block.len() {
         return Ok(None);

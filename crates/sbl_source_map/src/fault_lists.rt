@@ -71,6 +71,13 @@ fn read<'a>(
     Ok((found, items))
 }
 
+/// Returns the range with this number, from 0; `None` if there are not so many.
+fn range_at(ranges: &[(usize, usize)], number: usize) -> Option<(usize, usize)>
+    ensures { result ≡ slice_get ranges.now number }
+{
+    ranges.get(number).copied()
+}
+
 /// Returns each fault with the range of its number; `None` if there are not so many ranges. Returns `AllocError` if an allocation
 /// fails.
 fn with_ranges(
@@ -84,7 +91,7 @@ fn with_ranges(
     for fault in faults {
         placed.push(PlacedFault {
             fault: fault.1,
-            range: ranges.get(fault.0).copied(),
+            range: range_at(ranges, fault.0),
         })?;
     }
     Ok(placed)
