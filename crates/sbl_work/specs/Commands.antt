@@ -184,8 +184,8 @@ utf8_command file line =
 
 -- The command of a line without a block. The file has these bytes: the script's for `reload`, that of the words for `words`, the
 -- one that the line names for `replace`, `families`, `mark`, `tokens` and `faults`; for `save` and `approve` any if it was written,
--- and for `append` the lines that were put at its end; none if it could not be read or written. A line that is not UTF-8 and no comment is a command of a
--- session, where it is bad.
+-- and for `append` the lines that were put at its end; none if it could not be read or written. A line that is not UTF-8 and no
+-- comment is a command of a session, where it is bad.
 unfoldable pub alone_command : Option (List ℕ) → List ℕ → WorkCommand
 alone_command file line =
     if is_comment line then Nothing
