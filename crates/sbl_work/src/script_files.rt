@@ -28,13 +28,13 @@ pub(crate) fn replace_by_file<F: Files + AllocGlobal>(
 {
     match read_file(files, path) {
         Ok(bytes) => {
-            let reply = reload(desk, bench, Some(bytes.as_slice()));
+            let reply = reload(files.alloc(), desk, bench, Some(bytes.as_slice()));
             if is_same_file(files, path, paths.script.as_str()) {
                 *seen = bytes;
             }
             reply
         }
-        Err(ReadFault::Unreadable) => reload(desk, bench, None),
+        Err(ReadFault::Unreadable) => reload(files.alloc(), desk, bench, None),
         Err(ReadFault::OutOfMemory) => edit_reply(Err(EditFault::OutOfMemory)),
     }
 }
