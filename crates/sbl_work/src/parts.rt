@@ -13,6 +13,7 @@ ghost use Rattle.sbl_work.specs.ReplyViews.{Answers, FindsBlock, IsFamiliesAnswe
 
 use crate::replies::{NOT_TEXT, edit_reply};
 use crate::requests::BlockRequest;
+use crate::watching::{RefusedText, refused_block};
 use sbl_bench::{Bench, EditFault};
 use sbl_history::Desk;
 use sbl_reports::{BlockFault, BlockText, families_text};
@@ -32,12 +33,22 @@ fn text_of(block: BlockText) -> Result<Vec<u8>, EditFault>
     }
 }
 
-/// Replaces the whole script by the text of a block.
-fn replace_by(desk: &mut Desk, bench: &mut Bench, block: BlockText) -> Result<(), EditFault>
+/// Replaces the whole script by the text of a block. `refused` has it if it is refused.
+fn replace_by(
+    alloc: Global,
+    refused: &mut Option<RefusedText>,
+    desk: &mut Desk,
+    bench: &mut Bench,
+    block: BlockText,
+) -> Result<(), EditFault>
     ensures { (lines : List (List ℕ)) → HoldsText block lines → ReplacesWhole result (made_text lines) (contents_of bench.old) (state_of desk.old) (contents_of bench.new) (state_of desk.new) }
 {
     match text_of(block) {
-        Ok(text) => desk.replace(bench, &text),
+        Ok(text) => {
+            let edited = desk.replace(bench, &text);
+            *refused = refused_block(alloc, "replace", text, edited);
+            edited
+        }
         Err(fault) => Err(fault),
     }
 }
@@ -61,24 +72,31 @@ fn replace_part_by(
     }
 }
 
-/// Makes the edit of a part by a block, and returns the reply.
+/// Makes the edit of a part by the block after a line, and returns the reply. `refused` has the text of the block if it is refused.
 fn edit_part(
     alloc: Global,
+    refused: &mut Option<RefusedText>,
     desk: &mut Desk,
     bench: &mut Bench,
+    line: &str,
     part: Part<'_>,
     block: BlockText,
 ) -> Reply
     ensures { (lines : List (List ℕ)) → HoldsText block lines → Answers bench.old desk.old (spec.part_command (Some (view_part part.entry)) (text_of_block lines)) result bench.new desk.new }
 {
     match text_of(block) {
-        Ok(text) => edit_reply(replace_part_by(alloc, desk, bench, part, &text)),
+        Ok(text) => {
+            let edited = replace_part_by(alloc, desk, bench, part, &text);
+            *refused = refused_block(alloc, line, text, edited);
+            edit_reply(edited)
+        }
         Err(fault) => edit_reply(Err(fault)),
     }
 }
 
 fn edit_named(
     alloc: Global,
+    refused: &mut Option<RefusedText>,
     desk: &mut Desk,
     bench: &mut Bench,
     line: &str,
@@ -87,7 +105,7 @@ fn edit_named(
     ensures { (lines : List (List ℕ)) → HoldsText block lines → Answers bench.old desk.old (part_edit line.now lines) result bench.new desk.new }
 {
     match part_of(line) {
-        Some(part) => edit_part(alloc, desk, bench, part, block),
+        Some(part) => edit_part(alloc, refused, desk, bench, line, part, block),
         None => Reply::Fixed(BAD_COMMAND),
     }
 }
@@ -95,6 +113,7 @@ fn edit_named(
 /// Makes the edit that a line and its block ask for, and returns the reply. A bad line is refused, whatever its block is.
 fn edit_kept(
     alloc: Global,
+    refused: &mut Option<RefusedText>,
     desk: &mut Desk,
     bench: &mut Bench,
     kept: Result<Option<String>, AllocError>,
@@ -103,17 +122,23 @@ fn edit_kept(
     ensures { (line : List ℕ) (lines : List (List ℕ)) → KeepsLine kept line → HoldsText block lines → Answers bench.old desk.old (part_edit line lines) result bench.new desk.new }
 {
     match kept {
-        Ok(Some(line)) => edit_named(alloc, desk, bench, line.as_str(), block),
+        Ok(Some(line)) => edit_named(alloc, refused, desk, bench, line.as_str(), block),
         Ok(None) => Reply::Fixed(BAD_COMMAND),
         Err(_) => edit_reply(Err(EditFault::OutOfMemory)),
     }
 }
 
 /// Makes the edit of `replace`, and returns the reply.
-fn replace_reply(desk: &mut Desk, bench: &mut Bench, block: BlockText) -> Reply
+fn replace_reply(
+    alloc: Global,
+    refused: &mut Option<RefusedText>,
+    desk: &mut Desk,
+    bench: &mut Bench,
+    block: BlockText,
+) -> Reply
     ensures { (lines : List (List ℕ)) → HoldsText block lines → Answers bench.old desk.old (spec.EditWhole (made_text lines)) result bench.new desk.new }
 {
-    edit_reply(replace_by(desk, bench, block))
+    edit_reply(replace_by(alloc, refused, desk, bench, block))
 }
 
 /// Returns the reply to `families`, for the text of the families.
@@ -144,9 +169,10 @@ fn families_of(alloc: Global, bench: &Bench, block: BlockText) -> Reply
 }
 
 /// Makes the edit or the report that a line asks for with its block, and returns the reply. `request` is what `block_request`
-/// returns for the line.
+/// returns for the line. `refused` has the text of the block if it is refused.
 pub(crate) fn answer_block(
     alloc: Global,
+    refused: &mut Option<RefusedText>,
     desk: &mut Desk,
     bench: &mut Bench,
     request: BlockRequest,
@@ -155,8 +181,8 @@ pub(crate) fn answer_block(
     ensures { (line : List ℕ) (lines : List (List ℕ)) → FindsBlock request line → HoldsText block lines → Answers bench.old desk.old (spec.block_command line lines) result bench.new desk.new }
 {
     match request {
-        BlockRequest::Part(kept) => edit_kept(alloc, desk, bench, kept, block),
-        BlockRequest::Whole => replace_reply(desk, bench, block),
+        BlockRequest::Part(kept) => edit_kept(alloc, refused, desk, bench, kept, block),
+        BlockRequest::Whole => replace_reply(alloc, refused, desk, bench, block),
         BlockRequest::Families => families_of(alloc, bench, block),
     }
 }
