@@ -22,6 +22,8 @@ use Rattle.sbl_work.specs.Commands.{with_file}
 use Rattle.sbl_history.specs.Desks.{State, state_of}
 use Rattle.sbl_history.specs.declared.desk.Desk.{Desk}
 use Rattle.sbl_history.specs.Editing.{ReplacesPart}
+use Rattle.sbl_history.specs.Refused.{PartText}
+use Rattle.sbl_work.specs.FaultReplies.{kept_after}
 use Rattle.sbl_source_map.specs.Heads.{IsWithoutHead}
 use Rattle.sbl_reports.specs.Families.{families_in, families_text}
 use Rattle.sbl_work.specs.Replies.{IsRowsReply, IsWorkReply, TellsReport}
@@ -65,6 +67,8 @@ view_request file line variants.Text = command.Text
 view_request file line variants.Places = command.Places
 view_request file line variants.Tokens = command.Tokens
 view_request file line (variants.TokensOf path) = with_file command.TokensOf file
+view_request file line variants.Faults = command.Faults
+view_request file line (variants.FaultsOf path) = with_file command.FaultsOf file
 view_request file line variants.Hello = command.Hello
 view_request file line variants.Session = command.Session (line_command line)
 
@@ -114,3 +118,9 @@ IsBytesResult false result what bytes s d t e = (result ≡ Err (edit.Script scr
 
 abbrev pub IsPartResult : Result (Unit {0}) EditFault → ScriptEdit → List ℕ → Contents → State → Contents → State → Type 0
 IsPartResult result what bytes s d t e = IsBytesResult (is_utf8 bytes) result what bytes s d t e
+
+-- the same, and what was typed is kept if it has a fault; or an allocation failed
+abbrev pub IsKeptPart : Result (Unit {0}) EditFault → ScriptEdit → List ℕ → Contents → State → Contents → State → Type 0
+IsKeptPart result what bytes s d t e =
+    ((mid : State) × IsPartResult result what bytes s d t mid × (e ≡ kept_after result (PartText what bytes) mid))
+    ⊎ ((result ≡ Err edit.OutOfMemory) × (t ≡ s) × (e ≡ d))

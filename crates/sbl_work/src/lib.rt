@@ -3,9 +3,11 @@
 
 mod answers;
 mod appending;
+mod fault_replies;
 mod files;
 mod lookups;
 mod parts;
+mod refusals;
 mod replies;
 mod requests;
 mod script_files;

@@ -7,15 +7,16 @@ ghost use Rattle.sbl_sessions.specs.Commands.{text_of_block};
 ghost use Rattle.sbl_work.specs.Answering.{part_edit};
 ghost use Rattle.sbl_work.specs.Commands as spec;
 ghost use Rattle.sbl_history.specs.Desks.{State, state_of};
-ghost use Rattle.sbl_work.specs.Replies.{ReplacesWhole};
+ghost use Rattle.sbl_work.specs.Replies.{ReplacesKept};
 ghost use Rattle.sbl_script.specs.Parts.{view_part};
-ghost use Rattle.sbl_work.specs.ReplyViews.{Answers, FindsBlock, IsFamiliesAnswer, IsPartResult, IsWorkAnswer, NamesText};
+ghost use Rattle.sbl_work.specs.ReplyViews.{Answers, FindsBlock, IsFamiliesAnswer, IsKeptPart, IsPartResult, IsWorkAnswer, NamesText};
 
+use crate::refusals::{note_part, note_whole};
 use crate::replies::{NOT_TEXT, edit_reply};
 use crate::requests::BlockRequest;
 use crate::watching::{RefusedText, refused_block};
 use sbl_bench::{Bench, EditFault};
-use sbl_history::Desk;
+use sbl_history::{Desk, HeldPart, Refused};
 use sbl_reports::{BlockFault, BlockText, families_text};
 use sbl_script::{Part, ScriptFault};
 use sbl_sessions::{BAD_COMMAND, Reply, part_of, report};
@@ -33,7 +34,7 @@ fn text_of(block: BlockText) -> Result<Vec<u8>, EditFault>
     }
 }
 
-/// Replaces the whole script by the text of a block. `refused` has it if it is refused.
+/// Replaces the whole script by the text of a block. Keeps the text if it has a fault; then `refused` has it, too.
 fn replace_by(
     alloc: Global,
     refused: &mut Option<RefusedText>,
@@ -41,15 +42,15 @@ fn replace_by(
     bench: &mut Bench,
     block: BlockText,
 ) -> Result<(), EditFault>
-    ensures { (lines : List (List ℕ)) → HoldsText block lines → ReplacesWhole result (made_text lines) (contents_of bench.old) (state_of desk.old) (contents_of bench.new) (state_of desk.new) }
+    ensures { (lines : List (List ℕ)) → HoldsText block lines → ReplacesKept result (made_text lines) (contents_of bench.old) (state_of desk.old) (contents_of bench.new) (state_of desk.new) }
 {
     match text_of(block) {
         Ok(text) => {
-            let edited = desk.replace(bench, &text);
-            *refused = refused_block(alloc, "replace", text, edited);
-            edited
+            let answer = desk.replace(bench, &text);
+            *refused = refused_block(alloc, "replace", &text, answer);
+            note_whole(desk, answer, Refused::Whole(text))
         }
-        Err(fault) => Err(fault),
+        Err(fault) => note_whole(desk, Err(fault), Refused::TooLong),
     }
 }
 
@@ -72,6 +73,24 @@ fn replace_part_by(
     }
 }
 
+/// Replaces a part of the script by what was typed after a line. Keeps it if it has a fault; `refused` has it if it is refused.
+fn replace_part_kept(
+    alloc: Global,
+    refused: &mut Option<RefusedText>,
+    desk: &mut Desk,
+    bench: &mut Bench,
+    line: &str,
+    part: Part<'_>,
+    typed: Vec<u8>,
+) -> Result<(), EditFault>
+    ensures { IsKeptPart result (view_part part.entry) typed.items (contents_of bench.old) (state_of desk.old) (contents_of bench.new) (state_of desk.new) }
+{
+    let held = HeldPart::copy_of(alloc, part)?;
+    let answer = replace_part_by(alloc, desk, bench, part, &typed);
+    *refused = refused_block(alloc, line, &typed, answer);
+    note_part(desk, answer, held, typed)
+}
+
 /// Makes the edit of a part by the block after a line, and returns the reply. `refused` has the text of the block if it is refused.
 fn edit_part(
     alloc: Global,
@@ -82,15 +101,11 @@ fn edit_part(
     part: Part<'_>,
     block: BlockText,
 ) -> Reply
-    ensures { (lines : List (List ℕ)) → HoldsText block lines → Answers bench.old desk.old (spec.part_command (Some (view_part part.entry)) (text_of_block lines)) result bench.new desk.new }
+    ensures { (lines : List (List ℕ)) → HoldsText block lines → Answers bench.old desk.old (spec.part_command (Some (view_part part.entry)) (made_text lines) (text_of_block lines)) result bench.new desk.new }
 {
     match text_of(block) {
-        Ok(text) => {
-            let edited = replace_part_by(alloc, desk, bench, part, &text);
-            *refused = refused_block(alloc, line, text, edited);
-            edit_reply(edited)
-        }
-        Err(fault) => edit_reply(Err(fault)),
+        Ok(text) => edit_reply(replace_part_kept(alloc, refused, desk, bench, line, part, text)),
+        Err(fault) => edit_reply(note_whole(desk, Err(fault), Refused::TooLong)),
     }
 }
 

@@ -67,6 +67,10 @@ pub(crate) enum Request<'a> {
     Tokens,
     /// Reports the tokens of a file.
     TokensOf(&'a str),
+    /// Reports all faults of the text that was refused last.
+    Faults,
+    /// Reports all faults of a file.
+    FaultsOf(&'a str),
     /// Reports the name and the version of the program.
     Hello,
     /// Writes a text.
@@ -177,6 +181,7 @@ fn text_request(line: &str) -> Request<'_>
         "text" => Request::Text,
         "places" => Request::Places,
         "tokens" => Request::Tokens,
+        "faults" => Request::Faults,
         "hello" => Request::Hello,
         _ => word_request(line),
     }
@@ -210,6 +215,7 @@ fn word_request(line: &str) -> Request<'_>
         "mark" => mark_request(argument),
         "approve" => Request::Approve(argument),
         "tokens" => Request::TokensOf(argument),
+        "faults" => Request::FaultsOf(argument),
         _ => Request::Session,
     }
 }

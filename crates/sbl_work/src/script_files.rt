@@ -5,7 +5,7 @@ ghost use Rattle.sbl_history.specs.Desks.{state_of};
 ghost use Rattle.sbl_work.specs.Commands as spec;
 ghost use Rattle.sbl_work.specs.ReplyViews.{IsWorkAnswer};
 
-use crate::answers::reload;
+use crate::answers::{reload, replace_by_bytes};
 use crate::files::Paths;
 use crate::replies::edit_reply;
 use crate::watching::{RefusedText, refused_file};
@@ -17,7 +17,7 @@ use std::alloc::Global;
 use std::rt::Files;
 
 /// Replaces the whole script by the bytes of a file, and returns the reply. `refused` has them if they are refused.
-fn replace_by_bytes(
+fn replace_by_text(
     alloc: Global,
     refused: &mut Option<RefusedText>,
     desk: &mut Desk,
@@ -27,9 +27,9 @@ fn replace_by_bytes(
 ) -> Reply
     ensures { IsWorkAnswer (contents_of bench.old) (state_of desk.old) (spec.with_file spec.EditWhole (Some bytes.now)) result (contents_of bench.new) (state_of desk.new) }
 {
-    let edited = desk.replace(bench, bytes);
-    *refused = refused_file(alloc, path, bytes, edited);
-    edit_reply(edited)
+    let answer = replace_by_bytes(alloc, desk, bench, bytes);
+    *refused = refused_file(alloc, path, bytes, answer);
+    edit_reply(answer)
 }
 
 /// Reads a file that replaces the whole script, and returns the reply. If it is the file of the script, by whatever name, `seen` has its
@@ -47,20 +47,13 @@ pub(crate) fn replace_by_file<F: Files + AllocGlobal>(
 {
     match read_file(files, path) {
         Ok(bytes) => {
-            let reply = replace_by_bytes(
-                files.alloc(),
-                refused,
-                desk,
-                bench,
-                path,
-                bytes.as_slice(),
-            );
+            let reply = replace_by_text(files.alloc(), refused, desk, bench, path, &bytes);
             if is_same_file(files, path, paths.script.as_str()) {
                 *seen = bytes;
             }
             reply
         }
-        Err(ReadFault::Unreadable) => reload(desk, bench, None),
+        Err(ReadFault::Unreadable) => reload(files.alloc(), desk, bench, None),
         Err(ReadFault::OutOfMemory) => edit_reply(Err(EditFault::OutOfMemory)),
     }
 }

@@ -15,6 +15,7 @@ ghost use Rattle.sbl_work.specs.WholeWork.{WorksOver, status_of};
 
 use crate::answers::answer_line;
 use crate::appending::Added;
+use crate::fault_replies::faults_by_file;
 use crate::files::{OpenFault, Paths, Texts, append, open, save};
 use crate::parts::answer_block;
 use crate::replies::edit_reply;
@@ -154,6 +155,7 @@ fn answer_alone<F: Files + AllocGlobal>(
             bench,
         ),
         Request::TokensOf(path) => tokens_by_file(folder.files, alloc, path),
+        Request::FaultsOf(path) => faults_by_file(folder.files, alloc, bench, path),
         _ => answer_line(alloc, desk, bench, &mut folder.kept, line, None),
     }
 }

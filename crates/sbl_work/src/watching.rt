@@ -53,15 +53,15 @@ fn is_of_text(edited: Result<(), EditFault>) -> bool {
 pub(crate) fn refused_block(
     alloc: Global,
     line: &str,
-    text: Vec<u8>,
+    text: &[u8],
     edited: Result<(), EditFault>,
 ) -> Option<RefusedText> {
     if !is_of_text(edited) {
         return None;
     }
-    match String::from_str(alloc, line) {
-        Ok(line) => Some(RefusedText::Block { line, text }),
-        Err(_) => None,
+    match (String::from_str(alloc, line), Vec::from_slice(alloc, text)) {
+        (Ok(line), Ok(text)) => Some(RefusedText::Block { line, text }),
+        _ => None,
     }
 }
 
