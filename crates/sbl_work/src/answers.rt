@@ -33,7 +33,7 @@ use sbl_source_map::definition_text;
 use std::alloc::{AllocError, Global};
 
 /// Replaces the whole script by the bytes of a file. Keeps them if they have a fault.
-fn replace_by_bytes(
+pub(crate) fn replace_by_bytes(
     alloc: Global,
     desk: &mut Desk,
     bench: &mut Bench,

@@ -14,9 +14,10 @@ mod script_files;
 mod serving;
 mod stem_files;
 mod text_replies;
+mod watching;
 mod whys;
 mod word_files;
 
 pub use files::Paths;
-pub use requests::{BlockRequest, block_request};
-pub use serving::work;
+pub use serving::{work, work_watched};
+pub use watching::{NoWatch, RefusedText, Watch};

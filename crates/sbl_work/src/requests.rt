@@ -83,7 +83,7 @@ pub(crate) enum Request<'a> {
 
 /// What a line with a block asks for.
 #[derive(Debug, Drop)]
-pub enum BlockRequest {
+pub(crate) enum BlockRequest {
     /// Replaces the part of the script that the line names; none if the line is bad, or an allocation for it failed.
     Part(Result<Option<String>, AllocError>),
     /// Replaces the whole script.
@@ -113,7 +113,7 @@ fn split(line: &[u8]) -> (&[u8], &[u8])
 }
 
 /// Returns what a line asks for with the block after it; `None` if no block follows the line.
-pub fn block_request(alloc: Global, line: &[u8]) -> Option<BlockRequest>
+pub(crate) fn block_request(alloc: Global, line: &[u8]) -> Option<BlockRequest>
     ensures { MatchOption result (spec.asks_work_block line.now ≡ false) (λ request. FindsBlock request line.now) }
 {
     if asks_block(line) {
