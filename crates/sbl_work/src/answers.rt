@@ -10,6 +10,7 @@ ghost use Rattle.sbl_history.specs.Desks.{State, state_of};
 ghost use Rattle.sbl_reports.specs.Reports as reports;
 ghost use Rattle.sbl_work.specs.ReplyViews.{IsWorkAnswer, view_file};
 
+use crate::change_replies::{figures_reply, first_changes_reply};
 use crate::lookups::{counts_reply, find_reply, stem_reply, uses_reply};
 use crate::parts::families_reply;
 use crate::replies::{
@@ -235,6 +236,8 @@ pub(crate) fn answer_line(
         Request::Approve(_) => approve_reply(bench, file.is_some()),
         Request::Words => words_reply(alloc, bench, file),
         Request::Changes => changes(alloc, desk, bench),
+        Request::FirstChanges(argument) => first_changes_reply(alloc, desk, bench, argument),
+        Request::Figures => figures_reply(alloc, desk, bench),
         Request::Stats => stats(alloc, bench),
         Request::Unused => unused_reply(alloc, bench, kept),
         Request::Largest(argument) => largest(alloc, bench, argument),

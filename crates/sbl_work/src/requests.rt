@@ -35,6 +35,10 @@ pub(crate) enum Request<'a> {
     Words,
     /// Reports what differs from the mark.
     Changes,
+    /// Reports the first changes of each kind from the mark.
+    FirstChanges(&'a str),
+    /// Reports how many changes of each kind there are from the mark.
+    Figures,
     /// Reports figures of the rows and classes.
     Stats,
     /// Reports the largest classes.
@@ -178,6 +182,7 @@ fn text_request(line: &str) -> Request<'_>
         "places" => Request::Places,
         "tokens" => Request::Tokens,
         "hello" => Request::Hello,
+        "figures" => Request::Figures,
         _ => word_request(line),
     }
 }
@@ -210,6 +215,7 @@ fn word_request(line: &str) -> Request<'_>
         "mark" => mark_request(argument),
         "approve" => Request::Approve(argument),
         "tokens" => Request::TokensOf(argument),
+        "changes" => Request::FirstChanges(argument),
         _ => Request::Session,
     }
 }
