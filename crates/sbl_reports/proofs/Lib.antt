@@ -1,3 +1,4 @@
+pub mod ChangeReportFacts
 pub mod BlockFacts
 pub mod WriterFacts
 pub mod RowFacts

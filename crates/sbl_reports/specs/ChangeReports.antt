@@ -43,7 +43,7 @@ abbrev pub class_kind_figures : List Change → List (List (List ℕ))
 class_kind_figures changes = kind_figure changes kind.Split ∷ kind_figure changes kind.Merged ∷ kind_figure changes kind.Renamed ∷ []
 
 -- a row for each kind, with the number of its changes between some rows and those of the bench
-abbrev pub change_figures_text : List Row → Contents → List ℕ
+unfoldable pub change_figures_text : List Row → Contents → List ℕ
 change_figures_text before s =
     records_text (word_kind_figures (changes_of before (rows_now s)) ++ class_kind_figures (changes_of before (rows_now s)))
 
@@ -62,6 +62,6 @@ first_class_changes n changes =
     first_of_kind n changes kind.Split ++ (first_of_kind n changes kind.Merged ++ first_of_kind n changes kind.Renamed)
 
 -- the rows of the first n changes of each kind
-abbrev pub first_changes_text : ℕ → List Row → Contents → List ℕ
+unfoldable pub first_changes_text : ℕ → List Row → Contents → List ℕ
 first_changes_text n before s =
     records_text (map change_fields (first_word_changes n (changes_of before (rows_now s)) ++ first_class_changes n (changes_of before (rows_now s))))

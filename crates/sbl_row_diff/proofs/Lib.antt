@@ -1,0 +1,3 @@
+pub mod ClassFacts
+pub mod Steps
+pub mod RowFacts
