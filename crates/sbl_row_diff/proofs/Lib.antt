@@ -1,3 +1,3 @@
 pub mod ClassFacts
-pub mod Steps
+pub mod RowSteps
 pub mod RowFacts

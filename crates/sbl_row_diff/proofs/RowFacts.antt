@@ -70,10 +70,10 @@ first_row P (r ∷ rows) w o a e = by (bytes_eq w r.word) refl e (first_row P ro
     by false eb e rest = rest e
 
 -- it is that of the function, if that gives the outcome of each row of this word
-known : (f : List ℕ → Outcome') (words : Test) (rows : List Row) (r : Row) → AllByRecursion (λ x. words x.word ≡ false → x.outcome ≡ f x.word) rows → words r.word ≡ false
+known_outcome : (f : List ℕ → Outcome') (words : Test) (rows : List Row) (r : Row) → AllByRecursion (λ x. words x.word ≡ false → x.outcome ≡ f x.word) rows → words r.word ≡ false
     → IsOneOf rows r → outcome_in rows r.word ≡ Some (f r.word)
-known f words [] r a h one = cc one.1
-known f words (x ∷ rows) r a h one = by (bytes_eq r.word x.word) refl one (λ later. known f words rows r a.1 h later)
+known_outcome f words [] r a h one = cc one.1
+known_outcome f words (x ∷ rows) r a h one = by (bytes_eq r.word x.word) refl one (λ later. known_outcome f words rows r a.1 h later)
   where
     by : (b : Bool) → bytes_eq r.word x.word ≡ b → IsOneOf (x ∷ rows) r → (IsOneOf rows r → outcome_in rows r.word ≡ Some (f r.word))
         → option_map (λ (q : Row). q.outcome) (cond b (Some x) (find (λ q. bytes_eq r.word q.word) rows)) ≡ Some (f r.word)
@@ -120,10 +120,10 @@ module _ (f : List ℕ → Outcome') (before after : List Row) (words stems kept
 
   -- a word that is not noted has one outcome in both lists
   was : (y : Row) → IsOneOf after y → words y.word ≡ false → outcome_in before y.word ≡ Some (f y.word)
-  was y one h = known f words before y by_before h (is_other before y h (of_one (IsNoted words before) after y noted_after one))
+  was y one h = known_outcome f words before y by_before h (is_other before y h (of_one (IsNoted words before) after y noted_after one))
 
   is : (x : Row) → IsOneOf before x → words x.word ≡ false → outcome_in after x.word ≡ Some (f x.word)
-  is x one h = known f words after x by_after h (is_other after x h (of_one (IsNoted words after) before x noted_before one))
+  is x one h = known_outcome f words after x by_after h (is_other after x h (of_one (IsNoted words after) before x noted_before one))
 
   -- ---- words
 
@@ -143,8 +143,8 @@ module _ (f : List ℕ → Outcome') (before after : List Row) (words stems kept
   -- ---- classes
 
   -- each move is marked
-  marked : AllByRecursion (λ y. (o : Outcome') → outcome_in before y.word ≡ Some o → (s t : List ℕ) → o ≡ Stem s → y.outcome ≡ Stem t → IsMarked stems (s, t)) after
-  marked = all_one (λ y. (o : Outcome') → outcome_in before y.word ≡ Some o → (s t : List ℕ) → o ≡ Stem s → y.outcome ≡ Stem t → IsMarked stems (s, t)) after
+  each_marked : AllByRecursion (λ y. (o : Outcome') → outcome_in before y.word ≡ Some o → (s t : List ℕ) → o ≡ Stem s → y.outcome ≡ Stem t → IsMarked stems (s, t)) after
+  each_marked = all_one (λ y. (o : Outcome') → outcome_in before y.word ≡ Some o → (s t : List ℕ) → o ≡ Stem s → y.outcome ≡ Stem t → IsMarked stems (s, t)) after
       (λ y one o e s t es et. by y one o e s t es et (words y.word) refl)
     where
       stem_in : (o : Outcome') (s : List ℕ) → o ≡ Stem s → IsStemIn stems o → stems s ≡ true
@@ -235,9 +235,9 @@ module _ (f : List ℕ → Outcome') (before after : List Row) (words stems kept
 
   same_classes : changes_by (moves_of (outcome_in before) after) ≡ changes_by (moves_of (outcome_in (kept_rows kept before)) (kept_rows kept after))
   same_classes =
-      changes_by_marked stems (moves_of (outcome_in before) after) (moves_marked after marked)
+      changes_by_marked stems (moves_of (outcome_in before) after) (moves_marked after each_marked)
       ∙ ap changes_by (same_moves after stays)
-      ∙ sym (changes_by_marked stems (moves_of (outcome_in before) (kept_rows kept after)) (moves_marked (kept_rows kept after) (all_kept (λ y. MarkedBy (outcome_in before y.word) y) after marked)))
+      ∙ sym (changes_by_marked stems (moves_of (outcome_in before) (kept_rows kept after)) (moves_marked (kept_rows kept after) (all_kept (λ y. MarkedBy (outcome_in before y.word) y) after each_marked)))
       ∙ ap changes_by (kept_moves after)
 
   pub same_changes : changes_of before after ≡ changes_of (kept_rows kept before) (kept_rows kept after)

@@ -17,8 +17,8 @@ use Rattle.sbl_sessions.specs.Requests.{asks_block}
 use Rattle.sbl_sessions.specs.declared.replies.Reply.{Reply}
 use Rattle.sbl_text.specs.declared.fault.ScriptFault.TheVariants as script
 use Rattle.sbl_work.specs.Commands as command
-use Rattle.sbl_work.specs.Commands.{WorkCommand, alone_command, append_command, count_in, families_in_file, find_command, first_changes_command, is_replace, uses_command}
-use Rattle.sbl_work.specs.Commands.{with_file}
+use Rattle.sbl_work.specs.Commands.{WorkCommand, alone_command, append_command, count_in, families_in_file, find_command, is_replace, uses_command}
+use Rattle.sbl_work.specs.Commands.{first_changes_command, with_file}
 use Rattle.sbl_history.specs.Desks.{State, state_of}
 use Rattle.sbl_history.specs.declared.desk.Desk.{Desk}
 use Rattle.sbl_history.specs.Editing.{ReplacesPart}

@@ -8,7 +8,7 @@ use Rattle.sbl_rows.proofs.ChangeLaws.{each}
 use Rattle.sbl_row_diff.specs.inside.Noted.{IsStemIn}
 use Rattle.sbl_row_diff.specs.inside.TextSets.{has}
 use Rattle.sbl_row_diff.proofs.RowFacts.{kept_rows, same_changes}
-use Rattle.sbl_row_diff.proofs.Steps.{stem_grows}
+use Rattle.sbl_row_diff.proofs.RowSteps.{stem_grows}
 use Rattle.sbl_row_diff.proofs.few.changes_of_few.Goals as goal
 
 by_setting : (s : Setting) (words : List (List ℕ)) → AllByRecursion (λ r. r.outcome ≡ run_of s.script r.word s.limit) (rows_of s words)

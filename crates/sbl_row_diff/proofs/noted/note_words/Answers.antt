@@ -4,7 +4,7 @@ use Rattle.sbl_rows.specs.Rows.{view_row, view_rows}
 use Rattle.sbl_row_diff.specs.declared.text_set.TextSet.{TextSet}
 use Rattle.sbl_row_diff.specs.inside.Noted.{has_stem}
 use Rattle.sbl_row_diff.specs.inside.TextSets.{has}
-use Rattle.sbl_row_diff.proofs.Steps.{all_more}
+use Rattle.sbl_row_diff.proofs.RowSteps.{all_more}
 use Rattle.sbl_row_diff.proofs.noted.note_words.Goals as goal
 use Rattle.sbl_row_diff.proofs.noted.note_words.Goals.{then-has_stem, else-has_stem}
 

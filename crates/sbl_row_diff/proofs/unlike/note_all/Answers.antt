@@ -1,7 +1,7 @@
 use Rattle.std.proofs.Common.{◌≡◌, true}
 use Rattle.sbl_rows.specs.Rows.{view_row}
 use Rattle.sbl_row_diff.specs.inside.TextSets.{has}
-use Rattle.sbl_row_diff.proofs.Steps.{all_more}
+use Rattle.sbl_row_diff.proofs.RowSteps.{all_more}
 use Rattle.sbl_row_diff.proofs.unlike.note_all.Goals as goal
 
 pub loop-row-preserved : goal.loop-row-preserved

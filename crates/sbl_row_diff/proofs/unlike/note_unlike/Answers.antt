@@ -6,7 +6,7 @@ use Rattle.sbl_rows.specs.declared.row.Row.{Row}
 use Rattle.sbl_rows.proofs.ChangeLaws.{each}
 use Rattle.sbl_row_diff.specs.inside.Noted.{IsNoted}
 use Rattle.sbl_row_diff.specs.inside.TextSets.{has}
-use Rattle.sbl_row_diff.proofs.Steps.{all_more, all_noted, all_rest, noted_grows, noted_pair, row_at}
+use Rattle.sbl_row_diff.proofs.RowSteps.{all_more, all_noted, all_rest, noted_grows, noted_pair, row_at}
 use Rattle.sbl_row_diff.proofs.unlike.note_unlike.Goals as goal
 
 pub loop-i-preserved-then-eq : goal.loop-i-preserved-then-eq
