@@ -1,4 +1,3 @@
-pub mod ChangeReportFacts
 pub mod BlockFacts
 pub mod WriterFacts
 pub mod RowFacts

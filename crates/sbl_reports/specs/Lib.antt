@@ -6,7 +6,6 @@ pub mod Blank
 pub mod Listings
 pub mod Lookups
 pub mod Reports
-pub mod ChangeReports
 pub mod Families
 pub mod StemLines
 pub mod StemLinesAreRead

@@ -2,7 +2,6 @@
 #![tactic(auto)]
 
 mod block_text;
-mod change_reports;
 mod families;
 mod item_records;
 pub mod laws;
@@ -15,7 +14,6 @@ mod row_records;
 mod written_stems;
 
 pub use block_text::{BlockFault, BlockText, read_block};
-pub use change_reports::{change_figures_text, first_changes_text};
 pub use families::families_text;
 pub use listings::rows_text;
 pub use lookups::{found_text, stem_text};

@@ -59,12 +59,7 @@ pub fn changes_text(alloc: Global, before: &[Row<'_>], bench: &Bench) -> Result<
 }
 
 /// Appends the line of a figure. Returns `AllocError` if an allocation fails.
-pub(crate) fn push_figure(
-    alloc: Global,
-    out: &mut Vec<u8>,
-    name: &str,
-    number: u64,
-) -> Result<(), AllocError>
+fn push_figure(alloc: Global, out: &mut Vec<u8>, name: &str, number: u64) -> Result<(), AllocError>
     ensures { OnOk result (out.new.items ≡ out.old.items ++ record_line (spec.figure_fields name.now number)) }
 {
     let digits = format!(in alloc; "{number}")?;

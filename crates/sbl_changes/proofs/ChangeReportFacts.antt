@@ -4,9 +4,9 @@ use Rattle.std.specs.List.{filter}
 use Rattle.std.proofs.lemmas.List.{map-append}
 use Rattle.sbl_rows.specs.Changes.{Change}
 use Rattle.sbl_io.specs.Records.{record_line, records_text}
-use Rattle.sbl_reports.specs.ChangeReports.{first_of_kind, is_of}
+use Rattle.sbl_changes.specs.ChangeReports.{first_of_kind, is_of}
 use Rattle.sbl_reports.specs.Reports.{change_fields}
-use Rattle.sbl_reports.specs.declared.change_reports.ChangeKind.{ChangeKind}
+use Rattle.sbl_changes.specs.declared.change_reports.ChangeKind.{ChangeKind}
 
 -- the rows of changes
 abbrev pub rows_of : List Change → List ℕ

@@ -2,8 +2,8 @@ use Rattle.std.proofs.Common.{◌≡◌, ◌++◌, drop, map}
 use Rattle.sbl_rows.specs.Changes.{view_changes}
 use Rattle.sbl_io.specs.Records.{records_text}
 use Rattle.sbl_reports.specs.Reports.{change_fields}
-use Rattle.sbl_reports.specs.ChangeReports.{first_of_kind}
-use Rattle.sbl_reports.proofs.change_reports.push_first.Given as goal
+use Rattle.sbl_changes.specs.ChangeReports.{first_of_kind}
+use Rattle.sbl_changes.proofs.change_reports.push_first.Given as goal
 
 -- the rows so far, and those of the changes still to come
 abbrev pub invariant-loop-change : goal.invariant-loop-change

@@ -1,11 +1,11 @@
 use Rattle.std.proofs.Common.{◌≡◌, ◌∙◌, ◌+◌, ◌++◌, ℕ, List, [], ◌∷◌, arith, ap, drop, false, inl, inr, subst, sym, true}
 use Rattle.sbl_rows.specs.Changes.{Change, view_change, view_changes}
 use Rattle.sbl_rows.proofs.Loops.{next}
-use Rattle.sbl_reports.specs.ChangeReports.{first_of_kind, is_of}
-use Rattle.sbl_reports.proofs.ChangeReportFacts.{first_more, first_rows, first_same}
-use Rattle.sbl_reports.proofs.change_reports.push_first.Goals as goal
-use Rattle.sbl_reports.proofs.change_reports.push_first.Goals.{then-left-gt0+then-is_of+in_ok-push_change, else-left-gt0}
-use Rattle.sbl_reports.proofs.change_reports.push_first.Goals.{else-left-gt0-via-then-left-gt0+else-is_of, else-left-gt0-via-else-left-gt0}
+use Rattle.sbl_changes.specs.ChangeReports.{first_of_kind, is_of}
+use Rattle.sbl_changes.proofs.ChangeReportFacts.{first_more, first_rows, first_same}
+use Rattle.sbl_changes.proofs.change_reports.push_first.Goals as goal
+use Rattle.sbl_changes.proofs.change_reports.push_first.Goals.{then-left-gt0+then-is_of+in_ok-push_change, else-left-gt0}
+use Rattle.sbl_changes.proofs.change_reports.push_first.Goals.{else-left-gt0-via-then-left-gt0+else-is_of, else-left-gt0-via-else-left-gt0}
 
 pub loop-change-preserved : goal.loop-change-preserved
 loop-change-preserved c =

@@ -7,9 +7,9 @@ use Rattle.sbl_rows.specs.Changes.{Added, Change, Changed, Merged, Removed, Rena
 use Rattle.sbl_rows.specs.Rows.{Row}
 use Rattle.sbl_io.specs.Records.{records_text}
 use Rattle.sbl_reports.specs.Reports.{change_fields, figure_fields}
-use Rattle.sbl_reports.specs.declared.change_reports.ChangeKind.{ChangeKind}
-use Rattle.sbl_reports.specs.declared.change_reports.ChangeKind.TheVariants as kind
-use Rattle.sbl_reports.specs.contracts.change_reports.ChangeKind as kinds
+use Rattle.sbl_changes.specs.declared.change_reports.ChangeKind.{ChangeKind}
+use Rattle.sbl_changes.specs.declared.change_reports.ChangeKind.TheVariants as kind
+use Rattle.sbl_changes.specs.contracts.change_reports.ChangeKind as kinds
 
 abbrev pub kind_of : Change → ChangeKind
 kind_of (Added word) = kind.Added

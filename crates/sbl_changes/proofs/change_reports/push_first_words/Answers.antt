@@ -1,9 +1,9 @@
 use Rattle.std.proofs.Common.{◌≡◌, ℕ, List, OnOk, subst}
 use Rattle.sbl_rows.specs.Changes.{Change, view_changes}
-use Rattle.sbl_reports.specs.ChangeReports.{first_of_kind}
-use Rattle.sbl_reports.specs.declared.change_reports.ChangeKind.TheVariants as kind
-use Rattle.sbl_reports.proofs.ChangeReportFacts.{three_texts}
-use Rattle.sbl_reports.proofs.change_reports.push_first_words.Goals as goal
+use Rattle.sbl_changes.specs.ChangeReports.{first_of_kind}
+use Rattle.sbl_changes.specs.declared.change_reports.ChangeKind.TheVariants as kind
+use Rattle.sbl_changes.proofs.ChangeReportFacts.{three_texts}
+use Rattle.sbl_changes.proofs.change_reports.push_first_words.Goals as goal
 
 pub returns : goal.returns
 returns c =

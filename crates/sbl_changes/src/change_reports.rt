@@ -1,18 +1,20 @@
-//! Short reports of what changed since some rows: how many changes there are of each kind, and the first ones of each kind.
+//! What changed since some rows: all changes, how many there are of each kind, and the first ones of each kind.
 ghost use Rattle.std.specs.Prelude.{◌≡◌, ◌++◌, IfOk, OnOk, count_by, map};
 ghost use Rattle.sbl_bench.specs.KeptRuns.{contents_of};
 ghost use Rattle.sbl_rows.specs.Rows.{view_row};
 ghost use Rattle.sbl_rows.specs.Changes.{view_change, view_changes};
-ghost use Rattle.sbl_io.specs.Records.{record_line, records_text};
-ghost use Rattle.sbl_reports.specs.ChangeReports as spec;
+ghost use Rattle.sbl_io.specs.Records as records;
+ghost use Rattle.sbl_io.specs.Records.{record_line};
+ghost use Rattle.sbl_changes.specs.ChangeReports as spec;
+ghost use Rattle.sbl_reports.specs.Reports as reports;
 ghost use Rattle.sbl_reports.specs.Reports.{change_fields};
 
-use crate::records::Record;
-use crate::reports::push_figure;
 use csv::ByteRecord;
 use sbl_bench::{Bench, Row};
 use sbl_io::push_line;
-use sbl_rows::{ChangeRow, changes};
+use sbl_reports::{Record, records_text};
+use sbl_row_diff::changes_of_few;
+use sbl_rows::ChangeRow;
 use std::alloc::{AllocError, Global};
 
 /// A kind of changes.
@@ -70,6 +72,19 @@ fn count_of(kind: ChangeKind, found: &[ChangeRow<'_>]) -> usize
     found.iter().filter(|change| is_of(kind, change)).count()
 }
 
+/// Returns the report of what changed: a row for each change between some rows and those of the bench.
+///
+/// # Errors
+///
+/// Returns `AllocError` if an allocation fails.
+pub fn changes_text(alloc: Global, before: &[Row<'_>], bench: &Bench) -> Result<Vec<u8>, AllocError>
+    ensures { IfOk result (λ text. text.items ≡ reports.changes_text (map view_row before.now) (contents_of bench.now)) }
+{
+    let rows = bench.rows()?;
+    let found = changes_of_few(alloc, before, &rows)?;
+    records_text(alloc, &found)
+}
+
 /// Appends the row with the number of changes of this kind. Returns `AllocError` if an allocation fails.
 fn push_count(
     alloc: Global,
@@ -79,7 +94,12 @@ fn push_count(
 ) -> Result<(), AllocError>
     ensures { OnOk result (out.new.items ≡ out.old.items ++ record_line (spec.kind_figure (view_changes found.now) kind)) }
 {
-    push_figure(alloc, out, kind.name(), count_of(kind, found) as u64)
+    let number = count_of(kind, found);
+    let digits = format!(in alloc; "{number}")?;
+    let mut csv_record = ByteRecord::new(alloc);
+    csv_record.push_field(kind.name().as_bytes())?;
+    csv_record.push_field(digits.as_bytes())?;
+    push_line(alloc, out, &csv_record)
 }
 
 /// Appends the rows with the numbers of changes of words. Returns `AllocError` if an allocation fails.
@@ -88,7 +108,7 @@ fn push_word_counts(
     out: &mut Vec<u8>,
     found: &[ChangeRow<'_>],
 ) -> Result<(), AllocError>
-    ensures { OnOk result (out.new.items ≡ out.old.items ++ records_text (spec.word_kind_figures (view_changes found.now))) }
+    ensures { OnOk result (out.new.items ≡ out.old.items ++ records.records_text (spec.word_kind_figures (view_changes found.now))) }
 {
     push_count(alloc, out, ChangeKind::Added, found)?;
     push_count(alloc, out, ChangeKind::Removed, found)?;
@@ -101,7 +121,7 @@ fn push_class_counts(
     out: &mut Vec<u8>,
     found: &[ChangeRow<'_>],
 ) -> Result<(), AllocError>
-    ensures { OnOk result (out.new.items ≡ out.old.items ++ records_text (spec.class_kind_figures (view_changes found.now))) }
+    ensures { OnOk result (out.new.items ≡ out.old.items ++ records.records_text (spec.class_kind_figures (view_changes found.now))) }
 {
     push_count(alloc, out, ChangeKind::Split, found)?;
     push_count(alloc, out, ChangeKind::Merged, found)?;
@@ -121,7 +141,7 @@ pub fn change_figures_text(
     ensures { IfOk result (λ text. text.items ≡ spec.change_figures_text (map view_row before.now) (contents_of bench.now)) }
 {
     let rows = bench.rows()?;
-    let found = changes(alloc, before, &rows)?;
+    let found = changes_of_few(alloc, before, &rows)?;
     let mut out = Vec::new(alloc);
     push_word_counts(alloc, &mut out, &found)?;
     push_class_counts(alloc, &mut out, &found)?;
@@ -146,7 +166,7 @@ fn push_first(
     kind: ChangeKind,
     found: &[ChangeRow<'_>],
 ) -> Result<(), AllocError>
-    ensures { OnOk result (out.new.items ≡ out.old.items ++ records_text (map change_fields (spec.first_of_kind number (view_changes found.now) kind))) }
+    ensures { OnOk result (out.new.items ≡ out.old.items ++ records.records_text (map change_fields (spec.first_of_kind number (view_changes found.now) kind))) }
 {
     let mut left = number;
     for change in found {
@@ -165,7 +185,7 @@ fn push_first_words(
     number: usize,
     found: &[ChangeRow<'_>],
 ) -> Result<(), AllocError>
-    ensures { OnOk result (out.new.items ≡ out.old.items ++ records_text (map change_fields (spec.first_word_changes number (view_changes found.now)))) }
+    ensures { OnOk result (out.new.items ≡ out.old.items ++ records.records_text (map change_fields (spec.first_word_changes number (view_changes found.now)))) }
 {
     push_first(alloc, out, number, ChangeKind::Added, found)?;
     push_first(alloc, out, number, ChangeKind::Removed, found)?;
@@ -179,7 +199,7 @@ fn push_first_classes(
     number: usize,
     found: &[ChangeRow<'_>],
 ) -> Result<(), AllocError>
-    ensures { OnOk result (out.new.items ≡ out.old.items ++ records_text (map change_fields (spec.first_class_changes number (view_changes found.now)))) }
+    ensures { OnOk result (out.new.items ≡ out.old.items ++ records.records_text (map change_fields (spec.first_class_changes number (view_changes found.now)))) }
 {
     push_first(alloc, out, number, ChangeKind::Split, found)?;
     push_first(alloc, out, number, ChangeKind::Merged, found)?;
@@ -200,7 +220,7 @@ pub fn first_changes_text(
     ensures { IfOk result (λ text. text.items ≡ spec.first_changes_text number (map view_row before.now) (contents_of bench.now)) }
 {
     let rows = bench.rows()?;
-    let found = changes(alloc, before, &rows)?;
+    let found = changes_of_few(alloc, before, &rows)?;
     let mut out = Vec::new(alloc);
     push_first_words(alloc, &mut out, number, &found)?;
     push_first_classes(alloc, &mut out, number, &found)?;
