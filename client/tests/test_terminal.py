@@ -194,10 +194,14 @@ class Traps(Case):
                 self.assertIn("in no file", again.enter("quit"))
 
     def test_nothing_is_left_behind_if_nothing_was_typed(self):
-        terminal = self.begin()
-        os.kill(terminal.child, signal.SIGTERM)
-        self.assertEqual(terminal.ended(), 1)
-        self.assertEqual(os.listdir(os.path.join(self.folder, "state", "voltizug", "open")), [])
+        # (`timeout` sends both)
+        for signals in ([signal.SIGTERM], [signal.SIGTERM, signal.SIGCONT]):
+            terminal = self.begin()
+            for number in signals:
+                os.kill(terminal.child, number)
+            self.assertEqual(terminal.ended(), 1)
+            state = os.path.join(self.folder, "state", "voltizug")
+            self.assertEqual((os.listdir(os.path.join(state, "open")), os.path.exists(os.path.join(state, "fault"))), ([], False))
 
     def test_pasted_lines(self):
         terminal = self.begin("my.sbl", "my.words")
