@@ -7,13 +7,12 @@ use Rattle.std.specs.declared.cmp.Ordering.TheVariants.{Less, Equal, Greater}
 use Rattle.std.specs.Str.{bytes_eq}
 use Rattle.std.specs.BTreeSet.{insert_key}
 use Rattle.std.proofs.lemmas.List.Kept.{IsStrictlySortedBy-filter}
-use Rattle.std.proofs.lemmas.Map.Text.{is_eq-slice_cmp}
 use Rattle.std.proofs.lemmas.Slice.Eq.{bytes_eq-Decides}
 use Rattle.sbl_rows.specs.Changes.{Change, Renamed, changes_by, class_merger, class_renaming, class_split, is_from_one, is_one}
 use Rattle.sbl_rows.specs.Classes.{Class, Pair, in_order, members_of, pair_class, pair_classes}
 use Rattle.sbl_rows.specs.Moves.{moves_back}
 use Rattle.sbl_rows.proofs.ChangeLaws.{alike_order}
-use Rattle.sbl_rows.proofs.OrderFacts.{any-in_order, bytes_eq-back, in_order-sorted, in_order-stays, one_order, text_cmp}
+use Rattle.sbl_rows.proofs.OrderFacts.{any-in_order, in_order-sorted, in_order-stays, one_order, text_cmp}
 use Rattle.sbl_rows.proofs.Sorting.{mem}
 
 abbrev pub Test : Type 0

@@ -1,6 +1,5 @@
 -- The changes between two lists of rows are those between the rows of noted words.
-use Rattle.std.proofs.Common.{◌≡◌, ◌∙◌, ◌⊎◌, ◌++◌, Bool, true, false, ℕ, zero, suc, List, [], ◌∷◌, map, Option, Some, None, cond, if◌then◌else◌, inl, inr, refl, sym, ap, subst, true≢false}
-use Rattle.std.specs.Prelude.{slice_get}
+use Rattle.std.proofs.Common.{◌≡◌, ◌∙◌, ◌++◌, Bool, true, false, ℕ, zero, suc, List, [], ◌∷◌, Option, Some, None, cond, if◌then◌else◌, inl, inr, refl, sym, ap, subst, true≢false}
 use Rattle.std.specs.List.{AllByRecursion, cons_option, filter, filter_map, find}
 use Rattle.std.specs.Option.{option_map}
 use Rattle.std.specs.Str.{bytes_eq}
@@ -9,7 +8,7 @@ use denote.Enum.Bare.{true_same}
 use Rattle.sbl_semantics.specs.contracts.fault.RunFault as fault
 use Rattle.sbl_semantics.specs.Outcome.{Outcome', Stem, Refused}
 use Rattle.sbl_rows.specs.ChangedRows.{outcome_in, same_outcome}
-use Rattle.sbl_rows.specs.Changes.{Change, Changed, changes_by, changes_of, outcome_change, word_addition, word_removal}
+use Rattle.sbl_rows.specs.Changes.{Changed, changes_by, changes_of, outcome_change, word_addition, word_removal}
 use Rattle.sbl_rows.specs.Classes.{Pair}
 use Rattle.sbl_rows.specs.Moves.{move_of, moves_of}
 use Rattle.sbl_rows.specs.Rows.{Row}
@@ -153,8 +152,10 @@ module _ (f : List ℕ → Outcome') (before after : List Row) (words stems kept
       by : (y : Row) → IsOneOf after y → (o : Outcome') → outcome_in before y.word ≡ Some o → (s t : List ℕ) → o ≡ Stem s → y.outcome ≡ Stem t → (b : Bool) → words y.word ≡ b → IsMarked stems (s, t)
       by y one o e s t es et true h =
           let first = first_row (λ r. words r.word ≡ true → IsStemIn stems r.outcome) before y.word o stems_before e in
-          inr (stem_in first.0.outcome s (first.2 ∙ es) (first.3 (ap words first.1 ∙ h)),
-            stem_in y.outcome t et (of_one (λ r. words r.word ≡ true → IsStemIn stems r.outcome) after y stems_after one h))
+          inr (
+            stem_in first.0.outcome s (first.2 ∙ es) (first.3 (ap words first.1 ∙ h)),
+            stem_in y.outcome t et (of_one (λ r. words r.word ≡ true → IsStemIn stems r.outcome) after y stems_after one h),
+          )
       by y one o e s t es et false h =
           let outcome : Some o ≡ Some (f y.word) = sym e ∙ was y one h in
           let same : o ≡ f y.word = cc outcome in
@@ -188,8 +189,10 @@ module _ (f : List ℕ → Outcome') (before after : List Row) (words stems kept
   MovesNot y = kept y.word ≡ false → (outcome_in before y.word ≡ Some y.outcome) × (has_stem stems y.outcome ≡ false)
 
   stays : AllByRecursion MovesNot after
-  stays = all_one MovesNot after (λ y one h. (was y one (not_noted y.word h) ∙ ap Some (sym (of_one (λ y. y.outcome ≡ f y.word) after y is_by one)),
-        no_stem y h (of_one (λ r. has_stem stems r.outcome ≡ true → kept r.word ≡ true) after y noted_stems one)))
+  stays = all_one MovesNot after (λ y one h. (
+    was y one (not_noted y.word h) ∙ ap Some (sym (of_one (λ y. y.outcome ≡ f y.word) after y is_by one)),
+    no_stem y h (of_one (λ r. has_stem stems r.outcome ≡ true → kept r.word ≡ true) after y noted_stems one),
+  ))
     where
       no_stem : (y : Row) → kept y.word ≡ false → (has_stem stems y.outcome ≡ true → kept y.word ≡ true) → has_stem stems y.outcome ≡ false
       no_stem y h noted = by (has_stem stems y.outcome) refl
@@ -245,9 +248,9 @@ module _ (f : List ℕ → Outcome') (before after : List Row) (words stems kept
       let few_before = kept_rows kept before in
       let few_after = kept_rows kept after in
       let added = made_of_kept kept (λ r. word_addition (outcome_in before r.word) r) (λ r. word_addition (outcome_in few_before r.word) r)
-          (λ r h. ap (λ o. word_addition o r) (sym (same_outcomes kept before r.word h))) after no_addition in
+      (λ r h. ap (λ o. word_addition o r) (sym (same_outcomes kept before r.word h))) after no_addition in
       let removed = made_of_kept kept (λ r. word_removal (outcome_in after r.word) r) (λ r. word_removal (outcome_in few_after r.word) r)
-          (λ r h. ap (λ o. word_removal o r) (sym (same_outcomes kept after r.word h))) before no_removal in
+      (λ r h. ap (λ o. word_removal o r) (sym (same_outcomes kept after r.word h))) before no_removal in
       let changed = made_of_kept kept (λ r. outcome_change (outcome_in before r.word) r) (λ r. outcome_change (outcome_in few_before r.word) r)
-          (λ r h. ap (λ o. outcome_change o r) (sym (same_outcomes kept before r.word h))) after no_change in
+      (λ r h. ap (λ o. outcome_change o r) (sym (same_outcomes kept before r.word h))) after no_change in
       λ i. ((added i ++ removed i) ++ changed i) ++ same_classes i

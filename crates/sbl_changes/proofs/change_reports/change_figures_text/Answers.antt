@@ -1,8 +1,8 @@
-use Rattle.std.proofs.Common.{◌≡◌, ◌∙◌, ◌++◌, ℕ, List, ap, map, sym}
+use Rattle.std.proofs.Common.{◌≡◌, ◌∙◌, ◌++◌, ℕ, List, ap, sym}
 use Rattle.sbl_bench.specs.Contents.{rows_now}
 use Rattle.sbl_bench.specs.KeptRuns.{contents_of, setting_of}
 use Rattle.sbl_rows.specs.Changes.{Change, changes_of, view_changes}
-use Rattle.sbl_rows.specs.Rows.{Row, view_row, view_rows}
+use Rattle.sbl_rows.specs.Rows.{Row, view_rows}
 use Rattle.sbl_io.specs.Records.{records_text}
 use Rattle.sbl_changes.specs.ChangeReports.{change_figures_text, class_kind_figures, word_kind_figures}
 use Rattle.sbl_changes.proofs.ChangeReportFacts.{texts_append}

@@ -1,7 +1,6 @@
-use Rattle.std.proofs.Common.{◌≡◌, ◌∙◌, ◌+◌, ◌++◌, ℕ, List, [], ◌∷◌, arith, ap, drop, false, inl, inr, subst, sym, true}
+use Rattle.std.proofs.Common.{◌≡◌, ◌∙◌, ◌+◌, ◌++◌, ℕ, List, ◌∷◌, arith, ap, drop, inl, inr, subst, sym}
 use Rattle.sbl_rows.specs.Changes.{Change, view_change, view_changes}
 use Rattle.sbl_rows.proofs.Loops.{next}
-use Rattle.sbl_changes.specs.ChangeReports.{first_of_kind, is_of}
 use Rattle.sbl_changes.proofs.ChangeReportFacts.{first_more, first_rows, first_same}
 use Rattle.sbl_changes.proofs.change_reports.push_first.Goals as goal
 use Rattle.sbl_changes.proofs.change_reports.push_first.Goals.{then-left-gt0+then-is_of+in_ok-push_change, else-left-gt0}

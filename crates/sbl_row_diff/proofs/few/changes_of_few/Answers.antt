@@ -1,6 +1,6 @@
 use Rattle.std.proofs.Common.{◌≡◌, ◌∙◌, ℕ, IfOk, List, [], ◌∷◌, true, ap, refl, subst, sym}
 use Rattle.std.specs.List.{AllByRecursion}
-use Rattle.sbl_semantics.specs.Outcome.{Outcome', run_of}
+use Rattle.sbl_semantics.specs.Outcome.{run_of}
 use Rattle.sbl_rows.specs.Changes.{Change, changes_of, view_changes}
 use Rattle.sbl_rows.specs.Rows.{Row, rows_of, view_rows}
 use Rattle.sbl_rows.specs.Setting.{Setting}

@@ -1,4 +1,4 @@
-use Rattle.std.proofs.Common.{◌≡◌, ◌∙◌, ◌+◌, ℕ, List, take, true, false, true≢false, subst, sym}
+use Rattle.std.proofs.Common.{◌≡◌, ◌∙◌, ◌+◌, ℕ, List, take, true, true≢false, subst, sym}
 use Rattle.std.specs.List.{AllByRecursion}
 use Rattle.sbl_rows.specs.Rows.{view_row, view_rows}
 use Rattle.sbl_row_diff.specs.declared.text_set.TextSet.{TextSet}
@@ -14,18 +14,18 @@ loop-row-preserved c =
     let i = c.loop-row.row-index in
     let words = has c.args.words.now in
     let Kept : TextSet → Type 0 = λ stems. ((t : List ℕ) → has c.args.stems.now t ≡ true → has stems t ≡ true)
-        × AllByRecursion (λ r. words r.word ≡ true → IsStemIn (has stems) r.outcome) (view_rows (take (i + 1) rows)) in
+    × AllByRecursion (λ r. words r.word ≡ true → IsStemIn (has stems) r.outcome) (view_rows (take (i + 1) rows)) in
     elim c.if-has.branch [
       | then-has w ↦ subst Kept (sym w.stems-is) (
-          λ t h. w.insert_stem.ensures.grows t (c.loop-row.invariant.0 t h),
-          all_more (λ r. words r.word ≡ true → IsStemIn (has c.loop-row.stems) r.outcome) (λ r. words r.word ≡ true → IsStemIn (has w.insert_stem.new.stems) r.outcome)
-              view_row rows i c.row-item.result c.loop-row-test.true c.row-item.is
-              (λ r known h. stem_grows (has c.loop-row.stems) (has w.insert_stem.new.stems) w.insert_stem.ensures.grows r.outcome (known h)) c.loop-row.invariant.1 (λ h. w.insert_stem.ensures.own),
-        )
+        λ t h. w.insert_stem.ensures.grows t (c.loop-row.invariant.0 t h),
+        all_more (λ r. words r.word ≡ true → IsStemIn (has c.loop-row.stems) r.outcome) (λ r. words r.word ≡ true → IsStemIn (has w.insert_stem.new.stems) r.outcome)
+            view_row rows i c.row-item.result c.loop-row-test.true c.row-item.is
+            (λ r known h. stem_grows (has c.loop-row.stems) (has w.insert_stem.new.stems) w.insert_stem.ensures.grows r.outcome (known h)) c.loop-row.invariant.1 (λ h. w.insert_stem.ensures.own),
+      )
       | else-has w ↦ subst Kept (sym w.stems-is) (
-          λ t h. c.loop-row.invariant.0 t h,
-          all_more (λ r. words r.word ≡ true → IsStemIn (has c.loop-row.stems) r.outcome) (λ r. words r.word ≡ true → IsStemIn (has c.loop-row.stems) r.outcome)
-              view_row rows i c.row-item.result c.loop-row-test.true c.row-item.is (λ r known. known) c.loop-row.invariant.1
-              (λ h. absurd (true≢false (sym h ∙ sym c.has.ensures ∙ w.if-has.false))),
-        )
+        λ t h. c.loop-row.invariant.0 t h,
+        all_more (λ r. words r.word ≡ true → IsStemIn (has c.loop-row.stems) r.outcome) (λ r. words r.word ≡ true → IsStemIn (has c.loop-row.stems) r.outcome)
+            view_row rows i c.row-item.result c.loop-row-test.true c.row-item.is (λ r known. known) c.loop-row.invariant.1
+            (λ h. absurd (true≢false (sym h ∙ sym c.has.ensures ∙ w.if-has.false))),
+      )
     ]

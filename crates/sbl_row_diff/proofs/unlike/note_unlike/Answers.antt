@@ -1,6 +1,5 @@
-use Rattle.std.proofs.Common.{◌≡◌, ◌∙◌, ◌+◌, ◌-◌, ◌<◌, ◌≤◌, ℕ, List, Some, arith, ap, drop, false, inl, length, refl, sym, take, true}
+use Rattle.std.proofs.Common.{◌≡◌, ◌∙◌, ◌-◌, Some, arith, ap, drop, false, inl, length, take, true}
 use Rattle.std.specs.Prelude.{slice_get}
-use Rattle.std.specs.List.{AllByRecursion}
 use Rattle.sbl_rows.specs.Rows.{view_row, view_rows}
 use Rattle.sbl_rows.specs.declared.row.Row.{Row}
 use Rattle.sbl_rows.proofs.ChangeLaws.{each}

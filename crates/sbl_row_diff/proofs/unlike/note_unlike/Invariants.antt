@@ -1,4 +1,4 @@
-use Rattle.std.proofs.Common.{◌≡◌, ◌-◌, ◌+◌, ◌≤◌, length, take}
+use Rattle.std.proofs.Common.{◌-◌, ◌+◌, ◌≤◌, length, take}
 use Rattle.std.specs.List.{AllByRecursion}
 use Rattle.sbl_rows.specs.Rows.{view_rows}
 use Rattle.sbl_row_diff.specs.inside.Noted.{IsNoted}
