@@ -42,6 +42,10 @@ pub data WorkCommand : Type 0 where
   Words : List ℕ → WorkCommand
   -- what differs from the mark
   Changes : WorkCommand
+  -- the first changes of each kind from the mark, so many of each
+  FirstChanges : ℕ → WorkCommand
+  -- how many changes of each kind there are from the mark
+  Figures : WorkCommand
   -- figures of the bench
   Stats : WorkCommand
   -- what no word uses
@@ -129,6 +133,10 @@ find_command (b ∷ text) = Find (chars (b ∷ text))
 abbrev pub mark_command : Option (List ℕ) → List ℕ → WorkCommand
 mark_command file line = if bytes_eq (argument line) [] then Session (session.line_command line) else with_file MarkStems file
 
+-- so many of the first changes of each kind; the line is bad without a number above 0
+abbrev pub first_changes_command : List ℕ → WorkCommand
+first_changes_command text = option_map_or FirstChanges (count_in text) (Session session.Bad)
+
 -- the command of a line by its command word
 abbrev pub word_command : Option (List ℕ) → List ℕ → WorkCommand
 word_command file line =
@@ -148,7 +156,8 @@ word_command file line =
     else (if bytes_eq (command_word line) (codes "approve") then Approve (is_some file)
     else (if bytes_eq (command_word line) (codes "tokens") then with_file TokensOf file
     else (if bytes_eq (command_word line) (codes "faults") then with_file FaultsOf file
-    else Session (session.line_command line))))))))))))))))
+    else (if bytes_eq (command_word line) (codes "changes") then first_changes_command (argument line)
+    else Session (session.line_command line)))))))))))))))))
 
 -- the command of a line that is no comment and no `echo`
 abbrev pub text_command : Option (List ℕ) → List ℕ → WorkCommand
@@ -169,7 +178,8 @@ text_command file line =
     else (if bytes_eq line (codes "tokens") then Tokens
     else (if bytes_eq line (codes "faults") then Faults
     else (if bytes_eq line (codes "hello") then Hello
-    else word_command file line)))))))))))))))
+    else (if bytes_eq line (codes "figures") then Figures
+    else word_command file line))))))))))))))))
 
 -- whether a line begins with `#`
 abbrev pub is_comment : List ℕ → Bool

@@ -25,7 +25,7 @@ use Rattle.sbl_explain.specs.declared.uses.UsesFault.TheVariants as uses
 use Rattle.sbl_explain.specs.WhyRows as rows
 use Rattle.sbl_work.specs.Commands.{WorkCommand, Nothing, Session, EditPart, EditWhole, Undo, Redo, Mark, Changes, Stats}
 use Rattle.sbl_work.specs.Commands.{Unused, Largest, Families, Why, Integers, Uses, Counts, Find, Stem, Show, Saved, NoWords, NoFile, Echo}
-use Rattle.sbl_work.specs.Commands.{MarkStems, Approve, Words, Text, Places, Tokens, TokensOf, Hello, History, NoPart, Faults, FaultsOf}
+use Rattle.sbl_work.specs.Commands.{MarkStems, Approve, Words, Text, Places, Tokens, TokensOf, Hello, History, NoPart, Faults, FaultsOf, FirstChanges, Figures}
 use Rattle.sbl_work.specs.FaultReplies.{IsFaultsText, IsRefusedText, kept_after, kept_after_turn, refused_part, refused_whole}
 use Rattle.sbl_input.specs.FileWords.{file_lines, file_words, first_line_fault}
 use Rattle.sbl_io.specs.LinesOf.{lines_of}
@@ -45,6 +45,7 @@ use Rattle.sbl_source_map.specs.Heads.{IsWithoutHead}
 use Rattle.sbl_text_rows.specs.PlaceRows.{IsPlacesText}
 use Rattle.sbl_text_rows.specs.TokenRows.{IsTokensText}
 use Rattle.sbl_reports.specs.Lookups.{found_text, stem_text}
+use Rattle.sbl_changes.specs.ChangeReports.{change_figures_text, first_changes_text}
 use Rattle.sbl_reports.specs.Reports.{changes_text, largest_text, stats_text}
 use Rattle.sbl_reports.specs.StemLines.{are_text, have_lines, stems_in}
 use Rattle.sbl_history.specs.declared.history.HistoryFault.{HistoryFault}
@@ -250,6 +251,8 @@ IsWorkReply s d (MarkStems bytes) text t e = IsMarkReply (mark_refusal s bytes) 
 IsWorkReply s d (Approve is_written) text t e = TellsReport (approve_text s is_written) s d text t e
 IsWorkReply s d (Words bytes) text t e = IsWordsReply bytes s d text t e
 IsWorkReply s d Changes text t e = TellsReport (changes_text d.marked s) s d text t e
+IsWorkReply s d (FirstChanges n) text t e = TellsReport (first_changes_text n d.marked s) s d text t e
+IsWorkReply s d Figures text t e = TellsReport (change_figures_text d.marked s) s d text t e
 IsWorkReply s d Stats text t e = TellsReport (stats_text s) s d text t e
 IsWorkReply s d Unused text t e = TellsReport (unused.unused_text s.setting s.words) s d text t e
 IsWorkReply s d (Largest number) text t e = IsLargestReply number s d text t e

@@ -18,7 +18,7 @@ use Rattle.sbl_sessions.specs.declared.replies.Reply.{Reply}
 use Rattle.sbl_text.specs.declared.fault.ScriptFault.TheVariants as script
 use Rattle.sbl_work.specs.Commands as command
 use Rattle.sbl_work.specs.Commands.{WorkCommand, alone_command, append_command, count_in, families_in_file, find_command, is_replace, uses_command}
-use Rattle.sbl_work.specs.Commands.{with_file}
+use Rattle.sbl_work.specs.Commands.{first_changes_command, with_file}
 use Rattle.sbl_history.specs.Desks.{State, state_of}
 use Rattle.sbl_history.specs.declared.desk.Desk.{Desk}
 use Rattle.sbl_history.specs.Editing.{ReplacesPart}
@@ -47,6 +47,8 @@ view_request file line (variants.MarkStems path) = with_file command.MarkStems f
 view_request file line (variants.Approve path) = command.Approve (is_some file)
 view_request file line variants.Words = with_file command.Words file
 view_request file line variants.Changes = command.Changes
+view_request file line (variants.FirstChanges number) = first_changes_command number.now
+view_request file line variants.Figures = command.Figures
 view_request file line variants.Stats = command.Stats
 view_request file line variants.Unused = command.Unused
 view_request file line (variants.Largest number) = command.Largest (count_in number.now)

@@ -11,6 +11,7 @@ ghost use Rattle.sbl_reports.specs.Reports as reports;
 ghost use Rattle.sbl_work.specs.Replies.{ReplacesKept};
 ghost use Rattle.sbl_work.specs.ReplyViews.{IsWorkAnswer, view_file};
 
+use crate::change_replies::{figures_reply, first_changes_reply};
 use crate::fault_replies::{faults_reply, file_faults_reply};
 use crate::lookups::{counts_reply, find_reply, stem_reply, uses_reply};
 use crate::parts::families_reply;
@@ -24,10 +25,11 @@ use crate::text_replies::{file_tokens_reply, hello_reply, places_reply, text_rep
 use crate::whys::{integers_reply, why_reply};
 use crate::word_files::words_reply;
 use sbl_bench::{Bench, EditFault};
+use sbl_changes::changes_text;
 use sbl_explain::{KeptTakes, unused_text};
 use sbl_history::Desk;
 use sbl_io::first_line;
-use sbl_reports::{changes_text, largest_text, stats_text};
+use sbl_reports::{largest_text, stats_text};
 use sbl_sessions::{Reply, report};
 use sbl_source_map::definition_text;
 use std::alloc::{AllocError, Global};
@@ -259,6 +261,8 @@ pub(crate) fn answer_line(
         Request::Approve(_) => approve_reply(bench, file.is_some()),
         Request::Words => words_reply(alloc, bench, file),
         Request::Changes => changes(alloc, desk, bench),
+        Request::FirstChanges(argument) => first_changes_reply(alloc, desk, bench, argument),
+        Request::Figures => figures_reply(alloc, desk, bench),
         Request::Stats => stats(alloc, bench),
         Request::Unused => unused_reply(alloc, bench, kept),
         Request::Largest(argument) => largest(alloc, bench, argument),

@@ -3,6 +3,7 @@
 
 mod answers;
 mod appending;
+mod change_replies;
 mod fault_replies;
 mod files;
 mod lookups;

@@ -35,6 +35,10 @@ pub(crate) enum Request<'a> {
     Words,
     /// Reports what differs from the mark.
     Changes,
+    /// Reports the first changes of each kind from the mark.
+    FirstChanges(&'a str),
+    /// Reports how many changes of each kind there are from the mark.
+    Figures,
     /// Reports figures of the rows and classes.
     Stats,
     /// Reports the largest classes.
@@ -183,6 +187,7 @@ fn text_request(line: &str) -> Request<'_>
         "tokens" => Request::Tokens,
         "faults" => Request::Faults,
         "hello" => Request::Hello,
+        "figures" => Request::Figures,
         _ => word_request(line),
     }
 }
@@ -215,6 +220,7 @@ fn word_request(line: &str) -> Request<'_>
         "mark" => mark_request(argument),
         "approve" => Request::Approve(argument),
         "tokens" => Request::TokensOf(argument),
+        "changes" => Request::FirstChanges(argument),
         "faults" => Request::FaultsOf(argument),
         _ => Request::Session,
     }
