@@ -140,7 +140,7 @@ module _ (s : Source) (a c h k m : Option (List ℕ)) (t : List ℕ) where
   abbrev Writes : Result (Unit {0}) LoadFault → Type 0
   Writes r = Filters s a c h m r
 
-  -- the lines of words that were taken, and what end-written them
+  -- the lines of words that were taken, and what stopped them
   end-written : (f : LoadFault) (lines : List (List ℕ)) (next : Option (List ℕ)) → WordsHeld s a next h k t lines → Stops next c f → Appends k m t
       → (lines : List (List ℕ)) × (next : Option (List ℕ)) × Rows s a next h m lines × Stops next c f
   end-written f lines next so stops all =
@@ -307,7 +307,7 @@ pub stopped-before : {W : Type 0} (tally : W → Tally) (first last next : W) �
 stopped-before tally first last next written (inl less) = inl (subst (λ (n : ℕ). n < (tally next).failures) written less)
 stopped-before tally first last next written (inr tries) = inr tries
 
--- a writer that end-written since some write had not failed less before
+-- a writer that stopped since some write had not failed less before
 pub stopped-later : {W : Type 0} (tally : W → Tally) (first last next : W) → (tally first).failures ≤ (tally last).failures
     → HasStopped tally last next → HasStopped tally first next
 stopped-later tally first last next later (inl less) = inl (omega (arith, later, less))

@@ -72,7 +72,8 @@ ReadsToEnd s old new held new_held text line (Err f) =
 
 -- both over lines and a writer
 abbrev pub ReadsWordsOf
-    : {R W : Type 0} → (R → Option (List ℕ)) → (W → Option (List ℕ)) → Source → Lines R → Lines R → W → W → List ℕ → Result (Unit {0}) LoadFault → Type 0
+    : {R W : Type 0} → (R → Option (List ℕ)) → (W → Option (List ℕ)) → Source → Lines R → Lines R → W → W → List ℕ
+    → Result (Unit {0}) LoadFault → Type 0
 ReadsWordsOf left held s lines new_lines writer new_writer text result =
     ReadsWords s (input_of left lines) (input_of left new_lines) (held writer) (held new_writer) text result
 
