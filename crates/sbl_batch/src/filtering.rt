@@ -56,6 +56,7 @@ fn read_words<R: Source + Drop, W: Sink>(
     rows: &mut RowWriter,
     writer: &mut W,
 ) -> Result<(), LoadFault>
+    requires made { (s : Source) × IsLinkedMachineOf machine.now s }
     requires between { IsBetweenLines rows.old.lines }
     requires none { rows.old.text.items ≡ [] }
     ensures reads { (s : Source) → IsLinkedMachineOf machine.now s → fault_of lines.old ≡ None → ReadsWordsOf R.left W.held s lines.old lines.new writer.old writer.new rows.new.text.items result }

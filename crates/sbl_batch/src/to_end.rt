@@ -31,6 +31,7 @@ fn read_lines<R: Source + Drop, W: Sink>(
     line: &mut u64,
 ) -> Result<(), LoadFault>
     requires first { line.old ≡ 1 }
+    requires made { (s : Source) × IsLinkedMachineOf machine.now s }
     requires between { IsBetweenLines rows.old.lines }
     requires none { rows.old.text.items ≡ [] }
     ensures reads { (s : Source) → IsLinkedMachineOf machine.now s → fault_of lines.old ≡ None → ReadsToEndOf R.left W.held s lines.old lines.new writer.old writer.new rows.new.text.items line.new result }
