@@ -1,5 +1,6 @@
 /* Gives a program that is started with it (LD_PRELOAD) other devices for standard input and standard output. Of these, each that is set:
    PIECE: a read returns so many bytes at most; READ: the read of this number fails; WRITE: after so many bytes a write fails;
+   WRITES: after so many writes a write fails;
    READ_INTERRUPTED, WRITE_INTERRUPTED: so many reads, or writes, are interrupted, and the next ones are not.
    FILE_READ, FILE_WRITE: of the reads, or writes, of files the one of this number fails. */
 #include <errno.h>
@@ -9,8 +10,8 @@
 #include <sys/types.h>
 #include <unistd.h>
 
-static long piece, failing_read, last_byte = -1, interrupted_reads, interrupted_writes, failing_file_read, failing_file_write;
-static long reads = 0, file_reads = 0, file_writes = 0, written = 0;
+static long piece, failing_read, last_byte = -1, last_write = -1, interrupted_reads, interrupted_writes, failing_file_read, failing_file_write;
+static long reads = 0, writes = 0, file_reads = 0, file_writes = 0, written = 0;
 
 static long number(const char *name, long missing) {
   const char *text = getenv(name);
@@ -21,6 +22,7 @@ __attribute__((constructor)) static void begin(void) {
   piece = number("PIECE", 0);
   failing_read = number("READ", 0);
   last_byte = number("WRITE", -1);
+  last_write = number("WRITES", -1);
   interrupted_reads = number("READ_INTERRUPTED", 0);
   interrupted_writes = number("WRITE_INTERRUPTED", 0);
   failing_file_read = number("FILE_READ", 0);
@@ -51,6 +53,7 @@ ssize_t write(int file, const void *buffer, size_t size) {
     interrupted_writes--;
     return fail(EINTR);
   }
+  if (last_write >= 0 && ++writes > last_write) return fail(ENOSPC);
   if (last_byte >= 0) {
     if (written >= last_byte) return fail(ENOSPC);
     if (size > (size_t)(last_byte - written)) size = last_byte - written;

@@ -1,5 +1,6 @@
 pub mod CheckFacts
 pub mod RowFacts
+pub mod HeldFacts
 pub mod FilterFacts
 pub mod ToEndFacts
 pub mod LawFacts

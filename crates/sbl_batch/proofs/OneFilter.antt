@@ -151,52 +151,46 @@ all-given s x h k (Some y) so = by so.1.1
         given [] all refl refl
 
 -- the rows before a fault
-stopped-given : (s : Source) (x h k : List ℕ) (lines : List (List ℕ)) (next next_held : Option (List ℕ)) (new : Option (List ℕ)) (f : LoadFault) → IsToldByBytes (Err f)
-    → Rows s (Some x) next (Some h) next_held lines → Stops s next new next_held (Some k) f → Gives s x h k (Err f)
-stopped-given s x h k lines None next_held new f told so stops = absurd so.took
-stopped-given s x h k lines (Some y) None new f told so stops = absurd so.text
-stopped-given s x h k lines (Some y) (Some m) new f told so stops = by f told stops
+stopped-given : (s : Source) (x h k : List ℕ) (lines : List (List ℕ)) (next : Option (List ℕ)) (new : Option (List ℕ)) (f : LoadFault) → IsToldByBytes (Err f)
+    → Rows s (Some x) next (Some h) (Some k) lines → Stops next new f → Gives s x h k (Err f)
+stopped-given s x h k lines None new f told so stops = absurd so.took
+stopped-given s x h k lines (Some y) new f told so stops = by f told stops
   where
-    given : (rest : List (List ℕ)) (line : List ℕ) (f : LoadFault) → lines_of y ≡ line ∷ rest → line ≢ point → fault_of_line line ≡ Some f → k ≡ m ++ [] → Gives s x h k (Err f)
-    given rest line f are other bad none =
+    given : (rest : List (List ℕ)) (line : List ℕ) (f : LoadFault) → lines_of y ≡ line ∷ rest → line ≢ point → fault_of_line line ≡ Some f → Gives s x h k (Err f)
+    given rest line f are other bad =
         let all : lines_of x ≡ lines ++ line ∷ rest = stand_lines x y lines so.took ∙ ap (λ (z : List (List ℕ)). lines ++ z) are in (
           sym (stop-ending s x lines rest line f so.words all other bad),
-          none ∙ append-nil m ∙ so.text ∙ ap (λ (t : List ℕ). h ++ t) (sym (stop-text s x lines rest line f so.words all other bad)),
+          so.text ∙ ap (λ (t : List ℕ). h ++ t) (sym (stop-text s x lines rest line f so.words all other bad)),
         )
 
     -- the next line has this fault
-    at_line : (f : LoadFault) (new : Option (List ℕ)) (line : List ℕ) → TookLine (Some y) new line → fault_of_line line ≡ Some f → k ≡ m ++ [] → Gives s x h k (Err f)
-    at_line f None line took bad none = absurd took.2
-    at_line f (Some z) line took bad none = given (lines_of z) line f (stand_lines y z (line ∷ []) took.2) took.0 bad none
+    at_line : (f : LoadFault) (new : Option (List ℕ)) (line : List ℕ) → TookLine (Some y) new line → fault_of_line line ≡ Some f → Gives s x h k (Err f)
+    at_line f None line took bad = absurd took.2
+    at_line f (Some z) line took bad = given (lines_of z) line f (stand_lines y z (line ∷ []) took.2) took.0 bad
 
-    by : (f : LoadFault) → IsToldByBytes (Err f) → Stops s (Some y) new (Some m) (Some k) f → Gives s x h k (Err f)
-    by (Script f) told stop = absurd stop.2
+    by : (f : LoadFault) → IsToldByBytes (Err f) → Stops (Some y) new f → Gives s x h k (Err f)
+    by (Script f) told stop = absurd stop
     by (Input fault.Read) told stop = absurd told
     by (Input fault.Write) told stop = absurd told
     by (Input fault.OutOfMemory) told stop = absurd told
-    by (Input fault.Cut) told stop = absurd stop.2
-    by (Input fault.LengthsDiffer) told stop = absurd stop.2
-    by (Input fault.LineTooLong) told stop =
-        given stop.0.1 stop.0.0 (Input fault.LineTooLong) stop.0.2 (long_no_point stop.0.0 stop.0.3) (judged-long stop.0.0 stop.0.3) stop.1
-    by (Input fault.NotText) told stop = at_line (Input fault.NotText) new stop.0 stop.1 (judged-no_text stop.0 stop.1.1 stop.2.0) stop.2.1
-    by (Open edit.WordTooLong) told stop =
-        at_line (Open edit.WordTooLong) new stop.0 stop.1 (judged-no_word stop.0 stop.1.1 stop.2.0 stop.2.1) stop.2.2
-    by (Open edit.Present) told stop = absurd stop.2
-    by (Open edit.Absent) told stop = absurd stop.2
-    by (Open edit.EmptyWord) told stop = absurd stop.2
-    by (Open edit.Full) told stop = absurd stop.2
-    by (Open edit.NoRoutine) told stop = absurd stop.2
-    by (Open edit.NoAmong) told stop = absurd stop.2
-    by (Open edit.AmongCount) told stop = absurd stop.2
-    by (Open (edit.Script f)) told stop = absurd stop.2
-    by (Open edit.OutOfMemory) told stop = absurd stop.2
-    by (Open edit.MeterFull) told stop = absurd stop.2
-    by (Open edit.BadLimit) told stop = absurd stop.2
-    by (Open edit.NoGrouping) told stop = absurd stop.2
+    by (Input fault.Cut) told stop = absurd stop
+    by (Input fault.LengthsDiffer) told stop = absurd stop
+    by (Input fault.LineTooLong) told stop = given stop.1 stop.0 (Input fault.LineTooLong) stop.2 (long_no_point stop.0 stop.3) (judged-long stop.0 stop.3)
+    by (Input fault.NotText) told stop = at_line (Input fault.NotText) new stop.0 stop.1 (judged-no_text stop.0 stop.1.1 stop.2)
+    by (Open f) told stop =
+        subst (λ (e : EditFault). Gives s x h k (Err (Open e))) (sym stop.0) (at_line (Open edit.WordTooLong) new stop.1 stop.2 (judged-no_word stop.1 stop.2.1 stop.3.0 stop.3.1))
 
 filters-given : (s : Source) (x h k : List ℕ) (new : Option (List ℕ)) (r : Ending) → IsToldByBytes r → Filters s (Some x) new (Some h) (Some k) r → Gives s x h k r
 filters-given s x h k new (Ok u) told so = all-given s x h k new so
-filters-given s x h k new (Err f) told so = stopped-given s x h k so.0 so.1 so.2 new f told so.3 so.4
+filters-given s x h k new (Err (Script f)) told so = stopped-given s x h k so.0 so.1 new (Script f) told so.2 so.3
+filters-given s x h k new (Err (Open f)) told so = stopped-given s x h k so.0 so.1 new (Open f) told so.2 so.3
+filters-given s x h k new (Err (Input fault.Read)) told so = absurd told
+filters-given s x h k new (Err (Input fault.Write)) told so = absurd told
+filters-given s x h k new (Err (Input fault.OutOfMemory)) told so = absurd told
+filters-given s x h k new (Err (Input fault.Cut)) told so = stopped-given s x h k so.0 so.1 new (Input fault.Cut) told so.2 so.3
+filters-given s x h k new (Err (Input fault.LengthsDiffer)) told so = stopped-given s x h k so.0 so.1 new (Input fault.LengthsDiffer) told so.2 so.3
+filters-given s x h k new (Err (Input fault.LineTooLong)) told so = stopped-given s x h k so.0 so.1 new (Input fault.LineTooLong) told so.2 so.3
+filters-given s x h k new (Err (Input fault.NotText)) told so = stopped-given s x h k so.0 so.1 new (Input fault.NotText) told so.2 so.3
 
 -- ---- the whole input
 

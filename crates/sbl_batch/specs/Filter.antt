@@ -1,5 +1,5 @@
 -- What a filter of a script writes for words: the rows that `stem` writes for them, one after another.
-use Rattle.std.specs.Prelude.{◌≡◌, ◌≢◌, ◌⊎◌, ◌<◌, ◌≤◌, ℕ, Bool, true, false, List, [], ◌∷◌, Option, Some, Result, Ok, Err, ⊤, length, map, take}
+use Rattle.std.specs.Prelude.{◌≡◌, ◌≢◌, ◌⊎◌, ◌<◌, ◌≤◌, ℕ, Bool, true, false, List, [], ◌∷◌, ◌++◌, Option, Some, Result, Ok, Err, ⊤, length, map, take}
 use Rattle.std.specs.List.{filter}
 use Rattle.std.specs.Str.{chars, is_utf8}
 use Rattle.std.specs.Io.KnownBytes.{Appends, Keeps}
@@ -37,18 +37,9 @@ abbrev pub AllShort : List (List ℕ) → Type 0
 AllShort [] = ⊤
 AllShort (line ∷ lines) = (length (chars line) ≤ max_word_length) × AllShort lines
 
--- a line gives its row, if it is not empty; or it is no word, or its row is not written or not whole
-abbrev pub WritesLine : Source → List ℕ → Option (List ℕ) → Option (List ℕ) → Result (Unit {0}) LoadFault → Type 0
-WritesLine s line held new_held (Ok u) =
-    (is_utf8 line ≡ true) × (length (chars line) ≤ max_word_length) × Appends held new_held (filter_output s (chars line ∷ []))
-WritesLine s line held new_held (Err (Input fault.NotText)) = (is_utf8 line ≡ false) × Appends held new_held []
-WritesLine s line held new_held (Err (Open edit.WordTooLong)) =
-    (is_utf8 line ≡ true) × (max_word_length < length (chars line)) × Appends held new_held []
-WritesLine s line held new_held (Err (Input fault.Write)) =
-    (is_utf8 line ≡ true) × (length (chars line) ≤ max_word_length)
-    × (n : ℕ) × Appends held new_held (take n (filter_output s (chars line ∷ [])))
-WritesLine s line held new_held (Err (Input fault.OutOfMemory)) = Appends held new_held []
-WritesLine s line held new_held (Err f) = ⊥
+-- a line is text with too many characters for a word
+abbrev pub IsLong : List ℕ → Type 0
+IsLong line = (is_utf8 line ≡ true) × (max_word_length < length (chars line))
 
 -- Lines of words were taken, and the rows of their words are written.
 pub record Rows (s : Source) (old new held new_held : Option (List ℕ)) (lines : List (List ℕ)) : Type 0 where
@@ -60,22 +51,33 @@ pub record Rows (s : Source) (old new held new_held : Option (List ℕ)) (lines 
 abbrev pub TookLine : Option (List ℕ) → Option (List ℕ) → List ℕ → Type 0
 TookLine old new line = (line ≢ point) × (length line ≤ max_line) × Took old new (line ∷ [])
 
--- There is no more row: the reader stopped in the next line, that line is too long, or it gives none; or an allocation failed
--- before the next line.
-abbrev pub Stops : Source → Option (List ℕ) → Option (List ℕ) → Option (List ℕ) → Option (List ℕ) → LoadFault → Type 0
-Stops s old new held new_held (Input fault.Read) = ((part : List ℕ) × BreaksOff old new part) × Appends held new_held []
-Stops s old new held new_held (Input fault.LineTooLong) = BeginsLong old × Appends held new_held []
-Stops s old new held new_held (Input fault.OutOfMemory) =
-    (Took old new [] ⊎ ((line : List ℕ) × TookLine old new line)) × Appends held new_held []
-Stops s old new held new_held f = (line : List ℕ) × TookLine old new line × WritesLine s line held new_held (Err f)
+-- There is no more row: the reader stopped in the next line, that line is too long, or it is no word; or an allocation failed in
+-- it or before it.
+abbrev pub Stops : Option (List ℕ) → Option (List ℕ) → LoadFault → Type 0
+Stops old new (Input fault.Read) = (part : List ℕ) × BreaksOff old new part
+Stops old new (Input fault.LineTooLong) = BeginsLong old
+Stops old new (Input fault.NotText) = (line : List ℕ) × TookLine old new line × (is_utf8 line ≡ false)
+Stops old new (Input fault.OutOfMemory) = Took old new [] ⊎ ((line : List ℕ) × TookLine old new line)
+Stops old new (Open f) = (f ≡ edit.WordTooLong) × (line : List ℕ) × TookLine old new line × IsLong line
+Stops old new f = ⊥
 
--- What a filter writes for words up to a line `.` or the end of input: all rows; or those of the lines before a fault.
+-- these lines were taken, and at most one more
+abbrev pub TookAtLeast : Option (List ℕ) → Option (List ℕ) → List (List ℕ) → Type 0
+TookAtLeast old new lines = Took old new lines ⊎ ((line : List ℕ) × Took old new (lines ++ line ∷ []))
+
+-- a prefix of the rows of the words in these lines is written
+abbrev pub AppendsPart : Source → Option (List ℕ) → Option (List ℕ) → List (List ℕ) → Type 0
+AppendsPart s held new_held lines = (n : ℕ) × Appends held new_held (take n (filter_output s (map chars lines)))
+
+-- What a filter writes for words up to a line `.` or the end of input: all rows; or those of the lines before a fault. After a
+-- failed write it is a prefix of the rows of the lines that were taken.
 abbrev pub Filters : Source → Option (List ℕ) → Option (List ℕ) → Option (List ℕ) → Option (List ℕ) → Result (Unit {0}) LoadFault → Type 0
 Filters s old new held new_held (Ok u) =
     (lines : List (List ℕ)) × TookWords old new lines × AllShort lines × Appends held new_held (filter_output s (map chars lines))
+Filters s old new held new_held (Err (Input fault.Write)) =
+    (lines : List (List ℕ)) × WordLines lines × AllShort lines × TookAtLeast old new lines × AppendsPart s held new_held lines
 Filters s old new held new_held (Err f) =
-    (lines : List (List ℕ)) × (next : Option (List ℕ)) × (next_held : Option (List ℕ))
-    × Rows s old next held next_held lines × Stops s next new next_held new_held f
+    (lines : List (List ℕ)) × (next : Option (List ℕ)) × Rows s old next held new_held lines × Stops next new f
 
 -- ---- the whole input
 

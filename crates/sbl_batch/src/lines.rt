@@ -1,5 +1,5 @@
 //! The text of records, one line at a time.
-ghost use Rattle.std.specs.Prelude.{◌≡◌, ◌∷◌, [], IfOk, OnOk};
+ghost use Rattle.std.specs.Prelude.{◌≡◌, ◌∷◌, ◌++◌, [], OnErr, OnOk};
 ghost use Rattle.sbl_batch.specs.LineWriter.{IsBetweenLines};
 ghost use Rattle.sbl_io.specs.Records as texts;
 
@@ -18,20 +18,22 @@ pub(crate) fn line_writer(alloc: Global) -> Writer<Vec<u8>>
         .from_writer(Vec::new(alloc))
 }
 
-/// Returns the text of a row: a word and the fields of its outcome, quoted if `csv` quotes them, and a line feed. Returns `AllocError` if an
-/// allocation fails.
+/// Appends the text of a row to `rows`: a word and the fields of its outcome, quoted if `csv` quotes them, and a line feed. Returns
+/// `AllocError` if an allocation fails; `rows` then stays.
 ///
 /// A writer of `csv` has a buffer that takes longer to make than a line. So it makes many lines.
 #[inline(never)]
-pub(crate) fn next_line<'f>(
+pub(crate) fn push_line<'f>(
     alloc: Global,
     lines: &mut Writer<Vec<u8>>,
+    rows: &mut Vec<u8>,
     word: &'f [u8],
     kind: &'f [u8],
     text: &'f [u8],
-) -> Result<Vec<u8>, AllocError>
+) -> Result<(), AllocError>
     requires { IsBetweenLines lines.old }
-    ensures line { IfOk result (λ line. line.items ≡ texts.record_line (word.now ∷ kind.now ∷ text.now ∷ [])) }
+    ensures line { OnOk result (rows.new.items ≡ rows.old.items ++ texts.record_line (word.now ∷ kind.now ∷ text.now ∷ [])) }
+    ensures stays { OnErr result (rows.new.items ≡ rows.old.items) }
     ensures between { OnOk result (IsBetweenLines lines.new) }
 {
     if MOST < lines.get_ref().len() {
@@ -42,11 +44,11 @@ pub(crate) fn next_line<'f>(
     if written.is_err() || lines.flush().is_err() {
         return Err(AllocError);
     }
-    Vec::from_slice(alloc, &lines.get_ref()[before..])
+    rows.extend_from_slice(&lines.get_ref()[before..])
 }
 
 // Replaces the writer by one that has no line yet. A new writer is 8 KB on the stack, which the function that makes it clears. So
-// that is no part of `next_line`.
+// that is no part of `push_line`.
 #[inline(never)]
 fn forget_lines(alloc: Global, lines: &mut Writer<Vec<u8>>)
     ensures { IsBetweenLines lines.new }

@@ -1,58 +1,122 @@
-//! The row of one word.
-ghost use Rattle.std.specs.Prelude.{◌≡◌, ◌≤◌, length, IfOk, OnOk};
+//! The rows of words, made one after another and written together.
+ghost use Rattle.std.specs.Prelude.{◌≡◌, ◌≤◌, ◌++◌, [], ℕ, length, take, false, Ok, IfErr, OnErr, OnOk};
 ghost use Rattle.std.specs.Str.{chars};
+ghost use Rattle.std.specs.Io.KnownBytes.{Appends};
 ghost use Rattle.sbl_rows.specs.Rows.{row_of};
 ghost use Rattle.sbl_rows.specs.Setting.{under};
 ghost use Rattle.sbl_semantics.specs.Limit.{default_limit, max_word_length};
 ghost use Rattle.sbl_machine.specs.MachineOf.{IsLinkedMachineOf};
+ghost use Rattle.sbl_io.specs.Devices.{HasStopped, WritesInTime};
 ghost use Rattle.sbl_io.specs.Records as texts;
 ghost use Rattle.sbl_ast.specs.Source.{Source};
+ghost use Rattle.sbl_batch.specs.HeldRows.{WritesPart};
 ghost use Rattle.sbl_batch.specs.LineWriter.{IsBetweenLines};
 ghost use Rattle.sbl_reports.specs.RowRecords.{row_fields};
 
-use crate::lines::{line_writer, next_line};
+use crate::lines::{line_writer, push_line};
 use csv::Writer;
-use sbl_io::TextBuffer;
+use sbl_io::{ServeFault, Sink, TextBuffer, write_all};
 use sbl_machine::{DEFAULT_LIMIT, Machine, Meter, Table};
 use sbl_reports::outcome_fields;
 use std::alloc::{AllocError, Global};
 
-/// What makes the text of one row after another. It keeps its buffers from row to row. The run of a word and the text of its row
-/// still allocate.
+/// Rows are written after a run if the runs since the last write took more steps than this.
+const MOST_STEPS: u64 = 100_000;
+
+/// Rows are written after a run if their text has more bytes than this.
+const MOST_BYTES: usize = 65_536;
+
+/// What makes the text of one row after another, and keeps it until it is written. It keeps its buffers from row to row. The run of a
+/// word still allocates.
 #[derive(Drop)]
 pub(crate) struct RowWriter {
     /// The writer of the lines.
     pub(crate) lines: Writer<Vec<u8>>,
     // A buffer for the stem of a row.
     stem: TextBuffer,
+    /// The text of the rows that are not written yet.
+    pub(crate) text: Vec<u8>,
+    // The steps of the runs since the last write.
+    steps: u64,
 }
 
 impl RowWriter {
     /// Returns a writer of rows that has no row yet. Does not allocate.
     pub(crate) fn new(alloc: Global) -> RowWriter
-        ensures { IsBetweenLines result.lines }
+        ensures between { IsBetweenLines result.lines }
+        ensures none { result.text.items ≡ [] }
     {
         RowWriter {
             lines: line_writer(alloc),
             stem: TextBuffer::new(alloc),
+            text: Vec::new(alloc),
+            steps: 0,
         }
+    }
+
+    /// Writes the rows that are not written yet. Returns `Write` as `write_all` does; then a prefix of them is written, and the rest is
+    /// forgotten.
+    pub(crate) fn write_to<W: Sink>(&mut self, writer: &mut W) -> Result<(), ServeFault>
+        ensures all { OnOk result (Appends (W.held writer.old) (W.held writer.new) self.old.text.items) }
+        ensures prefix { (n : ℕ) × Appends (W.held writer.old) (W.held writer.new) (take n self.old.text.items) }
+        ensures empty { self.new.text.items ≡ [] }
+        ensures none { self.old.text.items ≡ [] → (result ≡ Ok tt) × (writer.new ≡ writer.old) }
+        ensures lines { self.new.lines ≡ self.old.lines }
+        ensures later { (W.tally writer.old).failures ≤ (W.tally writer.new).failures }
+        ensures steady { OnOk result ((W.tally writer.new).failures ≡ (W.tally writer.old).failures) }
+        ensures why { IfErr result (λ fault. (fault ≡ ServeFault.Write) × HasStopped W.tally writer.old writer.new) }
+        ensures in_time { WritesInTime W.tally writer.old writer.new }
+        ensures rested { OnOk result ((W.tally writer.old).interruptions ≡ 0 → (W.tally writer.new).interruptions ≡ 0) }
+    {
+        self.steps = 0;
+        if self.text.is_empty() {
+            return Ok(());
+        }
+        let written = write_all(writer, &self.text);
+        self.text.clear();
+        written
+    }
+
+    /// Writes the rows that are not written yet if no whole line is held, so that a read may follow, or if they took many steps or are
+    /// many. Returns `Write` as `write_to` does.
+    pub(crate) fn write_due<W: Sink>(
+        &mut self,
+        holds_line: bool,
+        writer: &mut W,
+    ) -> Result<(), ServeFault>
+        ensures part { OnOk result (WritesPart (W.held writer.old) (W.held writer.new) self.old.text.items self.new.text.items) }
+        ensures prefix { (n : ℕ) × Appends (W.held writer.old) (W.held writer.new) (take n self.old.text.items) }
+        ensures before_read { holds_line ≡ false → self.new.text.items ≡ [] }
+        ensures cut { OnErr result (self.new.text.items ≡ []) }
+        ensures lines { self.new.lines ≡ self.old.lines }
+        ensures later { (W.tally writer.old).failures ≤ (W.tally writer.new).failures }
+        ensures steady { OnOk result ((W.tally writer.new).failures ≡ (W.tally writer.old).failures) }
+        ensures why { IfErr result (λ fault. (fault ≡ ServeFault.Write) × HasStopped W.tally writer.old writer.new) }
+        ensures in_time { WritesInTime W.tally writer.old writer.new }
+        ensures rested { OnOk result ((W.tally writer.old).interruptions ≡ 0 → (W.tally writer.new).interruptions ≡ 0) }
+    {
+        if !holds_line || MOST_STEPS < self.steps || MOST_BYTES < self.text.len() {
+            return self.write_to(writer);
+        }
+        Ok(())
     }
 }
 
-/// Runs the script on a word of these characters and returns the text of the word's row, made by a writer of lines. Returns
-/// `AllocError` if an allocation fails.
-pub(crate) fn row_text(
+/// Runs the script on a word of these characters, and appends the word's row to those that are not written yet. Returns `AllocError`
+/// if an allocation fails; the rows then stay.
+pub(crate) fn push_row(
     alloc: Global,
     machine: &Machine<Table>,
     meter: &mut Meter,
     rows: &mut RowWriter,
     word: &str,
     characters: &[char],
-) -> Result<Vec<u8>, AllocError>
+) -> Result<(), AllocError>
     requires is { characters.now ≡ chars word.now }
     requires fits { length characters.now ≤ max_word_length }
     requires between { IsBetweenLines rows.old.lines }
-    ensures row { (s : Source) → IsLinkedMachineOf machine.now s → IfOk result (λ text. text.items ≡ texts.record_line (row_fields (row_of (under s default_limit) (chars word.now)))) }
+    ensures row { (s : Source) → IsLinkedMachineOf machine.now s → OnOk result (rows.new.text.items ≡ rows.old.text.items ++ texts.record_line (row_fields (row_of (under s default_limit) (chars word.now)))) }
+    ensures stays { OnErr result (rows.new.text.items ≡ rows.old.text.items) }
     ensures between { OnOk result (IsBetweenLines rows.new.lines) }
 {
     // The lines of a reader are fewer than a meter counts, so the only error is a failed allocation.
@@ -60,6 +124,14 @@ pub(crate) fn row_text(
         return Err(AllocError);
     };
     meter.reuse(traced.touches);
+    rows.steps = rows.steps.saturating_add(traced.used);
     let (kind, text) = outcome_fields(&mut rows.stem, &traced.outcome)?;
-    next_line(alloc, &mut rows.lines, word.as_bytes(), kind, text)
+    push_line(
+        alloc,
+        &mut rows.lines,
+        &mut rows.text,
+        word.as_bytes(),
+        kind,
+        text,
+    )
 }

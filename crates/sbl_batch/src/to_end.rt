@@ -1,8 +1,12 @@
-//! Reads words up to the end of input, and writes the row of each before it reads the next.
-ghost use Rattle.std.specs.Prelude.{◌≡◌, ◌≤◌, None, Err, Result, IfErr, OnOk};
+//! Reads words up to the end of input, and writes the rows of those that it has before it asks for more.
+ghost use Rattle.std.specs.Prelude.{◌≡◌, ◌≤◌, ◌⊎◌, [], None, Err, Result, IfErr, OnOk};
+ghost use Rattle.sbl_ast.specs.Source.{Source};
+ghost use Rattle.sbl_batch.specs.HeldRows.{ReadsToEndOf};
+ghost use Rattle.sbl_batch.specs.LineWriter.{IsBetweenLines};
 ghost use Rattle.sbl_batch.specs.ToEnd.{FiltersToEnd, with_line, without_line};
 ghost use Rattle.sbl_io.specs.Devices.{HasStopped, WritesInTime};
 ghost use Rattle.sbl_io.specs.HeldInput.{KeepsTime, fault_of, input_of, reads_bound};
+ghost use Rattle.sbl_machine.specs.MachineOf.{IsLinkedMachineOf};
 ghost use Rattle.sbl_script.specs.ParsedScript.{source_of};
 ghost use Rattle.sbl_input.specs.Faults.{left_by_load};
 ghost use Rattle.sbl_input.specs.Loading.{HasReason};
@@ -12,8 +16,45 @@ use crate::row_writer::RowWriter;
 use crate::word_fault::WordFault;
 use sbl_input::LoadFault;
 use sbl_io::{Lines, ServeFault, Sink, Source};
-use sbl_machine::{Machine, Meter};
+use sbl_machine::{Machine, Meter, Table};
 use sbl_script::Script;
+
+/// Reads words up to the end of input, and writes their rows before each read. After a fault rows may be left in `rows`. `line` is the
+/// number of the next line.
+#[inline(never)]
+fn read_lines<R: Source + Drop, W: Sink>(
+    lines: &mut Lines<R>,
+    machine: &Machine<Table>,
+    meter: &mut Meter,
+    rows: &mut RowWriter,
+    writer: &mut W,
+    line: &mut u64,
+) -> Result<(), LoadFault>
+    requires first { line.old ≡ 1 }
+    requires made { (s : Source) × IsLinkedMachineOf machine.now s }
+    requires between { IsBetweenLines rows.old.lines }
+    requires none { rows.old.text.items ≡ [] }
+    ensures reads { (s : Source) → IsLinkedMachineOf machine.now s → fault_of lines.old ≡ None → ReadsToEndOf R.left W.held s lines.old lines.new writer.old writer.new rows.new.text.items line.new result }
+    ensures remembered { fault_of lines.old ≡ None → fault_of lines.new ≡ left_by_load result }
+    ensures bound { reads_bound R.tally lines.new ≡ reads_bound R.tally lines.old }
+    ensures steady { OnOk result (((R.tally lines.new.reader).failures ≡ (R.tally lines.old.reader).failures) × ((W.tally writer.new).failures ≡ (W.tally writer.old).failures)) }
+    ensures later_write { (W.tally writer.old).failures ≤ (W.tally writer.new).failures }
+    ensures why { IfErr result (λ fault. HasReason R.tally lines.old lines.new fault) }
+    ensures why_write { IfErr result (λ fault. fault ≡ LoadFault.Input ServeFault.Write → HasStopped W.tally writer.old writer.new × (rows.new.text.items ≡ [])) }
+    ensures reads_in_time { KeepsTime R.tally lines.old lines.new }
+    ensures writes_in_time { WritesInTime W.tally writer.old writer.new }
+    ensures rested { (rows.new.text.items ≡ []) ⊎ ((W.tally writer.old).interruptions ≡ 0 → (W.tally writer.new).interruptions ≡ 0) }
+{
+    let alloc = lines.alloc();
+    loop {
+        rows.write_due(lines.holds_line(), writer)?;
+        if !lines.next_line()? {
+            return Ok(());
+        }
+        filter_line(alloc, machine, meter, rows, lines.line())?;
+        *line = line.saturating_add(1);
+    }
+}
 
 /// Writes the rows of the words up to the end of input. `line` is the number of the next line.
 #[inline(never)]
@@ -37,16 +78,14 @@ fn filter_lines<R: Source + Drop, W: Sink>(
     let machine = Machine::new(alloc, script)?;
     let mut meter = Meter::new();
     let mut rows = RowWriter::new(alloc);
-    while lines.next_line()? {
-        filter_line(alloc, &machine, &mut meter, &mut rows, lines.line(), writer)?;
-        *line = line.saturating_add(1);
-    }
-    Ok(())
+    let ended = read_lines(lines, &machine, &mut meter, &mut rows, writer, line);
+    rows.write_to(writer)?;
+    ended
 }
 
-/// Reads words up to the end of input, one a line, and writes the row of each word that is not empty before it reads the next line.
-/// A line `.` is a word, too. The row of a word is the one that `filter` writes for it, and a word that is there again has a row
-/// again.
+/// Reads words up to the end of input, one a line, and writes the row of each word that is not empty. A line `.` is a word, too. The row
+/// of a word is the one that `filter` writes for it, and a word that is there again has a row again. The rows are written when `filter`
+/// writes them: those of all complete lines before more input is asked for.
 ///
 /// Nothing is kept of a word after its row is written, and the number of words has no bound.
 ///
@@ -54,10 +93,12 @@ fn filter_lines<R: Source + Drop, W: Sink>(
 ///
 /// At the first word that has a fault, returns it with the number of the word's line, after the rows of all words before that:
 /// `Read` or `LineTooLong` if its line cannot be read, `NotText` if it is not UTF-8, `WordTooLong` if it has more than 255
-/// characters, `Write` if the writer fails or is interrupted more than 1,000 times in a row; then a prefix of its row is written.
-/// Returns `OutOfMemory` if an allocation fails, after the rows of all words before.
+/// characters. Returns `OutOfMemory` if an allocation fails, after the rows of all words before. Returns `Write` instead if the writer
+/// fails or is interrupted more than 1,000 times in a row; then a prefix of the rows of the words that were read is written, and the
+/// number is that of the line after them.
 ///
-/// The lines keep `Read` and `LineTooLong` and return them again. After any other fault, the next line is the one after the word.
+/// The lines keep `Read` and `LineTooLong` and return them again. After any other fault but `Write`, the next line is the one after the
+/// word.
 pub fn filter_to_end<R: Source + Drop, W: Sink>(
     lines: &mut Lines<R>,
     script: &Script,

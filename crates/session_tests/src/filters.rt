@@ -35,7 +35,8 @@ fn a_filter_writes_a_row_for_each_word_up_to_a_fault(rt: HostRuntime) -> Result<
 }
 
 /// Rows as of `all_give`. Nothing but the end of input ends the words: a line `.` is a word. A fault of a word has the number of its line
-/// among the words; empty lines count.
+/// among the words; empty lines count. A fault of writing has the number of the line after those that were read: the first read of words
+/// ends at the third byte of them, the next one has sixteen more.
 const ROWS_TO_END: &str = "||||!73 Cut
 = externals ( stem )¶define stem as ( [ among ( 'un' () 're' () ) ] delete )¶.¶
 undo¶.¶redo¶||||undo,stem,do¶.,stem,.¶redo,stem,do¶
@@ -43,7 +44,9 @@ undo¶.¶redo¶||||undo,stem,do¶.,stem,.¶redo,stem,do¶
 undo¶¶.¶ÿ¶redo¶||||undo,stem,do¶.,stem,.¶!4:75 NotText|redo
 undo¶ⅱ¶redo¶||||undo,stem,do¶!2:43 WordTooLong|redo
 .¶ⅳ||||.,stem,.¶!2:72 LineTooLong
-undo¶.¶||3||undo,ste!1:71 Write|.
+undo¶.¶||3||undo,ste!3:71 Write|
+undo¶redo¶undo¶||4||undo,stem,do!4:71 Write|
+undo¶abcdefghijklmnopqrst¶||3||undo,ste!2:71 Write|abcdefghijklmnopqrst
 = externals ( stem )¶
 ||||!73 Cut
 = externals ( other ) define other as true¶.¶

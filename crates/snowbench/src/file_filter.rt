@@ -33,8 +33,8 @@ struct FilterFault {
 }
 
 /// Runs `filter` with a script in a file: reads from `lines` a script block up to a line `.`, which `main` makes of the file, and then
-/// words up to the end of input; a line `.` is a word there. Writes the row of each word to `writer` before it reads the next. A
-/// fault is one line in `errors`: `snowbench: ` and the text of the fault. What was written before the fault stays in `writer`.
+/// words up to the end of input; a line `.` is a word there. Writes the row of each word to `writer`, before it asks for more input.
+/// A fault is one line in `errors`: `snowbench: ` and the text of the fault. What was written before the fault stays in `writer`.
 pub fn run_filter<R: Source + Drop, W: Sink, E: Sink>(
     external: &str,
     lines: &mut Lines<R>,

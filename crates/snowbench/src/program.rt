@@ -43,7 +43,7 @@ const MAX_FAULT_LINE: usize = 96;
 /// `run_with`.
 ///
 /// `session` loads a bench and answers the commands after it. `stem` writes the row of each word of a vocabulary. `filter`
-/// writes the row of each word before it reads the next.
+/// writes the row of each word, before it asks for more input.
 /// `check` reads a script block, a block of words and the expected stems up to the end of input, all before it runs
 /// anything, and then writes a row for each difference. `compare` and `work` read files, and have entries of their own: here they read
 /// and write nothing.

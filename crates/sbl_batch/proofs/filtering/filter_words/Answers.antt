@@ -1,10 +1,8 @@
-use Rattle.std.proofs.Common.{rules, ◌≡◌, ◌≢◌, ◌∙◌, ◌++◌, [], ◌∷◌, List, ℕ, Ok, Err, refl, sym, subst}
-use Rattle.std.proofs.lemmas.Result.{err_from_is_err_and}
-use Rattle.sbl_batch.proofs.FilterFacts.{filters-broken, filters-end, filters-fault, filters-none, filters-point, reason-before, rows-none, rows-push, stopped-before}
-use Rattle.sbl_batch.specs.Filter.{WritesLine}
-use Rattle.sbl_io.specs.HeldInput.{GivesLine, fault_of, input_of, line_of}
+use Rattle.std.proofs.Common.{rules, ◌≡◌, ◌≢◌, ◌⊎◌, inl, inr, ◌∙◌, [], List, ℕ, Ok, Err, refl, sym, ap, subst, arith}
+use Rattle.std.proofs.lemmas.Result.{err_from_is_err_and, on_ok_weaker}
+use Rattle.sbl_batch.proofs.FilterFacts.{filters-cut, filters-none, filters-written, in_time-after, left-kept, stopped-kept, stopped-later}
+use Rattle.sbl_io.specs.HeldInput.{fault_of, input_of}
 use Rattle.sbl_script.specs.ParsedScript.{source_of}
-use Rattle.sbl_reports.specs.Block.{point}
 use Rattle.sbl_batch.proofs.filtering.filter_words.Goals as goal
 
 pub returns-in_err-machine-clause-filters : goal.returns-in_err-machine-clause-filters
@@ -12,86 +10,55 @@ returns-in_err-machine-clause-filters g c = λ _.
     let p = err_from_is_err_and c.from_residual.result c.from_residual.ensures.1 in
     rw (p.1, p.2) (filters-none (source_of c.args.script.now) (input_of g.R.Source.left c.args.lines.now) (g.W.Sink.held c.args.writer.now))
 
-pub loop-rows-init : goal.loop-rows-init
-loop-rows-init g c = record {
-  made = c.in_ok-machine.ensures;
-  between = c.new-rows.ensures;
-  rows = ([], rows-none _ _ _);
-  fault = refl;
-  read = refl;
-  written = refl;
-  bound = refl;
-  reads = λ timely. timely;
-  writes = λ fair rest. fair;
-  rested = λ rest. rest;
-}
-
-pub returns-in_err-next_line-clause-filters : goal.returns-in_err-next_line-clause-filters
-returns-in_err-next_line-clause-filters g c = λ none.
-    let p = err_from_is_err_and c.from_residual-in_err-next_line.result c.from_residual-in_err-next_line.ensures.1 in
-    rw (p.1, p.2) (filters-broken c.loop-rows.invariant.rows.1 (input_of g.R.Source.left c.next_line.new.self) (fault_of c.loop-rows.lines) (line_of c.next_line.new.self) c.in_err-next_line.field-0.0
-    (c.loop-rows.invariant.fault ∙ none) c.in_err-next_line.ensures.long c.in_err-next_line.ensures.cut)
-
-pub returns-then-eq-clause-filters : goal.returns-then-eq-clause-filters
-returns-then-eq-clause-filters g c = λ _.
-    let left = g.R.Source.left in
-    let line : line_of c.next_line.new.self ≡ point = search rules in
-    let gives : GivesLine (input_of left c.loop-rows.lines) (input_of left c.next_line.new.self) point =
-    subst (λ (x : List ℕ). GivesLine (input_of left c.loop-rows.lines) (input_of left c.next_line.new.self) x) line (c.in_ok-next_line.ensures.more c.if-branch.true) in
-    filters-point c.loop-rows.invariant.rows.1 (input_of left c.next_line.new.self) gives
-
-pub loop-rows-preserved : goal.loop-rows-preserved
-loop-rows-preserved g c =
-    let so = c.loop-rows.invariant in
-    let left = g.R.Source.left in
+pub returns-in_err-write_to-clause-filters : goal.returns-in_err-write_to-clause-filters
+returns-in_err-write_to-clause-filters g c = λ none.
     let held = g.W.Sink.held in
-    let s = source_of c.args.script.now in
-    let line = line_of c.next_line.new.self in
-    let other : line ≢ point = search rules in
-    let writes : WritesLine s line (held c.loop-rows.writer) (held c.filter_line.new.writer) (Ok tt) =
-    subst (λ (x : List ℕ). WritesLine s x (held c.loop-rows.writer) (held c.filter_line.new.writer) (Ok tt)) c.line-in-loop-rows.ensures (c.in_ok-filter_line.ensures.writes s so.made) in
-    record {
-      made = so.made;
-      between = c.in_ok-filter_line.ensures.between;
-      rows =
-          (so.rows.0 ++ line ∷ [], rows-push so.rows.1 (input_of left c.next_line.new.self) (held c.filter_line.new.writer) line (other, c.in_ok-next_line.ensures.fits c.if-branch.true, c.in_ok-next_line.ensures.more c.if-branch.true) writes);
-      fault = c.in_ok-next_line.ensures.ready.1 ∙ sym c.in_ok-next_line.ensures.ready.0 ∙ so.fault;
-      read = c.in_ok-next_line.ensures.steady ∙ so.read;
-      written = c.in_ok-filter_line.ensures.steady ∙ so.written;
-      bound = c.next_line.ensures.bound ∙ so.bound;
-      reads = λ timely. c.next_line.ensures.in_time (so.reads timely);
-      writes = λ fair rest. c.filter_line.ensures.in_time (so.writes fair rest) (so.rested rest);
-      rested = λ rest. c.in_ok-filter_line.ensures.rested (so.rested rest);
-    }
-
-pub returns-in_err-filter_line-clause-filters : goal.returns-in_err-filter_line-clause-filters
-returns-in_err-filter_line-clause-filters g c = λ _.
-    let so = c.loop-rows.invariant in
     let left = g.R.Source.left in
-    let held = g.W.Sink.held in
-    let s = source_of c.args.script.now in
-    let line = line_of c.next_line.new.self in
-    let f = c.in_err-filter_line.field-0.0 in
-    let other : line ≢ point = search rules in
-    let writes : WritesLine s line (held c.loop-rows.writer) (held c.filter_line.new.writer) (Err f) =
-    subst (λ (x : List ℕ). WritesLine s x (held c.loop-rows.writer) (held c.filter_line.new.writer) (Err f)) c.line-in-loop-rows.ensures (c.in_err-filter_line.ensures.writes s so.made) in
-    let p = err_from_is_err_and c.from_residual-in_err-filter_line.result c.from_residual-in_err-filter_line.ensures.1 in
-    rw (p.1, p.2) (filters-fault so.rows.1 (input_of left c.next_line.new.self) (held c.filter_line.new.writer) line f
-    (other, c.in_ok-next_line.ensures.fits c.if-branch.true, c.in_ok-next_line.ensures.more c.if-branch.true) writes)
+    let p = err_from_is_err_and c.from_residual-in_err-write_to.result c.from_residual-in_err-write_to.ensures.1 in
+    let some : c.read_words-ended.new.rows.text.items ≡ [] → ⊥ = λ none. (let ok = (c.write_to.ensures.none none).0 in let no : ⊥ = cc (ok, c.in_err-write_to.was) in no) in
+    rw (p.1, p.2, c.in_err-write_to.ensures.why.0)
+    (filters-cut (source_of c.args.script.now) (input_of left c.args.lines.now) (input_of left c.read_words-ended.new.lines) (held c.args.writer.now) (held c.read_words-ended.new.writer) (held c.write_to.new.writer)
+    c.read_words-ended.new.rows.text.items c.read_words-ended.result c.write_to.ensures.prefix.0 (c.read_words-ended.ensures.reads (source_of c.args.script.now) c.in_ok-machine.ensures none) c.write_to.ensures.prefix.1 some)
 
 pub returns-clause-filters : goal.returns-clause-filters
-returns-clause-filters g c = λ _.
-    let end = c.in_ok-next_line.ensures.end c.if-branch.false in
-    filters-end c.loop-rows.invariant.rows.1 (input_of g.R.Source.left c.next_line.new.self) end.2 end.1
+returns-clause-filters g c = λ none.
+    let held = g.W.Sink.held in
+    let left = g.R.Source.left in
+    let same : c.read_words-ended.new.rows.text.items ≡ [] → held c.read_words-ended.new.writer ≡ held c.write_to.new.writer = λ none. ap held (sym (c.write_to.ensures.none none).1) in
+    filters-written (source_of c.args.script.now) (input_of left c.args.lines.now) (input_of left c.read_words-ended.new.lines) (held c.args.writer.now) (held c.read_words-ended.new.writer) (held c.write_to.new.writer)
+    c.read_words-ended.new.rows.text.items c.read_words-ended.result (c.read_words-ended.ensures.reads (source_of c.args.script.now) c.in_ok-machine.ensures none) c.in_ok-write_to.ensures.all same
 
-pub returns-in_err-next_line-clause-why : goal.returns-in_err-next_line-clause-why
-returns-in_err-next_line-clause-why g c =
-    let so = c.loop-rows.invariant in
-    let p = err_from_is_err_and c.from_residual-in_err-next_line.result c.from_residual-in_err-next_line.ensures.1 in
-    rw (p.1, p.2) (reason-before g.R.Source.tally c.args.lines.now c.loop-rows.lines c.next_line.new.self c.in_err-next_line.field-0.0 c.in_err-next_line.ensures.why so.read so.bound so.fault)
+pub returns-in_err-write_to-clause-remembered : goal.returns-in_err-write_to-clause-remembered
+returns-in_err-write_to-clause-remembered g c = λ none.
+    let held = g.W.Sink.held in
+    let left = g.R.Source.left in
+    let p = err_from_is_err_and c.from_residual-in_err-write_to.result c.from_residual-in_err-write_to.ensures.1 in
+    let some : c.read_words-ended.new.rows.text.items ≡ [] → ⊥ = λ none. (let ok = (c.write_to.ensures.none none).0 in let no : ⊥ = cc (ok, c.in_err-write_to.was) in no) in
+    rw (p.1, p.2, c.in_err-write_to.ensures.why.0)
+    (left-kept (source_of c.args.script.now) (input_of left c.args.lines.now) (input_of left c.read_words-ended.new.lines) (held c.args.writer.now) (held c.read_words-ended.new.writer) (held c.write_to.new.writer)
+    c.read_words-ended.new.rows.text.items c.read_words-ended.result (fault_of c.read_words-ended.new.lines) (c.read_words-ended.ensures.reads (source_of c.args.script.now) c.in_ok-machine.ensures none) (c.read_words-ended.ensures.remembered none) some)
 
-pub returns-in_err-filter_line-clause-why_write : goal.returns-in_err-filter_line-clause-why_write
-returns-in_err-filter_line-clause-why_write g c =
-    let so = c.loop-rows.invariant in
-    let p = err_from_is_err_and c.from_residual-in_err-filter_line.result c.from_residual-in_err-filter_line.ensures.1 in
-    rw (p.1, p.2) (λ write. stopped-before g.W.Sink.tally c.args.writer.now c.loop-rows.writer c.filter_line.new.writer so.written (c.in_err-filter_line.ensures.why write))
+pub returns-in_err-write_to-clause-why_write : goal.returns-in_err-write_to-clause-why_write
+returns-in_err-write_to-clause-why_write g c =
+    let p = err_from_is_err_and c.from_residual-in_err-write_to.result c.from_residual-in_err-write_to.ensures.1 in
+    rw (p.1, p.2) (λ _. stopped-later g.W.Sink.tally c.args.writer.now c.read_words-ended.new.writer c.write_to.new.writer c.read_words-ended.ensures.later_write c.in_err-write_to.ensures.why.1)
+
+pub returns-clause-why_write : goal.returns-clause-why_write
+returns-clause-why_write g c =
+    stopped-kept g.W.Sink.tally c.args.writer.now c.read_words-ended.new.writer c.write_to.new.writer c.read_words-ended.new.rows.text.items c.read_words-ended.result c.read_words-ended.ensures.why_write (λ none. (c.write_to.ensures.none none).1)
+
+pub returns-in_err-write_to-clause-writes_in_time : goal.returns-in_err-write_to-clause-writes_in_time
+returns-in_err-write_to-clause-writes_in_time g c =
+    in_time-after g.W.Sink.tally c.args.writer.now c.read_words-ended.new.writer c.write_to.new.writer c.read_words-ended.new.rows.text.items c.read_words-ended.ensures.rested (λ none. (c.write_to.ensures.none none).1)
+    c.read_words-ended.ensures.writes_in_time c.write_to.ensures.in_time
+
+pub returns-clause-writes_in_time : goal.returns-clause-writes_in_time
+returns-clause-writes_in_time g c =
+    in_time-after g.W.Sink.tally c.args.writer.now c.read_words-ended.new.writer c.write_to.new.writer c.read_words-ended.new.rows.text.items c.read_words-ended.ensures.rested (λ none. (c.write_to.ensures.none none).1)
+    c.read_words-ended.ensures.writes_in_time c.write_to.ensures.in_time
+
+pub returns-clause-steady : goal.returns-clause-steady
+returns-clause-steady g c = on_ok_weaker c.read_words-ended.result (λ p. (p.0, c.in_ok-write_to.ensures.steady ∙ p.1)) c.read_words-ended.ensures.steady
+
+pub read_words-ended-requires-clause-made : goal.read_words-ended-requires-clause-made
+read_words-ended-requires-clause-made g c = (source_of c.args.script.now, c.in_ok-machine.ensures)
