@@ -75,7 +75,11 @@ fn text_of(
 }
 
 /// Returns the rows of all faults of a text as a script with this external.
-fn script_faults(alloc: Global, text: &[u8], external: &str) -> Result<Vec<u8>, AllocError>
+fn script_faults<'x>(
+    alloc: Global,
+    text: &'x [u8],
+    external: &'x str,
+) -> Result<Vec<u8>, AllocError>
     ensures { IfOk result (λ report. listed.IsFaultsText text.now external.now report.items) }
 {
     let faults = faults_of_text(alloc, text, external)?;
@@ -155,11 +159,11 @@ fn part_faults(
 }
 
 /// Returns the rows of all faults of what is typed for a part of the script.
-fn part_text(
+fn part_text<'x>(
     alloc: Global,
-    bench: &Bench,
-    part: Part<'_>,
-    typed: &[u8],
+    bench: &'x Bench,
+    part: Part<'x>,
+    typed: &'x [u8],
     fault: ScriptFault,
 ) -> Result<Vec<u8>, AllocError>
     ensures { IfOk result (λ report. listed.IsPartText (contents_of bench.now) (view_part part.entry) typed.now fault report.items) }
