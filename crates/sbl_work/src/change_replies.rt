@@ -37,8 +37,8 @@ fn first_since_mark(
 ) -> Result<Vec<u8>, AllocError>
     ensures { IfOk result (λ text. text.items ≡ reports.first_changes_text number (state_of desk.now).marked (contents_of bench.now)) }
 {
-    let marked = desk.marked_rows()?;
-    first_changes_text(alloc, &marked, bench, number)
+    let before = desk.marked_rows()?;
+    first_changes_text(alloc, &before, bench, number)
 }
 
 /// Returns the reply to `changes` with an argument, which should be a number above 0.
