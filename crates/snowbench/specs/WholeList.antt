@@ -1,11 +1,8 @@
 -- What `run` writes for an input in the form of a list.
-use Rattle.std.specs.Prelude.{◌≡◌, ◌⊎◌, ℕ, List, [], Option, Some, None, Result, Ok, Err, IfErr, length, map, take}
-use Rattle.std.specs.Str.{chars}
+use Rattle.std.specs.Prelude.{◌≡◌, ◌⊎◌, ℕ, List, [], Option, Some, None, Result, Ok, Err, IfErr, length, take}
 use Rattle.std.specs.Io.KnownBytes.{Appends}
-use Rattle.sbl_ast.specs.Source.{Source}
-use Rattle.sbl_bench.specs.Contents.{opening_contents, opening_fault, rows_now}
-use Rattle.sbl_bench.specs.KeptRuns.{contents_of}
-use Rattle.sbl_input.specs.Loading.{IsInput, IsLoaded}
+use Rattle.sbl_bench.specs.Contents.{Contents, rows_now}
+use Rattle.sbl_input.specs.Loading.{IsLoaded}
 use Rattle.sbl_input.specs.declared.faults.LoadFault.{LoadFault}
 use Rattle.sbl_input.specs.declared.faults.LoadFault.TheVariants.{Input}
 use Rattle.sbl_io.specs.Devices.{Tally}
@@ -24,28 +21,23 @@ abbrev pub list_of : ListKind → List Row → Option (List ℕ)
 list_of (Words form) rows = Some (list_text form rows)
 list_of Stems rows = stem_lines rows
 
--- an input has a bench, and these are its rows
-abbrev pub HasRows : Option (List ℕ) → Option (List ℕ) → List ℕ → List Row → Type 0
-HasRows old new external rows =
-    (s : Source) × (words : List (List ℕ)) × IsInput old new external s words × (opening_fault [] (map chars words) ≡ None)
-    × (rows ≡ rows_now (opening_contents s (map chars words)))
+-- The list of rows is written, and the result is their number; or there is no list. If the writer failed, a prefix of the list is written;
+-- if an allocation failed, nothing.
+abbrev pub WritesList : ListKind → List Row → Option (List ℕ) → Option (List ℕ) → Result (Option ℕ) LoadFault → Type 0
+WritesList kind rows held new_held (Ok (Some n)) =
+    (list : List ℕ) × (list_of kind rows ≡ Some list) × (n ≡ length rows) × Appends held new_held list
+WritesList kind rows held new_held (Ok None) = (list_of kind rows ≡ None) × Appends held new_held []
+WritesList kind rows held new_held (Err (Input fault.Write)) =
+    (list : List ℕ) × (list_of kind rows ≡ Some list) × (n : ℕ) × Appends held new_held (take n list)
+WritesList kind rows held new_held (Err (Input fault.OutOfMemory)) = Appends held new_held []
+WritesList kind rows held new_held (Err f) = ⊥
 
--- The list of the vocabulary is written, and the result is the number of its words; or there is no list. If the writer failed, a prefix of the list is written. Otherwise nothing is
--- written: loading failed with this fault, or an allocation failed during or after loading.
+-- There is no bench: the result is the fault of loading, and nothing is written. Or a bench is loaded, and the list of its rows is written.
 abbrev pub IsListed : ListKind → Option (List ℕ) → Option (List ℕ) → List ℕ → Option (List ℕ) → Option (List ℕ)
     → Result (Option ℕ) LoadFault → Type 0
-IsListed kind old new external held new_held (Ok (Some n)) =
-    (rows : List Row) × (list : List ℕ) × HasRows old new external rows × (n ≡ length rows) × (list_of kind rows ≡ Some list) × Appends held new_held list
-IsListed kind old new external held new_held (Ok None) =
-    (rows : List Row) × HasRows old new external rows × (list_of kind rows ≡ None) × Appends held new_held []
-IsListed kind old new external held new_held (Err (Input fault.Write)) =
-    (rows : List Row) × (list : List ℕ) × HasRows old new external rows × (list_of kind rows ≡ Some list)
-    × (n : ℕ) × Appends held new_held (take n list)
-IsListed kind old new external held new_held (Err (Input fault.OutOfMemory)) =
-    (IsLoaded old new external (λ b. contents_of b) (Err (Input fault.OutOfMemory))
-    ⊎ ((s : Source) × (words : List (List ℕ)) × IsInput old new external s words))
-    × Appends held new_held []
-IsListed kind old new external held new_held (Err f) = IsLoaded old new external (λ b. contents_of b) (Err f) × Appends held new_held []
+IsListed kind input left external held new_held result =
+    ((f : LoadFault) × (result ≡ Err f) × IsLoaded input left external (λ (s : Contents). s) (Err f) × Appends held new_held [])
+    ⊎ ((s : Contents) × IsLoaded input left external (λ (s : Contents). s) (Ok s) × WritesList kind (rows_now s) held new_held result)
 
 -- the same result with 1 if there is no list, which ends with status 1 as differences do
 abbrev pub as_missing : Result (Option ℕ) LoadFault → Result ℕ LoadFault
