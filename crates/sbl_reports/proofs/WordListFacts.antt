@@ -14,6 +14,7 @@ abbrev line_chars : ListForm → List ℕ → List ℕ → List ℕ
 line_chars form word stem = word ++ (between form ++ (stem ++ 10 ∷ []))
 
 encoded : (form : ListForm) (w s : List ℕ) → encode_utf8_all (line_chars form w s) ≡ list_line form w s
+unfolding lib.Utf8.encode
 encoded form w s =
     let feed = 10 ∷ [] in
     let middle : encode_utf8_all (between form) ≡ between form = by form in
