@@ -141,15 +141,15 @@ module _ (s : Source) (a c h k m : Option (List ℕ)) (t : List ℕ) where
   Writes r = Filters s a c h m r
 
   -- the lines of words that were taken, and what stopped them
-  stopped : (f : LoadFault) (lines : List (List ℕ)) (next : Option (List ℕ)) → WordsHeld s a next h k t lines → Stops next c f → Appends k m t
+  end-written : (f : LoadFault) (lines : List (List ℕ)) (next : Option (List ℕ)) → WordsHeld s a next h k t lines → Stops next c f → Appends k m t
       → (lines : List (List ℕ)) × (next : Option (List ℕ)) × Rows s a next h m lines × Stops next c f
-  stopped f lines next so stops all =
+  end-written f lines next so stops all =
       let text = holds-written s h k t lines so.rows m all in
       (lines, next, record { words = so.words; took = so.took; text = text }, stops)
 
-  unwritten : (f : LoadFault) (lines : List (List ℕ)) (next : Option (List ℕ)) → WordsHeld s a next h k t lines → Stops next c f → (f ≡ Input fault.Read → ⊥) → (f ≡ Input fault.LineTooLong → ⊥)
+  end-cut : (f : LoadFault) (lines : List (List ℕ)) (next : Option (List ℕ)) → WordsHeld s a next h k t lines → Stops next c f → (f ≡ Input fault.Read → ⊥) → (f ≡ Input fault.LineTooLong → ⊥)
       → (n : ℕ) → Appends k m (take n t) → Writes (Err (Input fault.Write))
-  unwritten f lines next so stops read long n cut =
+  end-cut f lines next so stops read long n cut =
       (lines, so.words.0, so.words.1, took_at_least a next c lines so.took (took_next next c f stops read long), holds-cut s h k t lines so.rows m n cut)
 
   -- all of them are written
@@ -159,11 +159,11 @@ module _ (s : Source) (a c h k m : Option (List ℕ)) (t : List ℕ) where
   filters-written (Err (Input fault.LineTooLong)) so all same = subst (λ (x : Option (List ℕ)). Filters s a c h x (Err (Input fault.LineTooLong))) (same so.1) so.0
   filters-written (Err (Input fault.Write)) so all same = subst (λ (x : Option (List ℕ)). Filters s a c h x (Err (Input fault.Write))) (same so.1) so.0
   filters-written (Err (Script f)) so all same = absurd so.3
-  filters-written (Err (Open f)) so all same = stopped (Open f) so.0 so.1 so.2 so.3 all
+  filters-written (Err (Open f)) so all same = end-written (Open f) so.0 so.1 so.2 so.3 all
   filters-written (Err (Input fault.Cut)) so all same = absurd so.3
   filters-written (Err (Input fault.LengthsDiffer)) so all same = absurd so.3
-  filters-written (Err (Input fault.NotText)) so all same = stopped (Input fault.NotText) so.0 so.1 so.2 so.3 all
-  filters-written (Err (Input fault.OutOfMemory)) so all same = stopped (Input fault.OutOfMemory) so.0 so.1 so.2 so.3 all
+  filters-written (Err (Input fault.NotText)) so all same = end-written (Input fault.NotText) so.0 so.1 so.2 so.3 all
+  filters-written (Err (Input fault.OutOfMemory)) so all same = end-written (Input fault.OutOfMemory) so.0 so.1 so.2 so.3 all
 
   -- a prefix of them is written
   pub filters-cut : (r : Result (Unit {0}) LoadFault) (n : ℕ) → Reads r → Appends k m (take n t) → (t ≡ [] → ⊥) → Writes (Err (Input fault.Write))
@@ -176,11 +176,11 @@ module _ (s : Source) (a c h k m : Option (List ℕ)) (t : List ℕ) where
   filters-cut (Err (Input fault.LineTooLong)) n so cut some = absurd (some so.1)
   filters-cut (Err (Input fault.Write)) n so cut some = absurd (some so.1)
   filters-cut (Err (Script f)) n so cut some = absurd so.3
-  filters-cut (Err (Open f)) n so cut some = unwritten (Open f) so.0 so.1 so.2 so.3 (λ e. cc e) (λ e. cc e) n cut
+  filters-cut (Err (Open f)) n so cut some = end-cut (Open f) so.0 so.1 so.2 so.3 (λ e. cc e) (λ e. cc e) n cut
   filters-cut (Err (Input fault.Cut)) n so cut some = absurd so.3
   filters-cut (Err (Input fault.LengthsDiffer)) n so cut some = absurd so.3
-  filters-cut (Err (Input fault.NotText)) n so cut some = unwritten (Input fault.NotText) so.0 so.1 so.2 so.3 (λ e. cc e) (λ e. cc e) n cut
-  filters-cut (Err (Input fault.OutOfMemory)) n so cut some = unwritten (Input fault.OutOfMemory) so.0 so.1 so.2 so.3 (λ e. cc e) (λ e. cc e) n cut
+  filters-cut (Err (Input fault.NotText)) n so cut some = end-cut (Input fault.NotText) so.0 so.1 so.2 so.3 (λ e. cc e) (λ e. cc e) n cut
+  filters-cut (Err (Input fault.OutOfMemory)) n so cut some = end-cut (Input fault.OutOfMemory) so.0 so.1 so.2 so.3 (λ e. cc e) (λ e. cc e) n cut
 
   -- what was left to the lines
   pub left-kept : (r : Result (Unit {0}) LoadFault) (o : Option LineFault) → Reads r → o ≡ left_by_load r → (t ≡ [] → ⊥) → o ≡ None

@@ -135,15 +135,15 @@ module _ (s : Source) (a c h k m : Option (List ℕ)) (t : List ℕ) (n : ℕ) w
   abbrev Writes : Option (List ℕ) → Result (Unit {0}) LoadFault → Type 0
   Writes x r = FiltersToEnd s a c h x (with_line n r)
 
-  stopped : (f : LoadFault) (lines : List (List ℕ)) (next : Option (List ℕ)) → LinesHeld s a next h k t lines → StopsAt next c f → Appends k m t
+  end-written : (f : LoadFault) (lines : List (List ℕ)) (next : Option (List ℕ)) → LinesHeld s a next h k t lines → StopsAt next c f → Appends k m t
       → (next : Option (List ℕ)) × WordRows s a next h m lines × StopsAt next c f
-  stopped f lines next so stops all =
+  end-written f lines next so stops all =
       let text = holds-written s h k t lines so.rows m all in
       (next, record { words = so.words; took = so.took; text = text }, stops)
 
-  unwritten : (f : LoadFault) (lines : List (List ℕ)) (next : Option (List ℕ)) → LinesHeld s a next h k t lines → StopsAt next c f → (f ≡ Input fault.Read → ⊥) → (f ≡ Input fault.LineTooLong → ⊥)
+  end-cut : (f : LoadFault) (lines : List (List ℕ)) (next : Option (List ℕ)) → LinesHeld s a next h k t lines → StopsAt next c f → (f ≡ Input fault.Read → ⊥) → (f ≡ Input fault.LineTooLong → ⊥)
       → (j : ℕ) → Appends k m (take j t) → n ≡ line_after lines → Writes m (Err (Input fault.Write))
-  unwritten f lines next so stops read long j cut number =
+  end-cut f lines next so stops read long j cut number =
       (lines, (so.words, took_at_least a next c lines so.took (took_next next c f stops read long), holds-cut s h k t lines so.rows m j cut), number)
 
   -- all of them are written
@@ -153,11 +153,11 @@ module _ (s : Source) (a c h k m : Option (List ℕ)) (t : List ℕ) (n : ℕ) w
   to_end-written (Err (Input fault.LineTooLong)) so all same = subst (λ (x : Option (List ℕ)). Writes x (Err (Input fault.LineTooLong))) (same so.1) so.0
   to_end-written (Err (Input fault.Write)) so all same = subst (λ (x : Option (List ℕ)). Writes x (Err (Input fault.Write))) (same so.1) so.0
   to_end-written (Err (Script f)) so all same = absurd so.3
-  to_end-written (Err (Open f)) so all same = (so.0, stopped (Open f) so.0 so.1 so.2 so.3 all, so.4)
+  to_end-written (Err (Open f)) so all same = (so.0, end-written (Open f) so.0 so.1 so.2 so.3 all, so.4)
   to_end-written (Err (Input fault.Cut)) so all same = absurd so.3
   to_end-written (Err (Input fault.LengthsDiffer)) so all same = absurd so.3
-  to_end-written (Err (Input fault.NotText)) so all same = (so.0, stopped (Input fault.NotText) so.0 so.1 so.2 so.3 all, so.4)
-  to_end-written (Err (Input fault.OutOfMemory)) so all same = (so.0, stopped (Input fault.OutOfMemory) so.0 so.1 so.2 so.3 all, so.4)
+  to_end-written (Err (Input fault.NotText)) so all same = (so.0, end-written (Input fault.NotText) so.0 so.1 so.2 so.3 all, so.4)
+  to_end-written (Err (Input fault.OutOfMemory)) so all same = (so.0, end-written (Input fault.OutOfMemory) so.0 so.1 so.2 so.3 all, so.4)
 
   -- a prefix of them is written
   pub to_end-left : (r : Result (Unit {0}) LoadFault) (j : ℕ) → Reads r → Appends k m (take j t) → (t ≡ [] → ⊥) → Writes m (Err (Input fault.Write))
@@ -166,11 +166,11 @@ module _ (s : Source) (a c h k m : Option (List ℕ)) (t : List ℕ) (n : ℕ) w
   to_end-left (Err (Input fault.LineTooLong)) j so cut some = absurd (some so.1)
   to_end-left (Err (Input fault.Write)) j so cut some = absurd (some so.1)
   to_end-left (Err (Script f)) j so cut some = absurd so.3
-  to_end-left (Err (Open f)) j so cut some = unwritten (Open f) so.0 so.1 so.2 so.3 (λ e. cc e) (λ e. cc e) j cut so.4
+  to_end-left (Err (Open f)) j so cut some = end-cut (Open f) so.0 so.1 so.2 so.3 (λ e. cc e) (λ e. cc e) j cut so.4
   to_end-left (Err (Input fault.Cut)) j so cut some = absurd so.3
   to_end-left (Err (Input fault.LengthsDiffer)) j so cut some = absurd so.3
-  to_end-left (Err (Input fault.NotText)) j so cut some = unwritten (Input fault.NotText) so.0 so.1 so.2 so.3 (λ e. cc e) (λ e. cc e) j cut so.4
-  to_end-left (Err (Input fault.OutOfMemory)) j so cut some = unwritten (Input fault.OutOfMemory) so.0 so.1 so.2 so.3 (λ e. cc e) (λ e. cc e) j cut so.4
+  to_end-left (Err (Input fault.NotText)) j so cut some = end-cut (Input fault.NotText) so.0 so.1 so.2 so.3 (λ e. cc e) (λ e. cc e) j cut so.4
+  to_end-left (Err (Input fault.OutOfMemory)) j so cut some = end-cut (Input fault.OutOfMemory) so.0 so.1 so.2 so.3 (λ e. cc e) (λ e. cc e) j cut so.4
 
   -- what was left to the lines
   pub to_end-kept : (r : Result (Unit {0}) LoadFault) (o : Option LineFault) → Reads r → o ≡ left_by_load r → (t ≡ [] → ⊥) → o ≡ None

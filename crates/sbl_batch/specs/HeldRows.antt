@@ -9,7 +9,8 @@ use Rattle.sbl_bench.specs.declared.fault.EditFault.TheVariants as edit
 use Rattle.sbl_input.specs.Loading.{AllText, TookWords, WordLines}
 use Rattle.sbl_input.specs.declared.faults.LoadFault.{LoadFault}
 use Rattle.sbl_input.specs.declared.faults.LoadFault.TheVariants.{Input, Open}
-use Rattle.sbl_io.specs.HeldInput.{AllFit, Took}
+use Rattle.sbl_io.specs.HeldInput.{AllFit, Took, input_of}
+use Rattle.sbl_io.specs.declared.lines.Lines.{Lines}
 use Rattle.sbl_io.specs.declared.faults.ServeFault.TheVariants as fault
 use Rattle.sbl_semantics.specs.Limit.{max_word_length}
 
@@ -68,3 +69,16 @@ ReadsToEnd s old new held new_held text line (Err (Input fault.Write)) =
 ReadsToEnd s old new held new_held text line (Err f) =
     (lines : List (List ℕ)) × (next : Option (List ℕ)) × LinesHeld s old next held new_held text lines × StopsAt next new f
     × (line ≡ line_after lines)
+
+-- both over lines and a writer
+abbrev pub ReadsWordsOf
+    : {R W : Type 0} → (R → Option (List ℕ)) → (W → Option (List ℕ)) → Source → Lines R → Lines R → W → W → List ℕ
+    → Result (Unit {0}) LoadFault → Type 0
+ReadsWordsOf left held s lines new_lines writer new_writer text result =
+    ReadsWords s (input_of left lines) (input_of left new_lines) (held writer) (held new_writer) text result
+
+abbrev pub ReadsToEndOf
+    : {R W : Type 0} → (R → Option (List ℕ)) → (W → Option (List ℕ)) → Source → Lines R → Lines R → W → W → List ℕ → ℕ
+    → Result (Unit {0}) LoadFault → Type 0
+ReadsToEndOf left held s lines new_lines writer new_writer text line result =
+    ReadsToEnd s (input_of left lines) (input_of left new_lines) (held writer) (held new_writer) text line result

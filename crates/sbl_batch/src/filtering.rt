@@ -1,7 +1,7 @@
 //! Reads a script and words, and writes the rows of the words that it has before it asks for more input.
 ghost use Rattle.std.specs.Prelude.{◌≡◌, ◌≤◌, ◌⊎◌, [], None, IfErr, OnOk};
 ghost use Rattle.sbl_batch.specs.Filter.{Filters, IsFiltered, RepeatsFault};
-ghost use Rattle.sbl_batch.specs.HeldRows.{PushesRow, ReadsWords};
+ghost use Rattle.sbl_batch.specs.HeldRows.{PushesRow, ReadsWordsOf};
 ghost use Rattle.sbl_batch.specs.LineWriter.{IsBetweenLines};
 ghost use Rattle.sbl_io.specs.Devices.{HasStopped, WritesInTime};
 ghost use Rattle.sbl_io.specs.HeldInput.{KeepsTime, fault_of, input_of, reads_bound};
@@ -56,9 +56,10 @@ fn read_words<R: Source + Drop, W: Sink>(
     rows: &mut RowWriter,
     writer: &mut W,
 ) -> Result<(), LoadFault>
+    requires made { (s : Source) × IsLinkedMachineOf machine.now s }
     requires between { IsBetweenLines rows.old.lines }
     requires none { rows.old.text.items ≡ [] }
-    ensures reads { (s : Source) → IsLinkedMachineOf machine.now s → fault_of lines.old ≡ None → ReadsWords s (input_of R.left lines.old) (input_of R.left lines.new) (W.held writer.old) (W.held writer.new) rows.new.text.items result }
+    ensures reads { (s : Source) → IsLinkedMachineOf machine.now s → fault_of lines.old ≡ None → ReadsWordsOf R.left W.held s lines.old lines.new writer.old writer.new rows.new.text.items result }
     ensures remembered { fault_of lines.old ≡ None → fault_of lines.new ≡ left_by_load result }
     ensures bound { reads_bound R.tally lines.new ≡ reads_bound R.tally lines.old }
     ensures steady { OnOk result (((R.tally lines.new.reader).failures ≡ (R.tally lines.old.reader).failures) × ((W.tally writer.new).failures ≡ (W.tally writer.old).failures)) }

@@ -1,7 +1,7 @@
 //! Reads words up to the end of input, and writes the rows of those that it has before it asks for more.
 ghost use Rattle.std.specs.Prelude.{◌≡◌, ◌≤◌, ◌⊎◌, [], None, Err, Result, IfErr, OnOk};
 ghost use Rattle.sbl_ast.specs.Source.{Source};
-ghost use Rattle.sbl_batch.specs.HeldRows.{ReadsToEnd};
+ghost use Rattle.sbl_batch.specs.HeldRows.{ReadsToEndOf};
 ghost use Rattle.sbl_batch.specs.LineWriter.{IsBetweenLines};
 ghost use Rattle.sbl_batch.specs.ToEnd.{FiltersToEnd, with_line, without_line};
 ghost use Rattle.sbl_io.specs.Devices.{HasStopped, WritesInTime};
@@ -31,9 +31,10 @@ fn read_lines<R: Source + Drop, W: Sink>(
     line: &mut u64,
 ) -> Result<(), LoadFault>
     requires first { line.old ≡ 1 }
+    requires made { (s : Source) × IsLinkedMachineOf machine.now s }
     requires between { IsBetweenLines rows.old.lines }
     requires none { rows.old.text.items ≡ [] }
-    ensures reads { (s : Source) → IsLinkedMachineOf machine.now s → fault_of lines.old ≡ None → ReadsToEnd s (input_of R.left lines.old) (input_of R.left lines.new) (W.held writer.old) (W.held writer.new) rows.new.text.items line.new result }
+    ensures reads { (s : Source) → IsLinkedMachineOf machine.now s → fault_of lines.old ≡ None → ReadsToEndOf R.left W.held s lines.old lines.new writer.old writer.new rows.new.text.items line.new result }
     ensures remembered { fault_of lines.old ≡ None → fault_of lines.new ≡ left_by_load result }
     ensures bound { reads_bound R.tally lines.new ≡ reads_bound R.tally lines.old }
     ensures steady { OnOk result (((R.tally lines.new.reader).failures ≡ (R.tally lines.old.reader).failures) × ((W.tally writer.new).failures ≡ (W.tally writer.old).failures)) }

@@ -7,8 +7,8 @@ use Rattle.sbl_io.specs.HeldInput.{KeepsTime, fault_of, fuel_of, input_of, reads
 use Rattle.sbl_machine.specs.MachineOf.{IsLinkedMachineOf}
 use Rattle.sbl_batch.proofs.filtering.read_words.Given as goal
 
-abbrev pub invariant-loop : goal.invariant-loop
-invariant-loop g l = record {
+abbrev pub invariant-loop-lines : goal.invariant-loop-lines
+invariant-loop-lines g l = record {
   between : IsBetweenLines l.rows.lines;
   words : (s : Source) → IsLinkedMachineOf l.machine s → (lines : List (List ℕ)) × WordsHeld s (input_of g.R.Source.left l.fn.lines) (input_of g.R.Source.left l.lines) (g.W.Sink.held l.fn.writer) (g.W.Sink.held l.writer) l.rows.text.items lines;
   fault : fault_of l.lines ≡ fault_of l.fn.lines;
@@ -20,5 +20,5 @@ invariant-loop g l = record {
   rested : (g.W.Sink.tally l.fn.writer).interruptions ≡ 0 → (g.W.Sink.tally l.writer).interruptions ≡ 0;
 }
 
-abbrev pub decreases-loop : goal.decreases-loop
-decreases-loop g l = fuel_of l.lines
+abbrev pub decreases-loop-lines : goal.decreases-loop-lines
+decreases-loop-lines g l = fuel_of l.lines

@@ -1,17 +1,17 @@
-use Rattle.std.proofs.Common.{◌≡◌, List, ℕ}
+use Rattle.std.proofs.Common.{◌≡◌, ◌≤◌, List, ℕ}
+use Rattle.sbl_ast.specs.Source.{Source}
+use Rattle.sbl_batch.specs.HeldRows.{LinesHeld}
 use Rattle.sbl_batch.specs.LineWriter.{IsBetweenLines}
-use Rattle.sbl_batch.specs.ToEnd.{WordRows, line_after}
+use Rattle.sbl_batch.specs.ToEnd.{line_after}
 use Rattle.sbl_io.specs.Devices.{WritesInTime}
 use Rattle.sbl_io.specs.HeldInput.{KeepsTime, fault_of, fuel_of, input_of, reads_bound}
 use Rattle.sbl_machine.specs.MachineOf.{IsLinkedMachineOf}
-use Rattle.sbl_script.specs.ParsedScript.{source_of}
-use Rattle.sbl_batch.proofs.to_end.filter_lines.Given as goal
+use Rattle.sbl_batch.proofs.to_end.read_lines.Given as goal
 
-abbrev pub invariant-loop-rows : goal.invariant-loop-rows
-invariant-loop-rows g l = record {
-  made : IsLinkedMachineOf l.machine (source_of l.script);
+abbrev pub invariant-loop-lines : goal.invariant-loop-lines
+invariant-loop-lines g l = record {
   between : IsBetweenLines l.rows.lines;
-  rows : (lines : List (List ℕ)) × WordRows (source_of l.script) (input_of g.R.Source.left l.fn.lines) (input_of g.R.Source.left l.lines) (g.W.Sink.held l.fn.writer) (g.W.Sink.held l.writer) lines × (l.line ≡ line_after lines);
+  words : (s : Source) → IsLinkedMachineOf l.machine s → (lines : List (List ℕ)) × LinesHeld s (input_of g.R.Source.left l.fn.lines) (input_of g.R.Source.left l.lines) (g.W.Sink.held l.fn.writer) (g.W.Sink.held l.writer) l.rows.text.items lines × (l.line ≡ line_after lines);
   fault : fault_of l.lines ≡ fault_of l.fn.lines;
   read : (g.R.Source.tally l.lines.reader).failures ≡ (g.R.Source.tally l.fn.lines.reader).failures;
   written : (g.W.Sink.tally l.writer).failures ≡ (g.W.Sink.tally l.fn.writer).failures;
@@ -21,5 +21,5 @@ invariant-loop-rows g l = record {
   rested : (g.W.Sink.tally l.fn.writer).interruptions ≡ 0 → (g.W.Sink.tally l.writer).interruptions ≡ 0;
 }
 
-abbrev pub decreases-loop-rows : goal.decreases-loop-rows
-decreases-loop-rows g l = fuel_of l.lines
+abbrev pub decreases-loop-lines : goal.decreases-loop-lines
+decreases-loop-lines g l = fuel_of l.lines
