@@ -8,7 +8,7 @@ use Rattle.std.specs.List.{cons_option, count_by, filter, filter_map}
 use Rattle.std.specs.Option.{option_and_then}
 use Rattle.std.specs.Str.{bytes_eq}
 use Rattle.sbl_batch.specs.Comparing.{is_changed}
-use Rattle.sbl_rows.specs.ChangedRows.{ChangedRow, changed_rows, if_changed, outcome_in, same_outcome}
+use Rattle.sbl_rows.specs.ChangedRows.{changed_rows, if_changed, outcome_in, same_outcome}
 use Rattle.sbl_rows.specs.Changes.{Change, Changed, Renamed, changes_by, changes_of, class_merger, class_renaming, class_split, is_from_one, outcome_change}
 use Rattle.sbl_rows.specs.Changes.{word_addition, word_removal}
 use Rattle.sbl_rows.specs.Classes.{Class, Pair}

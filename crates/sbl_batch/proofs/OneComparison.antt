@@ -1,5 +1,5 @@
 -- A comparison of the same files has one text.
-use Rattle.std.proofs.Common.{◌≡◌, ◌∙◌, ℕ, List, sym, ap, ap₂}
+use Rattle.std.proofs.Common.{◌≡◌, ◌∙◌, sym, ap, ap₂}
 use Rattle.sbl_ast.specs.Source.{Source}
 use Rattle.sbl_batch.specs.Compare.{Comparison, IsPair, comparison_of, comparison_text}
 use Rattle.sbl_batch.specs.Laws.{ComparingIsOne}

@@ -5,6 +5,7 @@ use Rattle.std.proofs.lemmas.List.{append-nil}
 use Rattle.std.proofs.lemmas.Slice.Eq.{bytes_eq-Decides}
 use Rattle.std.specs.Io.KnownBytes.{IsAtEnd}
 use Rattle.std.specs.Str.{bytes_eq, chars, is_utf8}
+use Rattle.sbl_bench.specs.declared.fault.EditFault.{EditFault}
 use Rattle.sbl_bench.specs.declared.fault.EditFault.TheVariants as edit
 use Rattle.sbl_batch.specs.Filter.{AllShort, Filters, IsFiltered, Rows, Stops, TookLine, filter_output}
 use Rattle.sbl_batch.specs.Laws.{FilteringIsOne, IsToldByBytes}

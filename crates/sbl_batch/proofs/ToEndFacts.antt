@@ -1,13 +1,11 @@
 -- What was written for the lines so far, how it goes on or ends, and that it is what a filter up to a point writes.
-use Rattle.std.proofs.Common.{◌≡◌, ◌≢◌, ◌⊎◌, inl, inr, ◌∙◌, ◌++◌, ◌+◌, ◌-◌, ◌^◌, ◌≤◌, ◌<◌, ℕ, List, [], ◌∷◌, Option, Some, None, Result, Ok, Err, refl, sym, ap, subst, map, length, min, take, arith, append_assoc, length-append}
+use Rattle.std.proofs.Common.{◌≡◌, ◌≢◌, ◌⊎◌, inl, inr, ◌∙◌, ◌++◌, ◌+◌, ◌-◌, ◌^◌, ℕ, List, [], ◌∷◌, Option, Some, None, Result, Ok, Err, refl, sym, ap, subst, min, take, arith, append_assoc, length-append}
 use Rattle.std.specs.Io.KnownBytes.{Appends, IsAtEnd, Keeps}
-use Rattle.std.specs.Str.{chars, is_utf8}
 use Rattle.sbl_ast.specs.Source.{Source}
-use Rattle.sbl_batch.specs.Filter.{AllShort, Filters, Rows, Stops, TookAtLeast, TookLine}
+use Rattle.sbl_batch.specs.Filter.{Filters, Rows, Stops, TookAtLeast, TookLine}
 use Rattle.sbl_batch.specs.HeldRows.{LinesHeld, PushesRow, ReadsToEnd, WritesPart}
 use Rattle.sbl_batch.specs.Laws.{ToEndIsFilter}
-use Rattle.sbl_batch.specs.ToEnd.{EndsAfter, FiltersToEnd, StopsAt, TookNext, WordRows, line_after, with_line, without_line}
-use Rattle.sbl_batch.specs.declared.word_fault.WordFault.{WordFault}
+use Rattle.sbl_batch.specs.ToEnd.{EndsAfter, FiltersToEnd, StopsAt, TookNext, WordRows, line_after, with_line}
 use Rattle.sbl_batch.proofs.FilterFacts.{all_short-push, took_at_least}
 use Rattle.sbl_batch.proofs.HeldFacts.{holds-all, holds-cut, holds-moved, holds-none, holds-push, holds-stays, holds-written}
 use Rattle.sbl_reports.proofs.BlockFacts.{all_fit-push}
@@ -16,7 +14,7 @@ use Rattle.sbl_input.proofs.LoadFacts.{all_text-push}
 use Rattle.sbl_input.specs.Faults.{left_by_load}
 use Rattle.sbl_input.specs.declared.faults.LoadFault.{LoadFault}
 use Rattle.sbl_input.specs.declared.faults.LoadFault.TheVariants.{Input, Open, Script}
-use Rattle.sbl_io.proofs.Bytes.{none_of, stand_lines, took-kept, took-none, took-trans}
+use Rattle.sbl_io.proofs.Bytes.{stand_lines, took-kept, took-none, took-trans}
 use Rattle.sbl_io.specs.Faults.{serve_fault_of}
 use Rattle.sbl_io.specs.HeldInput.{BeginsLong, BreaksOff, Took}
 use Rattle.sbl_io.specs.LinesOf.{lines_of}

@@ -1,5 +1,5 @@
 -- The state of a writer of lines between two of them.
-use Rattle.std.specs.Prelude.{◌≡◌, ℕ, List, [], Some, false}
+use Rattle.std.specs.Prelude.{◌≡◌, ℕ, [], false}
 use Rattle.csv.specs.Writing.{writer_setup, writer_pending, fields_written, has_written}
 use Rattle.csv.specs.declared.writer.Writer.{Writer}
 use Rattle.std.specs.declared.vec.Vec.{Vec}

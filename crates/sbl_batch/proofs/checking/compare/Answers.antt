@@ -1,10 +1,8 @@
-use Rattle.std.proofs.Common.{rules, ◌≡◌, ◌∙◌, [], ◌∷◌, List, ℕ, Some, None, Err, take, length, ap, sym, subst}
+use Rattle.std.proofs.Common.{rules, ◌≡◌, ◌∙◌, [], List, ℕ, Some, None, Err, take, length, ap, sym, subst}
 use Rattle.std.specs.Io.KnownBytes.{Appends}
 use Rattle.std.proofs.KnownBytes.{Appends-nil}
-use Rattle.sbl_ast.specs.Source.{Source}
-use Rattle.sbl_machine.specs.MachineOf.{IsLinkedMachineOf}
 use Rattle.sbl_batch.specs.Checking.{view_got}
-use Rattle.sbl_batch.specs.Differences.{difference, row_of}
+use Rattle.sbl_batch.specs.Differences.{difference}
 use Rattle.sbl_io.specs.Records.{records_text}
 use Rattle.sbl_io.specs.declared.faults.ServeFault.TheVariants as fault
 use Rattle.sbl_batch.proofs.CheckFacts.{difference_is, no_pair_fault, no_row, one_row, row_text_is}

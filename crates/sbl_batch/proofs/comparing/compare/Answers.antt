@@ -1,4 +1,4 @@
-use Rattle.std.proofs.Common.{◌≡◌, ◌∙◌, List, length, map, ap, ap₂}
+use Rattle.std.proofs.Common.{◌≡◌, ◌∙◌, List, length, ap, ap₂}
 use Rattle.std.specs.List.{count_by}
 use Rattle.sbl_bench.specs.Contents.{rows_now}
 use Rattle.sbl_bench.specs.KeptRuns.{contents_of}

@@ -1,4 +1,4 @@
-use Rattle.std.proofs.Common.{rules, ◌≡◌, ◌≢◌, ◌⊎◌, inl, inr, ◌∙◌, [], List, ℕ, Ok, Err, refl, sym, ap, subst, arith}
+use Rattle.std.proofs.Common.{◌≡◌, ◌∙◌, [], sym, ap}
 use Rattle.std.proofs.lemmas.Result.{err_from_is_err_and, on_ok_weaker}
 use Rattle.sbl_batch.proofs.FilterFacts.{filters-cut, filters-none, filters-written, in_time-after, left-kept, stopped-kept, stopped-later}
 use Rattle.sbl_io.specs.HeldInput.{fault_of, input_of}

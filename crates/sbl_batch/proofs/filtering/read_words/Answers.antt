@@ -1,4 +1,4 @@
-use Rattle.std.proofs.Common.{rules, ◌≡◌, ◌≢◌, ◌⊎◌, inl, inr, ◌∙◌, ◌++◌, [], ◌∷◌, List, ℕ, Ok, Err, true, false, refl, sym, ap, subst, arith}
+use Rattle.std.proofs.Common.{rules, ◌≡◌, ◌≢◌, ◌∙◌, ◌++◌, [], ◌∷◌, List, ℕ, Ok, Err, true, false, refl, sym, subst}
 use Rattle.std.proofs.lemmas.Result.{err_from_is_err_and}
 use Rattle.sbl_batch.proofs.FilterFacts.{line-leaves, line-no_read, line-no_write, no_line, reads-broken, reads-cut, reads-end, reads-fault, reads-point, reason-before, stopped-before, words-moved, words-none, words-push}
 use Rattle.sbl_batch.specs.HeldRows.{PushesRow}

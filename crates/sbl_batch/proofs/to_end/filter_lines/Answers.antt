@@ -1,4 +1,4 @@
-use Rattle.std.proofs.Common.{rules, ◌≡◌, ◌≢◌, ◌⊎◌, inl, inr, ◌∙◌, [], List, ℕ, Ok, Err, refl, sym, ap, subst, arith}
+use Rattle.std.proofs.Common.{◌≡◌, ◌∙◌, [], sym, ap}
 use Rattle.std.proofs.lemmas.Result.{err_from_is_err_and, on_ok_weaker}
 use Rattle.sbl_batch.proofs.FilterFacts.{in_time-after, stopped-kept, stopped-later}
 use Rattle.sbl_batch.proofs.ToEndFacts.{to_end-kept, to_end-left, to_end-none, to_end-written}

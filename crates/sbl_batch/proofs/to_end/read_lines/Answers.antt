@@ -1,4 +1,4 @@
-use Rattle.std.proofs.Common.{rules, ◌≡◌, ◌⊎◌, inl, inr, ◌∙◌, ◌++◌, [], ◌∷◌, List, ℕ, Ok, Err, true, false, refl, sym, subst, arith}
+use Rattle.std.proofs.Common.{rules, ◌≡◌, ◌∙◌, ◌++◌, [], ◌∷◌, List, ℕ, Ok, Err, true, false, refl, sym, subst}
 use Rattle.std.proofs.lemmas.Result.{err_from_is_err_and}
 use Rattle.sbl_batch.proofs.FilterFacts.{line-leaves, line-no_read, line-no_write, no_line, reason-before, stopped-before}
 use Rattle.sbl_batch.proofs.ToEndFacts.{lines-moved, lines-none, lines-push, next_line, to_end-all, to_end-broken, to_end-cut, to_end-fault}
@@ -74,8 +74,7 @@ loop-lines-preserved g c =
       words = λ s made.
           let so = inv.words s made in
           let moved = lines-moved so.1 (g.W.Sink.held c.write_due.new.writer) t c.in_ok-write_due.ensures.part in
-          let pushes : PushesRow s line t u (Ok tt) = subst (λ (x : List ℕ). PushesRow s x t u (Ok tt)) c.line.ensures (c.in_ok-filter_line.ensures.pushes s made) in
-          (
+          let pushes : PushesRow s line t u (Ok tt) = subst (λ (x : List ℕ). PushesRow s x t u (Ok tt)) c.line.ensures (c.in_ok-filter_line.ensures.pushes s made) in (
             so.0 ++ line ∷ [],
             lines-push moved (input_of left c.next_line.new.self) line u (c.in_ok-next_line.ensures.fits more, c.in_ok-next_line.ensures.more more) pushes,
             next_line so.0 line c.loop-lines.line c.saturating_add.result so.2 c.saturating_add.ensures,
@@ -88,6 +87,7 @@ loop-lines-preserved g c =
       writes = λ fair rest. c.write_due.ensures.in_time (inv.writes fair rest) (inv.rested rest);
       rested = λ rest. c.in_ok-write_due.ensures.rested (inv.rested rest);
     }
+
 pub returns-in_err-next_line-clause-why : goal.returns-in_err-next_line-clause-why
 returns-in_err-next_line-clause-why g c =
     let inv = c.loop-lines.invariant in

@@ -1,4 +1,4 @@
-use Rattle.std.proofs.Common.{◌≡◌, ◌≤◌, List, ℕ}
+use Rattle.std.proofs.Common.{◌≡◌, List, ℕ}
 use Rattle.sbl_ast.specs.Source.{Source}
 use Rattle.sbl_batch.specs.HeldRows.{LinesHeld}
 use Rattle.sbl_batch.specs.LineWriter.{IsBetweenLines}
