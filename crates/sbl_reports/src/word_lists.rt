@@ -85,11 +85,7 @@ fn between(form: ListForm) -> &'static [u8]
 }
 
 /// Appends characters as UTF-8. Returns `AllocError` if an allocation fails.
-fn push_characters(
-    alloc: Global,
-    text: &mut Vec<u8>,
-    characters: &[char],
-) -> Result<(), AllocError>
+fn push_characters(alloc: Global, text: &mut Vec<u8>, characters: &[char]) -> Result<(), AllocError>
     ensures { OnOk result (text.new.items ≡ text.old.items ++ encode_utf8_all characters.now) }
 {
     let encoded = text_of(alloc, characters)?;

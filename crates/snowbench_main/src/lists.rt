@@ -5,9 +5,7 @@ use crate::messages::{FAILED, REFUSED, count_and_word, fail_memory, print_line};
 use crate::run_result::RunResult;
 use crate::sessions::{MAX_FAULT_LINE, print_fault, session_input, without_keys};
 use crate::streams::Output;
-use snowbench::{
-    Device, Lines, ListForm, ListKind, Wanted, WordKeys, run_list as write_list,
-};
+use snowbench::{Device, Lines, ListForm, ListKind, Wanted, WordKeys, run_list as write_list};
 use std::alloc::{AllocError, Global};
 use std::hash::RandomState;
 
@@ -33,12 +31,7 @@ fn kind_of(form: &str) -> Option<ListKind> {
 }
 
 /// Writes the list of the words of a file, by the script of a file, and returns the exit status. Prints how many words have no line.
-pub(crate) fn run_list(
-    rt: &HostRuntime,
-    wanted: &Wanted,
-    form: &str,
-    names: FileNames<'_>,
-) -> u8 {
+pub(crate) fn run_list(rt: &HostRuntime, wanted: &Wanted, form: &str, names: FileNames<'_>) -> u8 {
     let Some(kind) = kind_of(form) else {
         let _ = eprintln!(rt; "{NO_FORM}");
         return REFUSED;
@@ -57,7 +50,11 @@ pub(crate) fn run_list(
     let status = print_fault(rt, wanted, Some(names), &input, &ended);
     match words {
         Some(words) if ended.rows < words => {
-            print_line(rt, left_out_text(rt.alloc(), words - ended.rows, form), status)
+            print_line(
+                rt,
+                left_out_text(rt.alloc(), words - ended.rows, form),
+                status,
+            )
         }
         Some(_) => status,
         None if ended.said.is_empty() => {
@@ -93,5 +90,7 @@ fn list_input(
 /// Returns how many words have no line.
 fn left_out_text(alloc: Global, count: u64, form: &str) -> Result<String, AllocError> {
     let words = count_and_word(alloc, count, "word is", "words are")?;
-    format!(in alloc; "snowbench: {words} left out: refused, or with a character that {form} cannot say")
+    format!(in alloc;
+        "snowbench: {words} left out: refused, or with a character that {form} cannot say"
+    )
 }
