@@ -13,9 +13,9 @@ use Rattle.sbl_reports.specs.declared.word_lists.ListForm.TheVariants.{Synonym, 
 abbrev line_chars : ListForm → List ℕ → List ℕ → List ℕ
 line_chars form word stem = word ++ (between form ++ (stem ++ 10 ∷ []))
 
-encoded : (form : ListForm) (w s : List ℕ) → encode_utf8_all (line_chars form w s) ≡ list_line form w s
+line-encodes : (form : ListForm) (w s : List ℕ) → encode_utf8_all (line_chars form w s) ≡ list_line form w s
 unfolding lib.Utf8.encode
-encoded form w s =
+line-encodes form w s =
     let feed = 10 ∷ [] in
     let middle : encode_utf8_all (between form) ≡ between form = by form in
     encodes-append w (between form ++ (s ++ feed)) ∙ ap (λ (x : List ℕ). encode_utf8_all w ++ x) (encodes-append (between form) (s ++ feed))
@@ -101,5 +101,5 @@ list_lines-one form w s v t sw ss sv st said other e =
     let a = words-said form w s said in
     let b = words-said form v t other in
     let line : line_chars form w s ≡ line_chars form v t = sym (chars-encodes (line_chars form w s) (line-scalars form w s sw ss))
-    ∙ ap chars (encoded form w s ∙ e ∙ sym (encoded form v t)) ∙ chars-encodes (line_chars form v t) (line-scalars form v t sv st) in
+    ∙ ap chars (line-encodes form w s ∙ e ∙ sym (line-encodes form v t)) ∙ chars-encodes (line_chars form v t) (line-scalars form v t sv st) in
     same-chars form w s v t a.0 a.1 b.0 b.1 line
