@@ -8,7 +8,7 @@ _snowbench() {
   fi
   case $command in
     work) options='--external --watch --color --no-pager --rows --text --from --help' ;;
-    run) options='--external --strict --help' ;;
+    run) options='--external --strict --as --help' ;;
     session) options='--external --strict --help' ;;
     stem) options='--external --help' ;;
     filter) options='--external --help' ;;

@@ -36,6 +36,7 @@ complete -c snowbench -n '__fish_seen_subcommand_from work' -l help -d 'show wha
 complete -c snowbench -n '__fish_seen_subcommand_from work' -F
 complete -c snowbench -n '__fish_seen_subcommand_from run' -l external -x -d 'run this external of the script; without it, stem'
 complete -c snowbench -n '__fish_seen_subcommand_from run' -l strict -d 'end with status 1 if a command was refused'
+complete -c snowbench -n '__fish_seen_subcommand_from run' -l as -x -d 'without COMMANDS: a list of words and stems, as synonym, override or tsv, or the stems alone'
 complete -c snowbench -n '__fish_seen_subcommand_from run' -l help -d 'show what run takes'
 complete -c snowbench -n '__fish_seen_subcommand_from run' -F
 complete -c snowbench -n '__fish_seen_subcommand_from session' -l external -x -d 'run this external of the script; without it, stem'

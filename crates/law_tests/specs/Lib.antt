@@ -8,3 +8,4 @@ pub mod Changes
 pub mod Families
 pub mod Filters
 pub mod Uses
+pub mod Lists

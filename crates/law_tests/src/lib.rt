@@ -20,6 +20,7 @@ pub mod machine_sound;
 pub mod machine_why;
 pub mod numbering_laws;
 pub mod places_laws;
+pub mod reports_list_lines;
 pub mod reports_stems_are_read;
 pub mod resolver_laws;
 pub mod rows_classes_are_sound;

@@ -21,11 +21,15 @@ required_rule name = record (new_rule name) { required = true }
 abbrev pub flag : Text → Rule
 flag name = record (new_rule name) { long = Some name; action = Some SetTrue }
 
--- `run` has three files
+-- `--as FORM`: an option with one value
+abbrev pub form_rule : Rule
+form_rule = record (new_rule (codes "as")) { long = Some (codes "as"); value_names = 1 }
+
+-- `run` has three files, a flag, and the form of a list
 abbrev pub run_app : App
 run_app =
-    with_rule (with_rule (with_rule (with_rule (verb_app (codes "run")) (required_rule (codes "SCRIPT"))) (new_rule (codes "WORDS")))
-    (new_rule (codes "COMMANDS"))) (flag (codes "strict"))
+    with_rule (with_rule (with_rule (with_rule (with_rule (verb_app (codes "run")) (required_rule (codes "SCRIPT"))) (new_rule (codes "WORDS")))
+    (new_rule (codes "COMMANDS"))) (flag (codes "strict"))) form_rule
 
 -- `session` and `stem` have flags
 abbrev pub session_app : App

@@ -3,7 +3,7 @@ ghost use Rattle.std.specs.Prelude.{◌≡◌, IfOk, None, Some, codes, false, m
 ghost use Rattle.std.specs.String.{string_bytes};
 ghost use Rattle.clap.specs.Walk.{rule_of};
 ghost use Rattle.clap.specs.Words.{Text, app_of, first_value, found_of, new_rule, one_text};
-ghost use Rattle.sbl_command_line.specs.CommandLine.{IsFlag, IsGiven, IsMissing, IsVerb, LacksFlag, check_app, compare_app, flag, flag_in, from_rule, program, required_rule, run_app, session_app, stem_app, filter_app, value_in, verb_app, verb_and_external, work_app};
+ghost use Rattle.sbl_command_line.specs.CommandLine.{IsFlag, IsGiven, IsMissing, IsVerb, LacksFlag, check_app, compare_app, flag, flag_in, form_rule, from_rule, program, required_rule, run_app, session_app, stem_app, filter_app, value_in, verb_app, verb_and_external, work_app};
 
 use clap::error::ErrorKind;
 use clap::{Arg, ArgAction, ArgMatches, Command, Error};
@@ -69,6 +69,8 @@ pub struct Options {
     pub face: Option<Face>,
     /// The file of the text that `work` begins with, if it is not that of the script.
     pub from: Option<String>,
+    /// The name of the form in which `run` writes a list of stems, if it has one.
+    pub form: Option<String>,
 }
 
 /// The first lines of the help of the program.
@@ -95,7 +97,8 @@ const ABOUT_RUN: &str = "Runs the commands of a session over files";
 const HELP_RUN: &str = "\
 In:   a script, words (one a line) and commands, each from a file. A file '-' is standard input.
       Without WORDS they come from standard input, and without COMMANDS the command is 'stems'.
-Out:  the answer to each command, as of 'session'.
+Out:  the answer to each command, as of 'session'. With --as and without COMMANDS: a list of
+      words and stems for a search engine, as synonym, override or tsv; or the stems alone.
 
 Example:
   printf '%s\\n' 'externals ( stem )' \"define stem as ( [ 'un' ] delete )\" > un.sbl
@@ -150,7 +153,7 @@ const ABOUT_FILTER: &str = "Writes the stem of each word as it comes";
 const HELP_FILTER: &str = "\
 In:   the lines of a script, a line '.', and words (one a line) up to a line '.' or the end.
       With a file SCRIPT the input is the words alone, and with a file WORDS nothing is read.
-Out:  a row for each word, as 'stem' writes it, before the next word is read. Empty lines are
+Out:  a row for each word, as 'stem' writes it, before more input is read. Empty lines are
       skipped, repeats are not: nothing is kept of a word, so there may be any number of them.
 
 Example:
@@ -237,6 +240,9 @@ const ROWS_HELP: &str = "Answers in rows, for programs";
 const FROM_HELP: &str = "Begins with the script in this file; reload and save mean SCRIPT";
 
 /// The help of an argument.
+const FORM_HELP: &str = "Writes a list of stems: synonym, override, tsv or stems";
+
+/// The help of an argument.
 const STRICT_HELP: &str = "Ends with status 1 if a command was refused";
 
 /// The help of an argument.
@@ -287,6 +293,17 @@ fn from_arg<'a>(alloc: Global) -> Arg<'a>
         .help(FROM_HELP)
 }
 
+/// Returns the definition of `--as FORM`.
+fn form_arg<'a>(alloc: Global) -> Arg<'a>
+    ensures rule { rule_of result ≡ form_rule }
+    ensures here { result.global ≡ false }
+{
+    Arg::new(alloc, "as")
+        .long("as")
+        .value_name("FORM")
+        .help(FORM_HELP)
+}
+
 /// Returns the definition of an option without a value.
 fn flag_arg<'a>(alloc: Global, name: &'a str, help: &'a str) -> Arg<'a>
     ensures rule { rule_of result ≡ flag name.entry.now }
@@ -298,7 +315,8 @@ fn flag_arg<'a>(alloc: Global, name: &'a str, help: &'a str) -> Arg<'a>
         .help(help)
 }
 
-/// Returns the definition of `run`: a subcommand with the files SCRIPT, WORDS and COMMANDS, and the flag `--strict`.
+/// Returns the definition of `run`: a subcommand with the files SCRIPT, WORDS and COMMANDS, the flag `--strict`, and the option
+/// `--as FORM`.
 fn run_command<'a>(alloc: Global) -> Result<Command<'a>, AllocError>
     ensures { IfOk result (λ c. app_of c ≡ run_app) }
 {
@@ -306,7 +324,8 @@ fn run_command<'a>(alloc: Global) -> Result<Command<'a>, AllocError>
         .arg(required_file(alloc, "SCRIPT", SCRIPT_HELP))?
         .arg(file_arg(alloc, "WORDS", WORDS_HELP))?
         .arg(file_arg(alloc, "COMMANDS", "The file of the commands"))?
-        .arg(flag_arg(alloc, "strict", STRICT_HELP))
+        .arg(flag_arg(alloc, "strict", STRICT_HELP))?
+        .arg(form_arg(alloc))
 }
 
 /// Returns the definition of `session`: a subcommand with the flags `--strict` and `--places`.
@@ -446,6 +465,7 @@ pub fn read_words<'a>(alloc: Global, words: &'a [String]) -> Result<Wanted, Erro
     ensures commands { IfOk result (λ wanted. option_map string_bytes wanted.options.commands ≡ value_in (codes "COMMANDS") (map string_bytes words.now)) }
     ensures stems { IfOk result (λ wanted. option_map string_bytes wanted.options.stems ≡ value_in (codes "STEMS") (map string_bytes words.now)) }
     ensures from { IfOk result (λ wanted. option_map string_bytes wanted.options.from ≡ value_in (codes "from") (map string_bytes words.now)) }
+    ensures form { IfOk result (λ wanted. option_map string_bytes wanted.options.form ≡ value_in (codes "as") (map string_bytes words.now)) }
     ensures strict { IfOk result (λ wanted. IsFlag (flag_in (codes "strict") (map string_bytes words.now)) wanted.options.is_strict) }
     ensures places { IfOk result (λ wanted. IsFlag (flag_in (codes "places") (map string_bytes words.now)) wanted.options.shows_places) }
     ensures rows { IfOk result (λ wanted. IsGiven (codes "rows") (map string_bytes words.now) → wanted.options.face ≡ Some Face.Rows) }
@@ -482,6 +502,7 @@ pub fn read_words<'a>(alloc: Global, words: &'a [String]) -> Result<Wanted, Erro
     let commands = text_of(alloc, options, "COMMANDS")?;
     let stems = text_of(alloc, options, "STEMS")?;
     let from = text_of(alloc, options, "from")?;
+    let form = text_of(alloc, options, "as")?;
     let is_strict = has_flag(options, "strict");
     let shows_places = has_flag(options, "places");
     let face = face_of(options);
@@ -499,6 +520,7 @@ pub fn read_words<'a>(alloc: Global, words: &'a [String]) -> Result<Wanted, Erro
             shows_places,
             face,
             from,
+            form,
         },
     })
 }

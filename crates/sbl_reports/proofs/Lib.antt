@@ -5,3 +5,4 @@ pub mod FindFacts
 pub mod FamilyFacts
 pub mod RecordFacts
 pub mod StemFacts
+pub mod WordListFacts

@@ -9,5 +9,6 @@ pub mod Reports
 pub mod Families
 pub mod StemLines
 pub mod StemLinesAreRead
+pub mod WordLists
 -- what the functions inside the crate promise each other: nothing in these need be believed
 pub mod FamilyReader

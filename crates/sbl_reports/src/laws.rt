@@ -1,5 +1,6 @@
-//! Laws of the stems that are written and read.
+//! Laws of the stems that are written and read, and of lists of words.
 ghost use Rattle.sbl_reports.specs.StemLinesAreRead.{WrittenStemsAreRead, WrittenStemsShowNoChange};
+ghost use Rattle.sbl_reports.specs.WordLists.{ListLinesAreOne};
 
 use sbl_rows::laws::changes_are_sound;
 
@@ -11,3 +12,8 @@ pub fn written_stems_are_read()
 {
     changes_are_sound();
 }
+
+/// A line of a list for a search engine is that of one word and one stem.
+pub fn list_lines_are_one()
+    ensures { ListLinesAreOne }
+{}

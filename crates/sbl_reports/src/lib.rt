@@ -11,6 +11,7 @@ mod record_writer;
 mod records;
 mod reports;
 mod row_records;
+mod word_lists;
 mod written_stems;
 
 pub use block_text::{BlockFault, BlockText, read_block};
@@ -20,4 +21,5 @@ pub use lookups::{found_text, stem_text};
 pub use record_writer::{RecordWriter, outcome_fields};
 pub use records::{Record, records_text};
 pub use reports::{changes_text, largest_text, stats_text};
+pub use word_lists::{ListForm, word_list};
 pub use written_stems::{has_stem_lines, stem_lines, stems_in, text_line_count};

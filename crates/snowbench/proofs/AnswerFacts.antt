@@ -3,7 +3,7 @@ use Rattle.std.proofs.Common.{◌≡◌, inl, inr, ◌∙◌, ℕ, List, Option,
 use Rattle.std.proofs.KnownBytes.{Appends-nil, Keeps-refl}
 use Rattle.std.specs.declared.vec.Vec.{Vec}
 use Rattle.std.specs.declared.alloc.Global.{Global}
-use Rattle.sbl_bench.specs.Contents.{Contents}
+use Rattle.sbl_bench.specs.Contents.{Contents, rows_now}
 use Rattle.sbl_bench.specs.declared.fault.EditFault.TheVariants as edit
 use Rattle.sbl_batch.specs.Differences.{IsChecked}
 use Rattle.sbl_ast.specs.Source.{Source}
@@ -18,7 +18,9 @@ use Rattle.snowbench.specs.WholeCheck.{ChecksLists, IsWholeCheck, LacksScript, R
 use Rattle.snowbench.specs.WholeFilter.{IsWholeFilter, line_of_fault}
 use Rattle.sbl_batch.specs.ToEnd.{FiltersToEnd, without_line}
 use Rattle.sbl_batch.specs.declared.word_fault.WordFault.{WordFault}
+use Rattle.snowbench.specs.WholeList.{IsListed, WritesList}
 use Rattle.snowbench.specs.WholeSession.{IsWholeSession, as_load}
+use Rattle.snowbench.specs.declared.listing.ListKind.{ListKind}
 use Rattle.sbl_batch.specs.Filter.{IsFiltered}
 use Rattle.snowbench.specs.StemmedRows.{IsStemmed}
 use Rattle.snowbench.specs.Program.{IsAnswer, IsReported, IsWritten, fault_line}
@@ -61,6 +63,16 @@ pub session_served : {B : Type 0} (a b c : Option (List ℕ)) (external : List �
     (served : Result (Unit {0}) ServeFault) → IsLoaded a b external state (Ok bench) → IsSession (record { input = b; held = h; bench = state bench }) (record { input = c; held = i; bench = t }) served
     → IsWholeSession a c external h i (as_load served)
 session_served a b c external h i state bench t served loaded session = inr (b, state bench, t, served, refl, loaded, session)
+
+-- ---- lists
+
+pub list_refused : {B : Type 0} (kind : ListKind) (a b : Option (List ℕ)) (external : List ℕ) (h : Option (List ℕ)) (state : B → Contents) (f : LoadFault)
+    → IsLoaded a b external state (Err f) → IsListed kind a b external h h (Err f)
+list_refused kind a b external h state f is = inl (f, refl, no_bench a b external state f is, Appends-nil h)
+
+pub list_written : {B : Type 0} (kind : ListKind) (a b : Option (List ℕ)) (external : List ℕ) (h i : Option (List ℕ)) (state : B → Contents) (bench : B)
+    (r : Result (Option ℕ) LoadFault) → IsLoaded a b external state (Ok bench) → WritesList kind (rows_now (state bench)) h i r → IsListed kind a b external h i r
+list_written kind a b external h i state bench r loaded writes = inr (state bench, loaded, writes)
 
 -- ---- checks
 

@@ -5,6 +5,7 @@ pub mod WholeCheck
 pub mod Program
 pub mod WholeFilter
 pub mod WholeCompare
+pub mod WholeList
 -- what the functions inside the crate promise each other: nothing in these need be believed
 pub mod Answering
 pub mod Filtering

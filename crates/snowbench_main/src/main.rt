@@ -7,6 +7,7 @@ mod compared_words;
 mod comparisons;
 mod fault_texts;
 mod file_names;
+mod lists;
 mod messages;
 mod place_watch;
 mod run_result;
@@ -17,6 +18,7 @@ mod work_watch;
 use crate::at_work::start_work;
 use crate::comparisons::start_compare;
 use crate::file_names::{FileNames, reads_twice};
+use crate::lists::run_list;
 use crate::messages::{NO_MEMORY, REFUSED, fail_memory, print_text};
 use crate::sessions::{run_check, run_filter, run_input, run_session};
 use clap::error::ErrorKind;
@@ -114,7 +116,10 @@ fn run_files<'x>(rt: &HostRuntime, wanted: &'x Wanted, script: &'x str) -> u8 {
         let _ = eprintln!(rt; "{NAMED_TWICE}");
         return REFUSED;
     }
-    run_session(rt, wanted, names)
+    match &wanted.options.form {
+        Some(form) => run_list(rt, wanted, form.as_str(), names),
+        None => run_session(rt, wanted, names),
+    }
 }
 
 /// Compares stems of files, and returns the exit status.

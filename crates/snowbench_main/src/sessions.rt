@@ -44,7 +44,7 @@ fn run_reader<R: Read + Drop, S: Watch>(
 }
 
 /// Returns the end of a run for which the system gives no random numbers.
-fn without_keys(alloc: Global) -> Result<RunResult, AllocError> {
+pub(crate) fn without_keys(alloc: Global) -> Result<RunResult, AllocError> {
     Ok(RunResult {
         status: FAILED,
         said: Vec::from_slice(alloc, NO_KEYS.as_bytes())?,
@@ -71,7 +71,7 @@ pub(crate) fn print_said(rt: &HostRuntime, ended: &RunResult) {
 
 /// Prints the line of a fault, and what it says of the input: its place, or what is missing. Without `names` all of the input is
 /// from standard input. Returns the exit status. A reader of a pipe that has closed it, as `head` does, is no fault.
-fn print_fault(
+pub(crate) fn print_fault(
     rt: &HostRuntime,
     wanted: &Wanted,
     names: Option<FileNames<'_>>,
@@ -218,7 +218,7 @@ fn run_commands<'x>(
 }
 
 /// Returns the input of a session. Without a file of commands the command is `stems`.
-fn session_input(rt: &HostRuntime, names: FileNames<'_>) -> Result<Vec<u8>, u8> {
+pub(crate) fn session_input(rt: &HostRuntime, names: FileNames<'_>) -> Result<Vec<u8>, u8> {
     let script = read_block(rt, "run", names.script, "lines of the script")?;
     let words = read_block(rt, "run", names.words, "words")?;
     let composed = match names.rest {
