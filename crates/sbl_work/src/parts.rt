@@ -11,10 +11,10 @@ ghost use Rattle.sbl_work.specs.Replies.{ReplacesKept};
 ghost use Rattle.sbl_script.specs.Parts.{view_part};
 ghost use Rattle.sbl_work.specs.ReplyViews.{Answers, FindsBlock, IsFamiliesAnswer, IsKeptPart, IsPartResult, IsWorkAnswer, NamesText};
 
+use crate::observing::{RefusedSource, refused_block};
 use crate::refusals::{note_part, note_whole};
 use crate::replies::{NOT_TEXT, edit_reply};
 use crate::requests::BlockRequest;
-use crate::watching::{RefusedText, refused_block};
 use sbl_bench::{Bench, EditFault};
 use sbl_history::{Desk, HeldPart, Refused};
 use sbl_reports::{BlockFault, BlockText, families_text};
@@ -37,7 +37,7 @@ fn text_of(block: BlockText) -> Result<Vec<u8>, EditFault>
 /// Replaces the whole script by the text of a block. Keeps the text if it has a fault; then `refused` has it, too.
 fn replace_by(
     alloc: Global,
-    refused: &mut Option<RefusedText>,
+    refused: &mut Option<RefusedSource>,
     desk: &mut Desk,
     bench: &mut Bench,
     block: BlockText,
@@ -76,7 +76,7 @@ fn replace_part_by(
 /// Replaces a part of the script by what was typed after a line. Keeps it if it has a fault; `refused` has it if it is refused.
 fn replace_part_kept(
     alloc: Global,
-    refused: &mut Option<RefusedText>,
+    refused: &mut Option<RefusedSource>,
     desk: &mut Desk,
     bench: &mut Bench,
     line: &str,
@@ -94,7 +94,7 @@ fn replace_part_kept(
 /// Makes the edit of a part by the block after a line, and returns the reply. `refused` has the text of the block if it is refused.
 fn edit_part(
     alloc: Global,
-    refused: &mut Option<RefusedText>,
+    refused: &mut Option<RefusedSource>,
     desk: &mut Desk,
     bench: &mut Bench,
     line: &str,
@@ -111,7 +111,7 @@ fn edit_part(
 
 fn edit_named(
     alloc: Global,
-    refused: &mut Option<RefusedText>,
+    refused: &mut Option<RefusedSource>,
     desk: &mut Desk,
     bench: &mut Bench,
     line: &str,
@@ -128,7 +128,7 @@ fn edit_named(
 /// Makes the edit that a line and its block ask for, and returns the reply. A bad line is refused, whatever its block is.
 fn edit_kept(
     alloc: Global,
-    refused: &mut Option<RefusedText>,
+    refused: &mut Option<RefusedSource>,
     desk: &mut Desk,
     bench: &mut Bench,
     kept: Result<Option<String>, AllocError>,
@@ -146,7 +146,7 @@ fn edit_kept(
 /// Makes the edit of `replace`, and returns the reply.
 fn replace_reply(
     alloc: Global,
-    refused: &mut Option<RefusedText>,
+    refused: &mut Option<RefusedSource>,
     desk: &mut Desk,
     bench: &mut Bench,
     block: BlockText,
@@ -187,7 +187,7 @@ fn families_of(alloc: Global, bench: &Bench, block: BlockText) -> Reply
 /// returns for the line. `refused` has the text of the block if it is refused.
 pub(crate) fn answer_block(
     alloc: Global,
-    refused: &mut Option<RefusedText>,
+    refused: &mut Option<RefusedSource>,
     desk: &mut Desk,
     bench: &mut Bench,
     request: BlockRequest,

@@ -7,8 +7,8 @@ ghost use Rattle.sbl_work.specs.ReplyViews.{IsWorkAnswer};
 
 use crate::answers::{reload, replace_by_bytes};
 use crate::files::Paths;
+use crate::observing::{RefusedSource, refused_file};
 use crate::replies::edit_reply;
-use crate::watching::{RefusedText, refused_file};
 use sbl_bench::{Bench, EditFault};
 use sbl_history::Desk;
 use sbl_saving::{ReadFault, is_same_file, read_file};
@@ -19,7 +19,7 @@ use std::rt::Files;
 /// Replaces the whole script by the bytes of a file, and returns the reply. `refused` has them if they are refused.
 fn replace_by_text(
     alloc: Global,
-    refused: &mut Option<RefusedText>,
+    refused: &mut Option<RefusedSource>,
     desk: &mut Desk,
     bench: &mut Bench,
     path: &str,
@@ -38,7 +38,7 @@ pub(crate) fn replace_by_file<F: Files + AllocGlobal>(
     files: &F,
     paths: &Paths,
     seen: &mut Vec<u8>,
-    refused: &mut Option<RefusedText>,
+    refused: &mut Option<RefusedSource>,
     desk: &mut Desk,
     bench: &mut Bench,
     path: &str,

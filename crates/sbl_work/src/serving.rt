@@ -17,13 +17,13 @@ use crate::answers::answer_line;
 use crate::appending::Added;
 use crate::fault_replies::faults_by_file;
 use crate::files::{OpenFault, Paths, Texts, append, open, save};
+use crate::observing::{NoObserver, Observer, RefusedSource};
 use crate::parts::answer_block;
 use crate::replies::edit_reply;
 use crate::requests::{Request, block_request, is_quit, request_of};
 use crate::script_files::replace_by_file;
 use crate::stem_files::{approve_by_file, mark_by_file};
 use crate::text_replies::tokens_by_file;
-use crate::watching::{NoWatch, RefusedText, Watch};
 use crate::word_files::words_by_file;
 use sbl_bench::{Bench, EditFault};
 use sbl_explain::KeptTakes;
@@ -53,7 +53,7 @@ struct Folder<'a, F> {
     seen: Vec<u8>,
     added: Added,
     kept: KeptTakes,
-    refused: Option<RefusedText>,
+    refused: Option<RefusedSource>,
 }
 
 /// Writes the text of the current script to a file.
@@ -208,15 +208,15 @@ fn answer<F: Files + AllocGlobal, R: Source + Drop>(
     }
 }
 
-/// Writes a reply, tells `watch` of the text that was refused, and writes the prompt after it. Returns `Write` if the writer fails or
+/// Writes a reply, tells `observer` of the text that was refused, and writes the prompt after it. Returns `Write` if the writer fails or
 /// is interrupted more than 1,000 times in a row; then a prefix of the reply and the prompt is written.
-fn write_prompted<W: Sink, S: Watch>(
+fn write_prompted<W: Sink, S: Observer>(
     writer: &mut W,
     reply: &Reply,
     prompt: &[u8],
     bench: &Bench,
-    refused: Option<RefusedText>,
-    watch: &mut S,
+    refused: Option<RefusedSource>,
+    observer: &mut S,
 ) -> Result<(), ServeFault>
     ensures all { OnOk result ((text : List ℕ) → IsReply reply.now text → Appends (W.held writer.old) (W.held writer.new) (with_prompt prompt.now text)) }
     ensures prefix { (text : List ℕ) → IsReply reply.now text → (n : ℕ) × Appends (W.held writer.old) (W.held writer.new) (take n (with_prompt prompt.now text)) }
@@ -228,7 +228,7 @@ fn write_prompted<W: Sink, S: Watch>(
 {
     write_reply(writer, reply)?;
     if let Some(refused) = &refused {
-        watch.see_refused(bench, refused);
+        observer.see_refused(bench, refused);
     }
     write_all(writer, prompt)
 }
@@ -240,14 +240,14 @@ fn write_prompted<W: Sink, S: Watch>(
 /// interrupted more than 1,000 times in a row, `LineTooLong` at a line of more than 65,536 bytes, and `Cut` if the input ends
 /// inside a block. The requests before the fault have their replies. After `Write` the edit of the current request is made, and a
 /// prefix of its reply and of the prompt after it is written.
-fn serve<F: Files + AllocGlobal, R: Source + Drop, W: Sink, S: Watch>(
+fn serve<F: Files + AllocGlobal, R: Source + Drop, W: Sink, S: Observer>(
     folder: &mut Folder<'_, F>,
     desk: &mut Desk,
     bench: &mut Bench,
     prompt: &[u8],
     lines: &mut Lines<R>,
     writer: &mut W,
-    watch: &mut S,
+    observer: &mut S,
 ) -> Result<(), ServeFault>
     ensures work { fault_of lines.old ≡ None → Works R.left W.held prompt.now lines.old lines.new writer.old writer.new bench.old desk.old bench.new desk.new result }
     ensures ends { Ends R.tally W.tally lines.old lines.new writer.old writer.new result }
@@ -261,7 +261,7 @@ fn serve<F: Files + AllocGlobal, R: Source + Drop, W: Sink, S: Watch>(
         }
         let reply = answer(folder, desk, bench, lines)?;
         let refused = replace(&mut folder.refused, None);
-        write_prompted(writer, &reply, prompt, bench, refused, watch)?;
+        write_prompted(writer, &reply, prompt, bench, refused, observer)?;
     }
     Ok(())
 }
@@ -284,21 +284,21 @@ fn write_fault<E: Sink>(alloc: Global, errors: &mut E, fault: &OpenFault)
 
 /// Replies to each request of the input in turn over the bench of a script and its words, up to `quit` or the end of input. The script
 /// was read from this text.
-fn serve_bench<F: Files + AllocGlobal, R: Source + Drop, W: Sink, S: Watch>(
+fn serve_bench<F: Files + AllocGlobal, R: Source + Drop, W: Sink, S: Observer>(
     folder: &mut Folder<'_, F>,
     bench: &mut Bench,
     text: Vec<u8>,
     prompt: &[u8],
     lines: &mut Lines<R>,
     writer: &mut W,
-    watch: &mut S,
+    observer: &mut S,
 ) -> Result<(), ServeFault>
     ensures works { fault_of lines.old ≡ None → WorksOnBench R.left R.tally W.held W.tally text.items prompt.now lines.old lines.new writer.old writer.new bench.old result }
     ensures reads_in_time { KeepsTime R.tally lines.old lines.new }
     ensures writes_in_time { WritesInTime W.tally writer.old writer.new }
 {
     let mut desk = Desk::new(lines.alloc(), bench, text)?;
-    serve(folder, &mut desk, bench, prompt, lines, writer, watch)
+    serve(folder, &mut desk, bench, prompt, lines, writer, observer)
 }
 
 /// Returns what is written before each line is read.
@@ -309,14 +309,14 @@ fn prompt_of(prompts: bool) -> &'static [u8]
 }
 
 /// Opens the bench of the files, and replies to each request of the input in turn, up to `quit` or the end of input.
-fn work_on<F: Files + AllocGlobal, R: Source + Drop, W: Sink, S: Watch>(
+fn work_on<F: Files + AllocGlobal, R: Source + Drop, W: Sink, S: Observer>(
     files: &F,
     keys: RandomState,
     paths: &Paths,
     prompt: &[u8],
     lines: &mut Lines<R>,
     writer: &mut W,
-    watch: &mut S,
+    observer: &mut S,
 ) -> Result<(), OpenFault>
     ensures works { fault_of lines.old ≡ None → WorksOver R.left R.tally W.held W.tally (string_bytes paths.now.external) prompt.now lines.old lines.new writer.old writer.new (status_of result) }
     ensures reads_in_time { KeepsTime R.tally lines.old lines.new }
@@ -333,7 +333,15 @@ fn work_on<F: Files + AllocGlobal, R: Source + Drop, W: Sink, S: Watch>(
         kept: KeptTakes::new(files.alloc()),
         refused: None,
     };
-    let served = serve_bench(&mut folder, &mut bench, text, prompt, lines, writer, watch);
+    let served = serve_bench(
+        &mut folder,
+        &mut bench,
+        text,
+        prompt,
+        lines,
+        writer,
+        observer,
+    );
     bench.leak();
     match served {
         Ok(()) => Ok(()),
@@ -363,7 +371,7 @@ pub fn work<F: Files + AllocGlobal, R: Source + Drop, W: Sink, E: Sink>(
     ensures writes_in_time { WritesInTime W.tally writer.old writer.new }
     ensures errors_in_time { WritesInTime E.tally errors.old errors.new }
 {
-    work_watched(
+    work_observed(
         files,
         keys,
         paths,
@@ -371,12 +379,12 @@ pub fn work<F: Files + AllocGlobal, R: Source + Drop, W: Sink, E: Sink>(
         lines,
         writer,
         errors,
-        &mut NoWatch {},
+        &mut NoObserver {},
     )
 }
 
-/// Does what `work` does, and tells `watch` of each text of the script that is refused. What `watch` does has no part in the work.
-pub fn work_watched<F: Files + AllocGlobal, R: Source + Drop, W: Sink, E: Sink, S: Watch>(
+/// Does what `work` does, and tells `observer` of each text of the script that is refused. What `observer` does has no part in the work.
+pub fn work_observed<F: Files + AllocGlobal, R: Source + Drop, W: Sink, E: Sink, S: Observer>(
     files: &F,
     keys: RandomState,
     paths: &Paths,
@@ -384,7 +392,7 @@ pub fn work_watched<F: Files + AllocGlobal, R: Source + Drop, W: Sink, E: Sink, 
     lines: &mut Lines<R>,
     writer: &mut W,
     errors: &mut E,
-    watch: &mut S,
+    observer: &mut S,
 ) -> u8
     ensures works { fault_of lines.old ≡ None → WorksOver R.left R.tally W.held W.tally (string_bytes paths.now.external) (serving.prompt_of prompts) lines.old lines.new writer.old writer.new result }
     ensures quiet { result ≡ 0 → E.held errors.new ≡ E.held errors.old }
@@ -393,12 +401,20 @@ pub fn work_watched<F: Files + AllocGlobal, R: Source + Drop, W: Sink, E: Sink, 
     ensures writes_in_time { WritesInTime W.tally writer.old writer.new }
     ensures errors_in_time { WritesInTime E.tally errors.old errors.new }
 {
-    match work_on(files, keys, paths, prompt_of(prompts), lines, writer, watch) {
+    match work_on(
+        files,
+        keys,
+        paths,
+        prompt_of(prompts),
+        lines,
+        writer,
+        observer,
+    ) {
         Ok(()) => 0,
         Err(fault) => {
             write_fault(lines.alloc(), errors, &fault);
             if let OpenFault::Script(_, text) = &fault {
-                watch.see_start(text);
+                observer.see_start(text);
             }
             1
         }

@@ -1,8 +1,8 @@
 //! Work on the files of a script and of words.
 
 use crate::messages::{FAILED, NO_KEYS, REFUSED, fail_memory};
-use crate::work_watch::WorkWatch;
-use sbl_work::{NoWatch, Paths, Watch, work_watched};
+use crate::work_places::WorkPlaces;
+use sbl_work::{NoObserver, Observer, Paths, work_observed};
 use snowbench::{Device, Face, Lines, Options, Wanted};
 use std::alloc::AllocError;
 use std::hash::RandomState;
@@ -61,10 +61,10 @@ pub(crate) fn start_work(rt: &HostRuntime, wanted: Wanted) -> u8 {
     let is_terminal = rt.stdin().is_terminal() && rt.stdout().is_terminal();
     let prompts = is_terminal && face != Some(Face::Rows);
     let ended = if shows_places(rt, face) {
-        let mut watch = WorkWatch::new(rt, paths.external.as_str(), first_text(&paths));
-        work_over(rt, keys, &paths, prompts, &mut watch)
+        let mut places = WorkPlaces::new(rt, paths.external.as_str(), first_text(&paths));
+        work_over(rt, keys, &paths, prompts, &mut places)
     } else {
-        work_over(rt, keys, &paths, prompts, &mut NoWatch {})
+        work_over(rt, keys, &paths, prompts, &mut NoObserver {})
     };
     match ended {
         Ok(status) => status,
@@ -73,17 +73,17 @@ pub(crate) fn start_work(rt: &HostRuntime, wanted: Wanted) -> u8 {
 }
 
 /// Works over standard input, output and error, and returns the exit status.
-fn work_over<S: Watch>(
+fn work_over<S: Observer>(
     rt: &HostRuntime,
     keys: RandomState,
     paths: &Paths,
     prompts: bool,
-    watch: &mut S,
+    observer: &mut S,
 ) -> Result<u8, AllocError> {
     let mut lines = Lines::new(rt.alloc(), Device::new(rt.stdin()))?;
     let mut writer = Device::new(rt.stdout());
     let mut errors = Device::new(rt.stderr());
-    Ok(work_watched(
+    Ok(work_observed(
         rt,
         keys,
         paths,
@@ -91,6 +91,6 @@ fn work_over<S: Watch>(
         &mut lines,
         &mut writer,
         &mut errors,
-        watch,
+        observer,
     ))
 }

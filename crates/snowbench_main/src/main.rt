@@ -13,7 +13,7 @@ mod place_watch;
 mod run_result;
 mod sessions;
 mod streams;
-mod work_watch;
+mod work_places;
 
 use crate::at_work::start_work;
 use crate::comparisons::start_compare;

@@ -5,7 +5,7 @@ use std::alloc::Global;
 
 /// A text that an edit of the script was refused for.
 #[derive(Drop)]
-pub enum RefusedText {
+pub enum RefusedSource {
     /// Of a file that was to replace the whole script.
     File {
         /// The name of the file.
@@ -23,22 +23,22 @@ pub enum RefusedText {
 }
 
 /// Sees what work refuses. It reads and writes nothing of the work itself.
-pub trait Watch {
+pub trait Observer {
     /// Is called if work does not begin since the script is refused, after the line on the fault.
     fn see_start(&mut self, text: &[u8]);
 
     /// Is called after the reply to an edit that is refused for its text, before the prompt and the next line.
-    fn see_refused(&mut self, bench: &Bench, refused: &RefusedText);
+    fn see_refused(&mut self, bench: &Bench, refused: &RefusedSource);
 }
 
 /// Sees nothing.
 #[derive(Drop)]
-pub struct NoWatch {}
+pub struct NoObserver {}
 
-impl Watch for NoWatch {
+impl Observer for NoObserver {
     fn see_start(&mut self, _text: &[u8]) {}
 
-    fn see_refused(&mut self, _bench: &Bench, _refused: &RefusedText) {}
+    fn see_refused(&mut self, _bench: &Bench, _refused: &RefusedSource) {}
 }
 
 /// Returns whether the fault of an edit is one of its text.
@@ -55,12 +55,12 @@ pub(crate) fn refused_block(
     line: &str,
     text: &[u8],
     edited: Result<(), EditFault>,
-) -> Option<RefusedText> {
+) -> Option<RefusedSource> {
     if !is_of_text(edited) {
         return None;
     }
     match (String::from_str(alloc, line), Vec::from_slice(alloc, text)) {
-        (Ok(line), Ok(text)) => Some(RefusedText::Block { line, text }),
+        (Ok(line), Ok(text)) => Some(RefusedSource::Block { line, text }),
         _ => None,
     }
 }
@@ -71,12 +71,12 @@ pub(crate) fn refused_file(
     path: &str,
     text: &[u8],
     edited: Result<(), EditFault>,
-) -> Option<RefusedText> {
+) -> Option<RefusedSource> {
     if !is_of_text(edited) {
         return None;
     }
     match (String::from_str(alloc, path), Vec::from_slice(alloc, text)) {
-        (Ok(path), Ok(text)) => Some(RefusedText::File { path, text }),
+        (Ok(path), Ok(text)) => Some(RefusedSource::File { path, text }),
         _ => None,
     }
 }

@@ -4,12 +4,12 @@ use crate::messages::{FAILED, print_line};
 use sbl_bench::Bench;
 use sbl_diagnostics::{TypedBlock, fault_of, part_text, script_fault_text, whole_text};
 use sbl_sessions::part_of;
-use sbl_work::{RefusedText, Watch};
+use sbl_work::{Observer, RefusedSource};
 use std::alloc::{AllocError, Global};
 
 /// Prints what is wrong with each text that is refused.
 #[derive(Drop)]
-pub(crate) struct WorkWatch<'a> {
+pub(crate) struct WorkPlaces<'a> {
     rt: &'a HostRuntime,
     external: &'a str,
     /// The name of the file of the text that the work begins with.
@@ -29,10 +29,10 @@ fn file_text(
     }
 }
 
-impl<'a> WorkWatch<'a> {
-    /// Returns the watch before the work.
-    pub(crate) fn new(rt: &'a HostRuntime, external: &'a str, first: &'a str) -> WorkWatch<'a> {
-        WorkWatch {
+impl<'a> WorkPlaces<'a> {
+    /// Returns these before the work.
+    pub(crate) fn new(rt: &'a HostRuntime, external: &'a str, first: &'a str) -> WorkPlaces<'a> {
+        WorkPlaces {
             rt,
             external,
             first,
@@ -68,7 +68,7 @@ impl<'a> WorkWatch<'a> {
     }
 }
 
-impl Watch for WorkWatch<'_> {
+impl Observer for WorkPlaces<'_> {
     fn see_start(&mut self, text: &[u8]) {
         self.show(
             file_text(self.rt.alloc(), self.first, text, self.external),
@@ -76,12 +76,12 @@ impl Watch for WorkWatch<'_> {
         );
     }
 
-    fn see_refused(&mut self, bench: &Bench, refused: &RefusedText) {
+    fn see_refused(&mut self, bench: &Bench, refused: &RefusedSource) {
         let text = match refused {
-            RefusedText::File { path, text } => {
+            RefusedSource::File { path, text } => {
                 file_text(self.rt.alloc(), path.as_str(), text, self.external)
             }
-            RefusedText::Block { line, text } => self.block_text(bench, line.as_str(), text),
+            RefusedSource::Block { line, text } => self.block_text(bench, line.as_str(), text),
         };
         self.show(text, 0);
     }
