@@ -22,8 +22,8 @@ use Rattle.sbl_text.specs.declared.fault.ScriptFault.TheVariants as script
 use Rattle.sbl_work.specs.Commands as command
 use Rattle.sbl_work.specs.Commands.{WorkCommand, alone_command, block_command, families_command, is_replace, part_command, with_file}
 use Rattle.sbl_history.specs.Desks.{State}
-use Rattle.sbl_history.specs.Refused.{RefusedText, LongText, PartText}
-use Rattle.sbl_work.specs.FaultReplies.{kept_after, refused_part}
+use Rattle.sbl_history.specs.Refused.{RefusedText, LongText, PartText, WholeText}
+use Rattle.sbl_work.specs.FaultReplies.{kept_after, refused_part, refused_whole}
 use Rattle.sbl_history.specs.Editing.{Replaces}
 use Rattle.sbl_history.specs.History.{OfScript}
 use Rattle.sbl_work.specs.Replies.{IsWorkReply, ReplacesKept, TellsReport, not_text_text, rows_or_fault}
@@ -162,7 +162,10 @@ part_refused s d e what lines f r (inr memory) is shown =
 kept_result : (what : ScriptEdit) (bytes : List ℕ) (d : State) (result : Result (Unit {0}) EditFault) → length bytes ≤ max_script
     → kept_after result (PartText what bytes) d ≡ kept_after result (refused_part what bytes) d
 kept_result what bytes d result few =
-    let same : PartText what bytes ≡ refused_part what bytes = (let test : nat_lt max_script (length bytes) ≡ false = grind (arith, nat_tests) in rw test refl) in
+    let test : nat_lt max_script (length bytes) ≡ false = grind (arith, nat_tests) in
+    let P : Bool → Type 0 = λ b. PartText what bytes ≡ (λ (f : ScriptFault). if b then LongText else PartText what bytes f) in
+    let base : P false = refl in
+    let same : PartText what bytes ≡ refused_part what bytes = subst P (sym test) base in
     ap (λ (m : ScriptFault → RefusedText). kept_after result m d) same
 
 part_text : (s t : Contents) (d m e : State) (what : ScriptEdit) (bytes : List ℕ) (result : Result (Unit {0}) EditFault) → length bytes ≤ max_script → IsTextResult result what bytes s d t m
@@ -181,15 +184,15 @@ part_held s t d m e what bytes lines result r same few so kept shown =
   where
     by : (b : Bool) → is_utf8 (made_text lines) ≡ b → IsPartResult result what (made_text lines) s d t m → e ≡ kept_after result (PartText what (made_text lines)) m
         → IsWorkAnswer s d (part_command (Some what) (made_text lines) (text_of_block lines)) r t e
-    by true is part then =
+    by true is part last =
         let text : IsTextResult result what (made_text lines) s d t m = rw is at part in
         same_command s t d e (part_command (Some what) (made_text lines) (Ok (made_text lines))) (part_command (Some what) (made_text lines) (text_of_block lines)) r
         (ap (part_command (Some what) (made_text lines)) (sym (text_is lines true few is)))
-        (edit_text (fault_in result), shown, part_text s t d m e what (made_text lines) result few text then)
-    by false is part then =
+        (edit_text (fault_in result), shown, part_text s t d m e what (made_text lines) result few text last)
+    by false is part last =
         let bad : (result ≡ Err (fault.Script script.NotUtf8)) × (t ≡ s) × (m ≡ d) = rw is at part in
-        let last : e ≡ record m { refused = Some (PartText what (made_text lines) script.NotUtf8) } =
-        then ∙ ap (λ (x : Result (Unit {0}) EditFault). kept_after x (PartText what (made_text lines)) m) bad.0 in
+        let noted : e ≡ record m { refused = Some (PartText what (made_text lines) script.NotUtf8) } =
+        last ∙ ap (λ (x : Result (Unit {0}) EditFault). kept_after x (PartText what (made_text lines)) m) bad.0 in
         same_command s t d e (part_command (Some what) (made_text lines) (Err script.NotUtf8)) (part_command (Some what) (made_text lines) (text_of_block lines)) r
         (ap (part_command (Some what) (made_text lines)) (sym (text_is lines false few is))) (
           edit_text (fault_in result),
@@ -197,7 +200,7 @@ part_held s t d m e what bytes lines result r same few so kept shown =
           inl (
             ap (λ (x : Result (Unit {0}) EditFault). edit_text (fault_in x)) bad.0,
             bad.1,
-            last ∙ ap (λ (x : State). record x { refused = Some (PartText what (made_text lines) script.NotUtf8) }) bad.2
+            noted ∙ ap (λ (x : State). record x { refused = Some (PartText what (made_text lines) script.NotUtf8) }) bad.2
                 ∙ ap (λ (x : RefusedText). record d { refused = Some x }) (sym (kept_short what (made_text lines) script.NotUtf8 few)),
           ),
         )
@@ -212,6 +215,33 @@ part_kept s t d e what bytes lines result r same few (inr memory) shown =
     subst (λ (x : Contents). IsWorkAnswer s d (part_command (Some what) (made_text lines) (text_of_block lines)) r x e) (sym memory.1)
     (subst (λ (x : State). IsWorkAnswer s d (part_command (Some what) (made_text lines) (text_of_block lines)) r s x) (sym memory.2)
     (edit_text (Some fault.OutOfMemory), text, part_memory s d what (made_text lines) (text_of_block lines)))
+
+-- ---- a whole script that is kept
+
+whole_long : (bytes : List ℕ) → max_script < length bytes → (λ (f : ScriptFault). LongText) ≡ refused_whole bytes
+whole_long bytes long =
+    let test : nat_lt max_script (length bytes) ≡ true = grind (arith, nat_tests) in
+    let P : Bool → Type 0 = λ b. (λ (f : ScriptFault). LongText) ≡ (λ (f : ScriptFault). if b then LongText else WholeText bytes) in
+    let base : P true = refl in
+    subst P (sym test) base
+
+-- the block has no text
+pub whole_kept : (s : Contents) (d e : State) (bytes : List ℕ) (f : EditFault) (result : Result (Unit {0}) EditFault) → NamesText (Err f) bytes → result ≡ Err f
+    → e ≡ kept_after (Err f) (λ g. LongText) d → ReplacesKept result bytes s d s e
+whole_kept s d e bytes f result names is kept =
+    subst (λ (r : Result (Unit {0}) EditFault). ReplacesKept r bytes s d s e) (sym is) (d, whole_refused s d bytes f names, kept ∙ same names)
+  where
+    same : NamesText (Err f) bytes → kept_after (Err f) (λ g. LongText) d ≡ kept_after (Err f) (refused_whole bytes) d
+    same (inl long) = ap (λ (m : ScriptFault → RefusedText). kept_after (Err f) m d) (whole_long bytes long.1)
+    same (inr memory) =
+        ap (λ (g : EditFault). kept_after (Err g) (λ h. LongText) d) memory ∙ sym (ap (λ (g : EditFault). kept_after (Err g) (refused_whole bytes) d) memory)
+
+-- these bytes replace it, and are kept
+pub whole_noted : (s t : Contents) (d m e : State) (bytes : List ℕ) (result noted : Result (Unit {0}) EditFault) (x : RefusedText) → Replaces result OfScript (Whole bytes) (Some bytes) s d t m
+    → noted ≡ result → e ≡ kept_after result (λ f. x) m → x ≡ refused_whole bytes script.NotUtf8 → ReplacesKept noted bytes s d t e
+whole_noted s t d m e bytes result noted x so same kept is =
+    subst (λ (r : Result (Unit {0}) EditFault). ReplacesKept r bytes s d t e) (sym same)
+    (m, so, kept ∙ ap (λ (y : RefusedText). kept_after result (λ f. y) m) is)
 
 -- ---- the bytes of a part
 

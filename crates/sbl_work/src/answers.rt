@@ -43,7 +43,9 @@ pub(crate) fn replace_by_bytes(
 ) -> Result<(), EditFault>
     ensures { ReplacesKept result bytes.now (contents_of bench.old) (state_of desk.old) (contents_of bench.new) (state_of desk.new) }
 {
-    let refused = refused_whole(alloc, bytes)?;
+    let Ok(refused) = refused_whole(alloc, bytes) else {
+        return Err(EditFault::OutOfMemory);
+    };
     let answer = desk.replace(bench, bytes);
     note_whole(desk, answer, refused)
 }
