@@ -1,7 +1,6 @@
 """What a face asks: edits and what they change, places, files, and events when a file is saved. It holds the program, keeps no history of its
 own, and makes no sentence.
 """
-import contextlib
 import os
 from typing import Any, Callable, Dict, List, NamedTuple, Optional, Sequence, Set, Tuple
 
@@ -133,9 +132,6 @@ class Bench:
     def read(self, line: str) -> List[Any]:
         """Returns the rows of a report; none if it is refused."""
         return rows.read(line.partition(" ")[0], self.known(line)[0] or [])
-
-    def block(self, lines: Sequence[str]) -> Reply:
-        return self.settled(self.program.ask([*lines, "."]))
 
     def settled(self, reply: Reply) -> Reply:
         """After a program that is gone: begins it again. The state of the reply stays; it is `lost` if that fails."""

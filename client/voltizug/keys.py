@@ -30,7 +30,7 @@ class Dropped(Exception):
 
 
 class Broken(Exception):
-    """Ctrl-C came while the client itself worked something out."""
+    """Ctrl-C came while a report was worked out or written."""
 
 
 class Hangup(BaseException):

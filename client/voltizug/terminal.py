@@ -159,10 +159,7 @@ class Terminal(Opening):
     def run_of(self, word: str, lines: Sequence[str]) -> Tuple[List[Any], Found]:
         """Returns the figures of the run of a word, and its events, from their lines, with its tests."""
         figures = self.bench.read("integers " + word)
-        found = with_tests(self.bench.program, self.bench.places(), word, rows.read("events", lines), figures)
-        if self.editor.is_interrupted:
-            raise Broken
-        return figures, found
+        return figures, with_tests(self.bench.program, self.bench.places(), word, rows.read("events", lines), figures)
 
     # Commands that are more than a request
 
@@ -275,9 +272,9 @@ class Terminal(Opening):
         if not is_whole:
             self.screen.say("Nothing was done: the block has no line with only a point at its end.")
         elif block[0] == "families":
-            reply = self.bench.block(block)
-            if self.settle(reply):
-                self.screen.write(reports.families(reply.lines) if reply.is_done else [words.sentence(reply, block, self.bench)], is_report=True)
+            reply = self.bench.settled(self.bench.program.ask([*block, "."]))
+            if self.is_done(reply, "families"):
+                self.screen.write(reports.families(reply.lines), is_report=True)
         elif not self.edit([*block, "."]):
             self.keep_lines([*block, "."])
 
