@@ -16,6 +16,7 @@ class Layouts(Case):
     def test_a_line_fits(self):
         self.assertEqual(layout.broken("  one two three", 9), ["  one two", "      three"])
         self.assertEqual(layout.broken("Keys    one two three four five", 24), ["Keys    one two three", "        four five"])
+        self.assertEqual(layout.broken("of 1,234,567 pairs, a,b", 10), ["of", "    1,234,567", "    pairs,", "    a,b"])
         self.assertEqual([layout.columns(text) for text in ("ab", "漢字", "e\u0301", "\t")], [2, 4, 1, 8])
         self.assertEqual([layout.cut("漢字漢字", 6), layout.cut("abcdef", 6), layout.cut("abcdefg", 6)], ["漢字..", "abcdef", "abcd.."])
 
@@ -35,6 +36,7 @@ class Layouts(Case):
         self.assertEqual(layout.summary(aside), "no word and no class differs from the mark; put aside: long, r (undo brings them back)")
 
     def test_families_are_compared(self):
+        self.assertEqual([layout.percent(*pair) for pair in ((0, 9), (14, 1223147), (1, 2000), (1, 0))], [" (0.0 %)", " (less than 0.1 %)", " (0.1 %)", ""])
         pairs = rows.read("families", ["pairs,23854,735,9,121", "pairs,23854,168,9,2"])
         self.assertEqual(
             layout.families_line(tuple(pairs)),

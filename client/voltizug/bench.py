@@ -44,6 +44,8 @@ class Bench:
         self.refused_text: Optional[bytes] = None
         self.read_texts: Set[int] = set()
         self.is_older = False
+        # By the hash of a text that was saved to SCRIPT, what SCRIPT had before.
+        self.replaced: Dict[int, bytes] = {}
         # The texts that reload put aside, with the names of their edits; the words that were added.
         self.aside: List[Tuple[bytes, Tuple[str, ...]]] = []
         self.added: List[str] = []
@@ -80,12 +82,18 @@ class Bench:
     def close(self, is_kept: bool) -> None:
         """Ends the program. The room may be kept if it has typed edits."""
         self.program.stop()
-        if not (is_kept and self.kept.has_edits()):
+        if not (is_kept and (self.kept.has_edits() or self.kept.has_words())):
             self.kept.forget(self.kept.room)
 
     def is_unsaved(self, text: bytes) -> bool:
         """Whether a text was typed and no file has it."""
         return hash(text) not in self.read_texts and all(read_file(path) != text for path in (self.script, *self.written))
+
+    def has_saved(self, text: bytes, now: bytes) -> bool:
+        """Whether a text was saved to SCRIPT, and a later one of SCRIPT has what that changed: its new lines, and none of those that it replaced."""
+        former = self.replaced.get(hash(text))
+        old, new, lines = (set(part.splitlines()) for part in (former or b"", text, now))
+        return former is not None and new - old <= lines and not (old - new) & lines
 
     def put_aside(self) -> List[str]:
         """Returns the names of the typed edits that reload put aside and that no file has."""
@@ -111,12 +119,16 @@ class Bench:
         if word in ("add", "remove"):
             program.now = program.now._replace(words=(*program.now.words, line))
             self.added = [*self.added, argument] if word == "add" else [other for other in self.added if other != argument]
+            self.kept.note_words(self.added)
         elif word == "words":
             program.now = program.now._replace(words=())
             self.look(self.words or "")
+            self.added = []
+            self.kept.note_words([])
         elif word == "append":
             self.look(self.words or "")
             self.added = []
+            self.kept.note_words([])
         elif word == "mark":
             program.marked = program.now._replace(stems=os.path.realpath(argument) if argument else "")
             self.changes = self.read("changes") if argument else []
@@ -199,7 +211,7 @@ class Bench:
         self.is_older = text != self.file_text and (self.is_older or word == "undo" and before.text == self.file_text)
         if word == "reload":
             self.note_file()
-            if before.text != text and self.is_unsaved(before.text):
+            if before.text != text and self.is_unsaved(before.text) and not self.has_saved(before.text, text):
                 aside = typed_names(history)
                 self.aside.append((before.text, aside))
                 self.kept.keep("aside", before.text)
@@ -241,6 +253,8 @@ class Bench:
         if reply.is_done and is_own:
             self.look(self.script)
             self.refused_text = None
+            if word == "save" and self.file_text not in (None, self.program.now.text):
+                self.replaced[hash(self.program.now.text)] = self.file_text or b""
             self.note_file()
         if reply.is_done and word == "save":
             self.keep()

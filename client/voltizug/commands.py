@@ -41,7 +41,9 @@ COMMANDS: Dict[str, Command] = {
     "integers": Command("integers WORD", "the steps of the run of WORD, and the integer variables at its end", "text"),
     "largest": Command("largest [N]", "the N largest classes, 10 without N", "number"),
     "limit": Command("limit [N]", "lets each run use N steps at most; without N says how many", "number", "100,000 is usual."),
-    "lint": Command("lint", "what may not be meant: empty slices, letters that no word has, letters beyond ASCII in literals, capitals"),
+    "lint": Command(
+        "lint", "what may not be meant: empty slices, letters that no word has, letters beyond ASCII in literals, capitals; and the warnings on the files"
+    ),
     "mark": Command(
         "mark [FILE]", "changes are told since now, or since the stems of FILE", "file", "FILE has a line for each word, as of approve."
     ),
@@ -52,7 +54,7 @@ COMMANDS: Dict[str, Command] = {
     "replace": Command(
         "replace [FILE]", "replaces the whole script by that of FILE", "file", "Without FILE its lines follow, and a line with a single point."
     ),
-    "rescue": Command("rescue", "brings back edits that you typed before a terminal was closed", "text", '"rescue drop" forgets them.'),
+    "rescue": Command("rescue", "brings back edits that you typed, and words that you added, before a terminal was closed", "text", '"rescue drop" forgets them.'),
     "routine": Command(
         "routine NAME", "replaces a routine", "routine",
         "Then comes its text, with define NAME as before it or without, and a line with a single point. A line define NAME as .. begins this, too."
@@ -82,6 +84,8 @@ GROUPS: Sequence[Tuple[str, str]] = (
 )
 # A block follows one of these and its name; and one of these alone.
 BLOCKS, OPEN_BLOCKS = ("routine", "among", "grouping"), ("families", "replace")
+# Of the commands' words these are the language's, too.
+LANGUAGE = ("among", "integers", "limit")
 # A blank at the end of these may belong to a word.
 WITH_TEXT = ("add", "remove", "class", "stem", "find", "trace", "why", "tests", "events", "integers", "changes", "uses", "echo")
 # Reports: they can be written to a file by > FILE, and have a pager.
@@ -89,18 +93,21 @@ REPORTING = (
     "changes class classes counts events families find history integers largest lint script show stats stem stems".split()
     + "tests trace unused uses why".split()
 )
+DECLARATIONS = ("externals", "routines", "groupings", "strings", "integers", "booleans", "stringescapes", "stringdef", "backwardmode")
 # By the beginning of a line that is no command what is said of it. {c} is its first word.
 IN_SHELL = {"check": "SCRIPT WORDS STEMS", "compare": "OLD NEW WORDS", "filter": "SCRIPT < WORDS", "run": "SCRIPT WORDS", "work": "SCRIPT WORDS"}
 STRANGE: Sequence[Tuple[str, str]] = (
     (r"\s*\.\s*\Z", "A line with a single point ends a block, and no block is open."),
     (r"(q|:q|:q!|:wq|bye|exit!)( |\Z)", "quit or Ctrl-D ends."),
     (r"clear( |\Z)", "Ctrl-L clears the screen. quit or Ctrl-D ends."),
-    (r"(ls|cd|cat|vi|vim|nano|emacs|edit|grep|less|git|man)( |\Z)", "{c} is a command of a shell: use another window."),
+    (r"(ls|cd|cat|vi|vim|nano|emacs|grep|less|git|man|tail|head|wc)( |\Z)", "{c} is a command of a shell: use another window."),
+    (r"edit( |\Z)", "Change the script in your editor, and save it; or type routine NAME, among NAME K or grouping NAME, and the new text."),
+    (r"warnings( |\Z)", "lint lists what may not be meant in the script and the words."),
     *((r"%s( |\Z)" % verb, "{c} is not a command here. In a shell: ./snowbench {c} %s." % files) for verb, files in IN_SHELL.items()),
     (r"\s*(//|/\*)", "A comment begins with # at the beginning of the line."),
     (r"define( |\Z)", "A definition begins with define NAME as, or define NAME and the terms of a grouping, in one line."),
     (
-        r"(externals|routines|groupings|strings|integers|booleans|stringescapes|stringdef|backwardmode)( |\Z)",
+        r"(%s)( |\Z)" % "|".join(DECLARATIONS),
         "This looks like a script. replace takes a whole one, up to a line with a single point."
     ),
     (r"\s+(%s)( |\Z)" % "|".join(COMMANDS), "A command begins at the beginning of the line."),

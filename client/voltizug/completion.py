@@ -1,12 +1,15 @@
-"""What TAB completes: commands, names of the script, numbers and strings of amongs, files."""
+"""What TAB completes: commands, names of the script, numbers and strings of amongs, files, words and stems."""
 import glob
 import os
 from typing import Iterable, List
 
+from . import rows
 from .bench import Bench
 from .commands import COMMANDS
 
 KINDS = {"routine": ("routine",), "among": ("routine",), "grouping": ("grouping",), "name": ("routine", "grouping"), "part": ("routine", "grouping")}
+# These take a word of the vocabulary.
+WITH_WORD = ("class", "remove", "why", "tests", "trace", "events", "integers")
 
 
 class Completion:
@@ -32,12 +35,20 @@ class Completion:
         places, words = self.bench.places(), rest.split(" ")
         if self.is_in_block:
             return places.definitions
+        if command in WITH_WORD or command == "stem":
+            return self.words(rest, command == "stem")
         if takes in KINDS and len(words) == 1:
             return [name + " " * (takes in ("among", "part") and places.count(name) > 0) for name in places.of_kind(*KINDS[takes])]
         if takes in ("among", "part") and len(words) == 2:
             return map(str, range(1, places.count(words[0]) + 1))
         is_string = takes == "part" and len(words) == 3
         return [string for *among, string in places.entries if is_string and among == words[:2] and " " not in string]
+
+    def words(self, text: str, is_stem: bool) -> Iterable[str]:
+        """Returns the words or stems without blanks that have a text in them."""
+        lines = self.bench.known("find " + text)[0] if text and " " not in text else None
+        found = {row.stem if is_stem else row.word for row in rows.outcomes(lines or []) if row.kind == "stem" or not is_stem}
+        return [name for name in found if " " not in name]
 
 
 def files(path: str, text: str) -> List[str]:

@@ -79,7 +79,8 @@ class Desk:
         self.screen.say(said)
         self.show_more_faults()
         self.nonsense = self.nonsense + 1 if code == 52 and self.editor.has_key() else 0
-        if self.editor.pending or len(lines) > 1 or self.nonsense >= NONSENSE:
+        # (of a script that was pasted one line is enough)
+        if self.editor.pending or len(lines) > 1 or self.nonsense >= (1 if words.is_of_script(lines[0]) else NONSENSE):
             self.drop_pasted()
 
     def drop_pasted(self) -> None:

@@ -17,11 +17,12 @@ FileState = Optional[Tuple[int, int, int]]
 
 
 class Left(NamedTuple):
-    """Typed edits that were left behind: the folder, the file in it that has the text, and the names of the edits."""
+    """What was left behind: the folder, the file in it that has the text with typed edits, their names, and the words that were added."""
 
     room: str
     path: str
     edits: List[str]
+    words: List[str] = []
 
 
 class Kept:
@@ -48,8 +49,21 @@ class Kept:
         with contextlib.suppress(OSError), open(os.path.join(self.room, file), "wb") as kept:
             kept.write(text)
 
+    def note_words(self, words: Sequence[str]) -> None:
+        """Notes the words that were added and that no file has."""
+        added = os.path.join(self.room, "added")
+        with contextlib.suppress(OSError):
+            if words:
+                with open(added, "w", encoding="utf-8", errors="surrogateescape") as written:
+                    written.write("\n".join([self.script, *words]))
+            elif os.path.exists(added):
+                os.remove(added)
+
     def has_edits(self) -> bool:
         return os.path.exists(os.path.join(self.room, "about"))
+
+    def has_words(self) -> bool:
+        return os.path.exists(os.path.join(self.room, "added"))
 
     def left(self) -> List[Left]:
         """Returns what was left behind over this script, the oldest first. Folders that have nothing are taken away."""
@@ -58,14 +72,13 @@ class Kept:
             lock = locked(entry.path) if entry.path != self.room else None
             if lock is None:
                 continue
-            with lock, contextlib.suppress(OSError, ValueError):
-                with open(os.path.join(entry.path, "about"), encoding="utf-8", errors="surrogateescape") as file:
-                    script, name, *edits = file.read().split("\n")
-                if script == self.script:
-                    found.append((entry.stat().st_mtime, Left(entry.path, os.path.join(entry.path, name), edits)))
-                continue
-            if entry.stat().st_mtime < time.time() - YOUNG:
-                self.forget(entry.path)
+            with lock:
+                about, added = ((read_file(os.path.join(entry.path, name)) or b"").decode("utf-8", "surrogateescape").split("\n") for name in ("about", "added"))
+                if self.script in (about[0], added[0]):
+                    path = os.path.join(entry.path, about[1]) if about[1:] else ""
+                    found.append((entry.stat().st_mtime, Left(entry.path, path, about[2:], added[1:])))
+                elif not about[0] and not added[0] and entry.stat().st_mtime < time.time() - YOUNG:
+                    self.forget(entry.path)
         return [left for _, left in sorted(found)]
 
     def forget(self, room: str) -> None:

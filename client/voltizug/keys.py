@@ -200,6 +200,9 @@ class Editor:
         try:
             self.is_waiting = True
             text = input(prompt)
+        except SystemError as why:
+            # (`timeout` sends SIGCONT after SIGTERM, and CPython calls the handler of the second while the exception of the first one is set)
+            raise why.__cause__ if isinstance(why.__cause__, Hangup) else why
         except EOFError:
             # (a terminal that is gone ends its input, too)
             need_keys(self.typing)

@@ -47,13 +47,14 @@ def padded(text: str, column: int) -> str:
 
 
 def broken(line: str, width: int) -> List[str]:
-    """Returns a line as lines that fit: broken at blanks and commas. From the second on they are indented, below a text that follows a label."""
+    """Returns a line as lines that fit: broken at blanks and commas, but not in a number. From the second on they are indented, below a
+    text that follows a label."""
     if columns(line) <= width:
         return [line]
     label = LABEL.match(line)
     hang = " " * label.end() if label and label.end() <= width // 3 else line[: len(line) - len(line.lstrip())] + "    "
     lines = [""]
-    for part in re.split(r"(?<=[ ,])(?! )", line):
+    for part in re.split(r"(?<=[ ,])(?! |(?<=\d,)\d)", line):
         if lines[-1].strip() and columns(lines[-1] + part.rstrip()) > width:
             lines[-1:] = [lines[-1].rstrip(), hang]
         lines[-1] += part
@@ -157,6 +158,8 @@ def summary(edit: Edit) -> str:
 
 
 def percent(part: int, whole: int) -> str:
+    if part and 2000 * part < whole:
+        return " (less than 0.1 %)"
     return " ({:.1f} %)".format(100 * part / whole) if whole else ""
 
 

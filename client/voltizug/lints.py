@@ -15,6 +15,11 @@ EMPTY = {
     "among": "[substring] is meant, perhaps", "<-": "it has no character to replace", "delete": "it has no character to delete",
 }
 
+# They signal t, whatever the command after them does.
+SURE = ("do", "try", "repeat")
+# Before those these make something else of it.
+NOT_SURE = ("not", "fail", "for", "and")
+
 
 def lints(bench: Bench, has_all: bool = False) -> List[str]:
     """Returns lines on the current text. All has letters beyond ASCII in literals, too, of which other compilers warn; and of many words only
@@ -27,6 +32,7 @@ def lints(bench: Bench, has_all: bool = False) -> List[str]:
         (left.start, "the slice is empty here: " + EMPTY[after.text]) for left, right, after in zip(tokens, tokens[1:], tokens[2:])
         if left.text == "[" and right.text == "]" and after.text in EMPTY
     ]
+    found += sure_alternatives(tokens)
     found += strange_strings(places, outcomes, tokens) if has_all or bench.size >= FEW else []
     beyond = "%s has a letter beyond ASCII: other compilers ask for a stringdef"
     found += [(token.start, beyond % short(token.text)) for token in tokens if has_all and token.kind == "literal" and not token.text.isascii()]
@@ -36,12 +42,35 @@ def lints(bench: Bench, has_all: bool = False) -> List[str]:
     return shown[:most] + more + capitals(places, outcomes)
 
 
+def sure_alternatives(tokens: Sequence[Token]) -> Iterable[Tuple[int, str]]:
+    """What is after `or` never runs if `do X` is before it. X is a name, a literal or a bracket."""
+    for at, token in enumerate(tokens[:-1]):
+        if token.kind == "word" and token.text in SURE and not (at and tokens[at - 1].text in NOT_SURE):
+            after = end_of(tokens, at + 1)
+            if after and [other.text for other in tokens[after : after + 1]] == ["or"]:
+                yield token.start, "%s never fails, so what is after this or never runs: %s ( .. or .. ) is meant, perhaps" % (token.text, token.text)
+
+
+def end_of(tokens: Sequence[Token], at: int) -> int:
+    """Returns the number of the token after a name, a literal or a bracket; 0 if another command begins there."""
+    if tokens[at].kind in ("name", "literal"):
+        return at + 1
+    depth = 0
+    for i in range(at, len(tokens) if tokens[at].text == "(" else 0):
+        depth += (tokens[i].text == "(") - (tokens[i].text == ")")
+        if not depth:
+            return i + 1
+    return 0
+
+
 def strange_strings(places: Places, outcomes: Sequence[Outcome], tokens: Sequence[Token]) -> Iterable[Tuple[int, str]]:
-    """The strings of amongs that have a letter which no word has and no command puts in. (Macros hide what is put in.)"""
-    if not outcomes or any(token.kind == "inserts" for token in tokens):
+    """The strings of amongs that have a letter which no word has and no command puts in. (Macros hide what is put in: if a literal that is put
+    in may have one, no string is looked at.)"""
+    put = [token.text for before, token in zip(tokens, tokens[1:]) if token.kind == "literal" and before.text in PUTTING]
+    signs = set("".join(token.text for token in tokens if token.kind == "inserts"))
+    if not outcomes or any(signs & set(text) for text in put):
         return
-    there: Set[str] = set("".join(row.word + row.stem * (row.kind == "stem") for row in outcomes))
-    there.update(*(token.text for before, token in zip(tokens, tokens[1:]) if token.kind == "literal" and before.text in PUTTING))
+    there: Set[str] = set("".join([row.word + row.stem * (row.kind == "stem") for row in outcomes] + put))
     for (_, _, string), row in places.entries.items():
         strange = " ".join(sorted(set(string) - there))
         if strange:

@@ -79,5 +79,6 @@ def turning(word: str, events: Sequence[Any], bench: Bench) -> str:
         return "The run of {} ends in {}, which goes round, or it needs more than {:,} steps.{}".format(in_quotes(word), name, limit, may_be)
     does = ": it %s again and again, %s" % (in_words(turn.does, "and", 3), "{:,} times and more".format(turn.count)) if turn.does else ""
     if len(spots) == 1:
-        return "In the run of %s %s in %s goes round%s." % (in_quotes(word), spots[0], name, does)
+        note = "," if places.note else ""
+        return "In the run of %s %s%s in %s goes round%s." % (in_quotes(word), spots[0], note, name, does)
     return "In the run of %s %s goes round%s.%s" % (in_quotes(word), name, does, " It is %s." % in_words(spots, "or") if spots else "")

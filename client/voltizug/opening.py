@@ -85,9 +85,12 @@ class Opening(Desk):
         bench, say, figures = self.bench, self.screen.say, {row.kind: int(row.count) for row in rows.read("stats", reply.lines)}
         say(*self.new_lines(lints(bench)))
         say(self.first_refused() if figures["refused"] else "")
-        for left in bench.kept.left()[-1:]:
-            edits = "Edits that you typed before were left behind when the terminal was closed (%s)" % in_words(left.edits, "and", 5)
-            say(edits + ": rescue brings them back, rescue drop forgets them.")
+        all_left = bench.kept.left()
+        for left in all_left[-1:]:
+            names = left.edits + [counted(len(left.words), "added word")] * bool(left.words)
+            edits = "Edits that you typed before were left behind when the terminal was closed (%s)" % in_words(names, "and", 5)
+            older = " Older ones are there, too: rescue brings them back when it is typed again." if len(all_left) > 1 else ""
+            say(edits + ": rescue brings them back, rescue drop forgets them." + older)
         if not figures["words"] and not bench.words:
             say("To see stems: add WORD, or start with a file of words: ./snowbench work SCRIPT WORDS")
         size = counted(figures["words"], "word"), counted(figures["classes"], "class", "classes")

@@ -54,7 +54,8 @@ def families(lines: Sequence[str]) -> List[str]:
         return ["the vocabulary has no two words of these families with a stem"] + unknown
     shown = ["  understemmed  %s: %s" % (named(row.word), listed(row.stems)) for row in found if row.kind == "under"]
     shown += ["  overstemmed   %s: %s" % (named(row.stem) or "(empty)", listed(row.words)) for row in found if row.kind == "over"]
-    return shown + unknown + [
+    alone = ["No line has two words of the vocabulary: a family is a line of words that belong together."] * (within == 0)
+    return shown + unknown + alone + [
         "different stems: {:,} of {}{} within a family".format(apart, counted(within, "pair"), percent(apart, within)),
         "the same stem:   {:,} of {}{} across families".format(joined, counted(across, "pair"), percent(joined, across)),
     ]
@@ -156,7 +157,9 @@ def why(word: str, events: Sequence[Any], figures: Sequence[Any], places: Places
         elif row.kind == "more":
             shown.append(("..", "{:,} more events".format(int(row.count)), ""))
         elif row.kind in ("stem", "refused"):
-            where = " in " + calls[-1].name if row.kind == "refused" and calls else ""
+            name = calls[-1].name if row.kind == "refused" and calls else ""
+            place = " (%s)" % places.of(name) if name and places.of(name) else ""
+            where = " in %s%s" % (name, place) if name else ""
             shown.append((row.kind, "%s%s   %s" % (named(row[1]) or "(empty)", where, values(figures)), ""))
         if calls:
             calls[-1].note(row)

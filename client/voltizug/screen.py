@@ -14,6 +14,9 @@ USUAL, LEAST = (80, 24), (12, 4)
 # How many lines are written before it is looked whether Ctrl-C came.
 PART = 200
 
+# How less is run if its own variables say nothing else: it says how one goes on and back, and writes no file for a command that is typed there.
+LESS = {"LESS": "FRXPs?ethe end, q goes back:space shows more, q goes back.$", "LESSSECURE": "1"}
+
 
 def has_colour(wish: str) -> bool:
     """Whether lines have colours: as --color wishes, by default if nothing speaks against them."""
@@ -35,7 +38,8 @@ class Screen:
 
     def broken(self, lines: Sequence[str]) -> List[str]:
         width = self.size().columns
-        return [part for line in lines for part in layout.broken(layout.named(line), width)]
+        # (a command that is to be copied is not broken: the terminal does that)
+        return [part for line in lines for part in (layout.broken(layout.named(line), width) if " > NEW" not in line else [layout.named(line)])]
 
     def write(self, lines: Sequence[str], is_report: bool = False, is_text: bool = False) -> None:
         """Writes lines; those of a text are an author's, and are not broken. A report may go to the pager; if Ctrl-C ends it, that is said."""
@@ -69,7 +73,7 @@ class Screen:
             return False
         with self.editor.lent():
             try:
-                process = subprocess.Popen(shlex.split(pager), stdin=subprocess.PIPE, env={"LESS": "FRX", **os.environ})
+                process = subprocess.Popen(shlex.split(pager), stdin=subprocess.PIPE, env={**LESS, **os.environ})
             except (OSError, ValueError):
                 return False
             with contextlib.suppress(BrokenPipeError):

@@ -8,7 +8,7 @@ from typing import Any, List, Sequence, Tuple
 
 from . import commands, layout, loops, reports, rows, words
 from .bench import Bench
-from .commands import BLOCKS, COMMANDS, OPEN_BLOCKS, REPORTING, WITH_TEXT
+from .commands import BLOCKS, COMMANDS, LANGUAGE, OPEN_BLOCKS, REPORTING, WITH_TEXT
 from .copies import Found, with_tests
 from .keys import Broken, Dropped, Hangup
 from .kept import Kept, home, read_file
@@ -39,6 +39,10 @@ class Terminal(Opening):
         line = line if line.partition(" ")[0] in WITH_TEXT else line.rstrip() if line.strip() else ""
         line = {"exit": "quit", "?": "help"}.get(line, line)
         command, _, argument = line.partition(" ")
+        if command in COMMANDS and COMMANDS[command].takes not in ("", "text"):
+            # (TAB writes a blank after the command, and one types another)
+            argument = " ".join(argument.split()) if command == "among" else argument.lstrip()
+            line = command + " " * bool(argument) + argument
         if command != self.doubted.partition(" ")[0]:
             self.doubted = ""
         if line == "quit":
@@ -80,6 +84,9 @@ class Terminal(Opening):
         found = TO_FILE.match(line) if line.partition(" ")[0] in REPORTING else None
         line, path = (found[1], found[2]) if found else (line, "")
         command, _, argument = line.partition(" ")
+        if command in REPORTING and command != "uses" and (" | " in argument or argument.endswith(" >") or argument == ">" and not COMMANDS[command].takes):
+            self.screen.say("A report goes into a file by > FILE, as in: classes > my.classes. There are no pipes here.")
+            return
         reply = self.bench.ask({"changes": "changes", "tests": "events " + argument}.get(command, ASKED.get(line, line)))
         if not self.is_done(reply, line):
             return
@@ -149,7 +156,7 @@ class Terminal(Opening):
         last, turn = found.events[-1], loops.turning(word, rows.read("events", lines), self.bench)
         meaning = "%s: %s" % (last.name, words.REFUSALS[last.name]) if last.kind == "refused" and last.name in words.REFUSALS else ""
         shown = reports.why(word, found.events, figures, self.bench.places(), found.tests)
-        return shown + ["  " + line for line in (turn, meaning) if line]
+        return shown + ["  " + line for line in (turn, meaning, words.misspelt(word, self.bench)) if line]
 
     def reply_tests(self, word: str, lines: Sequence[str]) -> List[str]:
         _, found = self.run_of(word, lines)
@@ -176,7 +183,8 @@ class Terminal(Opening):
         self.screen.say("Each run may use {:,} steps. limit N sets another number.".format(int(self.bench.program.now.limit)))
 
     def do_lint(self, _: str) -> None:
-        self.screen.write(lints(self.bench, has_all=True) or ["nothing was found"], is_report=True)
+        found = [*warnings_on(self.bench.script, self.bench.words), *lints(self.bench, has_all=True)]
+        self.screen.write(found or ["nothing was found"], is_report=True)
 
     def do_add(self, text: str) -> None:
         parts = text.split()
@@ -186,6 +194,7 @@ class Terminal(Opening):
             for part in parts if reply in ("y", "yes") else []:
                 self.ask("add " + part)
             if reply != "one":
+                self.screen.say("" if reply in ("", "y", "yes") else "Nothing was added: %s is no answer to this." % words.in_quotes(reply, True))
                 return
         self.ask("add " + text)
 
@@ -209,8 +218,8 @@ class Terminal(Opening):
         elif self.is_done(reply, line):
             lost = before - self.comments(path) if command == "save" else 0
             self.screen.say(("saved in %s" if command == "save" else "The stems are in %s.") % short(path))
-            what = "1 comment of the parts that you typed is" if lost == 1 else "{:,} comments of the parts that you typed are".format(lost)
-            self.screen.say("%s no longer in %s." % (what, short(path)) if lost > 0 else "")
+            # (of the parts that were typed, or of a change of SCRIPT that undo took back)
+            self.screen.say("%s no longer in %s." % (layout.counted(lost, "comment is", "comments are"), short(path)) if lost > 0 else "")
 
     def comments(self, path: str) -> int:
         """Returns how many comments a script has."""
@@ -225,9 +234,11 @@ class Terminal(Opening):
             self.screen.say("%s now at the end of %s." % (layout.counted(count, "word is", "words are"), short(path)))
 
     def do_words(self, _: str) -> None:
+        added = self.bench.added
         if self.is_done(self.bench.ask("words"), "words"):
+            self.warn(self.bench.words)
             now = {row.word for row in self.bench.outcomes()}
-            gone, self.bench.added = [word for word in self.bench.added if word not in now], []
+            gone = [word for word in added if word not in now]
             them = "it" if len(gone) == 1 else "them"
             self.screen.say("{:,} words".format(len(now)), "Gone, since the file lacks %s: %s." % (them, in_words(gone, "and", 5)) if gone else "")
 
@@ -239,8 +250,18 @@ class Terminal(Opening):
             self.screen.say("They are forgotten.")
         elif not left:
             self.screen.say("No typed edits were left behind.")
-        elif self.edit(["replace " + left[-1].path]):
+        elif self.add_again(left[-1].words) and (not left[-1].path or self.edit(["replace " + left[-1].path])):
             self.bench.kept.forget(left[-1].room)
+
+    def add_again(self, added: Sequence[str]) -> bool:
+        """Adds words that were left behind; those that are there now are left out."""
+        for word in added:
+            reply = self.bench.ask("add " + word)
+            if reply.is_done:
+                self.screen.write(self.reply_add(word, []))
+            elif not self.settle(reply):
+                return False
+        return True
 
     # Blocks
 
@@ -284,9 +305,16 @@ class Terminal(Opening):
             line = self.editor.read("| ")
             if line is None or line.strip() == ".":
                 return line is not None
-            if line.strip() in ("quit", "exit", "help", "?"):
+            if self.is_command(line, block[0]):
                 self.screen.say("This line is a part of the block. A line with a single point ends the block, Ctrl-C drops it.")
             block.append(line)
+
+    def is_command(self, line: str, block: str) -> bool:
+        """Whether a line of a block is meant as a command, by its first word. (A family may have any word.)"""
+        word = line.split()[0] if line.strip() else ""
+        if line.strip() in ("quit", "exit", "help", "?"):
+            return True
+        return block != "families" and word in COMMANDS and word not in LANGUAGE and not self.bench.places().kind(word)
 
     def keep_lines(self, block: Sequence[str]) -> None:
         for line in block[1:]:

@@ -6,7 +6,7 @@ import shlex
 from typing import Callable, Dict, List, Sequence
 
 from .bench import Bench, Edit
-from .commands import COMMANDS, OPEN_BLOCKS, STRANGE
+from .commands import COMMANDS, DECLARATIONS, OPEN_BLOCKS, STRANGE
 from .kept import is_same
 from .layout import counted, in_words, named, short
 from .near import folded, meant, near
@@ -54,6 +54,8 @@ REFUSALS: Dict[str, str] = {
     "is missing before it, or in the wrong order: forwards [ sets the left end, backwards the right end.",
     "Cursor": "the cursor would be outside the text, or insert, <+ or attach found it beyond the limit. Look for a delete or <- that makes the text "
     "shorter before a command puts the cursor back (do, test, not, try, or, and, repeat, goto, backwards) or sends it to a limit.",
+    "Integer": "a number would be below -2147483648 or above 2147483647. Look for a $ or a hop, loop, atleast, tomark or atmark with arithmetic.",
+    "Divide": "a number would be divided by 0. Look for a / or /=.",
     "TooLong": "the text would have more than 1,024 characters. Look for <+, insert, attach or <- in a repeat or a loop.",
 }
 
@@ -91,6 +93,13 @@ def absent(line: str, bench: Bench) -> str:
         question = " It is there in another form of Unicode (NFC and NFD are different words)."
     why = "" if found or command == "remove" or word != word.strip() else ' "why %s" shows how it would be stemmed.' % short(word)
     return "%s is not in the vocabulary.%s%s" % (in_quotes(word), question, why)
+
+
+def misspelt(word: str, bench: Bench) -> str:
+    """Returns the question on a word that is not in the vocabulary, but near one that is; otherwise nothing."""
+    is_there = not bench.size or bench.known("class " + word)[0] is not None
+    question = "" if is_there else meant(word, [row.word for row in bench.outcomes()])
+    return "%s is not in the vocabulary.%s" % (in_quotes(word), question) if question else ""
 
 
 def no_class(line: str, bench: Bench) -> str:
@@ -144,6 +153,11 @@ def amongs_of(line: str, bench: Bench) -> str:
     return "%s has %s, so K is %s (those inside others count, too)." % (short(name), counted(count, "among"), numbers)
 
 
+def is_of_script(line: str) -> bool:
+    """Whether a line that is no command is a comment or a declaration of a script."""
+    return line.lstrip().startswith(("//", "/*")) or line.partition(" ")[0] in DECLARATIONS
+
+
 def unknown(line: str, bench: Bench) -> str:
     """The sentence for what is no command, or one that lacks something or has too much."""
     command, _, argument = line.partition(" ")
@@ -170,8 +184,10 @@ def bad_file(line: str, bench: Bench) -> str:
     if command == "words" and not bench.words:
         return "There is no file of words: add WORD adds a word."
     path = (bench.words if command == "words" else argument or bench.script) or ""
-    keeps = ". The script that was read is in force: save FILE keeps it." if command == "reload" else ""
-    return "%s cannot be read: %s%s" % (short(path), unreadable(path), keeps)
+    if command == "reload":
+        # (another file is no question: SCRIPT stays the file)
+        return "%s cannot be read: %s. The script that was read stays: save FILE keeps it." % (short(path), unreadable(path).partition(".")[0])
+    return "%s cannot be read: %s" % (short(path), unreadable(path))
 
 
 def not_text(line: str, bench: Bench) -> str:
@@ -185,7 +201,7 @@ def not_written(command: str, path: str, bench: Bench) -> str:
         return "There is no file of words: append FILE writes a new one."
     path = path or (bench.words or "" if command == "append" else "")
     if not path:
-        return "%s needs a file: %s." % (command, usage(command))
+        return "%s needs a file: %s%s." % (command, usage(command), ", such as save " + short(bench.script) if command == "save" else "")
     folder, name = os.path.dirname(path) or ".", short(path)
     if command != "save" and is_same(path, bench.script):
         return may_not("script", command, path)

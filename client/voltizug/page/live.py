@@ -273,7 +273,7 @@ class Live:
     def show_broken(self, reply: Reply) -> None:
         if reply.state == "lost":
             self.bench.is_waiting = True
-            self.show_fault(["The program ended, and could not be started again: start ./snowbench page again."], "file")
+            self.show_fault(["The program ended, and could not be started again: start snowbench page again."], "file")
             return
         self.begun = time.monotonic()
         self.show_outcomes()

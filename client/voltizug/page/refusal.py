@@ -2,10 +2,11 @@
 import re
 from typing import Any, Dict, List, Optional, Sequence
 
-from .. import faults, rows
+from .. import faults, rows, words
 from ..bench import Bench
 from ..kept import read_file
 from ..layout import named
+from ..opening import OF_WORDS
 from . import ink
 
 PLACE = re.compile(r":(\d+):(\d+): (.*)", re.S)
@@ -21,10 +22,13 @@ def refusal(bench: Bench, said: Sequence[str], typed: Optional[str] = None) -> D
     place = next(filter(None, places), None)
     # (a fault of the words has no place in the script)
     is_of_script = place is not None or typed is not None
+    of_words = OF_WORDS.get(faults.code_of(said)) if bench.words and not is_of_script else None
+    if of_words:
+        lines = [of_words.format(name=named(bench.words), quoted=words.in_shell(bench.words))]
     carets = next((line for line in lines if line.strip() and not line.strip("^ ")), "")
     sent = data if typed is None else typed.encode("utf-8", "replace")
     return {
-        "isOfScript": is_of_script, "text": ink.shown_text(sent) if is_of_script else None,
+        "isOfScript": is_of_script, "isOfWords": bool(of_words), "text": ink.shown_text(sent) if is_of_script else None,
         "line": int(place[1]) if place else 0, "column": int(place[2]) if place else 0, "length": carets.count("^"),
         "sentence": place[3] if place else " ".join(lines), "all": all_faults(bench, sent) if is_of_script else [],
     }
