@@ -44,8 +44,9 @@ class Desk:
         if reply.state == DONE:
             return True
         if reply.state == "lost":
-            edits = "What you typed is kept: the next start over the same script offers it." if self.bench.kept.has_edits() else "No edit is lost."
-            self.screen.say("The program could not be started again. %s" % edits)
+            is_kept = self.bench.kept.has("about", "added")
+            edits = "What you typed is kept: the next start over the same script offers it." if is_kept else "No edit is lost."
+            self.screen.say("The program could not be started again. " + edits)
             raise Hangup
         done = "The last command was not done: type it again." if reply.state == ENDED else "It was broken off. Nothing changed."
         self.screen.say(done + " undo goes back to the mark at most.")

@@ -84,7 +84,8 @@ class Terminal(Opening):
         found = TO_FILE.match(line) if line.partition(" ")[0] in REPORTING else None
         line, path = (found[1], found[2]) if found else (line, "")
         command, _, argument = line.partition(" ")
-        if command in REPORTING and command != "uses" and (" | " in argument or argument.endswith(" >") or argument == ">" and not COMMANDS[command].takes):
+        is_piped = " | " in argument or argument.endswith(" >") or argument == ">" and command in COMMANDS and not COMMANDS[command].takes
+        if is_piped and command in REPORTING and command != "uses":
             self.screen.say("A report goes into a file by > FILE, as in: classes > my.classes. There are no pipes here.")
             return
         reply = self.bench.ask({"changes": "changes", "tests": "events " + argument}.get(command, ASKED.get(line, line)))
