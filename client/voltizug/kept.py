@@ -40,8 +40,9 @@ class Kept:
         `added` has the words that were added. Without lines that is forgotten."""
         if lines:
             self.keep(name, "\n".join([self.script, *lines]).encode("utf-8", "surrogateescape"))
-        elif self.has(name):
-            os.remove(os.path.join(self.room, name))
+        else:
+            with contextlib.suppress(OSError):
+                os.remove(os.path.join(self.room, name))
 
     def keep(self, file: str, text: bytes) -> None:
         with contextlib.suppress(OSError), open(os.path.join(self.room, file), "wb") as kept:
