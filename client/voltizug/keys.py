@@ -18,8 +18,8 @@ import time
 from typing import Any, Callable, Deque, Iterator, List, Optional
 
 HISTORY, INTERRUPT, PAUSE = 2000, b"\x03", 0.1
-# How often files are looked at, and for how long a signal is repeated, in seconds.
-PERIOD, ECHO = 0.01, 1.0
+# How often files are looked at, how soon again after a change (a file may still be being written), and for how long a signal is repeated.
+PERIOD, SOON, ECHO = 0.03, 0.005, 1.0
 POINT = re.compile(rb"[\r\n][ \t]*\.[ \t]*[\r\n]")
 # Of readline's state: its callbacks are installed.
 CALLBACK = 0x80000
@@ -158,18 +158,17 @@ class Editor:
     def ring(self, heard: int) -> None:
         """In a thread: breaks off the wait for a key by a signal, for a while after each other one (CPython hears one that comes just before
         readline waits for a key only when another one breaks that wait off), and as long as a file was saved that is not being written."""
-        before, until = None, 0.0
+        before, now, until = None, None, 0.0  # type: Any, Any, float
         while True:
-            is_soon = self.saved or self.is_ended or time.monotonic() < until
-            if select.select([heard], [], [], PERIOD if is_soon else None)[0]:
+            is_idle = not (self.saved or self.is_ended or time.monotonic() < until)
+            if select.select([heard], [], [], None if is_idle else PERIOD if now == before else SOON)[0]:
                 numbers = set(os.read(heard, 256)) - {signal.SIGUSR1}
                 self.is_ended = self.is_ended or bool(numbers & {signal.SIGHUP, signal.SIGTERM})
                 until = time.monotonic() + ECHO if numbers else until
                 continue
-            now = self.saved() if self.saved and self.is_waiting else None
+            before, now = now, self.saved() if self.saved and self.is_waiting else None
             if self.is_ended or self.is_waiting and (time.monotonic() < until or now and now == before):
                 signal.pthread_kill(self.main, signal.SIGUSR1)
-            before = now
 
     def hear_ring(self, *_: object) -> None:
         if self.is_ended:
