@@ -166,8 +166,13 @@ class Terminal(Opening):
 
     def run_of(self, word: str, lines: Sequence[str]) -> Tuple[List[Any], Found]:
         """Returns the figures of the run of a word, and its events, from their lines, with its tests."""
-        figures = self.bench.read("integers " + word)
-        return figures, with_tests(self.bench.program, self.bench.places(), word, rows.read("events", lines), figures)
+        figures, places = self.bench.read("integers " + word), self.bench.places()
+        # (the program is not asked meanwhile)
+        self.editor.is_breakable = True
+        try:
+            return figures, with_tests(self.bench.program, places, word, rows.read("events", lines), figures)
+        finally:
+            self.editor.is_breakable = False
 
     # Commands that are more than a request
 
