@@ -163,7 +163,8 @@ class Editor:
         before, now, until = None, None, 0.0  # type: Any, Any, float
         while True:
             is_idle = not (self.saved or self.is_ended or time.monotonic() < until)
-            if select.select([heard], [], [], None if is_idle else PERIOD if now == before else SOON)[0]:
+            pause = PAUSE if self.is_ended else PERIOD if now == before else SOON
+            if select.select([heard], [], [], None if is_idle else pause)[0]:
                 numbers = set(os.read(heard, 256)) - {signal.SIGUSR1}
                 self.is_ended = self.is_ended or bool(numbers & {signal.SIGHUP, signal.SIGTERM})
                 until = time.monotonic() + ECHO if numbers else until
