@@ -109,7 +109,7 @@ class Others(Case):
     def test_what_was_left_behind(self):
         room = self.room(my_sbl="text")
         one = Kept(room, os.path.join(room, "my.sbl"))
-        one.note("text", ["routine r"])
+        one.note("about", ["text", "routine r"])
         other = Kept(room, os.path.join(room, "my.sbl"))
         self.assertEqual(other.left(), [])
         one.lock.close()

@@ -127,7 +127,7 @@ class Sessions(Case):
         terminal.type("\x03")
         self.assertIn("ity", terminal.type("uses ending 1 it\t", rb"ity ?$", 3))
         terminal.type("\x03")
-        self.assertIn("class glass", terminal.type("class gl\t", rb"glass$", 3))
+        self.assertIn("class glass", terminal.type("class gl\t", rb"class glass$", 3))
         terminal.type("\x03")
         self.assertIn("stem univers", terminal.type("stem un\t", rb"univers ?$", 3))
 

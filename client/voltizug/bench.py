@@ -1,7 +1,6 @@
 """What a face asks: edits and what they change, places, files, and events when a file is saved. It holds the program, keeps no history of its
 own, and makes no sentence.
 """
-import contextlib
 import os
 from typing import Any, Callable, Dict, List, NamedTuple, Optional, Sequence, Set, Tuple
 
@@ -83,7 +82,7 @@ class Bench:
     def close(self, is_kept: bool) -> None:
         """Ends the program. The room may be kept if it has typed edits."""
         self.program.stop()
-        if not (is_kept and (self.kept.has_edits() or self.kept.has_words())):
+        if not (is_kept and self.kept.has("about", "added")):
             self.kept.forget(self.kept.room)
 
     def is_unsaved(self, text: bytes) -> bool:
@@ -120,21 +119,20 @@ class Bench:
         if word in ("add", "remove"):
             program.now = program.now._replace(words=(*program.now.words, line))
             self.added = [*self.added, argument] if word == "add" else [other for other in self.added if other != argument]
-            self.kept.note_words(self.added)
         elif word == "words":
             program.now = program.now._replace(words=())
             self.look(self.words or "")
             self.added = []
-            self.kept.note_words([])
         elif word == "append":
             self.look(self.words or "")
             self.added = []
-            self.kept.note_words([])
         elif word == "mark":
             program.marked = program.now._replace(stems=os.path.realpath(argument) if argument else "")
             self.changes = self.read("changes") if argument else []
         elif word == "families" and argument:
             self.families, self.pairs = argument, pairs_of(reply)
+        if word in ("add", "remove", "words", "append"):
+            self.kept.note("added", self.added)
 
     def known(self, *lines: str) -> List[Optional[List[str]]]:
         """Asks reports: returns the lines of each, or nothing if it is refused. If it is broken off meanwhile, the program begins again."""
@@ -145,9 +143,6 @@ class Bench:
     def read(self, line: str) -> List[Any]:
         """Returns the rows of a report; none if it is refused."""
         return rows.read(line.partition(" ")[0], self.known(line)[0] or [])
-
-    def block(self, lines: Sequence[str]) -> Reply:
-        return self.settled(self.program.ask([*lines, "."]))
 
     def settled(self, reply: Reply) -> Reply:
         """After a program that is gone: begins it again. The state of the reply stays; it is `lost` if that fails."""
@@ -228,9 +223,9 @@ class Bench:
         text, aside = self.program.now.text, self.put_aside()
         if self.is_unsaved(text):
             self.kept.keep("text", text)
-            self.kept.note("text", typed_names(self.read("history")) or ["a part of the script"])
+            self.kept.note("about", ["text", *(typed_names(self.read("history")) or ["a part of the script"])])
         else:
-            self.kept.note("aside", aside)
+            self.kept.note("about", ["aside", *aside] if aside else [])
 
     # Files
 

@@ -42,7 +42,8 @@ COMMANDS: Dict[str, Command] = {
     "largest": Command("largest [N]", "the N largest classes, 10 without N", "number"),
     "limit": Command("limit [N]", "lets each run use N steps at most; without N says how many", "number", "100,000 is usual."),
     "lint": Command(
-        "lint", "what may not be meant: empty slices, letters that no word has, letters beyond ASCII in literals, capitals; and the warnings on the files"
+        "lint",
+        "what may not be meant: empty slices, letters that no word has, letters beyond ASCII in literals, capitals; and the warnings on the files"
     ),
     "mark": Command(
         "mark [FILE]", "changes are told since now, or since the stems of FILE", "file", "FILE has a line for each word, as of approve."
@@ -54,7 +55,9 @@ COMMANDS: Dict[str, Command] = {
     "replace": Command(
         "replace [FILE]", "replaces the whole script by that of FILE", "file", "Without FILE its lines follow, and a line with a single point."
     ),
-    "rescue": Command("rescue", "brings back edits that you typed, and words that you added, before a terminal was closed", "text", '"rescue drop" forgets them.'),
+    "rescue": Command(
+        "rescue", "brings back edits that you typed, and words that you added, before a terminal was closed", "text", '"rescue drop" forgets them.'
+    ),
     "routine": Command(
         "routine NAME", "replaces a routine", "routine",
         "Then comes its text, with define NAME as before it or without, and a line with a single point. A line define NAME as .. begins this, too."

@@ -26,9 +26,9 @@ class Completion:
         takes = COMMANDS[command].takes if command in COMMANDS else ""
         if not self.is_in_block and (takes == "file" or line.endswith("> " + text)):
             return files(rest if takes == "file" else text, text)
-        return sorted(found for found in self.found(command, has_more, rest, takes) if found.startswith(text))
+        return sorted(name for name in self.candidates(command, has_more, rest, takes) if name.startswith(text))
 
-    def found(self, command: str, has_more: str, rest: str, takes: str) -> Iterable[str]:
+    def candidates(self, command: str, has_more: str, rest: str, takes: str) -> Iterable[str]:
         """Returns what can come: names of the script, a command, the number of an among, or one of its strings."""
         if not self.is_in_block and (not has_more or command == "help"):
             return [name + " " * bool(COMMANDS[name].takes and not has_more) for name in COMMANDS]

@@ -29,7 +29,7 @@ class Desk:
         self.warned, self.nonsense = [], 0  # type: List[str], int
         bench.program.on_long, self.editor.on_interrupt, bench.on_restart = self.tell_long, bench.program.break_off, self.tell_restart
 
-    def correct(self, path: str) -> str:
+    def correction(self, path: str) -> str:
         """Returns what an author does about a fault in a file."""
         return "Correct it in %s%s." % (short(path), " and save it there" if self.options.is_watching else ", save it there, and press Enter")
 
@@ -44,8 +44,9 @@ class Desk:
         if reply.state == DONE:
             return True
         if reply.state == "lost":
-            edits = "What you typed is kept: the next start over the same script offers it." if self.bench.kept.has_edits() else "No edit is lost."
-            self.screen.say("The program could not be started again. %s" % edits)
+            is_kept = self.bench.kept.has("about", "added")
+            edits = "What you typed is kept: the next start over the same script offers it." if is_kept else "No edit is lost."
+            self.screen.say("The program could not be started again. " + edits)
             raise Hangup
         done = "The last command was not done: type it again." if reply.state == ENDED else "It was broken off. Nothing changed."
         self.screen.say(done + " undo goes back to the mark at most.")
@@ -72,7 +73,7 @@ class Desk:
         if lines[0] == "reload":
             # (of a text that is not UTF-8 the program has said what it may be)
             self.warn() if name != "NotUtf8" else None
-            said = "Nothing changed. " + self.correct(self.bench.script) if code == 48 else said
+            said = "Nothing changed. " + self.correction(self.bench.script) if code == 48 else said
         elif code == 48 and not reply.said:
             # (a fault of the whole script has no line)
             said = "%s. %s" % (name, said)
@@ -97,7 +98,7 @@ class Desk:
         self.screen.say(*("also %s:%s: %s" % (row.line, row.column, short(row.sentence)) for row in found[:most]))
         self.screen.say("{:,} more faults".format(len(found) - most) if len(found) > most else "")
 
-    def new(self, lines: Sequence[str]) -> List[str]:
+    def new_lines(self, lines: Sequence[str]) -> List[str]:
         """Returns the warnings that were not given before, and notes them."""
         found = [line for line in lines if line not in self.warned]
         self.warned += found
@@ -105,7 +106,7 @@ class Desk:
 
     def warn(self, *paths: str) -> bool:
         """Gives the warnings on the script, and on a list of words. Returns whether there is one."""
-        found = self.new(warnings_on(self.bench.script, *paths))
+        found = self.new_lines(warnings_on(self.bench.script, *paths))
         self.screen.write(found, is_text=True)
         return bool(found)
 
@@ -116,14 +117,14 @@ class Desk:
         edit = self.bench.edit(lines)
         is_reload = edit.command == "reload"
         if not self.settle(edit.reply):
-            self.screen.say(self.correct(self.bench.script) if is_reload else "")
+            self.screen.say(self.correction(self.bench.script) if is_reload else "")
             return False
         if edit.reply.refusal():
             self.refuse(edit.reply, lines)
             return False
         if is_reload:
             self.warn()
-        tail = [*(self.new(lints(self.bench)) if is_reload else []), self.turning_since(edit), *words.notes(edit, self.bench.script)]
+        tail = [*(self.new_lines(lints(self.bench)) if is_reload else []), self.turning_since(edit), *words.notes(edit, self.bench.script)]
         last = self.screen.broken([line for line in [*tail, layout.families_line(edit.pairs), layout.summary(edit)] if line])
         size = self.screen.size()
         room = max(1, size.lines - len(last) - 1 - self.editor.rows_typed(size.columns))

@@ -35,35 +35,21 @@ class Kept:
         self.lock = locked(self.room)
         self.history = os.path.join(folder, "history")
 
-    def note(self, file: str, edits: Sequence[str]) -> None:
-        """Notes that a file of the room has typed edits that no other file has; no edits forget it."""
-        about = os.path.join(self.room, "about")
-        with contextlib.suppress(OSError):
-            if edits:
-                with open(about, "w", encoding="utf-8", errors="surrogateescape") as written:
-                    written.write("\n".join([self.script, file, *edits]))
-            elif os.path.exists(about):
-                os.remove(about)
+    def note(self, name: str, lines: Sequence[str]) -> None:
+        """Notes what no file has, in a file of the room: `about` has the name of another file of the room, whose text has them, and their names;
+        `added` has the words that were added. Without lines that is forgotten."""
+        if lines:
+            self.keep(name, "\n".join([self.script, *lines]).encode("utf-8", "surrogateescape"))
+        else:
+            with contextlib.suppress(OSError):
+                os.remove(os.path.join(self.room, name))
 
     def keep(self, file: str, text: bytes) -> None:
         with contextlib.suppress(OSError), open(os.path.join(self.room, file), "wb") as kept:
             kept.write(text)
 
-    def note_words(self, words: Sequence[str]) -> None:
-        """Notes the words that were added and that no file has."""
-        added = os.path.join(self.room, "added")
-        with contextlib.suppress(OSError):
-            if words:
-                with open(added, "w", encoding="utf-8", errors="surrogateescape") as written:
-                    written.write("\n".join([self.script, *words]))
-            elif os.path.exists(added):
-                os.remove(added)
-
-    def has_edits(self) -> bool:
-        return os.path.exists(os.path.join(self.room, "about"))
-
-    def has_words(self) -> bool:
-        return os.path.exists(os.path.join(self.room, "added"))
+    def has(self, *names: str) -> bool:
+        return any(os.path.exists(os.path.join(self.room, name)) for name in names)
 
     def left(self) -> List[Left]:
         """Returns what was left behind over this script, the oldest first. Folders that have nothing are taken away."""
@@ -73,11 +59,12 @@ class Kept:
             if lock is None:
                 continue
             with lock:
-                about, added = ((read_file(os.path.join(entry.path, name)) or b"").decode("utf-8", "surrogateescape").split("\n") for name in ("about", "added"))
-                if self.script in (about[0], added[0]):
-                    path = os.path.join(entry.path, about[1]) if about[1:] else ""
-                    found.append((entry.stat().st_mtime, Left(entry.path, path, about[2:], added[1:])))
-                elif not about[0] and not added[0] and entry.stat().st_mtime < time.time() - YOUNG:
+                texts = [read_file(os.path.join(entry.path, name)) or b"" for name in ("about", "added")]
+                edits, added = (text.decode("utf-8", "surrogateescape").split("\n") for text in texts)
+                if self.script in (edits[0], added[0]):
+                    path = os.path.join(entry.path, edits[1]) if edits[1:] else ""
+                    found.append((entry.stat().st_mtime, Left(entry.path, path, edits[2:], added[1:])))
+                elif not any(texts) and entry.stat().st_mtime < time.time() - YOUNG:
                     self.forget(entry.path)
         return [left for _, left in sorted(found)]
 

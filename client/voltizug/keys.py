@@ -18,8 +18,8 @@ import time
 from typing import Any, Callable, Deque, Iterator, List, Optional
 
 HISTORY, INTERRUPT, PAUSE = 2000, b"\x03", 0.1
-# How often files are looked at, and for how long a signal is repeated, in seconds.
-PERIOD, ECHO = 0.01, 1.0
+# How often files are looked at, how soon again after a change (a file may still be being written), and for how long a signal is repeated.
+PERIOD, SOON, ECHO = 0.03, 0.005, 1.0
 POINT = re.compile(rb"[\r\n][ \t]*\.[ \t]*[\r\n]")
 # Of readline's state: its callbacks are installed.
 CALLBACK = 0x80000
@@ -30,7 +30,7 @@ class Dropped(Exception):
 
 
 class Broken(Exception):
-    """Ctrl-C came while the client itself worked something out."""
+    """Ctrl-C came while a report was worked out or written."""
 
 
 class Hangup(BaseException):
@@ -101,8 +101,8 @@ class Editor:
         self.base = termios.tcgetattr(0)
         self.typing = with_interrupt(self.base, b"\0")
         self.quiet = with_interrupt([*self.base[:3], self.base[3] & ~(termios.ECHO | termios.ICANON), *self.base[4:]], INTERRUPT)
-        # Whether readline waits for a key; whether a save is shown above a line; whether Ctrl-C came while a command ran.
-        self.is_waiting = self.is_above = self.is_interrupted = False
+        # Whether readline waits for a key; whether a save is shown above a line; whether Ctrl-C came while a command ran, and raises Broken then.
+        self.is_waiting = self.is_above = self.is_interrupted = self.is_breakable = False
         # Whether somebody ends this process: it is told so until it hears it.
         self.is_ended = False
         self.pending: Deque[str] = collections.deque()
@@ -134,6 +134,8 @@ class Editor:
 
     def hear_interrupt(self, *_: object) -> None:
         self.is_interrupted = True
+        if self.is_breakable:
+            raise Broken
         self.on_interrupt()
 
     def hear_end(self, number: int, _: object) -> None:
@@ -158,18 +160,18 @@ class Editor:
     def ring(self, heard: int) -> None:
         """In a thread: breaks off the wait for a key by a signal, for a while after each other one (CPython hears one that comes just before
         readline waits for a key only when another one breaks that wait off), and as long as a file was saved that is not being written."""
-        before, until = None, 0.0
+        before, now, until = None, None, 0.0  # type: Any, Any, float
         while True:
-            is_soon = self.saved or self.is_ended or time.monotonic() < until
-            if select.select([heard], [], [], PERIOD if is_soon else None)[0]:
+            is_idle = not (self.saved or self.is_ended or time.monotonic() < until)
+            pause = PAUSE if self.is_ended else PERIOD if now == before else SOON
+            if select.select([heard], [], [], None if is_idle else pause)[0]:
                 numbers = set(os.read(heard, 256)) - {signal.SIGUSR1}
                 self.is_ended = self.is_ended or bool(numbers & {signal.SIGHUP, signal.SIGTERM})
                 until = time.monotonic() + ECHO if numbers else until
                 continue
-            now = self.saved() if self.saved and self.is_waiting else None
+            before, now = now, self.saved() if self.saved and self.is_waiting else None
             if self.is_ended or self.is_waiting and (time.monotonic() < until or now and now == before):
                 signal.pthread_kill(self.main, signal.SIGUSR1)
-            before = now
 
     def hear_ring(self, *_: object) -> None:
         if self.is_ended:

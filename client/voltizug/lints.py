@@ -48,7 +48,8 @@ def sure_alternatives(tokens: Sequence[Token]) -> Iterable[Tuple[int, str]]:
         if token.kind == "word" and token.text in SURE and not (at and tokens[at - 1].text in NOT_SURE):
             after = end_of(tokens, at + 1)
             if after and [other.text for other in tokens[after : after + 1]] == ["or"]:
-                yield token.start, "%s never fails, so what is after this or never runs: %s ( .. or .. ) is meant, perhaps" % (token.text, token.text)
+                what = "{0} never fails, so what is after this or never runs: {0} ( .. or .. ) is meant, perhaps"
+                yield token.start, what.format(token.text)
 
 
 def end_of(tokens: Sequence[Token], at: int) -> int:

@@ -44,7 +44,7 @@ class Opening(Desk):
             return True
         if reply.state == BROKEN:
             self.status = self.status if self.has_waited else INTERRUPTED
-            self.screen.say("It was broken off. %s quit or Ctrl-D ends." % self.correct(bench.script) if self.has_waited else "")
+            self.screen.say("It was broken off. %s quit or Ctrl-D ends." % self.correction(bench.script) if self.has_waited else "")
             return self.has_waited
         return self.wait(reply, before == self.files, is_warned)
 
@@ -77,13 +77,13 @@ class Opening(Desk):
         verbs = ("has", "it was") if len(self.paths()) == 1 else ("have", "they were")
         say("%s %s not changed since %s read." % (in_words(self.paths(), "and"), *verbs) if is_same else "")
         ends = "quit or Ctrl-D ends%s." % (", for a start with --external" if any("use --external" in line for line in reply.said) else "")
-        say("%s %s" % (self.correct(name) if code else "Enter reads the files again.", ends))
+        say("%s %s" % (self.correction(name) if code else "Enter reads the files again.", ends))
         return True
 
     def show_figures(self, reply: Reply) -> None:
         """Shows figures, and what to do if there are no words or some are refused; also that typed edits were left behind."""
         bench, say, figures = self.bench, self.screen.say, {row.kind: int(row.count) for row in rows.read("stats", reply.lines)}
-        say(*self.new(lints(bench)))
+        say(*self.new_lines(lints(bench)))
         say(self.first_refused() if figures["refused"] else "")
         all_left = bench.kept.left()
         for left in all_left[-1:]:

@@ -27,9 +27,8 @@ class Reply(NamedTuple):
 
     def refusal(self) -> Optional[Tuple[int, str]]:
         """Returns the number and the name if the request was refused."""
-        words = self.lines[0].split(" ") if len(self.lines) == 1 else []
-        is_refusal = len(words) == 3 and words[0] == "no" and words[1].isdigit() and words[2].isalnum()
-        return (int(words[1]), words[2]) if is_refusal else None
+        found = re.fullmatch(r"no ([0-9]+) (\w+)", self.lines[0]) if len(self.lines) == 1 else None
+        return (int(found[1]), found[2]) if found else None
 
     @property
     def is_done(self) -> bool:
@@ -172,30 +171,20 @@ class Program:
         return self.goes_on(self.script, "reload") or self.goes_on(self.copy_path, "replace " + self.script)
 
     def goes_on(self, script: str, reload: str) -> bool:
-        marked, now, self.reload = self.marked, self.now, reload
+        marked, now, self.reload, paths = self.marked, self.now, reload, (self.copy_path, self.copy_path + ".now")
         # (after `words` the vocabulary began anew)
         is_longer = now.words[: len(marked.words)] == marked.words
-        requests = [["limit " + marked.limit]] if marked.limit != USUAL_LIMIT else []
-        requests += [[line] for line in marked.words] + [["mark" + " " * bool(marked.stems) + marked.stems]]
+        requests = ["limit " + marked.limit, *marked.words, "mark " + marked.stems if marked.stems else "mark"]
+        requests += ["replace " + paths[1]] if now.text != marked.text else []
+        requests += ["limit " + now.limit, *(now.words[len(marked.words) :] if is_longer else ["words", *now.words])]
         try:
-            self.fill(marked.text)
-            self.begin(["--from", self.copy_path], script)
-            if not self.is_each_done(requests):
-                return False
-            self.fill(now.text)
+            for path, text in zip(paths, (marked.text, now.text)):
+                with open(path, "wb") as file:
+                    file.write(text)
+            self.begin(["--from", paths[0]], script)
         except OSError:
             return False
-        requests = [["replace " + self.copy_path]] if now.text != marked.text else []
-        requests += [["limit " + now.limit]] if now.limit != marked.limit else []
-        requests += [] if is_longer else [["words"]]
-        return self.is_each_done(requests + [[line] for line in now.words[len(marked.words) if is_longer else 0 :]])
-
-    def is_each_done(self, requests: List[List[str]]) -> bool:
-        return all(reply.is_done for reply in self.ask_each(requests, is_deaf=True)) if requests else True
-
-    def fill(self, text: bytes) -> None:
-        with open(self.copy_path, "wb") as file:
-            file.write(text)
+        return all(reply.is_done for reply in self.ask_each([[line] for line in requests], is_deaf=True))
 
 
 def take(number: int, into: bytearray) -> Optional[bytes]:

@@ -114,13 +114,15 @@ def in_columns(found: Sequence[Line]) -> List[str]:
 
 def tests(found: Found, places: Places) -> List[str]:
     """The tests without a name of a run. Of those that come before anything else happens, equal ones share a line."""
-    lines: List[Line] = []
+    asked: List[Tuple[Any, int]] = []
     for is_test, part in groupby(found.events, key=lambda row: row.kind == "test"):
-        counts = Counter((row.name, row.n, row.signal) for row in part if is_test and not found.tests[row.name, row.n][1].is_turned)
-        for (name, n, signal), count in counts.items():
-            test, times = found.tests[name, n][1], " {:,} times".format(count) if count > 1 else ""
-            lines.append((name, "%s is %s%s" % (test.text, "true" if signal == "t" else "false", times), places.at(name, test.tokens[0].start)))
-    lines = [*lines[:MOST_TESTS], ("..", "and {:,} more".format(len(lines) - MOST_TESTS), "")] if len(lines) > MOST_TESTS else lines
+        part = (row for row in part if is_test and not found.tests[row.name, row.n][1].is_turned)
+        asked += Counter((row.name, row.n, row.signal) for row in part).items()
+    lines: List[Line] = []
+    for (name, n, signal), count in asked[:MOST_TESTS]:
+        test, times = found.tests[name, n][1], " {:,} times".format(count) if count > 1 else ""
+        lines.append((name, "%s is %s%s" % (test.text, "true" if signal == "t" else "false", times), places.at(name, test.tokens[0].start)))
+    lines += [("..", "and {:,} more".format(len(asked) - MOST_TESTS), "")] if len(asked) > MOST_TESTS else []
     lines += [("..", "the tests after these are not known", "")] if lines and any(row.kind == "unknown" for row in found.events) else []
     return in_columns(lines) or ["its run asked no test"]
 

@@ -1,7 +1,7 @@
 """The rows of replies as named tuples, by the tables of docs/REFERENCE.md."""
 import csv
 from collections import namedtuple
-from typing import Any, Callable, Dict, Iterable, List, NamedTuple, Sequence, Tuple
+from typing import Any, Callable, Dict, Iterable, List, NamedTuple, Tuple
 
 PLACE = " start end line column"
 # By report the kinds of its rows with their fields; one that begins with a star takes all that is left.

@@ -7,7 +7,7 @@ import sys
 from typing import List, Sequence
 
 from . import layout
-from .keys import Editor, Hangup
+from .keys import Broken, Editor, Hangup
 
 # A terminal that does not tell its size, and the least that is taken as one.
 USUAL, LEAST = (80, 24), (12, 4)
@@ -42,7 +42,7 @@ class Screen:
         return [part for line in lines for part in (layout.broken(layout.named(line), width) if " > NEW" not in line else [layout.named(line)])]
 
     def write(self, lines: Sequence[str], is_report: bool = False, is_text: bool = False) -> None:
-        """Writes lines; those of a text are an author's, and are not broken. A report may go to the pager. Ctrl-C ends it."""
+        """Writes lines; those of a text are an author's, and are not broken. A report may go to the pager; if Ctrl-C ends it, that is said."""
         shown = list(map(layout.named, lines)) if is_text else self.broken(lines)
         if is_report and self.has_pager and not self.editor.is_above and len(shown) >= self.size().lines and self.page(shown):
             return
@@ -55,6 +55,8 @@ class Screen:
                 del shown[:PART]
         except OSError:
             raise Hangup from None
+        if shown and is_report:
+            raise Broken
 
     def say(self, *sentences: str) -> None:
         self.write([sentence for sentence in sentences if sentence])

@@ -84,7 +84,8 @@ class Terminal(Opening):
         found = TO_FILE.match(line) if line.partition(" ")[0] in REPORTING else None
         line, path = (found[1], found[2]) if found else (line, "")
         command, _, argument = line.partition(" ")
-        if command in REPORTING and command != "uses" and (" | " in argument or argument.endswith(" >") or argument == ">" and not COMMANDS[command].takes):
+        is_piped = " | " in argument or argument.endswith(" >") or argument == ">" and command in COMMANDS and not COMMANDS[command].takes
+        if is_piped and command in REPORTING and command != "uses":
             self.screen.say("A report goes into a file by > FILE, as in: classes > my.classes. There are no pipes here.")
             return
         reply = self.bench.ask({"changes": "changes", "tests": "events " + argument}.get(command, ASKED.get(line, line)))
@@ -165,11 +166,13 @@ class Terminal(Opening):
 
     def run_of(self, word: str, lines: Sequence[str]) -> Tuple[List[Any], Found]:
         """Returns the figures of the run of a word, and its events, from their lines, with its tests."""
-        figures = self.bench.read("integers " + word)
-        found = with_tests(self.bench.program, self.bench.places(), word, rows.read("events", lines), figures)
-        if self.editor.is_interrupted:
-            raise Broken
-        return figures, found
+        figures, places = self.bench.read("integers " + word), self.bench.places()
+        # (the program is not asked meanwhile)
+        self.editor.is_breakable = True
+        try:
+            return figures, with_tests(self.bench.program, places, word, rows.read("events", lines), figures)
+        finally:
+            self.editor.is_breakable = False
 
     # Commands that are more than a request
 
@@ -296,9 +299,9 @@ class Terminal(Opening):
         if not is_whole:
             self.screen.say("Nothing was done: the block has no line with only a point at its end.")
         elif block[0] == "families":
-            reply = self.bench.block(block)
-            if self.settle(reply):
-                self.screen.write(reports.families(reply.lines) if reply.is_done else [words.sentence(reply, block, self.bench)], is_report=True)
+            reply = self.bench.settled(self.bench.program.ask([*block, "."]))
+            if self.is_done(reply, "families"):
+                self.screen.write(reports.families(reply.lines), is_report=True)
         elif not self.edit([*block, "."]):
             self.keep_lines([*block, "."])
 

@@ -272,6 +272,6 @@ def main(given: Sequence[str]) -> int:
         return serve(options, bench)
     finally:
         # (a trial that is in no file is kept)
-        if bench.kept.has_edits():
+        if bench.kept.has("about"):
             print("snowbench: what you tried is in no file, and is kept in %s" % named(bench.kept.room), file=sys.stderr)
         bench.close(is_kept=True)

@@ -2,18 +2,11 @@
 and after."""
 from typing import Any, Dict, List, Sequence
 
-from ..reports import Tests
 from ..places import Places
+from ..reports import Call, Tests
 
 # How many steps are shown, at most.
 MOST = 400
-
-
-class Call:
-    """A routine that runs. `asks_only` if it has searched no among and put no text so far; `acts` if it took a string or put a text."""
-
-    def __init__(self, name: str):
-        self.name, self.asks_only, self.acts = name, True, False
 
 
 class Timeline:
@@ -36,20 +29,18 @@ class Timeline:
             step = getattr(self, "read_" + row.kind, None)
             if step is not None:
                 step(row)
+            if self.calls:
+                self.calls[-1].note(row)
 
     def read_call(self, row: Any) -> None:
         if self.calls:
             self.note("call", self.line(self.places.definitions.get(row.name)), True, what=row.name)
         self.calls.append(Call(row.name))
 
-    def read_search(self, row: Any) -> None:
-        self.calls[-1].asks_only = False
-
     def read_none(self, row: Any) -> None:
         self.note("none", self.line(self.places.amongs.get((row.name, row.k))), True, k=row.k)
 
     def read_taken(self, row: Any) -> None:
-        self.calls[-1].asks_only, self.calls[-1].acts = False, True
         self.note("taken", self.line(self.places.entries.get((row.name, row.k, row.string))), k=row.k, string=row.string)
 
     def read_test(self, row: Any) -> None:
@@ -61,7 +52,6 @@ class Timeline:
         self.note("unknown", 0, True)
 
     def read_put(self, row: Any) -> None:
-        self.calls[-1].asks_only, self.calls[-1].acts = False, True
         self.note(
             "put", self.line(self.places.definitions.get(row.name)), before=self.now, after=row.after, start=int(row.start), end=int(row.end), put=row.text
         )
