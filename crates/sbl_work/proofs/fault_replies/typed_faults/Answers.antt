@@ -14,8 +14,8 @@ returns-in-Some c =
     if_ok c.or_alone.result c.or_alone.ensures
     (λ faults found.
     typed_cut s (view_part c.args.part) c.args.typed.now c.in_ok-rest.rest.now c.as_str.result.now c.external.result.now c.as_bytes.result.now c.args.fault c.in_ok-cut.field-0 c.in-Some.cut
-    c.saturating_sub.result c.in_ok-all.all.items faults.items c.in_ok-rest.ensures c.in_ok-cut.ensures.part c.in-Some.is text external c.saturating_sub.ensures c.as_bytes.ensures.value
-    c.in_ok-all.ensures found)
+    c.saturating_sub.result c.in_ok-all-in-Some.all.items faults.items c.in_ok-rest.ensures c.in_ok-cut.ensures.part c.in-Some.is text external c.saturating_sub.ensures c.as_bytes.ensures.value
+    c.in_ok-all-in-Some.ensures found)
 
 pub returns : goal.returns
 returns c =

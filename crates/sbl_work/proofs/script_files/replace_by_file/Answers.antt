@@ -5,10 +5,10 @@ use Rattle.sbl_work.proofs.ReplyFacts.{whole_memory}
 use Rattle.sbl_work.proofs.script_files.replace_by_file.Goals as goal
 
 pub returns-then-is_same_file : goal.returns-then-is_same_file
-returns-then-is_same_file g c = (Some c.as_slice.result.now, c.reload-reply.ensures)
+returns-then-is_same_file g c = (Some c.deref.result.now, c.replace_by_text-reply.ensures)
 
 pub returns-else-is_same_file : goal.returns-else-is_same_file
-returns-else-is_same_file g c = (Some c.as_slice.result.now, c.reload-reply.ensures)
+returns-else-is_same_file g c = (Some c.deref.result.now, c.replace_by_text-reply.ensures)
 
 pub returns-in-Err-Unreadable : goal.returns-in-Err-Unreadable
 returns-in-Err-Unreadable g c = (None, c.reload.ensures)
