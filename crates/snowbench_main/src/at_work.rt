@@ -40,6 +40,7 @@ pub(crate) fn start_work(rt: &HostRuntime, wanted: Wanted) -> u8 {
         shows_places: _,
         face,
         from,
+        form: _,
     } = options;
     let Some(script) = script else {
         return REFUSED;
