@@ -100,7 +100,8 @@ class Player:
         mark, shown = "m%d" % self.count, "type it again"
         # (the program may have been killed just before)
         while "type it again" in shown:
-            shown = " ".join(self.ask("routine r\r( '%s' )\r." % mark, rb"\.\r?\n(.|\n)*((since|from)\s+the\s+mark|type\s+it\s+again)").split())
+            after = rb"'%s' \)(.|\n)*\.\r?\n(.|\n)*((since|from)\s+the\s+mark|type\s+it\s+again)" % mark.encode()
+            shown = " ".join(self.ask("routine r\r( '%s' )\r." % mark, after).split())
         return mark
 
     def is_there(self, mark: str) -> None:

@@ -4,7 +4,7 @@ import time
 
 from voltizug import layout, loops, near, options, reports, rows, warn
 from voltizug.bench import Edit
-from voltizug.conditions.copies import Shown
+from voltizug.conditions import Routine
 from voltizug.kept import Kept
 from voltizug.places import Places, line_and_column
 from voltizug.program import Reply
@@ -16,6 +16,7 @@ class Layouts(Case):
     def test_a_line_fits(self):
         self.assertEqual(layout.broken("  one two three", 9), ["  one two", "      three"])
         self.assertEqual(layout.broken("Keys    one two three four five", 24), ["Keys    one two three", "        four five"])
+        self.assertEqual(layout.broken("of 1,234,567 pairs, a,b", 10), ["of", "    1,234,567", "    pairs,", "    a,b"])
         self.assertEqual([layout.columns(text) for text in ("ab", "漢字", "e\u0301", "\t")], [2, 4, 1, 8])
         self.assertEqual([layout.cut("漢字漢字", 6), layout.cut("abcdef", 6), layout.cut("abcdefg", 6)], ["漢字..", "abcdef", "abcd.."])
 
@@ -35,6 +36,7 @@ class Layouts(Case):
         self.assertEqual(layout.summary(aside), "no word and no class differs from the mark; put aside: long, r (undo brings them back)")
 
     def test_families_are_compared(self):
+        self.assertEqual([layout.percent(*pair) for pair in ((0, 9), (14, 1223147), (1, 2000), (1, 0))], [" (0.0 %)", " (less than 0.1 %)", " (0.1 %)", ""])
         pairs = rows.read("families", ["pairs,23854,735,9,121", "pairs,23854,168,9,2"])
         self.assertEqual(
             layout.families_line(tuple(pairs)),
@@ -63,7 +65,7 @@ class Loops(Case):
 class Others(Case):
     def test_near_names(self):
         found = [near.distance(*pair) for pair in (("substring", "subtring"), ("ab", "ba"), ("", "ab"), ("kitten", "sitting"), ("a", "a"))]
-        self.assertEqual(found, [1, 1, 2, None, 0])
+        self.assertEqual(found, [1, 1, 2, near.MOST + 1, 0])
         begin = time.thread_time()
         near.near("ab" * 100, ["ba" * 99 + "%02d" % (i % 100) for i in range(200000)])
         self.assertLess(time.thread_time() - begin, 2)
@@ -72,10 +74,10 @@ class Others(Case):
         text = "\ufeffdefine r as 'é'\n  define s as 'x'\n".encode()
         found = rows.read("places", ["routine,s,22,37,2,3", "entry,s,1,x,34,37,2,15"])
         places = Places("my.sbl", text, text, found, [])
-        self.assertEqual([line_and_column(text, 3), places.of("s"), places.of("s", found[1]), places.of("r")], [(1, 1), "my.sbl:2:3", "my.sbl:2:15", ""])
+        self.assertEqual([line_and_column(text, 3), places.of("s"), places.of("s", "1", "x"), places.of("r")], [(1, 1), "my.sbl:2:3", "my.sbl:2:15", ""])
         self.assertEqual(places.definition("s"), ["  define s as 'x'"])
         moved = Places("my.sbl", text, b"// new\n" + text, found, [])
-        self.assertEqual((moved.of("s", found[1]), moved.is_typed("s")), ("my.sbl:3:15", False))
+        self.assertEqual((moved.of("s", "1", "x"), moved.is_typed("s")), ("my.sbl:3:15", False))
         typed = Places("my.sbl", text, b"define s as 'y'", found, [])
         self.assertEqual((typed.of("s"), typed.is_typed("s")), ("not in my.sbl: line 1 of s", True))
 
@@ -86,7 +88,8 @@ class Others(Case):
         events = rows.read("events", ["call,0,stem", "call,1,r", "put,1,r,0,1,k,kats", "test,1,r,1,f", "return,1,r,f", "return,0,stem,t", "stem,kats"])
         found = rows.read("places", ["routine,r,0,20,1,1"])
         places = Places("my.sbl", b"define r as 'x' and more", b"define r as 'x' and more", found, [])
-        tests = {("r", "1"): Shown("'x'", 12, "'x'", 12, True, True)}
+        routine = Routine("r", rows.tokens(["word,0,6,define", "name,7,8,r", "word,9,11,as", "literal,12,15,'x'"]), {}, False)
+        tests = {("r", "1"): (routine, routine.tests[0])}
         lines = reports.why("cats", events, rows.read("integers", ["steps,5"]), places, tests)
         self.assertEqual(lines[1:3], ["  r     'x' is false   my.sbl:1:13", "  stem  r is false"])
 
@@ -106,7 +109,7 @@ class Others(Case):
     def test_what_was_left_behind(self):
         room = self.room(my_sbl="text")
         one = Kept(room, os.path.join(room, "my.sbl"))
-        one.note("text", ["routine r"])
+        one.note("about", ["text", "routine r"])
         other = Kept(room, os.path.join(room, "my.sbl"))
         self.assertEqual(other.left(), [])
         one.lock.close()

@@ -38,10 +38,19 @@ class Real(OverProgram):
         self.assertEqual((reply.refusal(), reply.is_done, reply.said[0][:20]), ((48, "Undeclared"), False, "routine Step_3:1:1: "))
         self.assertEqual(program.ask(["class x"]).refusal(), (41, "Absent"))
 
-    def test_a_command_that_the_program_lacks(self):
-        program = self.begin(example("porter.sbl"))
-        self.assertEqual(program.ask_known("lacking", "runs"), [None, ["0"]])
-        self.assertFalse(program.knows("lacking all"))
+    def test_a_text_without_its_last_line_feed(self):
+        for text in ("externals ( stem )\ndefine stem as true", "externals ( stem ) define stem as true\r\n\n"):
+            self.assertEqual(self.begin(text).text(), text.encode())
+
+    def test_begun_anew_without_the_script(self):
+        program = self.begin(example("author.sbl"), example("author.words"))
+        os.remove(program.script)
+        self.assertTrue(program.begin_anew())
+        self.assertEqual(program.text(), example("author.sbl").encode())
+        with open(program.script, "w") as file:
+            file.write(LOOP)
+        self.assertTrue(program.ask([program.reload]).is_done)
+        self.assertEqual(program.text(), LOOP.encode())
 
     def test_begun_anew_after_a_kill(self):
         program = self.begin(example("author.sbl"), example("author.words"))

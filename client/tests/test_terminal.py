@@ -42,6 +42,8 @@ class Sessions(Case):
     def test_a_loop_is_located(self):
         terminal = self.begin(LOOP, "abc\n", program=FAKE)
         self.assertIn("In the run of abc the repeat of my.sbl:4:18 in stem goes round: it calls r again and again, ", self.start)
+        terminal.save(LOOP + "// new\n")
+        self.assertIn("the repeat of my.sbl:4:18, as it was read, in stem goes round", terminal.enter("why abc"))
         terminal.save(LOOP.replace("repeat ", ""))
         terminal.enter("")
         terminal.save("externals ( stem )\nroutines ( r s )\ndefine r as do s\ndefine s as do r\ndefine stem as do r\n")
@@ -55,11 +57,40 @@ class Sessions(Case):
         self.assertIn("my.sbl:2:43: 'q' has q, which no word has and no command puts in", shown)
         self.assertIn("'é' has a letter beyond ASCII", shown)
 
+    def test_lints_on_alternatives_and_macros(self):
+        script = "stringescapes {}\nstringdef oe hex 'F8'\nexternals ( stem )\nroutines ( a b )\ndefine a as ( [ among ( '{oe}' 'zz' ) ] <- 'o' )\ndefine b as 'b'\n%s\n"
+        terminal = self.begin(script % "define stem as ( do a or b )", "abo\nb\u00f8k\n")
+        self.assertEqual(self.start.split("\n")[0], "my.sbl:7:18: do never fails, so what is after this or never runs: do ( .. or .. ) is meant, perhaps")
+        self.assertIn("my.sbl:5:32: 'zz' has z, which no word has and no command puts in", terminal.enter("lint"))
+        for body in ("do ( a or b )", "not do a or b", "( a and do ( a ) or b )", "do a do b"):
+            terminal.save(script % "define stem as ( %s )" % body)
+            self.assertNotIn("never fails", terminal.enter("", "lint"))
+        terminal.save(script % "define stem as ( try ( a b ) or b )")
+        self.assertIn("my.sbl:7:18: try never fails", terminal.enter(""))
+
+    def test_lint_has_the_warnings_on_the_files(self):
+        terminal = self.begin(words="cats \ndogs\n")
+        self.assertIn("my.words:1: a blank at an end of the word", terminal.enter("lint"))
+        self.assertEqual(terminal.enter("warnings"), "lint lists what may not be meant in the script and the words.")
+
+    def test_words_that_are_read_again_are_warned_of(self):
+        terminal = self.begin()
+        terminal.save(WORDS + "a b\n", "my.words")
+        self.assertEqual(terminal.enter("words").split("\n"), ["my.words:9: a blank inside the word, which belongs to it. A line is one word", "9 words"])
+        self.assertEqual(terminal.enter("words"), "9 words")
+
+    def test_a_script_that_is_gone(self):
+        terminal = self.begin()
+        os.remove(os.path.join(self.folder, "my.sbl"))
+        self.assertEqual(terminal.enter(""), "my.sbl cannot be read: there is no such file. The script that was read stays: save FILE keeps it.")
+
     def test_families_are_remembered(self):
         terminal = self.begin()
         with open(os.path.join(self.folder, "fam"), "w") as file:
             file.write("universe universes\nglass glasses\nbell\n")
         self.assertIn("1 word is not in the vocabulary", terminal.enter("families fam"))
+        self.assertIn("No line has two words of the vocabulary: a family is", terminal.enter("families my.words"))
+        self.assertNotIn("No line has two", terminal.enter("families fam"))
         self.assertIn("families: understemmed 0 -> 2 of 2 pairs (100.0 %), ", terminal.enter("routine plural", "true", "."))
 
     def test_several_words_are_asked_about(self):
@@ -68,11 +99,22 @@ class Sessions(Case):
         self.assertEqual(terminal.enter("y").split("\n"), ["hundo is added: hundo", "kato is added: kato"])
         terminal.type("add a b\r", rb"nothing: $")
         self.assertEqual(terminal.enter(""), "")
+        terminal.type("add a b\r", rb"nothing: $")
+        self.assertEqual(terminal.enter("stats"), 'Nothing was added: "stats" is no answer to this.')
         self.assertIn("kato", terminal.enter("quit"))
         self.assertEqual(terminal.enter("append"), "2 words are now at the end of my.words.")
 
+    def test_why_of_a_word_that_is_misspelt(self):
+        terminal = self.begin()
+        self.assertEqual(terminal.enter("why univrse").split("\n")[-1], "  univrse is not in the vocabulary. Did you mean universe?")
+        self.assertNotIn("vocabulary", terminal.enter("why universe"))
+        self.assertNotIn("vocabulary", terminal.enter("why elephant"))
+
     def test_a_report_in_a_file(self):
         terminal = self.begin()
+        for line in ("classes >", "find a >", "class glass | wc"):
+            self.assertEqual(terminal.enter(line), "A report goes into a file by > FILE, as in: classes > my.classes. There are no pipes here.")
+        self.assertEqual(terminal.enter("find >"), "no word and no stem has it")
         self.assertEqual(terminal.enter("classes > out"), "3 lines in out")
         self.assertIn("is there already", terminal.enter("classes > out"))
 
@@ -84,6 +126,21 @@ class Sessions(Case):
         self.assertIn("routine plural", terminal.type("routine pl\t", rb"plural ?$", 3))
         terminal.type("\x03")
         self.assertIn("ity", terminal.type("uses ending 1 it\t", rb"ity ?$", 3))
+        terminal.type("\x03")
+        self.assertIn("class glass", terminal.type("class gl\t", rb"class glass$", 3))
+        terminal.type("\x03")
+        self.assertIn("stem univers", terminal.type("stem un\t", rb"univers ?$", 3))
+
+    def test_the_pager_says_how_one_goes_on(self):
+        terminal = self.begin(lines=6, term="xterm", PAGER="sh -c 'cat; echo $LESSSECURE $LESS'")
+        self.assertRegex(terminal.type("stems\r", rb"goes back"), r"university +univers\n1 FRXPs.*q goes back")
+
+    def test_blanks_before_a_name_or_a_number(self):
+        terminal = self.begin()
+        self.assertIn("univers: ", terminal.enter("largest  1"))
+        self.assertEqual(terminal.enter("limit  1000"), "no word and no class differs from the mark")
+        self.assertIn("define plural as", terminal.enter("show  plural"))
+        self.assertIn("3 words, 3 split", terminal.enter("among  plural  1", "among ( 'sss' )", "."))
 
     def test_history_over_starts(self):
         terminal = self.begin()
@@ -193,11 +250,48 @@ class Traps(Case):
                 self.assertIn("plural as true", again.enter("script"))
                 self.assertIn("in no file", again.enter("quit"))
 
-    def test_nothing_is_left_behind_if_nothing_was_typed(self):
+    def test_two_works_leave_edits_behind(self):
+        first = self.begin()
+        second = self.terminal(self.folder)
+        second.got()
+        first.enter("routine plural", "true", ".")
+        second.enter("routine ending", "true", ".")
+        for terminal in (first, second):
+            os.kill(terminal.child, signal.SIGHUP)
+            self.assertEqual(terminal.ended(), 1)
+        third = self.terminal(self.folder)
+        self.assertIn("(ending): rescue brings them back, rescue drop forgets them. Older ones are there, too", third.got())
+        third.enter("rescue")
+        self.assertIn("3 words, 3 split", third.enter("rescue"))
+
+    def test_added_words_survive_a_closed_terminal(self):
         terminal = self.begin()
-        os.kill(terminal.child, signal.SIGTERM)
+        terminal.enter("add hundo", "add kato")
+        os.kill(terminal.child, signal.SIGHUP)
         self.assertEqual(terminal.ended(), 1)
-        self.assertEqual(os.listdir(os.path.join(self.folder, "state", "voltizug", "open")), [])
+        again = self.terminal(self.folder)
+        self.assertIn("closed (2 added words): rescue brings them back", again.got())
+        self.assertEqual(again.enter("rescue").split("\n"), ["hundo is added: hundo", "kato is added: kato"])
+        self.assertEqual(again.enter("rescue"), "No typed edits were left behind.")
+        again.enter("routine plural", "true", ".")
+        os.kill(again.child, signal.SIGKILL)
+        self.assertEqual(again.ended(), -signal.SIGKILL)
+        third = self.terminal(self.folder)
+        self.assertIn("closed (plural and 2 added words): rescue", third.got())
+        self.assertIn("3 words, 3 split, 2 words added since the mark", third.enter("rescue"))
+        third.enter("append", "save my.sbl", "quit")
+        self.assertEqual(third.ended(), 0)
+        self.assertIn("10 words", self.terminal(self.folder).got())
+
+    def test_nothing_is_left_behind_if_nothing_was_typed(self):
+        # (`timeout` sends both)
+        for signals in ([signal.SIGTERM], [signal.SIGTERM, signal.SIGCONT]):
+            terminal = self.begin()
+            for number in signals:
+                os.kill(terminal.child, number)
+            self.assertEqual(terminal.ended(), 1)
+            state = os.path.join(self.folder, "state", "voltizug")
+            self.assertEqual((os.listdir(os.path.join(state, "open")), os.path.exists(os.path.join(state, "fault"))), ([], False))
 
     def test_pasted_lines(self):
         terminal = self.begin("my.sbl", "my.words")
@@ -207,6 +301,10 @@ class Traps(Case):
         self.assertIn("8 words", terminal.enter("stats"))
         terminal.send("routine plurall\r" + "true\r" * 50 + ".\r")
         self.assertIn("The 51 lines that came with it were dropped.", terminal.got(rb"dropped\.\n> $", 10))
+        terminal.enter("routine plural", "true", ".")
+        terminal.send("// a script\r\r" + AUTHOR.replace("\n", "\r"))
+        self.assertIn("The %d lines that came with it were dropped." % (AUTHOR.count("\n") + 1), terminal.got(rb"dropped\.\n> $", 10))
+        self.assertIn("plural as true", terminal.enter("script"))
         terminal = self.begin("my.sbl", "my.words", term="xterm")
         terminal.got(rb"> ", 2)
         terminal.send("\x1b[200~routine plural\rdefine plural as (\r\ttrue\r)\r.\r\x1b[201~\r")

@@ -3,7 +3,7 @@ from typing import Dict, List, NamedTuple, Sequence, Tuple
 
 
 class Command(NamedTuple):
-    """`takes` says what may follow: text, file, routine, grouping, name, among, part, number, command, or nothing; `more` is told by help COMMAND."""
+    """`takes` says what may follow: text, file, routine, grouping, name, among, part, number, command, or nothing; `more` is for help COMMAND."""
 
     usage: str
     does: str
@@ -41,8 +41,13 @@ COMMANDS: Dict[str, Command] = {
     "integers": Command("integers WORD", "the steps of the run of WORD, and the integer variables at its end", "text"),
     "largest": Command("largest [N]", "the N largest classes, 10 without N", "number"),
     "limit": Command("limit [N]", "lets each run use N steps at most; without N says how many", "number", "100,000 is usual."),
-    "lint": Command("lint", "what may not be meant: empty slices, letters that no word has, letters beyond ASCII in literals, capitals"),
-    "mark": Command("mark [FILE]", "changes are told since now, or since the stems of FILE", "file", "FILE has a line for each word, as of approve."),
+    "lint": Command(
+        "lint",
+        "what may not be meant: empty slices, letters that no word has, letters beyond ASCII in literals, capitals; and the warnings on the files"
+    ),
+    "mark": Command(
+        "mark [FILE]", "changes are told since now, or since the stems of FILE", "file", "FILE has a line for each word, as of approve."
+    ),
     "quit": Command("quit", "ends; so does Ctrl-D"),
     "redo": Command("redo", "makes again what undo took back"),
     "reload": Command("reload", "reads the script again; an empty line does so, too", "", "It puts typed edits aside; undo brings them back."),
@@ -50,7 +55,9 @@ COMMANDS: Dict[str, Command] = {
     "replace": Command(
         "replace [FILE]", "replaces the whole script by that of FILE", "file", "Without FILE its lines follow, and a line with a single point."
     ),
-    "rescue": Command("rescue", "brings back edits that you typed before a terminal was closed", "text", '"rescue drop" forgets them.'),
+    "rescue": Command(
+        "rescue", "brings back edits that you typed, and words that you added, before a terminal was closed", "text", '"rescue drop" forgets them.'
+    ),
     "routine": Command(
         "routine NAME", "replaces a routine", "routine",
         "Then comes its text, with define NAME as before it or without, and a line with a single point. A line define NAME as .. begins this, too."
@@ -80,23 +87,34 @@ GROUPS: Sequence[Tuple[str, str]] = (
 )
 # A block follows one of these and its name; and one of these alone.
 BLOCKS, OPEN_BLOCKS = ("routine", "among", "grouping"), ("families", "replace")
+# Of the commands' words these are the language's, too.
+LANGUAGE = ("among", "integers", "limit")
 # A blank at the end of these may belong to a word.
 WITH_TEXT = ("add", "remove", "class", "stem", "find", "trace", "why", "tests", "events", "integers", "changes", "uses", "echo")
 # Reports: they can be written to a file by > FILE, and have a pager.
 REPORTING = (
-    *"changes class classes counts events families find history integers largest lint script show".split(), *"stats stem stems tests trace unused uses why".split()
+    "changes class classes counts events families find history integers largest lint script show stats stem stems".split()
+    + "tests trace unused uses why".split()
 )
-# Words that other programs have, and what is said of them.
-OTHERS: Dict[str, str] = {
-    **dict.fromkeys(("q", ":q", ":q!", ":wq", "bye", "exit!"), "quit or Ctrl-D ends."), "clear": "Ctrl-L clears the screen. quit or Ctrl-D ends.",
-    **dict.fromkeys("ls cd cat vi vim nano emacs edit grep less git man".split(), "{c} is a command of a shell: use another window."),
-    "check": "check is not a command here. In a shell: ./snowbench check SCRIPT WORDS STEMS.",
-    "compare": "compare is not a command here. In a shell: ./snowbench compare OLD NEW WORDS.",
-    "filter": "filter is not a command here. In a shell: ./snowbench filter SCRIPT < WORDS.",
-    "run": "run is not a command here. In a shell: ./snowbench run SCRIPT WORDS.",
-    "work": "work is not a command here. In a shell: ./snowbench work SCRIPT WORDS.",
-}
 DECLARATIONS = ("externals", "routines", "groupings", "strings", "integers", "booleans", "stringescapes", "stringdef", "backwardmode")
+# By the beginning of a line that is no command what is said of it. {c} is its first word.
+IN_SHELL = {"check": "SCRIPT WORDS STEMS", "compare": "OLD NEW WORDS", "filter": "SCRIPT < WORDS", "run": "SCRIPT WORDS", "work": "SCRIPT WORDS"}
+STRANGE: Sequence[Tuple[str, str]] = (
+    (r"\s*\.\s*\Z", "A line with a single point ends a block, and no block is open."),
+    (r"(q|:q|:q!|:wq|bye|exit!)( |\Z)", "quit or Ctrl-D ends."),
+    (r"clear( |\Z)", "Ctrl-L clears the screen. quit or Ctrl-D ends."),
+    (r"(ls|cd|cat|vi|vim|nano|emacs|grep|less|git|man|tail|head|wc)( |\Z)", "{c} is a command of a shell: use another window."),
+    (r"edit( |\Z)", "Change the script in your editor, and save it; or type routine NAME, among NAME K or grouping NAME, and the new text."),
+    (r"warnings( |\Z)", "lint lists what may not be meant in the script and the words."),
+    *((r"%s( |\Z)" % verb, "{c} is not a command here. In a shell: ./snowbench {c} %s." % files) for verb, files in IN_SHELL.items()),
+    (r"\s*(//|/\*)", "A comment begins with # at the beginning of the line."),
+    (r"define( |\Z)", "A definition begins with define NAME as, or define NAME and the terms of a grouping, in one line."),
+    (
+        r"(%s)( |\Z)" % "|".join(DECLARATIONS),
+        "This looks like a script. replace takes a whole one, up to a line with a single point."
+    ),
+    (r"\s+(%s)( |\Z)" % "|".join(COMMANDS), "A command begins at the beginning of the line."),
+)
 
 
 def overview() -> List[str]:

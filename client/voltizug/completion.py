@@ -1,12 +1,15 @@
-"""What TAB completes: commands, names of the script, numbers and strings of amongs, files."""
+"""What TAB completes: commands, names of the script, numbers and strings of amongs, files, words and stems."""
 import glob
 import os
-from typing import List
+from typing import Iterable, List
 
+from . import rows
 from .bench import Bench
 from .commands import COMMANDS
 
 KINDS = {"routine": ("routine",), "among": ("routine",), "grouping": ("grouping",), "name": ("routine", "grouping"), "part": ("routine", "grouping")}
+# These take a word of the vocabulary.
+WITH_WORD = ("class", "remove", "why", "tests", "trace", "events", "integers")
 
 
 class Completion:
@@ -16,28 +19,36 @@ class Completion:
     def complete(self, line: str, text: str) -> List[str]:
         """Returns the completions of a text, which is the last word of a line. In a block a tab at the beginning is one of the text."""
         if self.bench.is_waiting:
-            return [] if not self.is_in_block else [text + "\t"]
-        if self.is_in_block:
-            return sorted(name for name in self.bench.names().kinds if name.startswith(text)) if text else ["\t"]
+            return []
+        if self.is_in_block and not text:
+            return ["\t"]
         command, has_more, rest = line.partition(" ")
-        if not has_more or command == "help":
-            return [name + " " * bool(COMMANDS[name].takes and not has_more) for name in COMMANDS if name.startswith(text)]
         takes = COMMANDS[command].takes if command in COMMANDS else ""
-        if takes == "file" or line.endswith("> " + text):
+        if not self.is_in_block and (takes == "file" or line.endswith("> " + text)):
             return files(rest if takes == "file" else text, text)
-        return self.parts(takes, rest, text) if takes in KINDS else []
+        return sorted(name for name in self.candidates(command, has_more, rest, takes) if name.startswith(text))
 
-    def parts(self, takes: str, rest: str, text: str) -> List[str]:
-        """Completions of a name of the script, the number of an among, or one of its strings."""
-        names, words = self.bench.names(), rest.split(" ")
-        if len(words) == 1:
-            has_more = takes in ("among", "part")
-            return sorted(name + " " * (has_more and name in names.amongs) for name in names.of(*KINDS[takes]) if name.startswith(text))
-        if len(words) == 2 and takes in ("among", "part"):
-            return [number for number in map(str, range(1, names.amongs.get(words[0], 0) + 1)) if number.startswith(text)]
-        if len(words) == 3 and takes == "part":
-            return sorted(string for string in names.strings.get((words[0], words[1]), []) if string.startswith(text) and " " not in string)
-        return []
+    def candidates(self, command: str, has_more: str, rest: str, takes: str) -> Iterable[str]:
+        """Returns what can come: names of the script, a command, the number of an among, or one of its strings."""
+        if not self.is_in_block and (not has_more or command == "help"):
+            return [name + " " * bool(COMMANDS[name].takes and not has_more) for name in COMMANDS]
+        places, words = self.bench.places(), rest.split(" ")
+        if self.is_in_block:
+            return places.definitions
+        if command in WITH_WORD or command == "stem":
+            return self.words(rest, command == "stem")
+        if takes in KINDS and len(words) == 1:
+            return [name + " " * (takes in ("among", "part") and places.count(name) > 0) for name in places.of_kind(*KINDS[takes])]
+        if takes in ("among", "part") and len(words) == 2:
+            return map(str, range(1, places.count(words[0]) + 1))
+        is_string = takes == "part" and len(words) == 3
+        return [string for *among, string in places.entries if is_string and among == words[:2] and " " not in string]
+
+    def words(self, text: str, is_stem: bool) -> Iterable[str]:
+        """Returns the words or stems without blanks that have a text in them."""
+        lines = self.bench.known("find " + text)[0] if text and " " not in text else None
+        found = {row.stem if is_stem else row.word for row in rows.outcomes(lines or []) if row.kind == "stem" or not is_stem}
+        return [name for name in found if " " not in name]
 
 
 def files(path: str, text: str) -> List[str]:

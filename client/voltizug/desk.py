@@ -1,14 +1,13 @@
 """The bench at a terminal: what is shown of replies, refusals and edits, and what is said if the program is gone."""
-from typing import Dict, List, Sequence
+from typing import Any, Dict, List, Sequence
 
-from . import layout, loops, rows, words
-from .bench import Bench, Edit, Watch
+from . import faults, layout, loops, rows, words
+from .bench import Bench, Edit
 from .completion import Completion
-from .faults import shown as shown_fault
 from .keys import Editor, Hangup
 from .kept import read_file
+from .layout import short
 from .lints import lints
-from .opening import Opening
 from .options import Options
 from .program import DONE, ENDED, Reply
 from .screen import Screen
@@ -24,19 +23,15 @@ class Desk:
     def __init__(self, bench: Bench, options: Options):
         self.bench, self.options = bench, options
         self.completion = Completion(bench)
-        # (a signal rings, too, and without --watch only Enter reads what was saved)
-        saved = bench.saved if options.is_watching else lambda: []
-        self.editor = Editor(bench.kept.history, self.completion.complete, saved, self.show_saved)
+        self.editor = Editor(bench.kept.history, self.completion.complete, bench.saved if options.is_watching else None, self.show_saved)
         self.screen = Screen(self.editor, options.color, options.has_pager)
-        self.watch = Watch(bench, self.editor.ring) if options.is_watching else None
-        self.opening = Opening(bench, self.screen, self.then)
-        # A command that was doubted, and is done if it is typed again; warnings that were given; lines in a row that are no command.
-        self.doubted, self.warned, self.nonsense = "", [], 0  # type: str, List[str], int
+        # Warnings that were given; lines in a row that are no command.
+        self.warned, self.nonsense = [], 0  # type: List[str], int
         bench.program.on_long, self.editor.on_interrupt, bench.on_restart = self.tell_long, bench.program.break_off, self.tell_restart
 
-    def then(self) -> str:
-        """Returns what an author does after a correction."""
-        return " and save it there" if self.options.is_watching else ", save it there, and press Enter"
+    def correction(self, path: str) -> str:
+        """Returns what an author does about a fault in a file."""
+        return "Correct it in %s%s." % (short(path), " and save it there" if self.options.is_watching else ", save it there, and press Enter")
 
     # What becomes of a request
 
@@ -49,8 +44,9 @@ class Desk:
         if reply.state == DONE:
             return True
         if reply.state == "lost":
-            edits = "What you typed is kept: the next start over the same script offers it." if self.bench.kept.has_edits() else "No edit is lost."
-            self.screen.say("The program could not be started again. %s" % edits)
+            is_kept = self.bench.kept.has("about", "added")
+            edits = "What you typed is kept: the next start over the same script offers it." if is_kept else "No edit is lost."
+            self.screen.say("The program could not be started again. " + edits)
             raise Hangup
         done = "The last command was not done: type it again." if reply.state == ENDED else "It was broken off. Nothing changed."
         self.screen.say(done + " undo goes back to the mark at most.")
@@ -58,9 +54,8 @@ class Desk:
 
     def tell_restart(self, reply: Reply) -> None:
         self.editor.is_interrupted = False
-        process = self.bench.program.process
-        status = process.returncode if process else 0
-        how = ", by signal %d" % -status if status and status < 0 else " with status %s" % status
+        status = self.bench.program.stop() or 0
+        how = ", by signal %d" % -status if status < 0 else " with status %s" % status
         why = "The program was ended from outside%s. It" % how if reply.state == ENDED else "Breaking off: the program"
         self.screen.say(why + " is started again with the script in force.")
 
@@ -72,99 +67,83 @@ class Desk:
 
     def refuse(self, reply: Reply, lines: Sequence[str]) -> None:
         """Shows a refusal, and what to do."""
-        fault = reply.refusal() or (0, "")
+        code, name = reply.refusal() or (0, "")
         self.show_fault(reply.said)
+        said = words.sentence(reply, lines, self.bench)
         if lines[0] == "reload":
             # (of a text that is not UTF-8 the program has said what it may be)
-            self.warn() if fault[1] != "NotUtf8" else None
-            said = words.sentence(reply, lines, self.bench)
-            self.screen.say(said if fault[0] != 48 else "Nothing changed. Correct it in %s%s." % (layout.short(self.bench.script), self.then()))
-        else:
+            self.warn() if name != "NotUtf8" else None
+            said = "Nothing changed. " + self.correction(self.bench.script) if code == 48 else said
+        elif code == 48 and not reply.said:
             # (a fault of the whole script has no line)
-            has_name = fault[0] == 48 and not reply.said
-            self.screen.say((fault[1] + ". " if has_name else "") + words.sentence(reply, lines, self.bench) + self.out(lines[0], fault[0]))
+            said = "%s. %s" % (name, said)
+        self.screen.say(said)
         self.show_more_faults()
-        if self.editor.pending or len(lines) > 1 or self.is_nonsense(fault[0]):
-            self.drop_pasted()
-
-    def out(self, line: str, code: int) -> str:
-        return ' "remove %s" takes the word out that you added.' % layout.short(self.bench.added[-1]) if code == 54 and self.bench.added else ""
-
-    def is_nonsense(self, code: int) -> bool:
-        """Whether this is one of many lines that are no command, as of a text that was pasted."""
         self.nonsense = self.nonsense + 1 if code == 52 and self.editor.has_key() else 0
-        return self.nonsense >= NONSENSE
+        # (of a script that was pasted one line is enough)
+        if self.editor.pending or len(lines) > 1 or self.nonsense >= (1 if words.is_of_script(lines[0]) else NONSENSE):
+            self.drop_pasted()
 
     def drop_pasted(self) -> None:
         count = self.editor.drop_pasted()
-        if count:
-            self.screen.say("The line that came with it was dropped." if count == 1 else "The {:,} lines that came with it were dropped.".format(count))
+        lines = "line that came with it was" if count == 1 else "{:,} lines that came with it were".format(count)
+        self.screen.say("The %s dropped." % lines if count else "")
 
     def show_fault(self, said: Sequence[str]) -> None:
-        text, width = read_file(self.bench.script), self.screen.size().columns
-        self.screen.write_fault(shown_fault(said, self.bench.script, self.bench.program.copy_path, text, width))
+        self.screen.write_fault(faults.shown(said, self.bench.script, read_file(self.bench.script), self.screen.size().columns))
 
     def show_more_faults(self) -> None:
         """After a fault of a text: the others, as many as there is room for."""
-        found = rows.read("faults", self.bench.known("faults")[0] or [])[1:]
-        most = max(1, self.screen.size().lines // 3)
-        self.screen.say(*("also %s:%s: %s" % (row.line, row.column, layout.short(row.sentence)) for row in found[:most]))
+        found, most = self.bench.read("faults")[1:], max(1, self.screen.size().lines // 3)
+        self.screen.say(*("also %s:%s: %s" % (row.line, row.column, short(row.sentence)) for row in found[:most]))
         self.screen.say("{:,} more faults".format(len(found) - most) if len(found) > most else "")
 
-    def warn(self) -> None:
-        """Gives the warnings on the files that were not given before."""
-        new = [line for line in warnings_on(self.bench.script) if line not in self.warned]
-        self.warned += new
-        self.screen.write(new, is_text=True)
+    def new_lines(self, lines: Sequence[str]) -> List[str]:
+        """Returns the warnings that were not given before, and notes them."""
+        found = [line for line in lines if line not in self.warned]
+        self.warned += found
+        return found
+
+    def warn(self, *paths: str) -> bool:
+        """Gives the warnings on the script, and on a list of words. Returns whether there is one."""
+        found = self.new_lines(warnings_on(self.bench.script, *paths))
+        self.screen.write(found, is_text=True)
+        return bool(found)
 
     # Edits
 
     def edit(self, lines: Sequence[str]) -> bool:
-        return self.show_edit(self.bench.edit(lines), lines)
-
-    def show_edit(self, edit: Edit, lines: Sequence[str]) -> bool:
-        """Shows what an edit changed, as much as the window has room for, and last the summary. Returns whether it was accepted."""
+        """Makes an edit, and shows what it changed, as much as the window has room for, and last the summary. Returns whether it was accepted."""
+        edit = self.bench.edit(lines)
+        is_reload = edit.command == "reload"
         if not self.settle(edit.reply):
-            self.screen.say("Correct it in %s%s." % (layout.short(self.bench.script), self.then()) if edit.command == "reload" else "")
+            self.screen.say(self.correction(self.bench.script) if is_reload else "")
             return False
         if edit.reply.refusal():
             self.refuse(edit.reply, lines)
             return False
-        if edit.command == "reload":
+        if is_reload:
             self.warn()
-        tail = self.new_lints() if edit.command == "reload" else []
-        tail += [self.turning(edit), *words.notes(edit, self.bench.script), layout.families_line(edit.pairs), layout.summary(edit)]
-        last, size = self.screen.broken([line for line in tail if line]), self.screen.size()
-        typed = self.editor.rows_typed(size.columns)
-        room = max(1, size.lines - len(last) - 1 - typed)
+        tail = [*(self.new_lines(lints(self.bench)) if is_reload else []), self.turning_since(edit), *words.notes(edit, self.bench.script)]
+        last = self.screen.broken([line for line in [*tail, layout.families_line(edit.pairs), layout.summary(edit)] if line])
+        size = self.screen.size()
+        room = max(1, size.lines - len(last) - 1 - self.editor.rows_typed(size.columns))
         found = layout.changes(edit.changes, self.outcomes(edit.changes), room)
         self.screen.write([layout.cut(layout.named(line), size.columns) for line in found] + last)
         return True
 
-    def new_lints(self) -> List[str]:
-        new = [line for line in lints(self.bench) if line not in self.warned]
-        self.warned += new
-        return new
-
-    def outcomes(self, changes: Sequence[object]) -> Dict[str, rows.Outcome]:
+    def outcomes(self, changes: Sequence[Any]) -> Dict[str, rows.Outcome]:
         """Returns the outcomes of the words if some were added, by the words."""
-        return {row.word: row for row in self.bench.outcomes()} if any(getattr(row, "kind", "") == "added" for row in changes) else {}
+        return {row.word: row for row in self.bench.outcomes()} if any(row.kind == "added" for row in changes) else {}
 
-    def turning(self, edit: Edit) -> str:
+    def turning_since(self, edit: Edit) -> str:
         """Returns the sentence on what goes round in the first run that is refused since the mark for its steps or its depth."""
-        refused = [row for row in edit.changes if row.kind == "changed" and row.new_kind == "refused" and row.new in ("Steps", "Depth")]
-        return self.turning_of(refused[0].word) if refused and not edit.is_same else ""
+        refused = [row.word for row in edit.changes if row.kind == "changed" and row.new_kind == "refused" and row.new in ("Steps", "Depth")]
+        return self.turning(refused[0]) if refused and not edit.is_same else ""
 
-    def turning_of(self, word: str) -> str:
-        reply = self.bench.ask("events " + word)
-        return words.turning(word, loops.turn_of(rows.read("events", reply.lines)), self.bench) if reply.is_done else ""
+    def turning(self, word: str) -> str:
+        return loops.turning(word, self.bench.read("events " + word), self.bench)
 
     def show_saved(self) -> None:
         """Reads again what was saved."""
-        saved = self.bench.saved()
-        if self.bench.is_waiting:
-            self.opening.begin(self.warned)
-        elif self.bench.script in saved:
-            self.edit(["reload"])
-        else:
-            self.note_words()
+        raise NotImplementedError

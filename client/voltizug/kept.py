@@ -17,11 +17,12 @@ FileState = Optional[Tuple[int, int, int]]
 
 
 class Left(NamedTuple):
-    """Typed edits that were left behind: the folder, the file in it that has the text, and the names of the edits."""
+    """What was left behind: the folder, the file in it that has the text with typed edits, their names, and the words that were added."""
 
     room: str
     path: str
     edits: List[str]
+    words: List[str] = []
 
 
 class Kept:
@@ -34,18 +35,21 @@ class Kept:
         self.lock = locked(self.room)
         self.history = os.path.join(folder, "history")
 
-    def note(self, file: str, edits: Sequence[str]) -> None:
-        """Notes that a file of the room has typed edits that no other file has; no edits forget it."""
-        about = os.path.join(self.room, "about")
-        with contextlib.suppress(OSError):
-            if edits:
-                with open(about, "w", encoding="utf-8", errors="surrogateescape") as written:
-                    written.write("\n".join([self.script, file, *edits]))
-            elif os.path.exists(about):
-                os.remove(about)
+    def note(self, name: str, lines: Sequence[str]) -> None:
+        """Notes what no file has, in a file of the room: `about` has the name of another file of the room, whose text has them, and their names;
+        `added` has the words that were added. Without lines that is forgotten."""
+        if lines:
+            self.keep(name, "\n".join([self.script, *lines]).encode("utf-8", "surrogateescape"))
+        else:
+            with contextlib.suppress(OSError):
+                os.remove(os.path.join(self.room, name))
 
-    def has_edits(self) -> bool:
-        return os.path.exists(os.path.join(self.room, "about"))
+    def keep(self, file: str, text: bytes) -> None:
+        with contextlib.suppress(OSError), open(os.path.join(self.room, file), "wb") as kept:
+            kept.write(text)
+
+    def has(self, *names: str) -> bool:
+        return any(os.path.exists(os.path.join(self.room, name)) for name in names)
 
     def left(self) -> List[Left]:
         """Returns what was left behind over this script, the oldest first. Folders that have nothing are taken away."""
@@ -54,14 +58,14 @@ class Kept:
             lock = locked(entry.path) if entry.path != self.room else None
             if lock is None:
                 continue
-            with lock, contextlib.suppress(OSError, ValueError):
-                with open(os.path.join(entry.path, "about"), encoding="utf-8", errors="surrogateescape") as file:
-                    script, name, *edits = file.read().split("\n")
-                if script == self.script:
-                    found.append((entry.stat().st_mtime, Left(entry.path, os.path.join(entry.path, name), edits)))
-                continue
-            if entry.stat().st_mtime < time.time() - YOUNG:
-                self.forget(entry.path)
+            with lock:
+                texts = [read_file(os.path.join(entry.path, name)) or b"" for name in ("about", "added")]
+                edits, added = (text.decode("utf-8", "surrogateescape").split("\n") for text in texts)
+                if self.script in (edits[0], added[0]):
+                    path = os.path.join(entry.path, edits[1]) if edits[1:] else ""
+                    found.append((entry.stat().st_mtime, Left(entry.path, path, edits[2:], added[1:])))
+                elif not any(texts) and entry.stat().st_mtime < time.time() - YOUNG:
+                    self.forget(entry.path)
         return [left for _, left in sorted(found)]
 
     def forget(self, room: str) -> None:

@@ -18,6 +18,8 @@ import time
 from typing import Any, Callable, Deque, Iterator, List, Optional
 
 HISTORY, INTERRUPT, PAUSE = 2000, b"\x03", 0.1
+# How often files are looked at, how soon again after a change (a file may still be being written), and for how long a signal is repeated.
+PERIOD, SOON, ECHO = 0.03, 0.005, 1.0
 POINT = re.compile(rb"[\r\n][ \t]*\.[ \t]*[\r\n]")
 # Of readline's state: its callbacks are installed.
 CALLBACK = 0x80000
@@ -28,7 +30,7 @@ class Dropped(Exception):
 
 
 class Broken(Exception):
-    """Ctrl-C came while the client itself worked something out."""
+    """Ctrl-C came while a report was worked out or written."""
 
 
 class Hangup(BaseException):
@@ -44,9 +46,9 @@ class Library:
             library: Any = ctypes.CDLL(readline.__file__)
             self.clear_line, self.on_new_line = library.rl_clear_visible_line, library.rl_on_new_line
             self.redisplay, self.prepare, self.restore = library.rl_forced_update_display, library.rl_prep_terminal, library.rl_deprep_terminal
-            self.library = library
+            self.state, self.mode = ctypes.c_ulong.in_dll(library, "rl_readline_state"), ctypes.c_int.in_dll(library, "rl_editing_mode")
             self.is_whole = True
-        except (OSError, AttributeError):
+        except (OSError, AttributeError, ValueError):
             self.is_whole = False
 
     def clear(self) -> None:
@@ -56,10 +58,10 @@ class Library:
 
     def has_line(self) -> bool:
         """Whether readline still waits for the end of a line: a signal may be heard only after Enter."""
-        return self.is_whole and bool(ctypes.c_ulong.in_dll(self.library, "rl_readline_state").value & CALLBACK)
+        return self.is_whole and bool(self.state.value & CALLBACK)
 
     def is_vi(self) -> bool:
-        return self.is_whole and ctypes.c_int.in_dll(self.library, "rl_editing_mode").value == 0
+        return self.is_whole and self.mode.value == 0
 
     def draw(self) -> None:
         """Draws the line again, below what is on the screen."""
@@ -68,15 +70,20 @@ class Library:
         self.redisplay()
 
 
-def set_keys(settings: List[Any]) -> None:
-    """Has the terminal take these settings. (A signal may break the call off, and Python does not try it again.)"""
+def set_keys(settings: List[Any]) -> bool:
+    """Has the terminal take these settings. Returns false if it is gone. (A signal may break the call off, and Python does not try it again.)"""
     while True:
         try:
             termios.tcsetattr(0, termios.TCSANOW, settings)
-            return
+            return True
         except termios.error as why:
             if why.args[0] != errno.EINTR:
-                raise Hangup from None
+                return False
+
+
+def need_keys(settings: List[Any]) -> None:
+    if not set_keys(settings):
+        raise Hangup
 
 
 def with_interrupt(settings: List[Any], character: bytes) -> List[Any]:
@@ -89,18 +96,18 @@ class Editor:
     looks for signals only when one breaks its wait for a key off, so one that comes between two keys would drop a later line. While a command
     runs it is a signal, and no key is shown."""
 
-    def __init__(self, history: str, complete: Callable[[str, str], List[str]], saved: Callable[[], Any], show_saved: Callable[[], None]):
+    def __init__(self, history: str, complete: Callable[[str, str], List[str]], saved: Optional[Callable[[], Any]], show_saved: Callable[[], None]):
         self.library, self.history, self.complete_text, self.saved, self.show_saved = Library(), history, complete, saved, show_saved
         self.base = termios.tcgetattr(0)
         self.typing = with_interrupt(self.base, b"\0")
         self.quiet = with_interrupt([*self.base[:3], self.base[3] & ~(termios.ECHO | termios.ICANON), *self.base[4:]], INTERRUPT)
-        # Whether readline waits for a key; whether a save is shown above a line; whether Ctrl-C came while a command ran.
-        self.is_waiting = self.is_above = self.is_interrupted = False
+        # Whether readline waits for a key; whether a save is shown above a line; whether Ctrl-C came while a command ran, and raises Broken then.
+        self.is_waiting = self.is_above = self.is_interrupted = self.is_breakable = False
         # Whether somebody ends this process: it is told so until it hears it.
         self.is_ended = False
         self.pending: Deque[str] = collections.deque()
         self.found: List[str] = []
-        self.main = threading.main_thread().ident
+        self.main = threading.main_thread().ident or 0
         self.on_interrupt: Callable[[], None] = lambda: None
 
     def begin(self) -> None:
@@ -113,34 +120,23 @@ class Editor:
         heard, bell = os.pipe()
         os.set_blocking(bell, False)
         signal.set_wakeup_fd(bell, warn_on_full_buffer=False)
-        threading.Thread(target=self.repeat, args=(heard,), daemon=True).start()
-        set_keys(self.quiet)
+        threading.Thread(target=self.ring, args=(heard,), daemon=True).start()
+        need_keys(self.quiet)
         self.open_history()
 
     def end(self) -> None:
         """Gives the keys back. A second signal does not break this off."""
         for number in (signal.SIGHUP, signal.SIGTERM, signal.SIGUSR1):
             signal.signal(number, signal.SIG_IGN)
-        with contextlib.suppress(Hangup):
-            set_keys(self.base)
+        set_keys(self.base)
 
     # Signals
 
     def hear_interrupt(self, *_: object) -> None:
         self.is_interrupted = True
-        self.on_interrupt()
-
-    @contextlib.contextmanager
-    def breakable(self) -> Iterator[None]:
-        """In here Ctrl-C raises Broken. The program must not be asked meanwhile."""
-        def stop() -> None:
+        if self.is_breakable:
             raise Broken
-
-        before, self.on_interrupt = self.on_interrupt, stop
-        try:
-            yield
-        finally:
-            self.on_interrupt = before
+        self.on_interrupt()
 
     def hear_end(self, number: int, _: object) -> None:
         raise Hangup(number)
@@ -156,34 +152,31 @@ class Editor:
         signal.signal(signal.SIGTSTP, self.hear_stop)
 
     def hear_continue(self, *_: object) -> None:
-        with contextlib.suppress(Hangup):
-            set_keys(self.typing if self.is_waiting else self.quiet)
+        set_keys(self.typing if self.is_waiting else self.quiet)
         if self.is_waiting and self.library.is_whole:
             self.library.prepare(1)
             self.library.draw()
 
-    def repeat(self, heard: int) -> None:
-        """In a thread: rings after each signal. CPython hears one that comes just before readline waits for a key only when another one breaks
-        that wait off."""
+    def ring(self, heard: int) -> None:
+        """In a thread: breaks off the wait for a key by a signal, for a while after each other one (CPython hears one that comes just before
+        readline waits for a key only when another one breaks that wait off), and as long as a file was saved that is not being written."""
+        before, now, until = None, None, 0.0  # type: Any, Any, float
         while True:
-            numbers = os.read(heard, 256)
-            self.is_ended = self.is_ended or signal.SIGHUP in numbers or signal.SIGTERM in numbers
-            for pause in (0.02, 0.1, 0.5) if any(number != signal.SIGUSR1 for number in numbers) else ():
-                time.sleep(pause)
-                self.ring()
-            while self.is_ended and self.main:
-                time.sleep(0.1)
+            is_idle = not (self.saved or self.is_ended or time.monotonic() < until)
+            pause = PAUSE if self.is_ended else PERIOD if now == before else SOON
+            if select.select([heard], [], [], None if is_idle else pause)[0]:
+                numbers = set(os.read(heard, 256)) - {signal.SIGUSR1}
+                self.is_ended = self.is_ended or bool(numbers & {signal.SIGHUP, signal.SIGTERM})
+                until = time.monotonic() + ECHO if numbers else until
+                continue
+            before, now = now, self.saved() if self.saved and self.is_waiting else None
+            if self.is_ended or self.is_waiting and (time.monotonic() < until or now and now == before):
                 signal.pthread_kill(self.main, signal.SIGUSR1)
-
-    def ring(self) -> None:
-        """Breaks off the wait for a key. The watching thread does so until a save is read."""
-        if self.is_waiting and self.main:
-            signal.pthread_kill(self.main, signal.SIGUSR1)
 
     def hear_ring(self, *_: object) -> None:
         if self.is_ended:
             raise Hangup
-        if not self.is_waiting or self.is_above or not self.library.has_line() or not self.saved():
+        if not self.is_waiting or self.is_above or not self.library.has_line() or not (self.saved and self.saved()):
             return
         self.is_above, self.is_waiting = True, False
         now = termios.tcgetattr(0)
@@ -205,19 +198,21 @@ class Editor:
             print(prompt + self.pending[0], flush=True)
             return self.pending.popleft()
         sys.stdout.flush()
-        set_keys(self.typing)
+        need_keys(self.typing)
         try:
             self.is_waiting = True
             text = input(prompt)
+        except SystemError as why:
+            # (`timeout` sends SIGCONT after SIGTERM, and CPython calls the handler of the second while the exception of the first one is set)
+            raise why.__cause__ if isinstance(why.__cause__, Hangup) else why
         except EOFError:
             # (a terminal that is gone ends its input, too)
-            set_keys(self.typing)
+            need_keys(self.typing)
             print(flush=True)
             return None
         finally:
             self.is_waiting = self.is_interrupted = False
-            with contextlib.suppress(Hangup):
-                set_keys(self.quiet)
+            set_keys(self.quiet)
         if text.endswith("\x03"):
             raise Dropped
         # (an empty line at the end of a paste is no wish to reload)
@@ -255,8 +250,7 @@ class Editor:
             yield
         finally:
             self.is_interrupted = False
-            with contextlib.suppress(Hangup):
-                set_keys(self.quiet)
+            set_keys(self.quiet)
 
     # History and TAB
 

@@ -1,13 +1,14 @@
 """Lines for people, fitted to a window: changes, the summary of an edit, families, and where a text is broken. Nothing is written here."""
 import re
 import unicodedata
+from collections import Counter
 from typing import Any, Dict, List, Optional, Sequence, Tuple
 
 from . import rows
 from .bench import Edit
 
 KINDS = ("added", "removed", "changed", "split", "merged", "renamed")
-COLOURS = {"split": "33", "merged": "35", "renamed": "36", "added": "32", "removed": "31", "refused": "31"}
+COLOURS, RED = {"split": "33", "merged": "35", "renamed": "36", "added": "32", "removed": "31"}, "31"
 # Marks that turn the direction of writing, and characters of no width that end or join lines.
 HIDDEN = set("\u061c\u200b\u200e\u200f\u2028\u2029\u2060\ufeff") | {chr(code) for code in (*range(0x202A, 0x202F), *range(0x2066, 0x206A))}
 # How many characters of a name or a literal a sentence has, and how many columns the words of a list have, at most.
@@ -46,26 +47,27 @@ def padded(text: str, column: int) -> str:
 
 
 def broken(line: str, width: int) -> List[str]:
-    """Returns a line as lines that fit: broken at blanks and commas. From the second on they are indented, below a text that follows a label."""
+    """Returns a line as lines that fit: broken at blanks and commas, but not in a number. From the second on they are indented, below a
+    text that follows a label."""
     if columns(line) <= width:
         return [line]
-    lines: List[str] = []
     label = LABEL.match(line)
     hang = " " * label.end() if label and label.end() <= width // 3 else line[: len(line) - len(line.lstrip())] + "    "
-    row = ""
-    for part in re.split(r"(?<=[ ,])(?! )", line):
-        if row.strip() and columns(row + part.rstrip()) > width:
-            lines, row = lines + [row.rstrip()], hang
-        row += part
-    return lines + [row]
+    lines = [""]
+    for part in re.split(r"(?<=[ ,])(?! |(?<=\d,)\d)", line):
+        if lines[-1].strip() and columns(lines[-1] + part.rstrip()) > width:
+            lines[-1:] = [lines[-1].rstrip(), hang]
+        lines[-1] += part
+    return lines
 
 
 def cut(line: str, width: int) -> str:
     """Returns a line that fits, without its end if it is too long."""
     if columns(line) <= width:
         return line
-    while line and columns(line) > width - 2:
-        line = line[: max(len(line) - (columns(line) - width + 2 + 1) // 2, 0)] if columns(line) - width > 4 else line[:-1]
+    line = line[: 2 * width]
+    while columns(line) > width - 2:
+        line = line[:-1]
     return line + ".."
 
 
@@ -132,19 +134,19 @@ def changes(found: Sequence[Any], outcomes: Dict[str, rows.Outcome], room: int =
 
 def figures(found: Sequence[Any]) -> str:
     """Returns what differs from the mark, in numbers."""
-    kinds = {kind: len(part) for kind, part in rows.by_kind(found).items()}
+    kinds = Counter(row.kind for row in found)
     refused = sum(row.new_kind == "refused" for row in found if row.kind == "changed")
-    parts = [counted(kinds["changed"], "word")] if "changed" in kinds else []
+    parts = [counted(kinds["changed"], "word")] if kinds["changed"] else []
     parts += ["{:,} of them refused".format(refused)] if refused else []
-    parts += ["{:,} {}".format(kinds[kind], kind) for kind in ("split", "merged", "renamed") if kind in kinds]
-    parts += [counted(kinds[kind], "word") + " " + kind for kind in ("added", "removed") if kind in kinds]
+    parts += ["{:,} {}".format(kinds[kind], kind) for kind in ("split", "merged", "renamed") if kinds[kind]]
+    parts += [counted(kinds[kind], "word") + " " + kind for kind in ("added", "removed") if kinds[kind]]
     return ", ".join(parts) + " since the mark" if parts else "no word and no class differs from the mark"
 
 
 def summary(edit: Edit) -> str:
     """Returns the line that stands last after an edit."""
     text = figures(edit.changes)
-    if edit.was_changed and edit.changes and edit.is_same:
+    if edit.changes and edit.is_same:
         text += " (this edit changed none)"
     if edit.command in ("undo", "redo"):
         step = "the whole script" if edit.step == "script" else short(edit.step)
@@ -156,6 +158,8 @@ def summary(edit: Edit) -> str:
 
 
 def percent(part: int, whole: int) -> str:
+    if part and 2000 * part < whole:
+        return " (less than 0.1 %)"
     return " ({:.1f} %)".format(100 * part / whole) if whole else ""
 
 
@@ -174,5 +178,5 @@ def families_line(pairs: Tuple[Any, ...]) -> str:
 def coloured(line: str) -> str:
     """Returns a line with the colour of its kind."""
     word = line.split(" ", 3)[2] if line.startswith("  ") and line.count(" ") > 2 else ""
-    kind = "refused" if "-> refused" in line else word if word in ("split", "merged", "renamed", "added", "removed") else ""
-    return "\x1b[%sm%s\x1b[0m" % (COLOURS[kind], line) if kind else line
+    colour = RED if "-> refused" in line else COLOURS.get(word)
+    return "\x1b[%sm%s\x1b[0m" % (colour, line) if colour else line

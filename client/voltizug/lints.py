@@ -1,59 +1,86 @@
 """What is legal in a script and words, and may not be meant. By the tokens and the strings that the program tells: no script is read here."""
 from typing import Iterable, List, Sequence, Set, Tuple
 
-from .bench import Bench, Names
+from .bench import Bench
 from .layout import named, short
-from .places import LARGEST, line_and_column
+from .places import LARGEST, Places, line_and_column
 from .rows import Outcome, Token
 
 # (of few words most letters are missing)
 MOST, FEW, MANY = 5, 50, 5000
 # A literal after one of these is put into the text.
 PUTTING = ("<-", "<+", "insert", "attach", "=", "+=", "=>")
+# What the token after an empty slice says.
+EMPTY = {
+    "among": "[substring] is meant, perhaps", "<-": "it has no character to replace", "delete": "it has no character to delete",
+}
+
+# They signal t, whatever the command after them does.
+SURE = ("do", "try", "repeat")
+# Before those these make something else of it.
+NOT_SURE = ("not", "fail", "for", "and")
 
 
 def lints(bench: Bench, has_all: bool = False) -> List[str]:
-    """Returns lines on the text in force. All has letters beyond ASCII in literals, too, of which other compilers warn; and of many words only
+    """Returns lines on the current text. All has letters beyond ASCII in literals, too, of which other compilers warn; and of many words only
     that looks at each."""
     if len(bench.program.now.text) > LARGEST:
         return ["%s has more than {:,} bytes, and is not looked at".format(LARGEST) % named(bench.script)] if has_all else []
     places, outcomes = bench.places(), bench.outcomes() if has_all or bench.size <= MANY else []
-    names = bench.names() if outcomes else Names({}, {}, {})
     tokens = [token for token in places.tokens if token.kind != "comment"]
-    found = list(empty_slices(tokens)) + (list(strange_strings(bench, names, outcomes, tokens)) if has_all or bench.size >= FEW else [])
+    found = [
+        (left.start, "the slice is empty here: " + EMPTY[after.text]) for left, right, after in zip(tokens, tokens[1:], tokens[2:])
+        if left.text == "[" and right.text == "]" and after.text in EMPTY
+    ]
+    found += sure_alternatives(tokens)
+    found += strange_strings(places, outcomes, tokens) if has_all or bench.size >= FEW else []
     beyond = "%s has a letter beyond ASCII: other compilers ask for a stringdef"
     found += [(token.start, beyond % short(token.text)) for token in tokens if has_all and token.kind == "literal" and not token.text.isascii()]
     shown = ["%s:%d:%d: %s" % (named(bench.script), *line_and_column(places.text, start), what) for start, what in sorted(found)]
     most = len(shown) if has_all else MOST
     more = ['.. and {:,} more: "lint" shows all'.format(len(shown) - most)] if len(shown) > most else []
-    return shown[:most] + more + capitals(names, outcomes)
+    return shown[:most] + more + capitals(places, outcomes)
 
 
-def empty_slices(tokens: Sequence[Token]) -> Iterable[Tuple[int, str]]:
-    for left, right, after in zip(tokens, tokens[1:], tokens[2:]):
-        if left.text == "[" and right.text == "]" and after.text in ("<-", "delete", "among"):
-            what = {"among": "[substring] is meant, perhaps", "<-": "it has no character to replace"}
-            yield left.start, "the slice is empty here: " + what.get(after.text, "it has no character to delete")
+def sure_alternatives(tokens: Sequence[Token]) -> Iterable[Tuple[int, str]]:
+    """What is after `or` never runs if `do X` is before it. X is a name, a literal or a bracket."""
+    for at, token in enumerate(tokens[:-1]):
+        if token.kind == "word" and token.text in SURE and not (at and tokens[at - 1].text in NOT_SURE):
+            after = end_of(tokens, at + 1)
+            if after and [other.text for other in tokens[after : after + 1]] == ["or"]:
+                what = "{0} never fails, so what is after this or never runs: {0} ( .. or .. ) is meant, perhaps"
+                yield token.start, what.format(token.text)
 
 
-def strange_strings(bench: Bench, names: Names, outcomes: Sequence[Outcome], tokens: Sequence[Token]) -> Iterable[Tuple[int, str]]:
-    """The strings of amongs that have a letter which no word has and no command puts in. (Macros hide what is put in.)"""
-    if not outcomes or not tokens or any(token.kind == "inserts" for token in tokens):
+def end_of(tokens: Sequence[Token], at: int) -> int:
+    """Returns the number of the token after a name, a literal or a bracket; 0 if another command begins there."""
+    if tokens[at].kind in ("name", "literal"):
+        return at + 1
+    depth = 0
+    for i in range(at, len(tokens) if tokens[at].text == "(" else 0):
+        depth += (tokens[i].text == "(") - (tokens[i].text == ")")
+        if not depth:
+            return i + 1
+    return 0
+
+
+def strange_strings(places: Places, outcomes: Sequence[Outcome], tokens: Sequence[Token]) -> Iterable[Tuple[int, str]]:
+    """The strings of amongs that have a letter which no word has and no command puts in. (Macros hide what is put in: if a literal that is put
+    in may have one, no string is looked at.)"""
+    put = [token.text for before, token in zip(tokens, tokens[1:]) if token.kind == "literal" and before.text in PUTTING]
+    signs = set("".join(token.text for token in tokens if token.kind == "inserts"))
+    if not outcomes or any(signs & set(text) for text in put):
         return
-    there: Set[str] = set("".join(row.word + row.stem * (row.kind == "stem") for row in outcomes))
-    for before, token in zip(tokens, tokens[1:]):
-        if token.kind == "literal" and before.text in PUTTING:
-            there |= set(token.text)
-    for (name, k), strings in names.strings.items():
-        for string in strings:
-            strange, row = "".join(sorted(set(string) - there)), bench.places().entries.get((name, k, string))
-            if strange and row:
-                yield int(row.start), "'%s' has %s, which no word has and no command puts in" % (short(string), short(" ".join(strange)))
+    there: Set[str] = set("".join([row.word + row.stem * (row.kind == "stem") for row in outcomes] + put))
+    for (_, _, string), row in places.entries.items():
+        strange = " ".join(sorted(set(string) - there))
+        if strange:
+            yield int(row.start), "'%s' has %s, which no word has and no command puts in" % (short(string), short(strange))
 
 
-def capitals(names: Names, outcomes: Sequence[Outcome]) -> List[str]:
-    words = [row.word for row in outcomes if row.word != row.word.lower()]
-    strings = [string for part in names.strings.values() for string in part]
+def capitals(places: Places, outcomes: Sequence[Outcome]) -> List[str]:
+    words, strings = [row.word for row in outcomes if row.word != row.word.lower()], [string for _, _, string in places.entries]
     if not words or not strings or any(string != string.lower() for string in strings):
         return []
-    return ["{:,} of {:,} words {} capitals, as '{}', and no string of an among has one".format(len(words), len(outcomes), "has" if len(words) == 1 else "have", short(words[0]))]
+    many = "{:,} of {:,} words {}".format(len(words), len(outcomes), "has" if len(words) == 1 else "have")
+    return ["%s capitals, as '%s', and no string of an among has one" % (many, short(words[0]))]

@@ -1,8 +1,12 @@
 """What goes round in a run that was refused for its steps or its depth, by its events."""
 from typing import Any, List, NamedTuple, Optional, Sequence, Tuple
 
-# The longest turn that is looked for, in events.
-LONGEST = 400
+from .bench import Bench
+from .layout import in_words
+from .words import in_quotes
+
+# The longest turn that is looked for, in events. So many turns, one like another, are a loop.
+LONGEST, SURE = 400, 100
 
 
 class Turn(NamedTuple):
@@ -21,32 +25,21 @@ def turn_of(events: Sequence[Any]) -> Optional[Turn]:
         return None
     more = sum(int(row.count) for row in events if row.kind == "more")
     rows = [row for row in events[:-1] if row.kind != "more"]
-    return of_depth(rows) if events[-1].name == "Depth" else of_steps(rows, more)
-
-
-def of_depth(rows: Sequence[Any]) -> Optional[Turn]:
     calls = open_calls(rows)
-    length = period(calls, 2)
-    if not length:
-        return Turn((calls[-1],), True, (), 0) if calls else None
-    return Turn(tuple(dict.fromkeys(calls[-length:])), True, (), repeats(calls, length))
-
-
-def of_steps(rows: Sequence[Any], more: int) -> Optional[Turn]:
-    keys = [(row.kind, row.depth, row.name, getattr(row, "k", "")) for row in rows]
-    length = period(keys, 3)
+    if events[-1].name == "Depth":
+        length, count = period(calls, 2)
+        return Turn(tuple(dict.fromkeys(calls[-(length or 1) :])), True, (), count) if calls else None
+    length, count = period([(row.kind, row.depth, row.name, getattr(row, "k", "")) for row in rows], 3)
     if not length:
         # (nothing of the turn has an event)
-        calls = open_calls(rows)
         return Turn((calls[-1],), False, (), 0) if calls and not more else None
     part = rows[-length:]
     # (a call, and the end of one, are commands of the routine that is one level higher)
     depth = min(int(row.depth) - (row.kind in ("call", "return")) for row in part)
-    named = [row.name for row in part if int(row.depth) == depth and row.kind not in ("call", "return")]
-    name = named[0] if named else ([*open_calls(rows), ""][depth] if depth >= 0 else "")
+    names = [row.name for row in part if int(row.depth) == depth and row.kind not in ("call", "return")]
     does = ["calls " + row.name for row in part if row.kind == "call" and int(row.depth) == depth + 1]
     does += ["searches among " + row.k for row in part if row.kind == "search" and int(row.depth) == depth]
-    return Turn((name,), False, tuple(dict.fromkeys(does)), repeats(keys, length) + more // length)
+    return Turn(((names or [*calls, ""][depth:])[0],), False, tuple(dict.fromkeys(does)), count + more // length)
 
 
 def open_calls(rows: Sequence[Any]) -> List[str]:
@@ -60,17 +53,32 @@ def open_calls(rows: Sequence[Any]) -> List[str]:
     return calls
 
 
-def period(keys: Sequence[Any], times: int) -> int:
-    """Returns the least length such that the last so many keys were there so many times, one after another; 0 if there is none."""
+def period(keys: Sequence[Any], times: int) -> Tuple[int, int]:
+    """Returns how many keys at the end were there so many times, at least, one after another, and how often; zeros if none were."""
     for length in range(1, min(LONGEST, len(keys) // times) + 1):
-        if keys[-1] == keys[-1 - length] and all(keys[-length:] == keys[-(i + 1) * length : -i * length] for i in range(1, times)):
-            return length
-    return 0
+        same = next((i for i in range(len(keys) - length) if keys[-1 - i] != keys[-1 - i - length]), len(keys) - length)
+        if same // length + 1 >= times:
+            return length, same // length + 1
+    return 0, 0
 
 
-def repeats(keys: Sequence[Any], length: int) -> int:
-    """Returns how often the last keys, so many, come one after another at the end."""
-    same = 0
-    while same + length < len(keys) and keys[-1 - same] == keys[-1 - same - length]:
-        same += 1
-    return same // length + 1
+def turning(word: str, events: Sequence[Any], bench: Bench) -> str:
+    """Returns the sentence on what goes round in the run of a word; nothing if that is not known."""
+    turn = turn_of(events)
+    if turn is None or not turn.names[0]:
+        return ""
+    name, places = turn.names[0], bench.places()
+    if turn.is_call:
+        at, deep = places.of(name), ", {:,} deep".format(turn.count) if turn.count > 1 else ""
+        who = "%s calls itself" % name if len(turn.names) == 1 else "%s call each other" % in_words(turn.names, "and")
+        return "In the run of %s %s%s%s." % (in_quotes(word), who, " (%s)" % at if at else "", deep)
+    spots = ["the %s of %s" % spot for spot in places.turning(name)[:4]]
+    if turn.count < SURE:
+        may_be = " It may be %s." % in_words(spots, "or") if spots else ""
+        limit = int(bench.program.now.limit)
+        return "The run of {} ends in {}, which goes round, or it needs more than {:,} steps.{}".format(in_quotes(word), name, limit, may_be)
+    does = ": it %s again and again, %s" % (in_words(turn.does, "and", 3), "{:,} times and more".format(turn.count)) if turn.does else ""
+    if len(spots) == 1:
+        note = "," if places.note else ""
+        return "In the run of %s %s%s in %s goes round%s." % (in_quotes(word), spots[0], note, name, does)
+    return "In the run of %s %s goes round%s.%s" % (in_quotes(word), name, does, " It is %s." % in_words(spots, "or") if spots else "")

@@ -1,10 +1,11 @@
 """The command line of `work` at a terminal."""
 import os
 import re
-from typing import List, NamedTuple, Optional, Sequence
+from typing import Dict, List, NamedTuple, Optional, Sequence
 
 HAS = "It has --watch, --rows, --text, --color WHEN, --no-pager, --external NAME and --from TEXT"
-WHEN = ("auto", "always", "never")
+FLAGS, VALUES = ("--watch", "--no-pager", "--rows", "--text"), ("--program", "--color", "--external", "--from")
+COMMANDS_COME = "Its standard input has the commands"
 
 
 class Misuse(Exception):
@@ -31,35 +32,35 @@ def usual_program() -> str:
 
 def options_of(given: Sequence[str]) -> Options:
     """Returns the options of a command line, or raises Misuse."""
-    left, files, found, passed = list(given), [], {}, []  # type: List[str], List[str], dict, List[str]
+    left, files, found = list(given), [], {}  # type: List[str], List[str], Dict[str, str]
     while left:
         word = left.pop(0)
         name, is_joined, value = word.partition("=")
         if word == "--":
             files, left = files + left, []
-        elif name in ("--program", "--color", "--external", "--from"):
-            if not is_joined and not left:
-                raise Misuse("%s needs a word after it" % name)
+        elif name in VALUES and not is_joined and not left:
+            raise Misuse("%s needs a word after it" % name)
+        elif name in VALUES:
             found[name] = value if is_joined else left.pop(0)
-        elif word in ("--watch", "--no-pager", "--rows", "--text"):
-            found[word] = "yes"
-            passed += [word] if word in ("--rows", "--text") else []
+        elif word in FLAGS:
+            found[word] = ""
         elif word.startswith("-") and word != "-":
             raise Misuse("work has no option %s. %s" % (word, HAS))
         else:
             files.append(word)
-    external, color = found.get("--external", ""), found.get("--color", "auto")
-    if "--external" in found and not re.fullmatch(r"[A-Za-z][A-Za-z0-9_]*", external):
-        raise Misuse("--external takes the name of an external, and %s is not a name" % external)
-    if color not in WHEN:
-        raise Misuse("--color takes auto, always or never, and not %s" % color)
-    if not files:
-        raise Misuse("work needs a script")
-    if len(files) > 2:
-        raise Misuse("work takes a script and a list of words, and no third file: %s" % files[2])
-    if "-" in files and not os.path.exists("-"):
-        raise Misuse("work reads a script and words from files, and there is no file -. Its standard input has the commands")
+    external, color = found.get("--external", "stem"), found.get("--color", "auto")
+    for is_wrong, why in (
+        (not re.fullmatch(r"[A-Za-z][A-Za-z0-9_]*", external), "--external takes the name of an external, and %s is not a name" % external),
+        (color not in ("auto", "always", "never"), "--color takes auto, always or never, and not %s" % color),
+        (not files, "work needs a script"),
+        (len(files) > 2, "work takes a script and a list of words, and no third file: %s" % "".join(files[2:3])),
+        ("-" in files and not os.path.exists("-"), "work reads a script and words from files, and there is no file -. " + COMMANDS_COME),
+    ):
+        if is_wrong:
+            raise Misuse(why)
+    passed = [word for word in ("--rows", "--text") if word in found]
     passed += [part for key in ("--external", "--from") if key in found for part in (key, found[key])]
-    words = files[1] if len(files) > 1 else None
-    program, has = found.get("--program") or usual_program(), [name in found for name in ("--watch", "--no-pager", "--rows")]
-    return Options(program, files[0], words, has[0], not has[1], color, has[2], passed)
+    return Options(
+        found.get("--program") or usual_program(), files[0], "".join(files[1:]) or None,
+        "--watch" in found, "--no-pager" not in found, color, "--rows" in found, passed
+    )

@@ -27,16 +27,23 @@ class Places:
         self.definitions: Dict[str, Any] = {row.name: row for row in rows if row.kind in ("routine", "grouping")}
         self.amongs: Dict[Tuple[str, str], Any] = {(row.name, row.k): row for row in rows if row.kind == "among"}
         self.entries: Dict[Tuple[str, str, str], Any] = {(row.name, row.k, row.string): row for row in rows if row.kind == "entry"}
-        self.tests: Dict[Tuple[str, str], Any] = {(row.name, row.n): row for row in rows if row.kind == "test"}
         self.names: List[Any] = [row for row in rows if row.kind == "name"]
 
-    def of(self, name: str, row: Any = None) -> str:
-        """Returns the place of a row of a definition, or of the definition itself; nothing if it is not known."""
-        home = self.definitions.get(name)
-        row = row or home
-        if home is None or row is None:
-            return ""
-        return self.at(name, int(row.start))
+    def of_kind(self, *kinds: str) -> List[str]:
+        return [name for name, row in self.definitions.items() if row.kind in kinds]
+
+    def kind(self, name: str) -> str:
+        """Returns whether a name is defined as a routine or a grouping; nothing if it is not defined."""
+        return self.definitions[name].kind if name in self.definitions else ""
+
+    def count(self, name: str) -> int:
+        """Returns how many amongs a definition has."""
+        return sum(name == other for other, _ in self.amongs)
+
+    def of(self, name: str, k: str = "", string: Optional[str] = None) -> str:
+        """Returns the place of a definition, of an among in it, or of a string of that; nothing if it is not known."""
+        row = self.definitions.get(name) if not k else self.amongs.get((name, k)) if string is None else self.entries.get((name, k, string))
+        return self.at(name, int(row.start)) if row else ""
 
     def at(self, name: str, start: int) -> str:
         """Returns the place of a byte of the text in force that is in the definition of a name."""
@@ -64,8 +71,9 @@ class Places:
             return []
         start = self.text.rfind(b"\n", 0, int(home.start)) + 1
         indent, end = self.text[start : int(home.start)] if not self.text[start : int(home.start)].strip() else b"", int(home.end)
-        comments = [token.end for token in self.tokens if token.kind == "comment" and token.start > end and not self.text[end : token.start].strip(b" \t")]
-        end = comments[0] if comments else end
+        comments = [token for token in self.tokens if token.kind == "comment" and token.start > end]
+        if comments and not self.text[end : comments[0].start].strip(b" \t"):
+            end = comments[0].end
         return (indent + self.text[int(home.start) : end]).decode("utf-8", "surrogateescape").replace("\r\n", "\n").split("\n")
 
     def slice(self, row: Any) -> str:

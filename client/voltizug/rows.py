@@ -1,7 +1,7 @@
 """The rows of replies as named tuples, by the tables of docs/REFERENCE.md."""
 import csv
 from collections import namedtuple
-from typing import Any, Dict, Iterable, List, NamedTuple, Sequence, Tuple
+from typing import Any, Callable, Dict, Iterable, List, NamedTuple, Tuple
 
 PLACE = " start end line column"
 # By report the kinds of its rows with their fields; one that begins with a star takes all that is left.
@@ -35,22 +35,9 @@ KINDS = {
 csv.field_size_limit(1 << 30)
 
 
-class Outcome(NamedTuple):
-    word: str
-    kind: str
-    stem: str
-
-
-class Class(NamedTuple):
-    stem: str
-    words: Tuple[str, ...]
-
-
-class Token(NamedTuple):
-    kind: str
-    start: int
-    end: int
-    text: str
+Outcome = NamedTuple("Outcome", [("word", str), ("kind", str), ("stem", str)])
+Class = NamedTuple("Class", [("stem", str), ("words", Tuple[str, ...])])
+Token = NamedTuple("Token", [("kind", str), ("start", int), ("end", int), ("text", str)])
 
 
 def rows_of(lines: Iterable[str]) -> List[List[str]]:
@@ -60,13 +47,13 @@ def rows_of(lines: Iterable[str]) -> List[List[str]]:
 
 def read(report: str, lines: Iterable[str]) -> List[Any]:
     """Returns the rows of a report as tuples with the fields of its table. A row of a kind that is not in the table is left out."""
-    table, kinds = TABLE[report], KINDS[report]
-    return [made(kinds[row[0]], row, "*" in table[row[0]]) for row in rows_of(lines) if row and row[0] in kinds]
+    make = {kind: with_tail(row) if "*" in TABLE[report][kind] else row._make for kind, row in KINDS[report].items()}
+    return [make[row[0]](row) for row in rows_of(lines) if row and row[0] in make]
 
 
-def made(kind: Any, row: Sequence[str], has_tail: bool) -> Any:
-    size = len(kind._fields)
-    return kind(*row[: size - 1], tuple(row[size - 1 :])) if has_tail else kind(*row[:size])
+def with_tail(kind: Any) -> Callable[[List[str]], Any]:
+    last = len(kind._fields) - 1
+    return lambda row: kind(*row[:last], tuple(row[last:]))
 
 
 def outcomes(lines: Iterable[str]) -> List[Outcome]:

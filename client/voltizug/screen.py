@@ -7,10 +7,15 @@ import sys
 from typing import List, Sequence
 
 from . import layout
-from .keys import Editor, Hangup
+from .keys import Broken, Editor, Hangup
 
 # A terminal that does not tell its size, and the least that is taken as one.
-USUAL, LEAST = os.terminal_size((80, 24)), os.terminal_size((12, 4))
+USUAL, LEAST = (80, 24), (12, 4)
+# How many lines are written before it is looked whether Ctrl-C came.
+PART = 200
+
+# How less is run if its own variables say nothing else: it says how one goes on and back, and writes no file for a command that is typed there.
+LESS = {"LESS": "FRXPs?ethe end, q goes back:space shows more, q goes back.$", "LESSSECURE": "1"}
 
 
 def has_colour(wish: str) -> bool:
@@ -26,32 +31,32 @@ class Screen:
 
     def size(self) -> os.terminal_size:
         try:
-            size = os.get_terminal_size(1)
+            size = tuple(os.get_terminal_size(1))
         except OSError:
-            return USUAL
-        return os.terminal_size((
-            size.columns if size.columns >= LEAST.columns else USUAL.columns, size.lines if size.lines >= LEAST.lines else USUAL.lines
-        ))
+            size = USUAL
+        return os.terminal_size(there if there >= least else usual for there, least, usual in zip(size, LEAST, USUAL))
 
     def broken(self, lines: Sequence[str]) -> List[str]:
         width = self.size().columns
-        return [part for line in lines for part in layout.broken(layout.named(line), width)]
+        # (a command that is to be copied is not broken: the terminal does that)
+        return [part for line in lines for part in (layout.broken(layout.named(line), width) if " > NEW" not in line else [layout.named(line)])]
 
     def write(self, lines: Sequence[str], is_report: bool = False, is_text: bool = False) -> None:
-        """Writes lines; those of a text are an author's, and are not broken. A report may go to the pager. Ctrl-C ends it."""
+        """Writes lines; those of a text are an author's, and are not broken. A report may go to the pager; if Ctrl-C ends it, that is said."""
         shown = list(map(layout.named, lines)) if is_text else self.broken(lines)
         if is_report and self.has_pager and not self.editor.is_above and len(shown) >= self.size().lines and self.page(shown):
             return
         if self.has_colour and not is_text:
             shown = list(map(layout.coloured, shown))
         try:
-            for at in range(0, len(shown), 200):
-                if self.editor.is_interrupted and not self.editor.is_above:
-                    break
-                sys.stdout.write("".join(line + "\n" for line in shown[at : at + 200]))
+            while shown and (self.editor.is_above or not self.editor.is_interrupted):
+                sys.stdout.write("".join(line + "\n" for line in shown[:PART]))
                 sys.stdout.flush()
+                del shown[:PART]
         except OSError:
             raise Hangup from None
+        if shown and is_report:
+            raise Broken
 
     def say(self, *sentences: str) -> None:
         self.write([sentence for sentence in sentences if sentence])
@@ -68,7 +73,7 @@ class Screen:
             return False
         with self.editor.lent():
             try:
-                process = subprocess.Popen(shlex.split(pager), stdin=subprocess.PIPE, env={"LESS": "FRX", **os.environ})
+                process = subprocess.Popen(shlex.split(pager), stdin=subprocess.PIPE, env={**LESS, **os.environ})
             except (OSError, ValueError):
                 return False
             with contextlib.suppress(BrokenPipeError):
@@ -76,13 +81,14 @@ class Screen:
             process.wait()
         return True
 
-    def to_file(self, path: str, lines: Sequence[str]) -> str:
-        """Writes a report to a new file; returns the sentence on it."""
-        try:
-            with open(path, "x", encoding="utf-8", errors="surrogateescape") as file:
-                file.write("".join(line + "\n" for line in lines))
-        except FileExistsError:
-            return "%s is there already, and is not overwritten. Nothing was written: name a new file." % layout.short(path)
-        except OSError as why:
-            return "%s cannot be written: %s." % (layout.short(path), why.strerror)
-        return "%s in %s" % (layout.counted(len(lines), "line"), layout.short(path))
+
+def to_file(path: str, lines: Sequence[str]) -> str:
+    """Writes a report to a new file; returns the sentence on it."""
+    try:
+        with open(path, "x", encoding="utf-8", errors="surrogateescape") as file:
+            file.write("".join(line + "\n" for line in lines))
+    except FileExistsError:
+        return "%s is there already, and is not overwritten. Nothing was written: name a new file." % layout.short(path)
+    except OSError as why:
+        return "%s cannot be written: %s." % (layout.short(path), why.strerror)
+    return "%s in %s" % (layout.counted(len(lines), "line"), layout.short(path))

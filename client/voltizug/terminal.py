@@ -1,154 +1,178 @@
-"""`work` at a terminal: lines are read, commands are answered, and the summary is the last line before the prompt.
-usage: python3 -m voltizug.terminal [--program FILE] [--watch] [--no-pager] [--color WHEN] [--external NAME] SCRIPT [WORDS]
-"""
+"""`work` at a terminal: lines are read, commands are answered, and the summary is the last line before the prompt."""
 import contextlib
 import os
 import re
 import sys
 import traceback
-from typing import List, Optional, Sequence
+from typing import Any, List, Sequence, Tuple
 
-from . import layout, loops, reports, rows, words
+from . import commands, layout, loops, reports, rows, words
 from .bench import Bench
-from .commands import BLOCKS, COMMANDS, OPEN_BLOCKS, REPORTING, WITH_TEXT, overview
-from .conditions.copies import Found, with_tests
-from .desk import Desk
+from .commands import BLOCKS, COMMANDS, LANGUAGE, OPEN_BLOCKS, REPORTING, WITH_TEXT
+from .copies import Found, with_tests
 from .keys import Broken, Dropped, Hangup
 from .kept import Kept, home, read_file
+from .layout import in_words, short
 from .lints import lints
+from .opening import Opening
 from .options import Misuse, options_of
-from .program import DONE, LONGEST
-from .warn import BOM, warnings_on
+from .places import BOM
+from .program import DONE, LONGEST, encoded
+from .screen import to_file
+from .warn import warnings_on
 
 DEFINITION = re.compile(r"\s*define\s+([A-Za-z][A-Za-z0-9_]*)\s+(as(?=\s|$))?")
 TO_FILE = re.compile(r"(.*\S)\s+>\s*(\S+)\s*\Z")
 USAGE = "usage: ./snowbench work [--watch] [--rows | --text] [--color WHEN] [--no-pager] [--external NAME] [--from TEXT] SCRIPT [WORDS]"
+# What the program is asked in the place of a line; what is not broken, since an author wrote it.
+ASKED, TEXTS = {"largest": "largest 10"}, ("script", "show", "echo", "events")
 
 
-class Terminal(Desk):
+class Terminal(Opening):
     """The commands: do_NAME has what follows the command, if it is more than a request."""
+
+    # A command that was doubted, and is done if it is typed again.
+    doubted = ""
 
     def answer(self, line: str) -> bool:
         """Answers a line; returns whether `work` goes on."""
         line = line if line.partition(" ")[0] in WITH_TEXT else line.rstrip() if line.strip() else ""
         line = {"exit": "quit", "?": "help"}.get(line, line)
-        if line.split(" ")[:1] != self.doubted.split(" ")[:1]:
-            self.doubted = ""
         command, _, argument = line.partition(" ")
+        if command in COMMANDS and COMMANDS[command].takes not in ("", "text"):
+            # (TAB writes a blank after the command, and one types another)
+            argument = " ".join(argument.split()) if command == "among" else argument.lstrip()
+            line = command + " " * bool(argument) + argument
+        if command != self.doubted.partition(" ")[0]:
+            self.doubted = ""
         if line == "quit":
             return not self.may_end()
+        if line.startswith("#"):
+            return True
         if self.bench.is_waiting:
             self.answer_waiting(line)
-        elif len(line.encode("utf-8", "surrogateescape")) > LONGEST:
+        elif len(encoded(line)) > LONGEST:
             self.screen.say(words.SENTENCES[72])
         elif line in ("", "reload", "undo", "redo") or command in ("limit", "replace") and argument:
-            if not line or line == "reload":
+            if line in ("", "reload"):
                 self.note_words()
             self.edit([line or "reload"])
-        elif line and not line.startswith("#"):
+        else:
             self.answer_other(line, command, argument)
         return True
 
     def answer_waiting(self, line: str) -> None:
         if line in ("", "reload"):
-            self.opening.begin(self.warned)
-        elif not line.startswith("#"):
-            then = self.then().replace(" there", "")
+            self.open()
+        else:
+            then = " and save it" if self.options.is_watching else ", save it, and press Enter"
             self.screen.say("A file has a fault, so no command runs yet. Correct it there%s. quit or Ctrl-D ends." % then)
 
     def answer_other(self, line: str, command: str, argument: str) -> None:
         block = self.block_of(line)
         if block:
             self.read_block(block)
-        elif command not in COMMANDS or not hasattr(self, "do_" + command):
+        elif not hasattr(self, "do_" + command):
             self.ask(line)
         elif argument and not COMMANDS[command].takes:
             self.screen.say(words.unknown(line, self.bench))
         else:
             getattr(self, "do_" + command)(argument)
 
-    def note_words(self) -> None:
-        if self.bench.words and self.bench.words in self.bench.saved():
-            self.bench.look(self.bench.words)
-            self.screen.say("%s has changed: words reads it again." % layout.short(self.bench.words))
-
     def ask(self, line: str) -> None:
         """Asks for a report, or for what is done without one."""
         found = TO_FILE.match(line) if line.partition(" ")[0] in REPORTING else None
         line, path = (found[1], found[2]) if found else (line, "")
         command, _, argument = line.partition(" ")
-        reply = self.bench.ask({"largest": "largest 10"}.get(line, "changes" if command == "changes" else line))
+        is_piped = " | " in argument or argument.endswith(" >") or argument == ">" and command in COMMANDS and not COMMANDS[command].takes
+        if is_piped and command in REPORTING and command != "uses":
+            self.screen.say("A report goes into a file by > FILE, as in: classes > my.classes. There are no pipes here.")
+            return
+        reply = self.bench.ask({"changes": "changes", "tests": "events " + argument}.get(command, ASKED.get(line, line)))
         if not self.is_done(reply, line):
             return
         self.nonsense = 0
         shown = self.laid_out(command, argument, reply.lines)
         if path:
-            self.screen.say(self.screen.to_file(os.path.expanduser(path), shown))
+            self.screen.say(to_file(os.path.expanduser(path), shown))
         else:
-            self.screen.write(shown, is_report=command in REPORTING, is_text=command in ("script", "show", "echo", "events"))
-        if command in ("add", "remove", "mark"):
-            self.tell_done(command, argument)
-
-    def tell_done(self, command: str, argument: str) -> None:
-        if command == "mark":
-            self.screen.say(layout.figures(self.bench.changes) if argument else "Changes are told since now.")
-        elif command == "add" and argument != argument.strip():
-            word, at = layout.short(argument), "beginning" if argument != argument.lstrip() else "end"
-            self.screen.say('The word that was added is "%s", with a blank at its %s. "remove %s" takes it out.' % (word, at, word))
-        elif command == "add":
-            last = rows.rows_of(self.bench.ask("why " + argument).lines[-1:])[0]
-            self.screen.say("%s is added: %s" % (words.in_quotes(argument, " " in argument), layout.outcome(*last[:2])))
-        else:
-            self.screen.say("%s is removed." % layout.short(argument))
+            self.screen.write(shown, is_report=command in REPORTING, is_text=command in TEXTS)
 
     def laid_out(self, command: str, argument: str, lines: List[str]) -> List[str]:
+        own = getattr(self, "reply_" + command, None)
+        if own:
+            return own(argument, lines)
         if lines == ["ok"]:
             return []
         if not lines and command in reports.EMPTY:
             return [reports.EMPTY[command]]
-        if command == "why":
-            return self.why(argument, lines)
-        if command == "changes":
-            found = [row for row in rows.read("changes", lines) if layout.has(row, argument)]
-            all_of = "no change has %s" % layout.short(argument) if argument and not found else layout.figures(found)
-            return layout.changes(found, self.outcomes(found)) + [all_of]
         if command in reports.PLACED:
             return reports.PLACED[command](lines, self.bench.places())
-        if command == "script":
-            text = self.bench.program.now.text.decode("utf-8", "surrogateescape").removeprefix("\ufeff")
-            return text.replace("\r\n", "\n").rstrip("\n").split("\n")
-        if command == "show":
-            return self.definition(argument, lines)
-        if command == "families" and (read_file(argument) or b"").startswith(BOM):
-            self.screen.say("%s begins with a byte order mark, which is part of its first word." % layout.short(argument))
         return reports.REPORTS[command](lines) if command in reports.REPORTS else lines
 
-    def why(self, word: str, lines: List[str]) -> List[str]:
-        figures = rows.read("integers", self.bench.ask("integers " + word).lines)
-        found = self.with_tests(word, lines, int(figures[0].count))
-        shown, last = reports.why(word, found.events, figures, self.bench.places(), found.tests), found.events[-1]
-        turn = words.turning(word, loops.turn_of(rows.read("events", lines)), self.bench)
-        meaning = "%s: %s" % (last.name, words.REFUSALS[last.name]) if last.kind == "refused" and last.name in words.REFUSALS else ""
-        return shown + ["  " + line for line in (turn, meaning) if line]
+    # Replies that are shown with more than their rows
 
-    def with_tests(self, word: str, lines: Sequence[str], steps: int) -> Found:
-        """Returns the events of the run of a word, from their lines, with its tests."""
-        program, tokens = self.bench.program, self.bench.places().tokens
-        with self.editor.breakable():
-            return with_tests(program.command, program.now.text, tokens, word, rows.read("events", lines), steps)
+    def reply_add(self, word: str, _: Sequence[str]) -> List[str]:
+        if word != word.strip():
+            at = "beginning" if word != word.lstrip() else "end"
+            return ['The word that was added is "%s", with a blank at its %s. "remove %s" takes it out.' % (short(word), at, short(word))]
+        last = rows.rows_of((self.bench.known("why " + word)[0] or ["stem,"])[-1:])[0]
+        return ["%s is added: %s" % (words.in_quotes(word, " " in word), layout.outcome(*last[:2]))]
 
-    def definition(self, name: str, lines: List[str]) -> List[str]:
-        """Returns the lines of a definition as its author wrote it, and before them where it is."""
+    def reply_remove(self, word: str, _: Sequence[str]) -> List[str]:
+        return ["%s is removed." % short(word)]
+
+    def reply_mark(self, path: str, _: Sequence[str]) -> List[str]:
+        return [layout.figures(self.bench.changes) if path else "Changes are told since now."]
+
+    def reply_changes(self, text: str, lines: Sequence[str]) -> List[str]:
+        found = [row for row in rows.read("changes", lines) if layout.has(row, text)]
+        all_of = "no change has %s" % short(text) if text and not found else layout.figures(found)
+        return layout.changes(found, self.outcomes(found)) + [all_of]
+
+    def reply_script(self, *_: object) -> List[str]:
+        return self.bench.program.now.text.removeprefix(BOM).decode("utf-8", "surrogateescape").replace("\r\n", "\n").rstrip("\n").split("\n")
+
+    def reply_show(self, name: str, lines: List[str]) -> List[str]:
+        """The lines of a definition as its author wrote it, and before them where it is."""
         places = self.bench.places()
         shown = places.definition(name) or lines
         if not places.is_typed(name):
-            return [place] + shown if (place := places.of(name)) else shown
-        commands: List[str] = []
-        for row in rows.read("history", self.bench.known("history")[0] or []):
-            if row.kind == "done" and (row.rest[:1] == (name,) or row.command == "script"):
-                commands = [*(commands if row.command == "among" else []), " ".join((row.command, *row.rest))]
-        typed = [command for command in dict.fromkeys(commands) if command != "script"]
-        return ["%snot in %s:" % ("typed at the prompt (%s), " % ", ".join(typed) if typed else "", self.bench.script)] + shown
+            return [place for place in [places.of(name)] if place] + shown
+        typed: List[str] = []
+        for row in self.bench.read("history"):
+            if row.kind == "done" and row.rest[:1] == (name,):
+                typed = [*(typed if row.command == "among" else []), " ".join((row.command, *row.rest))]
+            elif row.kind == "done" and row.command == "script":
+                typed = []
+        by = "typed at the prompt (%s), " % ", ".join(dict.fromkeys(typed)) if typed else ""
+        return ["%snot in %s:" % (by, self.bench.script)] + shown
+
+    def reply_families(self, path: str, lines: Sequence[str]) -> List[str]:
+        mark = ["%s begins with a byte order mark, which is part of its first word." % short(path)] * (read_file(path) or b"").startswith(BOM)
+        return mark + reports.families(lines)
+
+    def reply_why(self, word: str, lines: Sequence[str]) -> List[str]:
+        figures, found = self.run_of(word, lines)
+        last, turn = found.events[-1], loops.turning(word, rows.read("events", lines), self.bench)
+        meaning = "%s: %s" % (last.name, words.REFUSALS[last.name]) if last.kind == "refused" and last.name in words.REFUSALS else ""
+        shown = reports.why(word, found.events, figures, self.bench.places(), found.tests)
+        return shown + ["  " + line for line in (turn, meaning, words.misspelt(word, self.bench)) if line]
+
+    def reply_tests(self, word: str, lines: Sequence[str]) -> List[str]:
+        _, found = self.run_of(word, lines)
+        unknown = ["The tests of this run cannot be shown: it is too long, or near a limit."]
+        return reports.tests(found, self.bench.places()) if found.is_known else unknown
+
+    def run_of(self, word: str, lines: Sequence[str]) -> Tuple[List[Any], Found]:
+        """Returns the figures of the run of a word, and its events, from their lines, with its tests."""
+        figures, places = self.bench.read("integers " + word), self.bench.places()
+        # (the program is not asked meanwhile)
+        self.editor.is_breakable = True
+        try:
+            return figures, with_tests(self.bench.program, places, word, rows.read("events", lines), figures)
+        finally:
+            self.editor.is_breakable = False
 
     # Commands that are more than a request
 
@@ -159,87 +183,70 @@ class Terminal(Desk):
         elif name:
             self.screen.say(words.unknown(name, self.bench))
         else:
-            self.screen.write(overview())
+            self.screen.write(commands.overview())
 
     def do_limit(self, _: str) -> None:
         self.screen.say("Each run may use {:,} steps. limit N sets another number.".format(int(self.bench.program.now.limit)))
 
+    def do_lint(self, _: str) -> None:
+        found = [*warnings_on(self.bench.script, self.bench.words), *lints(self.bench, has_all=True)]
+        self.screen.write(found or ["nothing was found"], is_report=True)
+
     def do_add(self, text: str) -> None:
         parts = text.split()
         if len(parts) > 1 and not self.editor.pending:
-            names = layout.in_words(parts, "and", 6)
-            prompt = 'Add %d words (%s)? y adds them, "one" adds one word with blanks in it, Enter adds nothing: ' % (len(parts), names)
-            reply = (self.editor.read(layout.named(prompt)) or "").strip().lower()
-            if reply in ("y", "yes"):
-                for part in parts:
-                    self.ask("add " + part)
+            prompt = 'Add %d words (%s)? y adds them, "one" adds one word with blanks in it, Enter adds nothing: '
+            reply = (self.editor.read(layout.named(prompt % (len(parts), in_words(parts, "and", 6)))) or "").strip().lower()
+            for part in parts if reply in ("y", "yes") else []:
+                self.ask("add " + part)
             if reply != "one":
+                self.screen.say("" if reply in ("", "y", "yes") else "Nothing was added: %s is no answer to this." % words.in_quotes(reply, True))
                 return
         self.ask("add " + text)
 
-    def do_lint(self, _: str) -> None:
-        self.screen.say("" if self.bench.program.rows else "The program does not tell tokens and places yet: only words are looked at.")
-        self.screen.write(lints(self.bench, has_all=True) or ["nothing was found"], is_report=True)
-
     def do_save(self, path: str) -> None:
-        path = path.strip()
-        if self.may_write("save", path):
-            comments = self.comments(path)
-            reply = self.bench.save(path)
-            if reply.state != DONE and read_file(path) == self.bench.program.now.text:
-                self.screen.say("%s has the script now." % layout.short(path))
-            elif self.is_done(reply, "save " + path):
-                self.screen.say("saved in %s" % layout.short(path), self.lost(comments, path))
-
-    def comments(self, path: str) -> Optional[int]:
-        """Returns how many comments a script has, if the program tells tokens."""
-        lines = self.bench.known("tokens " + path)[0] if self.bench.program.rows and os.path.isfile(path) else None
-        return None if lines is None else sum(token.kind == "comment" for token in rows.tokens(lines))
-
-    def lost(self, before: Optional[int], path: str) -> str:
-        now = self.comments(path)
-        count = before - now if before is not None and now is not None else 0
-        what = "1 comment of the parts that you typed is" if count == 1 else "{:,} comments of the parts that you typed are".format(count)
-        return "%s no longer in %s." % (what, layout.short(path)) if count > 0 else ""
+        self.write("save", path.strip())
 
     def do_approve(self, path: str) -> None:
-        path = path.strip()
-        if self.may_write("approve", path):
-            if self.is_done(self.bench.approve(path), "approve " + path):
-                self.screen.say("The stems are in %s." % layout.short(path))
+        self.write("approve", path.strip())
 
-    def may_write(self, command: str, path: str) -> bool:
-        """Whether a command may write to a file; otherwise says why not. What is only doubtful is done if it is typed again."""
-        why, line = self.bench.may_write(command, path) if path else "", "%s %s" % (command, path)
-        if not why or why.endswith("?") and self.doubted == line:
-            return True
-        self.doubted = line
-        self.screen.say(words.may_not(why, command, path, "" if self.options.is_watching else " and press Enter"))
-        return False
+    def write(self, command: str, path: str) -> None:
+        """Has the script or the stems written to a file. What is only doubtful is done if it is typed again."""
+        line = "%s %s" % (command, path)
+        why = self.bench.may_write(command, path) if path else ""
+        if why and not (why.endswith("?") and self.doubted == line):
+            self.doubted = line
+            self.screen.say(words.may_not(why, command, path, "" if self.options.is_watching else " and press Enter"))
+            return
+        before, reply = self.comments(path), self.bench.write(command, path)
+        if command == "save" and reply.state != DONE and read_file(path) == self.bench.program.now.text:
+            self.screen.say("%s has the script now." % short(path))
+        elif self.is_done(reply, line):
+            lost = before - self.comments(path) if command == "save" else 0
+            self.screen.say(("saved in %s" if command == "save" else "The stems are in %s.") % short(path))
+            # (of the parts that were typed, or of a change of SCRIPT that undo took back)
+            self.screen.say("%s no longer in %s." % (layout.counted(lost, "comment is", "comments are"), short(path)) if lost > 0 else "")
+
+    def comments(self, path: str) -> int:
+        """Returns how many comments a script has."""
+        lines = self.bench.known("tokens " + path)[0] if os.path.isfile(path) else None
+        return sum(token.kind == "comment" for token in rows.tokens(lines or []))
 
     def do_append(self, path: str) -> None:
         path = path.strip() or self.bench.words or ""
         before = (read_file(path) or b"").count(b"\n")
         if self.is_done(self.bench.ask("append " + path if path != self.bench.words else "append"), "append " + path):
             count = (read_file(path) or b"").count(b"\n") - before
-            self.screen.say("%s now at the end of %s." % (layout.counted(count, "word is", "words are"), layout.short(path)))
+            self.screen.say("%s now at the end of %s." % (layout.counted(count, "word is", "words are"), short(path)))
 
     def do_words(self, _: str) -> None:
         added = self.bench.added
-        if not self.is_done(self.bench.ask("words"), "words"):
-            return
-        self.bench.added, now = [], {row.word for row in self.bench.outcomes()}
-        gone = [word for word in added if word not in now]
-        them = "it" if len(gone) == 1 else "them"
-        self.screen.say("{:,} words".format(len(now)), "Gone, since the file lacks %s: %s." % (them, layout.in_words(gone, "and", 5)) if gone else "")
-
-    def do_tests(self, word: str) -> None:
-        reply = self.bench.ask("events " + word)
-        if self.is_done(reply, "tests " + word):
-            figures = rows.read("integers", self.bench.ask("integers " + word).lines)
-            found = self.with_tests(word, reply.lines, int(figures[0].count))
-            lines = reports.tests(found, self.bench.places()) if found.is_known else ["The tests of this run cannot be shown: it is too long, or near a limit."]
-            self.screen.write(lines, is_report=True)
+        if self.is_done(self.bench.ask("words"), "words"):
+            self.warn(self.bench.words)
+            now = {row.word for row in self.bench.outcomes()}
+            gone = [word for word in added if word not in now]
+            them = "it" if len(gone) == 1 else "them"
+            self.screen.say("{:,} words".format(len(now)), "Gone, since the file lacks %s: %s." % (them, in_words(gone, "and", 5)) if gone else "")
 
     def do_rescue(self, what: str) -> None:
         left = self.bench.kept.left()
@@ -249,21 +256,27 @@ class Terminal(Desk):
             self.screen.say("They are forgotten.")
         elif not left:
             self.screen.say("No typed edits were left behind.")
-        else:
-            lines = (read_file(left[-1].path) or b"").decode("utf-8", "surrogateescape").removesuffix("\n").split("\n")
-            if self.edit(["replace " + left[-1].path] if self.bench.program.rows else ["replace", *lines, "."]):
-                self.bench.kept.forget(left[-1].room)
+        elif self.add_again(left[-1].words) and (not left[-1].path or self.edit(["replace " + left[-1].path])):
+            self.bench.kept.forget(left[-1].room)
+
+    def add_again(self, added: Sequence[str]) -> bool:
+        """Adds words that were left behind; those that are there now are left out."""
+        for word in added:
+            reply = self.bench.ask("add " + word)
+            if reply.is_done:
+                self.screen.write(self.reply_add(word, []))
+            elif not self.settle(reply):
+                return False
+        return True
 
     # Blocks
 
-    def block_of(self, line: str) -> Optional[List[str]]:
-        """Returns the lines with which a block begins, or nothing if this line begins none."""
+    def block_of(self, line: str) -> List[str]:
+        """Returns the lines with which a block begins; none if this line begins none."""
         if line.partition(" ")[0] in BLOCKS or line in OPEN_BLOCKS:
             return [line]
         definition = DEFINITION.match(line)
-        if not definition:
-            return None
-        return ["%s %s" % ("routine" if definition[2] else "grouping", definition[1]), line]
+        return ["%s %s" % ("routine" if definition[2] else "grouping", definition[1]), line] if definition else []
 
     def read_block(self, block: List[str]) -> None:
         wrong = words.early(block[0], self.bench)
@@ -286,9 +299,9 @@ class Terminal(Desk):
         if not is_whole:
             self.screen.say("Nothing was done: the block has no line with only a point at its end.")
         elif block[0] == "families":
-            reply = self.bench.block(block)
-            if self.settle(reply):
-                self.screen.write(reports.families(reply.lines) if reply.is_done else [words.sentence(reply, block, self.bench)], is_report=True)
+            reply = self.bench.settled(self.bench.program.ask([*block, "."]))
+            if self.is_done(reply, "families"):
+                self.screen.write(reports.families(reply.lines), is_report=True)
         elif not self.edit([*block, "."]):
             self.keep_lines([*block, "."])
 
@@ -298,9 +311,16 @@ class Terminal(Desk):
             line = self.editor.read("| ")
             if line is None or line.strip() == ".":
                 return line is not None
-            if line.strip() in ("quit", "exit", "help", "?"):
+            if self.is_command(line, block[0]):
                 self.screen.say("This line is a part of the block. A line with a single point ends the block, Ctrl-C drops it.")
             block.append(line)
+
+    def is_command(self, line: str, block: str) -> bool:
+        """Whether a line of a block is meant as a command, by its first word. (A family may have any word.)"""
+        word = line.split()[0] if line.strip() else ""
+        if line.strip() in ("quit", "exit", "help", "?"):
+            return True
+        return block != "families" and word in COMMANDS and word not in LANGUAGE and not self.bench.places().kind(word)
 
     def keep_lines(self, block: Sequence[str]) -> None:
         for line in block[1:]:
@@ -313,32 +333,25 @@ class Terminal(Desk):
         bench = self.bench
         if self.doubted == "quit" or bench.is_waiting:
             return True
-        doubts, aside = [], bench.put_aside()
+        doubts, aside = [], in_words(bench.put_aside() or [""], "and", 5)
         if bench.is_unsaved(bench.program.now.text):
             doubts.append("The edits that you typed are in no file: save FILE keeps them, quit again drops them.")
         elif aside:
-            names = layout.in_words(aside, "and", 5)
-            doubts.append("A reload has put aside what you typed (%s), and no file has it: undo goes back to it, quit again drops it." % names)
+            doubts.append("A reload has put aside what you typed (%s), and no file has it: undo goes back to it, quit again drops it." % aside)
         there = set((read_file(bench.words) or b"").decode("utf-8", "surrogateescape").splitlines()) if bench.added else set()
         added = [word for word in bench.added if word not in there]
         if added:
-            names, (what, it) = layout.in_words(added, "and", 5), ("word that you added is", "it") if len(added) == 1 else ("words that you added are", "them")
-            to = "append puts %s into %s" % (it, layout.short(bench.words)) if bench.words else "append FILE writes %s" % it
-            doubts.append("The %s in no file (%s): %s, quit again drops %s." % (what, names, to, it))
+            what, it = ("word that you added is", "it") if len(added) == 1 else ("words that you added are", "them")
+            to = "append puts %s into %s" % (it, short(bench.words)) if bench.words else "append FILE writes %s" % it
+            doubts.append("The %s in no file (%s): %s, quit again drops %s." % (what, in_words(added, "and", 5), to, it))
         self.doubted = "quit" if doubts else ""
         self.screen.say(*doubts)
         return not doubts
 
-    def keep_trace(self) -> None:
-        path = os.path.join(self.bench.kept.folder, "fault")
-        with contextlib.suppress(OSError), open(path, "w", encoding="utf-8") as file:
-            traceback.print_exc(file=file)
-        self.screen.say("This client has a fault: what it was doing is in %s. The script in force and your edits are as they were." % path)
-
     def turn(self) -> bool:
         """Reads what was saved and answers a line; returns whether `work` goes on. A fault of this client ends no work."""
         try:
-            if self.watch and not self.editor.is_interrupted and self.bench.saved():
+            if self.options.is_watching and not self.editor.is_interrupted and self.bench.saved():
                 self.show_saved()
             line = self.editor.read("> ")
             if line is None:
@@ -353,7 +366,10 @@ class Terminal(Desk):
             self.screen.say("It was broken off.")
             return True
         except Exception:
-            self.keep_trace()
+            path = os.path.join(self.bench.kept.folder, "fault")
+            with contextlib.suppress(OSError), open(path, "w", encoding="utf-8") as file:
+                traceback.print_exc(file=file)
+            self.screen.say("This client has a fault: what it was doing is in %s. The script in force and your edits are as they were." % path)
             return True
 
     def run(self) -> int:
@@ -362,9 +378,7 @@ class Terminal(Desk):
         is_gone = True
         try:
             self.editor.begin()
-            if self.opening.begin(self.warned):
-                if self.watch:
-                    self.watch.start()
+            if self.open():
                 while self.turn():
                     pass
             is_gone = False
@@ -372,11 +386,9 @@ class Terminal(Desk):
             pass
         finally:
             self.editor.end()
-            if self.watch:
-                self.watch.stopping.set()
             # (the room keeps typed edits that no file has if nobody chose to drop them)
             self.bench.close(is_kept=is_gone)
-        return 1 if is_gone else self.opening.status
+        return 1 if is_gone else self.status
 
 
 def main(given: Sequence[str]) -> int:
@@ -393,10 +405,5 @@ def main(given: Sequence[str]) -> int:
     if "--from" in options.passed:
         print("snowbench: --from is for programs: at a terminal it needs --rows", file=sys.stderr)
         return 2
-    kept = Kept(home(), options.script)
     command = [options.program, "work", "--text", *(word for word in options.passed if word != "--text")]
-    return Terminal(Bench(command, options.script, options.words, kept), options).run()
-
-
-if __name__ == "__main__":
-    sys.exit(main(sys.argv[1:]))
+    return Terminal(Bench(command, options.script, options.words, Kept(home(), options.script)), options).run()

@@ -1,117 +1,88 @@
-"""Warnings about the files of `work`: at most one line for each kind of thing that the author may not have meant.
-usage: python3 -m voltizug.warn SCRIPT [WORDS]
-"""
+"""Warnings about the files of `work`: at most one line for each kind of thing that the author may not have meant."""
 import re
-import sys
 import unicodedata
-from typing import Callable, List, Optional, Sequence
+from typing import Any, Callable, List, Optional, Sequence, Tuple
 
 from .kept import read_file
 from .layout import named
+from .places import BOM
+from .program import LONGEST
 from .words import converting, in_shell
 
-# A line may have so many bytes in an input; a file of work is read as a whole.
-LONGEST_LINE = 65536
-BOM, GZIP, UTF16 = b"\xef\xbb\xbf", b"\x1f\x8b", (b"\xff\xfe", b"\xfe\xff")
+
+def is_decomposed(text: str) -> bool:
+    return not text.isascii() and len(unicodedata.normalize("NFC", text)) < len(text)
 
 
-def is_not_utf8(line: str) -> bool:
-    return any("\udc80" <= character <= "\udcff" for character in line)
+def is_overlong(text: str) -> bool:
+    return len(text.encode("utf-8", "surrogateescape")) > LONGEST
 
 
-def is_decomposed(line: str) -> bool:
-    return len(unicodedata.normalize("NFC", line)) < len(line)
+def has(pattern: str) -> Callable[[str], Any]:
+    return re.compile(pattern, re.M).search
 
 
-def is_overlong(line: str) -> bool:
-    return len(line.encode("utf-8", "surrogateescape")) > LONGEST_LINE
+# What a line may have, and what is said of it. {file} is the file's name as a shell has it, {latin1} a command that converts it.
+Kind = Tuple[Callable[[str], Any], str, str]
+NOT_UTF8: Kind = (has("[\udc80-\udcff]"), "not UTF-8", ". If it is Latin-1: {latin1}")
+DECOMPOSED: Kind = (
+    is_decomposed, "a letter and its accent are two characters (NFD)",
+    ", and one character (NFC) does not match them. To compose them: uconv -x any-nfc {file} > NEW",
+)
+LONG_LINE: Kind = (is_overlong, "more than 65,536 bytes", ". run, check, filter and session refuse such a line (72 LineTooLong). Break it")
+LONG_WORD: Kind = (is_overlong, "more than 65,536 bytes, which no line may have", ". Write one word on each line")
+OF_WORDS: Sequence[Kind] = (
+    (
+        has(r"^[^\S\n]|[^\S\n]$"), "a blank at an end of the word, which belongs to it",
+        ". To take them away: sed -i 's/^[ \\t]*//; s/[ \\t]*$//' {file}",
+    ),
+    (lambda text: " " in text.strip(), "a blank inside the word, which belongs to it", ". A line is one word"),
+    (lambda text: "\t" in text.strip(), "a tab inside the word, which belongs to it", ". If this is a table: cut -f1 {file} > NEW"),
+    (has(r"^\.$"), "a single point. In a session it ends the list; here it is a word", ""),
+    (has(r"^.{256}"), "more than 255 characters, which no word may have", ""),
+)
 
 
-class Lines:
-    """The lines of a file, and the warnings on them."""
-
-    def __init__(self, path: str, lines: Sequence[str]):
-        self.name, self.lines, self.said = named(path), lines, []  # type: str, Sequence[str], List[str]
-
-    def warn(self, condition: Callable[[str], bool], what: str, then: str = "", many: str = "lines") -> bool:
-        """Warns of the lines of a kind: of the first one, and how many more there are."""
-        found = [number for number, line in enumerate(self.lines, 1) if condition(line)]
-        more = len(found) - 1
-        if found:
-            others = " (and {:,} more {})".format(more, "line" if more == 1 else many) if more else ""
-            self.said.append("%s:%d: %s%s%s" % (self.name, found[0], what, others, then))
-        return bool(found)
+def on_lines(name: str, path: str, text: str, kind: Kind) -> List[str]:
+    """Returns the warning on the lines of a kind: on the first one, and how many more there are."""
+    condition, what, then = kind
+    found = [number for number, line in enumerate(text.split("\n"), 1) if condition(line)] if condition(text) else []
+    others = " (and {:,} more {})".format(len(found) - 1, "line" if len(found) == 2 else "lines") if len(found) > 1 else ""
+    then = then.format(file=in_shell(path), latin1=converting("latin1", path))
+    return ["%s:%d: %s%s%s" % (name, found[0], what, others, then)] if found else []
 
 
-def on_encoding(file: Lines, path: str, has_mark: bool) -> None:
-    """What both files may have: a byte order mark, other encodings, decomposed letters."""
-    if has_mark:
-        file.said.append(file.name + ":1: a byte order mark, which is left out. To take it away: sed -i '1s/^\\xEF\\xBB\\xBF//' " + in_shell(path))
-    text = "\n".join(file.lines)
-    if is_not_utf8(text):
-        file.warn(is_not_utf8, "not UTF-8", ". If it is Latin-1: " + converting("latin1", path))
-    elif not text.isascii() and is_decomposed(text):
-        then = ", and one character (NFC) does not match them. To compose them: uconv -x any-nfc %s > NEW" % in_shell(path)
-        file.warn(is_decomposed, "a letter and its accent are two characters (NFD)", then)
-
-
-def on_words(file: Lines, path: str) -> None:
-    """What only a list of words may have."""
-    if file.warn(is_overlong, "more than 65,536 bytes, which no line may have", ". Write one word on each line"):
-        return
-    text, quoted = "\n".join(file.lines), in_shell(path)
-    if re.search(r"\bexternals\s*\(", text):
-        file.said.append(file.name + ": this looks like a script, and each of its lines is a word here")
-        return
-    if re.search(r"[^\S\n](?:\n|\Z)|(?:\n|\A)[^\S\n]", text):
-        then = ". To take them away: sed -i 's/^[ \\t]*//; s/[ \\t]*$//' " + quoted
-        file.warn(lambda line: line != line.strip(), "a blank at an end of the word, which belongs to it", then)
-    if re.search(r"\S +\S", text):
-        file.warn(lambda line: " " in line.strip(), "a blank inside the word, which belongs to it", ". A line is one word")
-    if "\t" in text:
-        file.warn(lambda line: "\t" in line.strip(), "a tab inside the word, which belongs to it", ". If this is a table: cut -f1 %s > NEW" % quoted)
-    file.warn(lambda line: line == ".", "a single point. In a session it ends the list; here it is a word")
-    file.warn(lambda line: len(line) > 255, "more than 255 characters, which no word may have")
-    if not any(file.lines):
-        file.said.append(file.name + ": no words. Write one word on each line; add WORD adds one")
-
-
-def on_whole(path: str, data: bytes) -> Optional[str]:
+def on_whole(path: str, data: bytes) -> str:
     """Returns the warning on a file that has no lines of UTF-8 at all."""
     name, quoted = named(path), in_shell(path)
-    if data.startswith(GZIP):
+    if data.startswith(b"\x1f\x8b"):
         return "%s: compressed by gzip. To unpack it: gzip -d < %s > NEW" % (name, quoted)
-    if data.startswith(UTF16):
+    if data.startswith((b"\xff\xfe", b"\xfe\xff")):
         return "%s: UTF-16. To make it UTF-8: %s" % (name, converting("utf-16", path))
     if b"\r" in data[:-1] and b"\n" not in data:
         return "%s: no line feed, so all of it is one line. To make each carriage return one: tr '\\r' '\\n' < %s > NEW" % (name, quoted)
-    return None
+    return ""
+
+
+def on_file(path: str, is_list: bool) -> List[str]:
+    """Returns the warnings on a script, or on a list of words."""
+    data, name = read_file(path), named(path)
+    if data is None or on_whole(path, data):
+        return [on_whole(path, data)] if data else []
+    mark = "%s:1: a byte order mark, which is left out. To take it away: sed -i '1s/^\\xEF\\xBB\\xBF//' %s" % (name, in_shell(path))
+    said = [mark] if data.startswith(BOM) else []
+    text = data.removeprefix(BOM).decode("utf-8", "surrogateescape")
+    text = re.sub(r"\r(?=\n|\Z)", "", text).removesuffix("\n")
+    kinds = [NOT_UTF8 if NOT_UTF8[0](text) else DECOMPOSED, LONG_WORD if is_list else LONG_LINE]
+    said += [line for kind in kinds for line in on_lines(name, path, text, kind)]
+    if not is_list or any(line.endswith(LONG_WORD[2]) for line in said):
+        return said
+    if re.search(r"\bexternals\s*\(", text):
+        return [*said, name + ": this looks like a script, and each of its lines is a word here"]
+    said += [line for kind in OF_WORDS for line in on_lines(name, path, text, kind)]
+    return said if text.strip("\n") else [*said, name + ": no words. Write one word on each line; add WORD adds one"]
 
 
 def warnings_on(script: str, words: Optional[str] = None) -> List[str]:
     """Returns the warnings on a script and, if there is one, a list of words."""
-    said: List[str] = []
-    for path in (script, words):
-        data = read_file(path) if path else None
-        whole = on_whole(path or "", data) if data is not None else None
-        if data is None or whole:
-            said += [whole] if whole else []
-            continue
-        lines = [line[:-1] if line.endswith("\r") else line for line in data.decode("utf-8", "surrogateescape").split("\n")]
-        if data.endswith(b"\n") or not data:
-            lines.pop()
-        if lines and data.startswith(BOM):
-            lines[0] = lines[0][1:]
-        file = Lines(path or "", lines)
-        on_encoding(file, path or "", data.startswith(BOM))
-        if path == words:
-            on_words(file, path or "")
-        else:
-            file.warn(is_overlong, "more than 65,536 bytes", ". run, check, filter and session refuse such a line (72 LineTooLong). Break it")
-        said += file.said
-    return said
-
-
-if __name__ == "__main__":
-    for warning in warnings_on(*sys.argv[1:3]):
-        sys.stderr.buffer.write((warning + "\n").encode("utf-8", "replace"))
+    return on_file(script, False) + (on_file(words, True) if words else [])

@@ -3,18 +3,15 @@ import errno
 import os
 import re
 import shlex
-from typing import Dict, List, Optional, Sequence
+from typing import Callable, Dict, List, Sequence
 
 from .bench import Bench, Edit
-from .commands import COMMANDS, DECLARATIONS, OPEN_BLOCKS, OTHERS
+from .commands import COMMANDS, DECLARATIONS, OPEN_BLOCKS, STRANGE
 from .kept import is_same
 from .layout import counted, in_words, named, short
-from .loops import Turn
 from .near import folded, meant, near
 from .program import Reply
 
-# So many turns, one like another, are a loop.
-SURE = 100
 # By the number of a refusal its sentence. {c} is the command, {a} what follows it, {usage} what it takes.
 SENTENCES: Dict[int, str] = {
     40: "{a} is in the vocabulary already.",
@@ -57,54 +54,56 @@ REFUSALS: Dict[str, str] = {
     "is missing before it, or in the wrong order: forwards [ sets the left end, backwards the right end.",
     "Cursor": "the cursor would be outside the text, or insert, <+ or attach found it beyond the limit. Look for a delete or <- that makes the text "
     "shorter before a command puts the cursor back (do, test, not, try, or, and, repeat, goto, backwards) or sends it to a limit.",
+    "Integer": "a number would be below -2147483648 or above 2147483647. Look for a $ or a hop, loop, atleast, tomark or atmark with arithmetic.",
+    "Divide": "a number would be divided by 0. Look for a / or /=.",
     "TooLong": "the text would have more than 1,024 characters. Look for <+, insert, attach or <- in a repeat or a loop.",
 }
 
 
 def sentence(reply: Reply, lines: Sequence[str], bench: Bench) -> str:
     """Returns the sentence after a refused command."""
-    code = (reply.refusal() or (0, ""))[0]
-    command, _, argument = lines[0].partition(" ")
-    name, _, rest = argument.partition(" ")
-    k, _, string = rest.partition(" ")
-    if code == 41:
-        return absent(command, argument, bench)
-    if code in (45, 53):
-        return no_name(command, argument, bench)
-    if code == 46:
-        return amongs_of(name, bench)
-    if code == 52:
-        return unknown(lines[0], bench)
-    if code in (57, 75):
-        return bad_file(code, command, argument, bench)
-    if code == 59:
-        return no_class(argument, bench)
-    if code == 67:
-        return no_stem(bench)
+    code, line = (reply.refusal() or (0, ""))[0], lines[0]
+    if code in SPECIAL:
+        return SPECIAL[code](line, bench)
     if code in (47, 48) and len(lines) > 2:
         return "Nothing changed. The up arrow brings the lines of the block back."
-    usage = COMMANDS[command].usage if command in COMMANDS else command
-    return SENTENCES.get(code, "Nothing changed.").format(c=command, a=short(argument), name=short(name), k=k, string=short(string), usage=usage)
+    command, _, argument = line.partition(" ")
+    name, k, string = [*argument.split(" ", 2), "", ""][:3]
+    said = SENTENCES.get(code, "Nothing changed.")
+    return said.format(c=command, a=short(argument), k=k, string=short(string), name=short(name), usage=usage(command))
+
+
+def usage(command: str) -> str:
+    return COMMANDS[command].usage if command in COMMANDS else command
 
 
 def in_quotes(word: str, is_sure: bool = False) -> str:
     return '"%s"' % short(word) if is_sure or word != word.strip() else short(word)
 
 
-def absent(command: str, word: str, bench: Bench) -> str:
+def absent(line: str, bench: Bench) -> str:
+    command, _, word = line.partition(" ")
     if not word:
-        return "%s needs a word: %s." % (command, COMMANDS[command].usage)
-    words = [row.word for row in bench.outcomes()]
-    same = [other for other in words if folded(other).strip() == folded(word).strip()]
+        return "%s needs a word: %s." % (command, usage(command))
+    words, form = [row.word for row in bench.outcomes()], folded(word)
+    same = [other for other in words if folded(other).strip() == form.strip()]
     found = list(map(in_quotes, same[:4])) if same else near(word, words)
     question = " Did you mean %s?" % in_words(found, "or") if found else ""
-    if same and folded(same[0]) == folded(word) and same[0].casefold() != word.casefold():
+    if same and folded(same[0]) == form and same[0].casefold() != word.casefold():
         question = " It is there in another form of Unicode (NFC and NFD are different words)."
     why = "" if found or command == "remove" or word != word.strip() else ' "why %s" shows how it would be stemmed.' % short(word)
     return "%s is not in the vocabulary.%s%s" % (in_quotes(word), question, why)
 
 
-def no_class(stem: str, bench: Bench) -> str:
+def misspelt(word: str, bench: Bench) -> str:
+    """Returns the question on a word that is not in the vocabulary, but near one that is; otherwise nothing."""
+    is_there = not bench.size or bench.known("class " + word)[0] is not None
+    question = "" if is_there else meant(word, [row.word for row in bench.outcomes()])
+    return "%s is not in the vocabulary.%s" % (in_quotes(word), question) if question else ""
+
+
+def no_class(line: str, bench: Bench) -> str:
+    stem = line.partition(" ")[2]
     if not stem:
         return "No word has the empty stem."
     if any(row.word == stem for row in bench.outcomes()):
@@ -112,7 +111,7 @@ def no_class(stem: str, bench: Bench) -> str:
     return "No word has the stem %s. find %s shows the words and stems that have it in them." % (in_quotes(stem), short(stem))
 
 
-def no_stem(bench: Bench) -> str:
+def no_stem(_: str, bench: Bench) -> str:
     refused = [row.word for row in bench.outcomes() if row.kind == "refused"]
     if not refused:
         return "A stem has a line feed, or ends in a carriage return, and is not one line. Nothing was written."
@@ -121,36 +120,42 @@ def no_stem(bench: Bench) -> str:
     return "The run of %s%s is refused, so there is no stem to write: %s" % (in_quotes(refused[0]), more, where)
 
 
-def no_name(command: str, argument: str, bench: Bench) -> str:
+def no_name(line: str, bench: Bench) -> str:
     """The sentence for a name that the script does not define so."""
+    command, _, argument = line.partition(" ")
     kinds = {"show": ("routine", "grouping"), "uses": ("routine", "grouping"), "grouping": ("grouping",)}.get(command, ("routine",))
-    names, (name, _, rest) = bench.names(), argument.partition(" ")
-    there = names.of(*kinds)
+    places, (name, _, rest) = bench.places(), argument.partition(" ")
     if not name:
-        return "%s needs a name: %s." % (command, COMMANDS[command].usage)
-    begin = "%s %s: " % (command, short(name))
+        return "%s needs a name: %s." % (command, usage(command))
+    kind, there, begin = places.kind(name), places.of_kind(*kinds), "%s %s: " % (command, short(name))
     if name in there and command == "show":
         return "show takes one name."
     if name in there and rest:
-        return '%sthe text goes on the lines after it, and a line with a single point ends it. Type only "%s %s" first.' % (begin, command, short(name))
-    kind = names.kinds.get(name)
+        first = ' Type only "%s %s" first.' % (command, short(name))
+        return begin + "the text goes on the lines after it, and a line with a single point ends it." + first
     if kind and command == "uses":
         return '%sthis is a grouping, and has no among. Use "uses %s".' % (begin, short(name))
     if kind:
         return '%sthis is a %s. Use "%s %s".' % (begin, kind, kind, short(name))
-    if name in bench.integers():
-        return "%sthis is an integer variable, and no %s.%s" % (begin, kinds[0], " integers WORD shows its value at the end of a run.")
+    if any(row.kind == "integer" and row.name == name for row in bench.read("integers a")):
+        return "%sthis is an integer variable, and no %s. integers WORD shows its value at the end of a run." % (begin, kinds[0])
     others = " The script has %s." % (in_words(there, "and") if there else "none")
     others += " Declare and define a new one in the file." if command in ("routine", "grouping") else ""
     return "%sthere is no %s of this name.%s" % (begin, " or ".join(kinds), meant(name, there) or others)
 
 
-def amongs_of(name: str, bench: Bench) -> str:
-    count = bench.names().amongs.get(name, 0)
+def amongs_of(line: str, bench: Bench) -> str:
+    name = line.split(" ")[1]
+    count = bench.places().count(name)
     if not count:
         return "%s has no among." % short(name)
     numbers = "1" if count == 1 else "1 or 2" if count == 2 else "1 to %d" % count
     return "%s has %s, so K is %s (those inside others count, too)." % (short(name), counted(count, "among"), numbers)
+
+
+def is_of_script(line: str) -> bool:
+    """Whether a line that is no command is a comment or a declaration of a script."""
+    return line.lstrip().startswith(("//", "/*")) or line.partition(" ")[0] in DECLARATIONS
 
 
 def unknown(line: str, bench: Bench) -> str:
@@ -158,42 +163,36 @@ def unknown(line: str, bench: Bench) -> str:
     command, _, argument = line.partition(" ")
     if any("\udc80" <= character <= "\udcff" for character in line):
         return "The line is not UTF-8. Set the terminal to UTF-8 and type it again."
-    if command == "among" or command == "uses":
-        known = " " + amongs_of(argument.partition(" ")[0], bench) if bench.names().kinds.get(argument.partition(" ")[0]) == "routine" else ""
-        if command == "uses":
-            return "uses needs a name: %s.%s" % (COMMANDS["uses"].usage, known)
-        return "among needs a name and a number: among NAME K, then an among, then a line with a single point." + known
-    if command in COMMANDS and not COMMANDS[command].takes:
-        return "%s takes nothing after it." % command if argument else "The program does not know %s yet." % command
+    if command in ("among", "uses"):
+        known = " " + amongs_of(line, bench) if bench.places().kind(argument.partition(" ")[0]) == "routine" else ""
+        what = ": %s." % usage(command) if command == "uses" else " and a number: among NAME K, then an among, then a line with a single point."
+        return "%s needs a name%s%s" % (command, what, known)
     if command in COMMANDS:
-        return "%s needs more: %s." % (command, COMMANDS[command].usage)
-    if line.strip() == ".":
-        return "A line with a single point ends a block, and no block is open."
-    if command in OTHERS:
-        return OTHERS[command].format(c=command)
-    if line.lstrip().startswith(("//", "/*")):
-        return "A comment begins with # at the beginning of the line."
-    if command == "define":
-        return "A definition begins with define NAME as, or define NAME and the terms of a grouping, in one line."
-    if command in DECLARATIONS:
-        return "This looks like a script. replace takes a whole one, up to a line with a single point."
-    if line.strip().partition(" ")[0] in COMMANDS:
-        return "A command begins at the beginning of the line."
+        return "%s needs more: %s." % (command, usage(command)) if COMMANDS[command].takes else "%s takes nothing after it." % command
+    for begins, said in STRANGE:
+        if re.match(begins, line):
+            return said.format(c=command)
     longer = [name for name in COMMANDS if name.startswith(command.casefold())] if command else []
     question = meant(command, COMMANDS) or (" Did you mean %s?" % in_words(longer, "or") if 0 < len(longer) < 4 else "")
     return "%s is not a command.%s help lists the commands." % (short(command or line.strip()), question)
 
 
-def bad_file(code: int, command: str, argument: str, bench: Bench) -> str:
+def bad_file(line: str, bench: Bench) -> str:
+    command, _, argument = line.partition(" ")
     if command in ("save", "approve", "append"):
         return not_written(command, argument, bench)
     if command == "words" and not bench.words:
         return "There is no file of words: add WORD adds a word."
     path = (bench.words if command == "words" else argument or bench.script) or ""
-    if code == 75:
-        return "%s is not UTF-8. If it is Latin-1: %s" % (short(path), converting("latin1", path))
-    keeps = ". The script that was read is in force: save FILE keeps it." if command == "reload" else ""
-    return "%s cannot be read: %s%s" % (short(path), unreadable(path), keeps)
+    if command == "reload":
+        # (another file is no question: SCRIPT stays the file)
+        return "%s cannot be read: %s. The script that was read stays: save FILE keeps it." % (short(path), unreadable(path).partition(".")[0])
+    return "%s cannot be read: %s" % (short(path), unreadable(path))
+
+
+def not_text(line: str, bench: Bench) -> str:
+    path = bench.words or "" if line == "words" else line.partition(" ")[2] or bench.script
+    return "%s is not UTF-8. If it is Latin-1: %s" % (short(path), converting("latin1", path))
 
 
 def not_written(command: str, path: str, bench: Bench) -> str:
@@ -202,24 +201,24 @@ def not_written(command: str, path: str, bench: Bench) -> str:
         return "There is no file of words: append FILE writes a new one."
     path = path or (bench.words or "" if command == "append" else "")
     if not path:
-        return "%s needs a file: %s." % (command, COMMANDS[command].usage)
-    folder = os.path.dirname(path) or "."
-    other = "save to another file" if command == "save" else "name another file"
+        return "%s needs a file: %s%s." % (command, usage(command), ", such as save " + short(bench.script) if command == "save" else "")
+    folder, name = os.path.dirname(path) or ".", short(path)
     if command != "save" and is_same(path, bench.script):
-        return MAY_NOT["script"].format(path=short(path), c=command, other=other)
+        return may_not("script", command, path)
     if command == "append" and os.path.exists(path) and not is_same(path, bench.words):
-        return "%s is there already, and append puts words only into the file of words or a new file." % short(path)
+        return "%s is there already, and append puts words only into the file of words or a new file." % name
     if os.path.realpath(path) == os.path.realpath(bench.script) and not os.path.lexists(path):
-        return "%s is not there any more, and was not written: save to another file." % short(path)
+        return "%s is not there any more, and was not written: save to another file." % name
     if not os.path.isdir(folder):
-        return "%s cannot be written: there is no folder %s." % (short(path), short(folder))
+        return "%s cannot be written: there is no folder %s." % (name, short(folder))
     if os.path.isdir(path):
-        return "%s cannot be written: it is a folder. Name a file in it." % short(path)
+        return "%s cannot be written: it is a folder. Name a file in it." % name
     if not os.access(path if os.path.exists(path) else folder, os.W_OK):
-        return "%s cannot be written: you may not write there. %s." % (short(path), other.capitalize())
+        other = "Save to another file" if command == "save" else "Name another file"
+        return "%s cannot be written: you may not write there. %s." % (name, other)
     if path in bench.saved() or is_same(path, bench.script):
-        return MAY_NOT["changed"].format(path=short(path), other=other)
-    return "%s cannot be written: perhaps the disk is full.%s" % (short(path), " It has its former text." if os.path.exists(path) else "")
+        return may_not("changed", command, path)
+    return "%s cannot be written: perhaps the disk is full.%s" % (name, " It has its former text." if os.path.exists(path) else "")
 
 
 def unreadable(path: str) -> str:
@@ -253,42 +252,27 @@ def early(line: str, bench: Bench) -> str:
     """Returns what is wrong with the line before a block, so that it opens none."""
     command, _, argument = line.partition(" ")
     name, _, k = argument.partition(" ")
-    if command in OPEN_BLOCKS or not bench.program.knows("places"):
+    if command in OPEN_BLOCKS:
         return ""
-    names = bench.names()
-    if names.kinds.get(name) != ("grouping" if command == "grouping" else "routine") or k and command != "among":
-        return no_name(command, argument, bench) if name or command != "among" else unknown(line, bench)
+    places = bench.places()
+    if places.kind(name) != ("grouping" if command == "grouping" else "routine") or k and command != "among":
+        return no_name(line, bench) if name or command != "among" else unknown(line, bench)
     if command == "among" and not re.match(r"[0-9]{1,9}\Z", k):
         return unknown(line, bench)
-    return amongs_of(name, bench) if command == "among" and not 1 <= int(k) <= names.amongs.get(name, 0) else ""
+    return amongs_of(line, bench) if command == "among" and not 1 <= int(k) <= places.count(name) else ""
 
 
-def may_not(why: str, command: str, path: str, then: str) -> str:
+def may_not(why: str, command: str, path: str, then: str = "") -> str:
     """Returns why a command does not write to a file, by its key in MAY_NOT."""
-    new = why in ("there", "others")
-    other = ("save to %s file" if command == "save" else "name %s file") % ("a new" if new else "another")
-    return MAY_NOT[why].format(path=short(path), c=command, other=other, then=then)
+    which = "a new" if why in ("there", "others") else "another"
+    return MAY_NOT[why].format(path=short(path), c=command, other="%s %s file" % ("save to" if command == "save" else "name", which), then=then)
 
 
 def notes(edit: Edit, script: str) -> List[str]:
     return [NOTES[note].format(script=short(script)) for note in edit.notes]
 
 
-def turning(word: str, turn: Optional[Turn], bench: Bench) -> str:
-    """Returns the sentence on what goes round in the run of a word."""
-    if turn is None or not turn.names or not turn.names[0]:
-        return ""
-    name, places = turn.names[0], bench.places()
-    if turn.is_call:
-        at, deep = places.of(name), ", {:,} deep".format(turn.count) if turn.count > 1 else ""
-        who = "%s calls itself" % name if len(turn.names) == 1 else "%s call each other" % in_words(turn.names, "and")
-        return "In the run of %s %s%s%s." % (in_quotes(word), who, " (%s)" % at if at else "", deep)
-    spots = ["the %s of %s" % spot for spot in places.turning(name)[:4]]
-    if turn.count < SURE:
-        may_be = " It may be %s." % in_words(spots, "or") if spots else ""
-        limit = int(bench.program.now.limit)
-        return "The run of {} ends in {}, which goes round, or it needs more than {:,} steps.{}".format(in_quotes(word), name, limit, may_be)
-    does = ": it %s again and again, %s" % (in_words(turn.does, "and", 3), "{:,} times and more".format(turn.count)) if turn.does else ""
-    if len(spots) == 1:
-        return "In the run of %s %s in %s goes round%s." % (in_quotes(word), spots[0], name, does)
-    return "In the run of %s %s goes round%s.%s" % (in_quotes(word), name, does, " It is %s." % in_words(spots, "or") if spots else "")
+# By the number of a refusal what makes its sentence of the line and the bench.
+SPECIAL: Dict[int, Callable[[str, Bench], str]] = {
+    41: absent, 45: no_name, 46: amongs_of, 52: unknown, 53: no_name, 57: bad_file, 59: no_class, 67: no_stem, 75: not_text,
+}

@@ -15,7 +15,7 @@ import unittest
 from typing import Any, Dict, List, Optional, Set
 
 from voltizug.editor.wire import read_message, write_message
-from voltizug.texts import Text
+from voltizug.editor.texts import Text
 
 from ..kit import CLIENT, EXAMPLES, PROGRAM, Case, write
 

@@ -5,7 +5,7 @@ import os
 import unittest
 from typing import Dict, List
 
-from voltizug.texts import Text
+from voltizug.editor.texts import Text
 
 from .kit import Editor, OverServer, has, needs_tokens
 

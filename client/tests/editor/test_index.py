@@ -4,11 +4,11 @@ import re
 import tempfile
 import unittest
 
-from voltizug import language
-from voltizug.index import Index
+from voltizug.editor import language
+from voltizug.editor.index import Index
 from voltizug.editor.judge import Judge
 from voltizug.program import DONE, Reply
-from voltizug.texts import Text
+from voltizug.editor.texts import Text
 
 from ..kit import PROGRAM, Case
 from .kit import TOP, accepted, needs_tokens, read, rows_of

@@ -6,9 +6,9 @@ import statistics
 import time
 import unittest
 
-from voltizug.index import Index
+from voltizug.editor.index import Index
 from voltizug.editor.judge import Judge
-from voltizug.texts import Text
+from voltizug.editor.texts import Text
 
 from ..kit import PROGRAM, example
 from .kit import REFRESHING, SCRIPTS, STORM, Editor, OverServer, accepted, needs_tokens, read, rows_of

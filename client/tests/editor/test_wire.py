@@ -4,7 +4,7 @@ import random
 import unittest
 
 from voltizug.editor.wire import read_message, write_message
-from voltizug.texts import Text
+from voltizug.editor.texts import Text
 
 from .kit import STORM
 

@@ -96,9 +96,14 @@ class InBrowser(Page):
             # (no state is written as long as this is held)
             tab.go(self.server.address())
             tab.wait("typeof S !== 'undefined' && S.st.names === undefined && document.readyState === 'complete'")
-            self.assertIn("The page waits for ./snowbench page", tab.run("document.body.innerText"))
+            self.assertIn("The page waits for snowbench page", tab.run("document.body.innerText"))
             self.assertEqual((self.text(tab, "status"), tab.run("$('main').hidden")), ("connects", True))
         tab.wait("$('waiting').hidden && !$('main').hidden && S.words.length === 4")
+
+    def test_figures_of_one(self):
+        tab = self.open(words="walks\n")
+        labels = tab.wait("$('figures').querySelector('dt') && [...$('figures').querySelectorAll('dt')].map(node => node.textContent)")
+        self.assertEqual(labels, ["word", "class", "class of one word", "word in the largest class", "words are their own stem", "refused"])
 
     def test_the_server_is_gone(self):
         room = self.room(my_sbl=SCRIPT, my_words=WORDS)
@@ -117,7 +122,7 @@ class InBrowser(Page):
         tab.wait("typeof S !== 'undefined' && S.words.length === 4")
         page.terminate()
         page.wait()
-        tab.wait("!$('lost').hidden && $('lost').innerText.includes('No connection: ./snowbench page has ended')")
+        tab.wait("!$('lost').hidden && $('lost').innerText.includes('No connection: snowbench page has ended')")
         self.assertIn("What you see is what it had last", self.text(tab, "lost"))
         self.assertEqual(self.text(tab, "status"), "no connection")
         begin(address.split(":")[2].split("/")[0])

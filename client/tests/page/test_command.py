@@ -44,11 +44,17 @@ class Commands(Case):
         taken = socket.create_server(("127.0.0.1", 0))
         self.addCleanup(taken.close)
         port = str(taken.getsockname()[1])
-        cases = {("none.sbl",): "none.sbl is no file", ("my.sbl", "none"): "none is no file", ("--port", "70000", "my.sbl"): "0 to 65535", ("--port", port, "my.sbl"): "cannot be had", (): "usage"}
+        cases = {("none.sbl",): "none.sbl is no file", ("my.sbl", "none"): "none is no file", ("--port", "70000", "my.sbl"): "0 to 65535", ("--port", port, "my.sbl"): "cannot be had", (): "usage: snowbench page [--port N]"}
         for words, said in cases.items():
             page = self.begin(room, *words)
             self.assertIn(said, page.stderr.read().decode())
             self.assertEqual(page.wait(60), 2, words)
+
+    def test_words_with_a_fault(self):
+        page = self.begin(self.room(my_sbl=SCRIPT, my_words="a\n" + "b" * 256 + "\n"), "my.sbl", "my.words")
+        self.assertTrue(page.stdout.readline().startswith(b"http://127.0.0.1:"))
+        page.stderr.readline()
+        self.assertEqual(page.stderr.readline(), b"The page waits: my.words has a word of more than 255 characters.\n")
 
     def test_a_script_with_a_fault(self):
         page = self.begin(self.room(my_sbl="externals ( stem )\n"), "my.sbl")

@@ -92,8 +92,8 @@ class Edits(Page):
 
     def test_words_with_a_fault(self):
         live = self.page(words=b"a\n\xff\n")
-        self.assertIn("not UTF-8", live.part("fault")["sentence"] + " ".join(live.part("warnings")) + "NotText is not UTF-8")
-        self.assertFalse(live.part("fault")["isOfScript"])
+        fault = live.part("fault")
+        self.assertEqual((fault["isOfScript"], fault["isOfWords"], fault["sentence"]), (False, True, live.bench.words + " is not UTF-8."))
         self.save(live, WORDS, "my.words")
         self.assertEqual(live.outcomes.now[0], "=walk")
 

@@ -86,6 +86,11 @@ class Reports(Case):
         known = subprocess.run([PROGRAM, "work", "old.sbl"], cwd=room, input=b"places\n", stdout=subprocess.PIPE, check=False).stdout
         return "`among 1 of r` (2 words alone)" if b"among,r,1" in known else "`among 1 of r`"
 
+    def test_a_missing_file(self):
+        for words, usage in ((["a", "b"], b"usage: snowbench report [--external NAME] OLD"), (["--markdown", "a", "b"], b"usage: snowbench compare --markdown [--external NAME] OLD")):
+            done = self.run_in("", *words)
+            self.assertEqual((done.returncode, done.stderr.startswith(usage)), (2, True))
+
     def test_the_file(self):
         room = self.files()
         done = self.run_in(room, "old.sbl", "new.sbl", "my.words")

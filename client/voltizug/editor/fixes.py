@@ -2,8 +2,8 @@
 import re
 from typing import Any, Iterable, List, Tuple
 
-from ..index import Index
-from ..language import COMMANDS, CONTROL, DECLARATIONS, ITEMS, VALUES
+from .index import Index
+from .language import COMMANDS, CONTROL, DECLARATIONS, ITEMS, VALUES
 from ..layout import named
 from ..near import near
 from .judge import Fault

@@ -3,11 +3,11 @@ import re
 from typing import Dict, List, NamedTuple, Optional, Set, Tuple
 
 from .. import rows
-from ..index import Index
-from ..language import COMMANDS, CONTROL, DECLARATIONS, ITEMS, OTHERS, VALUES
+from .index import Index
+from .language import COMMANDS, CONTROL, DECLARATIONS, ITEMS, OTHERS, VALUES
 from ..program import DONE, Program, Reply
 from ..rows import Token
-from ..texts import Memory, Text, by_characters, encoded
+from .texts import Memory, Text, by_characters, encoded
 
 # For how many seconds the program is asked about a text; how many faults, and how many lines that have no tokens, are looked at.
 PATIENCE, MOST, LINES = 20.0, 100, 5

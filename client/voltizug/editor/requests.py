@@ -1,7 +1,7 @@
 """What is asked about the names of a text: places, lists, renaming, completion and quick fixes."""
 from typing import List, Optional, Tuple
 
-from ..index import Index
+from .index import Index
 from ..layout import named
 from ..rows import Token
 from .judge import BLANK

@@ -10,11 +10,11 @@ from functools import partial
 from typing import Any, Callable, Dict, Iterable, List, Optional, Tuple
 from urllib.parse import quote, unquote, urlsplit
 
-from ..index import Index
+from .index import Index
 from ..kept import read_file
 from ..layout import counted, named
 from ..program import ROWS
-from ..texts import Text, encoded, of_revision
+from .texts import Text, encoded, of_revision
 from .judge import Fault, Judge
 from .vocabulary import Vocabulary, Wish, difference
 from .wire import Message, read_message, write_message

@@ -5,9 +5,9 @@ import subprocess
 from typing import Any, Callable, Dict, List, Optional, Tuple
 
 from .. import layout, rows
-from ..index import Index
+from .index import Index
 from ..layout import counted, named
-from ..texts import Memory
+from .texts import Memory
 from .requests import place
 from .server import Document, Refused, Server, text_of
 from .vocabulary import State, Vocabulary

@@ -11,7 +11,7 @@ from ..bench import Bench
 from ..faults import code_of
 from ..places import Places
 from ..program import BROKEN, DONE, LONG, Program, Reply
-from ..texts import Memory, encoded, lines_of
+from .texts import Memory, encoded, lines_of
 from ..words import sentence
 
 # Of how many changed words it is asked where they begin to differ.
@@ -34,7 +34,7 @@ class Stage(Bench):
     """A bench for sentences alone, over a program that is there. It begins nothing again."""
 
     def __init__(self, program: Any, script: str, words: str):
-        self.program, self.script, self.words, self.known_rows, self.known_names = program, script, words, (None, []), (None, None)
+        self.program, self.script, self.words, self.known_places, self.file_text, self.seen = program, script, words, None, None, {}
 
     def settled(self, reply: Reply) -> Reply:
         return reply

@@ -9,7 +9,7 @@ from typing import Any, Callable, Dict, Iterator, List, Optional, Sequence
 
 from .. import loops, rows, words
 from ..bench import Bench, Edit
-from ..conditions.copies import with_tests
+from ..copies import with_tests
 from ..kept import state_of
 from ..layout import named, short
 from ..lints import lints
@@ -273,7 +273,7 @@ class Live:
     def show_broken(self, reply: Reply) -> None:
         if reply.state == "lost":
             self.bench.is_waiting = True
-            self.show_fault(["The program ended, and could not be started again: start ./snowbench page again."], "file")
+            self.show_fault(["The program ended, and could not be started again: start snowbench page again."], "file")
             return
         self.begun = time.monotonic()
         self.show_outcomes()
@@ -350,7 +350,7 @@ class Live:
                 why = "changed"
             if why and not (is_sure and why.endswith("?")):
                 raise Refused(MAY_NOT[why].format(short(bench.script)) if why in MAY_NOT else words.may_not(why, "save", bench.script, ""))
-            reply = bench.save(bench.script)
+            reply = bench.write("save", bench.script)
             if not reply.is_done:
                 raise Refused(words.sentence(reply, ["save " + bench.script], bench))
             self.publish(isTrial=False, fault=None, notice="Saved.")
@@ -406,13 +406,12 @@ class Live:
         return reply
 
     def word(self, word: str, has_tests: bool = False) -> Dict[str, Any]:
-        program = self.bench.program
         with self.asking():
             events = rows.read("events", self.ask("events " + word).lines)
             figures = rows.read("integers", self.ask("integers " + word).lines)
-            turn = words.turning(word, loops.turn_of(events), self.bench)
+            turn = loops.turning(word, events, self.bench)
             places = self.bench.places()
-            run = with_tests(program.command, program.now.text, places.tokens, word, events, int(figures[0].count)) if has_tests else None
+            run = with_tests(self.bench.program, places, word, events, figures) if has_tests else None
         found = timeline(word, run.events if run else events, places, run.tests if run else {})
         named_figures = [[getattr(row, "name", "steps"), getattr(row, "value", getattr(row, "count", ""))] for row in figures]
         return {**found, "figures": named_figures, "turn": turn, "hasTests": bool(run and run.is_known), "script": self.script}
@@ -434,7 +433,7 @@ class Live:
     def tokens(self, text: str) -> List[List[Any]]:
         """Returns the colours of a text that is being typed, if the program tells tokens."""
         with self.turn:
-            if self.bench.is_waiting or not self.bench.program.rows or not self.bench.program.knows("tokens"):
+            if self.bench.is_waiting:
                 return []
             data = text.encode("utf-8", "replace")
             path = self.bench.program.copy_path + ".typed"

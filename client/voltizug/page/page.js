@@ -135,7 +135,7 @@ async function ask(path, query, body) {
 }
 async function post(path, body) {
   try { await ask(path, null, body || {}); return true; } catch (fault) {
-    say(fault.isReply ? fault.message : 'The server is gone: is ./snowbench page still running?', true);
+    say(fault.isReply ? fault.message : 'The server is gone: is snowbench page still running?', true);
     return false;
   }
 }
@@ -150,7 +150,7 @@ async function showLost() {
   const status = await fetch(base + 'page.css', { cache: 'no-store' }).then(reply => reply.status, () => 0);
   if (S.live) return;
   const had = S.st.names ? ' What you see is what it had last.' : '';
-  $('lost').textContent = status === 404 ? 'This is the address of a page that has ended: open the one that ./snowbench page printed last.' + had : `No connection: ${status ? 'too many pages are open' : './snowbench page has ended, or does not reply'}.${had} The page tries again each second.`;
+  $('lost').textContent = status === 404 ? 'This is the address of a page that has ended: open the one that snowbench page printed last.' + had : `No connection: ${status ? 'too many pages are open' : 'snowbench page has ended, or does not reply'}.${had} The page tries again each second.`;
   $('lost').hidden = false;
 }
 let ticking = 0;
@@ -197,7 +197,11 @@ function showStatus() {
     box.replaceChildren(dot, st.isTrial ? 'a trial, not in the file' : 'as in the file', last ? ` · ${last.at} · ${number(last.ms)} ms` : '');
   }
 }
-const FIGURES = [['words', 'words'], ['classes', 'classes'], ['alone', 'classes of one word'], ['largest', 'words in the largest class'], ['unchanged', 'words are their own stem'], ['refused', 'refused']];
+// (of a figure what it counts, and that of one)
+const FIGURES = [
+  ['words', 'words', 'word'], ['classes', 'classes', 'class'], ['alone', 'classes of one word', 'class of one word'],
+  ['largest', 'words in the largest class', 'word in the largest class'], ['unchanged', 'words are their own stem', 'word is its own stem'], ['refused', 'refused', 'refused'],
+];
 const file = path => named(path.split('/').pop());
 function showTop(news) {
   const st = S.st;
@@ -216,9 +220,9 @@ function showTop(news) {
   if ('history' in news) showHistory();
   $('figures').hidden = !st.figures;
   $('figures').className = 'figures' + (st.fault ? ' old' : '');
-  if (st.figures) $('figures').replaceChildren(...FIGURES.map(([key, label]) => {
+  if (st.figures) $('figures').replaceChildren(...FIGURES.map(([key, many, one]) => {
     const n = st.figures[key] || 0, m = st.markFigures ? st.markFigures[key] : n, delta = n - m;
-    return el('div', {}, el('dt', {}, label), el('dd', {}, number(n)), delta ? el('dd', { class: 'delta', title: `${number(m)} at the mark` }, (delta > 0 ? '+' : '−') + number(Math.abs(delta))) : null);
+    return el('div', {}, el('dt', {}, n === 1 ? one : many), el('dd', {}, number(n)), delta ? el('dd', { class: 'delta', title: `${number(m)} at the mark` }, (delta > 0 ? '+' : '−') + number(Math.abs(delta))) : null);
   }));
   if ('warnings' in news) {
     $('warnings-button').hidden = !st.warnings.length;

@@ -2,10 +2,11 @@
 import re
 from typing import Any, Dict, List, Optional, Sequence
 
-from .. import faults, rows
+from .. import faults, rows, words
 from ..bench import Bench
 from ..kept import read_file
 from ..layout import named
+from ..opening import OF_WORDS
 from . import ink
 
 PLACE = re.compile(r":(\d+):(\d+): (.*)", re.S)
@@ -16,15 +17,18 @@ MOST = 200
 def refusal(bench: Bench, said: Sequence[str], typed: Optional[str] = None) -> Dict[str, Any]:
     """Returns what is shown. The text is that of the file if none was typed."""
     script, data = bench.script, read_file(bench.script) or b""
-    lines = faults.shown(said, script, bench.program.copy_path, data if typed is None else None, 1 << 20) or [named(line) for line in said]
+    lines = faults.shown(said, script, data if typed is None else None, 1 << 20) or [named(line) for line in said]
     places = [PLACE.match(line[len(start) :]) for line in lines for start in (named(script), "replace") if line.startswith(start + ":")]
     place = next(filter(None, places), None)
     # (a fault of the words has no place in the script)
     is_of_script = place is not None or typed is not None
+    of_words = OF_WORDS.get(faults.code_of(said)) if bench.words and not is_of_script else None
+    if of_words:
+        lines = [of_words.format(name=named(bench.words), quoted=words.in_shell(bench.words))]
     carets = next((line for line in lines if line.strip() and not line.strip("^ ")), "")
     sent = data if typed is None else typed.encode("utf-8", "replace")
     return {
-        "isOfScript": is_of_script, "text": ink.shown_text(sent) if is_of_script else None,
+        "isOfScript": is_of_script, "isOfWords": bool(of_words), "text": ink.shown_text(sent) if is_of_script else None,
         "line": int(place[1]) if place else 0, "column": int(place[2]) if place else 0, "length": carets.count("^"),
         "sentence": place[3] if place else " ".join(lines), "all": all_faults(bench, sent) if is_of_script else [],
     }
@@ -34,6 +38,6 @@ def all_faults(bench: Bench, text: bytes) -> List[List[Any]]:
     """Returns the faults of the text that was refused last, if the program tells them: line, begin and end in the text that is shown, sentence."""
     if bench.is_waiting:
         return []
-    found = [row for row in rows.read("faults", bench.known("faults")[0] or []) if int(row.end) <= len(text)][:MOST]
+    found = [row for row in rows.read("faults", bench.known("faults")[0] or []) if row.end and int(row.end) <= len(text)][:MOST]
     at = ink.units(text, (int(place) for row in found for place in (row.start, row.end)))
     return [[int(row.line), at[int(row.start)], at[int(row.end)], row.sentence] for row in found]

@@ -273,8 +273,8 @@ def listed(items: Sequence[str]) -> str:
 
 
 def options_of(given: Sequence[str]) -> argparse.Namespace:
-    name = "./snowbench compare" if "--markdown" in given else "./snowbench report"
-    parser = argparse.ArgumentParser(prog=name, allow_abbrev=False)
+    name = "snowbench compare --markdown" if "--markdown" in given else "snowbench report"
+    parser = argparse.ArgumentParser(prog=name, usage=name + " [--external NAME] OLD NEW WORDS", add_help=False, allow_abbrev=False)
     parser.add_argument("--program", default=usual_program(), help=argparse.SUPPRESS)
     parser.add_argument("--markdown", action="store_true")
     parser.add_argument("--external", metavar="NAME")

@@ -32,7 +32,8 @@ HEADERS = {
     "Cross-Origin-Opener-Policy": "same-origin", "Cross-Origin-Resource-Policy": "same-origin", "Cache-Control": "no-store",
 }
 ELSEWHERE = "Another page may not ask."
-NO_PAGE = "There is no such page: take the whole address that ./snowbench page printed."
+NO_PAGE = "There is no such page: take the whole address that snowbench page printed."
+USAGE = "snowbench page [--port N] [--external NAME] [--families FILE] [--open] SCRIPT [WORDS [STEMS]]"
 
 
 class Server(ThreadingHTTPServer):
@@ -193,7 +194,7 @@ def in_json(data: Any) -> bytes:
 
 
 def options_of(given: Sequence[str]) -> argparse.Namespace:
-    parser = argparse.ArgumentParser(prog="./snowbench page", allow_abbrev=False)
+    parser = argparse.ArgumentParser(prog="snowbench page", usage=USAGE, add_help=False, allow_abbrev=False)
     parser.add_argument("--program", default=usual_program(), help=argparse.SUPPRESS)
     parser.add_argument("--port", type=int, metavar="N")
     parser.add_argument("--external", metavar="NAME")
@@ -240,7 +241,8 @@ def serve(given: argparse.Namespace, bench: Bench) -> int:
     live.open()
     fault = live.part("fault")
     said: List[str] = ["Open this address in a browser on this machine. Who has it can read the script and write it. Ctrl-C ends."]
-    said += ["%s has a fault, and the page waits: %s" % (named(given.script), fault["sentence"])] if fault else []
+    if fault:
+        said += ["%s: %s" % ("The page waits" if fault["isOfWords"] else "%s has a fault, and the page waits" % named(given.script), fault["sentence"])]
     print(server.address(), flush=True)
     print("\n".join(said), file=sys.stderr, flush=True)
     threading.Thread(target=live.watch, daemon=True, name="watch").start()
@@ -270,6 +272,6 @@ def main(given: Sequence[str]) -> int:
         return serve(options, bench)
     finally:
         # (a trial that is in no file is kept)
-        if bench.kept.has_edits():
+        if bench.kept.has("about"):
             print("snowbench: what you tried is in no file, and is kept in %s" % named(bench.kept.room), file=sys.stderr)
         bench.close(is_kept=True)

@@ -1,25 +1,18 @@
 """Why a word has its stem, as steps for people, by the rows of `events`: strings that were taken, what other routines signalled, the text before
 and after."""
-from typing import Any, Dict, List, Sequence, Tuple
+from typing import Any, Dict, List, Sequence
 
-from ..conditions.copies import Shown
 from ..places import Places
+from ..reports import Call, Tests
 
 # How many steps are shown, at most.
 MOST = 400
 
 
-class Call:
-    """A routine that runs. `asks_only` if it has searched no among and put no text so far; `acts` if it took a string or put a text."""
-
-    def __init__(self, name: str):
-        self.name, self.asks_only, self.acts = name, True, False
-
-
 class Timeline:
     """Reads events one after another. A minor step is shown only if all are asked for."""
 
-    def __init__(self, word: str, places: Places, tests: Dict[Tuple[str, str], Shown]):
+    def __init__(self, word: str, places: Places, tests: Tests):
         self.now, self.places, self.tests = word, places, tests
         self.steps: List[Dict[str, Any]] = []
         self.calls: List[Call] = []
@@ -36,32 +29,29 @@ class Timeline:
             step = getattr(self, "read_" + row.kind, None)
             if step is not None:
                 step(row)
+            if self.calls:
+                self.calls[-1].note(row)
 
     def read_call(self, row: Any) -> None:
         if self.calls:
             self.note("call", self.line(self.places.definitions.get(row.name)), True, what=row.name)
         self.calls.append(Call(row.name))
 
-    def read_search(self, row: Any) -> None:
-        self.calls[-1].asks_only = False
-
     def read_none(self, row: Any) -> None:
         self.note("none", self.line(self.places.amongs.get((row.name, row.k))), True, k=row.k)
 
     def read_taken(self, row: Any) -> None:
-        self.calls[-1].asks_only, self.calls[-1].acts = False, True
         self.note("taken", self.line(self.places.entries.get((row.name, row.k, row.string))), k=row.k, string=row.string)
 
     def read_test(self, row: Any) -> None:
-        test = self.tests.get((row.name, row.n))
-        if test and test.is_listed:
-            self.note("test", self.places.text.count(b"\n", 0, test.start) + 1, True, what=test.text, true=row.signal == "t")
+        _, test = self.tests[row.name, row.n]
+        if not test.is_turned:
+            self.note("test", self.places.text.count(b"\n", 0, test.tokens[0].start) + 1, True, what=test.text, true=row.signal == "t")
 
     def read_unknown(self, row: Any) -> None:
         self.note("unknown", 0, True)
 
     def read_put(self, row: Any) -> None:
-        self.calls[-1].asks_only, self.calls[-1].acts = False, True
         self.note(
             "put", self.line(self.places.definitions.get(row.name)), before=self.now, after=row.after, start=int(row.start), end=int(row.end), put=row.text
         )
@@ -82,7 +72,7 @@ class Timeline:
                 self.note("asked" if call.asks_only else "done", line, is_minor, what=call.name, true=is_true)
 
 
-def timeline(word: str, events: Sequence[Any], places: Places, tests: Dict[Tuple[str, str], Shown]) -> Dict[str, Any]:
+def timeline(word: str, events: Sequence[Any], places: Places, tests: Tests) -> Dict[str, Any]:
     """Returns the steps of a run and its outcome. Of very many steps there are the first and the last ones."""
     line = Timeline(word, places, tests)
     line.read(events)

@@ -69,7 +69,7 @@ fn first_character(text: &str) -> &str {
 }
 
 /// Returns what is at an offset of a text: a token, or else a character.
-fn spot_at(alloc: Global, text: &[u8], begin: usize) -> Spot<'_> {
+pub(crate) fn spot_at(alloc: Global, text: &[u8], begin: usize) -> Spot<'_> {
     let rest = text.get(begin..).unwrap_or(&[]);
     let Ok(rest) = str::from_utf8(rest) else {
         return Spot {

@@ -110,7 +110,7 @@ pub(crate) fn is_blank(text: &[u8]) -> bool {
 }
 
 /// Appends what is at the place, as it is spelled.
-fn push_thing(shown: &mut String, spot: Spot<'_>) -> Result<(), AllocError> {
+pub(crate) fn push_thing(shown: &mut String, spot: Spot<'_>) -> Result<(), AllocError> {
     if spot.token.is_empty() {
         return shown.push_str("the end");
     }

@@ -8,6 +8,7 @@ use Rattle.sbl_semantics.specs.Outcome.{outcome_of}
 use Rattle.sbl_print.specs.Canonical.{canonical}
 use Rattle.sbl_script.specs.Edits.{among, body, terms}
 use Rattle.sbl_history.specs.History.{EditKind, OfLimit, OfPart, OfScript, Past, PastEdit, ToLimit, ToText, Turn, edit_of}
+use Rattle.sbl_history.specs.Refused.{RefusedText, view_last}
 use Rattle.sbl_history.specs.declared.desk.Desk.{Desk}
 use Rattle.sbl_history.specs.declared.history.HistoryFault.{HistoryFault}
 use Rattle.sbl_history.specs.declared.history.HistoryFault.TheVariants as fault
@@ -21,11 +22,13 @@ use Rattle.sbl_history.specs.declared.marks.MarkedRow.{MarkedRow}
 use Rattle.std.specs.declared.vec.Vec.{Vec}
 use Rattle.std.specs.declared.alloc.Global.{Global}
 
--- a text of the current script, if one is kept; the edits that can be undone and redone; the rows at the mark
+-- a text of the current script, if one is kept; the edits that can be undone and redone; the rows at the mark; the text that was
+-- refused last, if one is kept
 pub record State : Type 0 where
   pub text : Option (List ℕ)
   pub past : Past
   pub marked : List Row
+  pub refused : Option RefusedText
 
 abbrev pub view_step : Step → Turn
 view_step (step.Text text) = ToText text.items
@@ -54,7 +57,7 @@ abbrev pub view_text : Option (Vec ℕ Global) → Option (List ℕ)
 view_text text = option_map (λ t. t.items) text
 
 abbrev pub state_of : Desk → State
-state_of d = record { text = view_text d.text; past = past_of d.history; marked = map view_marked d.marked.items }
+state_of d = record { text = view_text d.text; past = past_of d.history; marked = map view_marked d.marked.items; refused = view_last d.refused }
 
 -- the text of the current script: the one that is kept, or else its canonical text
 abbrev pub text_in : Contents → Option (List ℕ) → List ℕ
@@ -92,8 +95,10 @@ Turns (Err (fault.Edit f)) s t text new_text from to new_from new_to =
 
 -- the latest edit is undone
 abbrev pub Undoes : Result (Unit {0}) HistoryFault → Contents → State → Contents → State → Type 0
-Undoes result s d t e = Turns result s t d.text e.text d.past.earlier d.past.later e.past.earlier e.past.later × (e.marked ≡ d.marked)
+Undoes result s d t e =
+    Turns result s t d.text e.text d.past.earlier d.past.later e.past.earlier e.past.later × (e.marked ≡ d.marked) × (e.refused ≡ d.refused)
 
 -- the edit that was undone last is redone
 abbrev pub Redoes : Result (Unit {0}) HistoryFault → Contents → State → Contents → State → Type 0
-Redoes result s d t e = Turns result s t d.text e.text d.past.later d.past.earlier e.past.later e.past.earlier × (e.marked ≡ d.marked)
+Redoes result s d t e =
+    Turns result s t d.text e.text d.past.later d.past.earlier e.past.later e.past.earlier × (e.marked ≡ d.marked) × (e.refused ≡ d.refused)

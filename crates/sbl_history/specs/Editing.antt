@@ -24,6 +24,7 @@ Remembers kind text unless d e =
 pub record IsNoted (kind : EditKind) (s t : Contents) (d e : State) (text : Option (List ℕ)) : Type 0 where
   pub text_is : e.text ≡ text
   pub marked : e.marked ≡ d.marked
+  pub refused : e.refused ≡ d.refused
   pub past : Remembers kind (text_in s d.text) (SameText s t) d e
 
 -- The bench makes an edit of the script, and the desk notes it with its kind and this text. After a fault the desk is unchanged.

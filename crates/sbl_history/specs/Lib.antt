@@ -1,6 +1,7 @@
 -- definitions that public contracts depend on
 pub mod History
 pub mod Listing
+pub mod Refused
 pub mod Desks
 pub mod Editing
 pub mod Splicing

@@ -1,4 +1,5 @@
 //! A desk: what is kept beside a bench at work, so that its edits can be undone and its rows compared with those at a mark.
+ghost use Rattle.std.specs.Option.{option_map};
 ghost use Rattle.std.specs.Prelude.{◌≡◌, ℕ, List, [], IfOk, IfSome, OnErr, OnOk, None, Some, length, map, string_bytes, true};
 ghost use Rattle.sbl_bench.specs.Contents.{rows_now};
 ghost use Rattle.sbl_bench.specs.Edits.{Whole};
@@ -9,6 +10,7 @@ ghost use Rattle.sbl_rows.specs.StemRows.{rows_with};
 ghost use Rattle.sbl_history.specs.Desks.{Redoes, Undoes, state_of, text_in, view_kind, view_text};
 ghost use Rattle.sbl_history.specs.History.{OfScript};
 ghost use Rattle.sbl_history.specs.Listing as listing;
+ghost use Rattle.sbl_history.specs.Refused.{view_refused};
 ghost use Rattle.sbl_history.specs.{Editing.NotesLimit, Editing.Remembers, Editing.Replaces, Editing.ReplacesPart, Splicing.IsTextIn, Splicing.Reads};
 ghost use Rattle.sbl_script.specs.Parts.{view_part};
 
@@ -16,6 +18,7 @@ use crate::history::{HistoryFault, text_of, turn};
 use crate::kinds::HeldKind;
 use crate::listing::history_text;
 use crate::marks::{MarkedRow, copy_rows, rows_of_stems, views_of};
+use crate::refused::Refused;
 use crate::splice::{SplicedText, splice};
 use crate::steps::{HeldEdit, History, Step};
 use sbl_bench::{Bench, EditFault, Row};
@@ -31,6 +34,8 @@ pub struct Desk {
     text: Option<Vec<u8>>,
     history: History,
     marked: Vec<MarkedRow>,
+    // the text that was refused last, unless one was accepted since
+    refused: Option<Refused>,
 }
 
 /// The script before an edit.
@@ -47,7 +52,7 @@ impl Desk {
     ///
     /// Returns `AllocError` if an allocation fails.
     pub fn new(alloc: Global, bench: &Bench, text: Vec<u8>) -> Result<Desk, AllocError>
-        ensures { IfOk result (λ d. state_of d ≡ record { text = Some text.items; past = record { earlier = []; later = [] }; marked = rows_now (contents_of bench.now) }) }
+        ensures { IfOk result (λ d. state_of d ≡ record { text = Some text.items; past = record { earlier = []; later = [] }; marked = rows_now (contents_of bench.now); refused = None }) }
     {
         let marked = copy_rows(alloc, bench)?;
         let history = History::new(alloc)?;
@@ -56,6 +61,7 @@ impl Desk {
             text: Some(text),
             history,
             marked,
+            refused: None,
         })
     }
 
@@ -124,6 +130,7 @@ impl Desk {
     fn note(&mut self, bench: &Bench, kind: HeldKind, before: Before, text: Option<Vec<u8>>)
         ensures text { (state_of self.new).text ≡ view_text text }
         ensures marked { (state_of self.new).marked ≡ (state_of self.old).marked }
+        ensures refused { (state_of self.new).refused ≡ (state_of self.old).refused }
         ensures past { Remembers (view_kind kind) before.text.items (canonical (contents_of bench.now).setting.script.items ≡ string_bytes before.canonical) (state_of self.old) (state_of self.new) }
     {
         self.text = text;
@@ -204,6 +211,27 @@ impl Desk {
         let text = &mut self.text;
         let past = &mut self.history;
         turn(self.alloc, bench, text, &mut past.later, &mut past.earlier)
+    }
+
+    /// Keeps a text that was refused, in place of the last one.
+    pub fn note_refused(&mut self, refused: Refused)
+        ensures { state_of self.new ≡ record (state_of self.old) { refused = Some (view_refused refused) } }
+    {
+        self.refused = Some(refused);
+    }
+
+    /// Forgets the text that was refused last, since one was accepted.
+    pub fn note_accepted(&mut self)
+        ensures { state_of self.new ≡ record (state_of self.old) { refused = None } }
+    {
+        self.refused = None;
+    }
+
+    /// Returns the text that was refused last, if one is kept.
+    pub fn refused_text(&self) -> Option<&Refused>
+        ensures { option_map (λ r. view_refused r.now) result ≡ (state_of self.now).refused }
+    {
+        self.refused.as_ref()
     }
 
     /// Returns the rows of the edits that can be undone, the oldest first, and then of those that can be redone, the next one first.

@@ -8,9 +8,11 @@ mod kinds;
 mod line_ends;
 mod listing;
 mod marks;
+mod refused;
 mod splice;
 mod steps;
 
 pub use desk::Desk;
 pub use history::HistoryFault;
 pub use line_ends::{has_crlf, push_crlf};
+pub use refused::{HeldPart, Refused};

@@ -9,3 +9,9 @@ pub mod FaultKinds
 pub mod InBlocks
 pub mod HeadFacts
 pub mod PartFacts
+pub mod ListedFaults
+pub mod LexerSteps
+pub mod Rests
+pub mod PlacedFaults
+pub mod RangesOf
+pub mod BlockFacts

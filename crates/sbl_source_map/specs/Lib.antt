@@ -2,6 +2,10 @@
 pub mod SubjectTokens
 pub mod FaultPlaces
 pub mod BlockPlaces
+pub mod FaultRanges
+pub mod FaultLists
+pub mod BlockFaults
+pub mod FaultNumbers
 pub mod Positions
 pub mod ItemWords
 pub mod PartTokens
@@ -12,3 +16,4 @@ pub mod Walks
 pub mod HeadReader
 pub mod FaultKinds
 pub mod TokenTrees
+pub mod LexerStops

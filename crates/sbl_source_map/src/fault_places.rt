@@ -60,7 +60,7 @@ pub(crate) fn tokens_of<'a>(
 }
 
 /// Returns the byte offset of the first token that the workbench does not support; `None` if it supports all.
-fn first_left_out(tokens: &[Token<'_>]) -> Option<usize>
+pub(crate) fn first_left_out(tokens: &[Token<'_>]) -> Option<usize>
     ensures { result ≡ spec.first_left_out (map placed_of tokens.now) }
 {
     for token in tokens {

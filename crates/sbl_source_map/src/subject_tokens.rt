@@ -113,3 +113,21 @@ pub fn subject_at(
     }
     Ok(None)
 }
+
+/// Returns the byte ranges of the tokens that the checks look at, in order. Returns `AllocError` if an allocation fails.
+pub fn subject_ranges(
+    alloc: Global,
+    tokens: &[Token<'_>],
+) -> Result<Vec<(usize, usize)>, AllocError>
+    ensures { IfOk result (λ ranges. ranges.items ≡ map walk.range_of (spec.subject_tokens (map placed_of tokens.now))) }
+{
+    let mut brackets = Brackets::new(alloc);
+    let mut ranges = Vec::new(alloc);
+    for token in tokens {
+        if is_subject(brackets.is_in_among(), token) {
+            ranges.push((token.start, token.end))?;
+        }
+        brackets.pass(token)?;
+    }
+    Ok(ranges)
+}

@@ -6,3 +6,4 @@ pub mod LookupFacts
 pub mod StemFileFacts
 pub mod TextReplyFacts
 pub mod WordFileFacts
+pub mod FaultFacts

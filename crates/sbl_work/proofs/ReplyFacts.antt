@@ -1,5 +1,5 @@
 -- The replies to lines with a block.
-use Rattle.std.proofs.Common.{◌≡◌, ◌⊎◌, inl, inr, ◌<◌, ◌≤◌, ℕ, Bool, true, false, List, [], ◌∷◌, Option, Some, None, Result, Ok, Err, if◌then◌else◌, length, nat_lt, codes, refl, sym, ap, subst, arith}
+use Rattle.std.proofs.Common.{◌≡◌, ◌⊎◌, inl, inr, ◌<◌, ◌≤◌, ◌∙◌, ℕ, Bool, true, false, List, [], ◌∷◌, Option, Some, None, Result, Ok, Err, if◌then◌else◌, length, nat_lt, codes, refl, sym, ap, subst, arith}
 use Rattle.std.proofs.lemmas.Bool.Decides.{nat_tests}
 use Rattle.std.specs.Option.{is_some}
 use Rattle.std.specs.Prelude.{IfErr, IfOk, MatchResult, Vec}
@@ -22,10 +22,12 @@ use Rattle.sbl_text.specs.declared.fault.ScriptFault.TheVariants as script
 use Rattle.sbl_work.specs.Commands as command
 use Rattle.sbl_work.specs.Commands.{WorkCommand, alone_command, block_command, families_command, is_replace, part_command, with_file}
 use Rattle.sbl_history.specs.Desks.{State}
+use Rattle.sbl_history.specs.Refused.{RefusedText, LongText, PartText, WholeText}
+use Rattle.sbl_work.specs.FaultReplies.{kept_after, refused_part, refused_whole}
 use Rattle.sbl_history.specs.Editing.{Replaces}
 use Rattle.sbl_history.specs.History.{OfScript}
-use Rattle.sbl_work.specs.Replies.{IsWorkReply, TellsReport, not_text_text, rows_or_fault}
-use Rattle.sbl_work.specs.ReplyViews.{IsFamiliesAnswer, IsFileAnswer, IsPartResult, IsTextResult, IsWorkAnswer, NamesText}
+use Rattle.sbl_work.specs.Replies.{IsWorkReply, ReplacesKept, TellsReport, not_text_text, rows_or_fault}
+use Rattle.sbl_work.specs.ReplyViews.{IsFamiliesAnswer, IsFileAnswer, IsKeptPart, IsPartResult, IsTextResult, IsWorkAnswer, NamesText}
 use Rattle.sbl_history.proofs.Refusing.{nothing_tried}
 
 -- ---- any command
@@ -78,7 +80,7 @@ whole_refused s d bytes f (inr memory) = subst (λ (g : EditFault). Replaces (Er
 -- memory for the file of the script is refused
 pub reload_memory : (s : Contents) (d : State) (line : List ℕ) (r : Reply) → command.EditWhole [] ≡ alone_command (Some []) line → IsReply r (edit_text (Some fault.OutOfMemory)) → IsFileAnswer s d line r s d
 reload_memory s d line r is shown =
-    (Some [], same_command s s d d (command.EditWhole []) (alone_command (Some []) line) r is (edit_text (Some fault.OutOfMemory), shown, (Err fault.OutOfMemory, whole_refused s d [] fault.OutOfMemory (inr refl), refl)))
+    (Some [], same_command s s d d (command.EditWhole []) (alone_command (Some []) line) r is (edit_text (Some fault.OutOfMemory), shown, (Err fault.OutOfMemory, (d, whole_refused s d [] fault.OutOfMemory (inr refl), refl), refl)))
 
 -- memory for a file of families is refused
 pub families_memory : (s : Contents) (d : State) (line : List ℕ) (r : Reply) → command.families_in_file [] ≡ alone_command (Some []) line → IsReply r (edit_text (Some fault.OutOfMemory)) → IsFileAnswer s d line r s d
@@ -92,12 +94,12 @@ append_memory s d line r is shown =
 
 -- these bytes replace it
 pub whole_answer : (s t : Contents) (d e : State) (bytes : List ℕ) (result : Result (Unit {0}) EditFault) (r : Reply)
-    → Replaces result OfScript (Whole bytes) (Some bytes) s d t e → IsReply r (edit_text (fault_in result)) → IsWorkAnswer s d (command.EditWhole bytes) r t e
+    → ReplacesKept result bytes s d t e → IsReply r (edit_text (fault_in result)) → IsWorkAnswer s d (command.EditWhole bytes) r t e
 whole_answer s t d e bytes result r so shown = (edit_text (fault_in result), shown, (result, so, refl))
 
 -- memory for a file that replaces it is refused
 pub whole_memory : (s : Contents) (d : State) (r : Reply) → IsReply r (edit_text (Some fault.OutOfMemory)) → (file : Option (List ℕ)) × IsWorkAnswer s d (with_file command.EditWhole file) r s d
-whole_memory s d r shown = (Some [], whole_answer s s d d [] (Err fault.OutOfMemory) r (whole_refused s d [] fault.OutOfMemory (inr refl)) shown)
+whole_memory s d r shown = (Some [], whole_answer s s d d [] (Err fault.OutOfMemory) r (d, whole_refused s d [] fault.OutOfMemory (inr refl), refl) shown)
 
 -- ---- the text of a block
 
@@ -111,57 +113,135 @@ text_long lines long = let test : nat_lt max_script (length (made_text lines)) �
 -- ---- a part of a script
 
 -- an allocation fails
-part_memory : (s : Contents) (d : State) (what : ScriptEdit) (text : Result (List ℕ) ScriptFault) → IsWorkReply s d (part_command (Some what) text) (edit_text (Some fault.OutOfMemory)) s d
-part_memory s d what (Ok text) = inr (refl, refl, refl)
-part_memory s d what (Err f) = ((BlockRefused, (refl, refl)), inl (refl, refl))
+part_memory : (s : Contents) (d : State) (what : ScriptEdit) (bytes : List ℕ) (text : Result (List ℕ) ScriptFault) → IsWorkReply s d (part_command (Some what) bytes text) (edit_text (Some fault.OutOfMemory)) s d
+part_memory s d what bytes (Ok text) = inr (refl, refl, refl)
+part_memory s d what bytes (Err f) = inr (refl, refl, refl)
 
 -- the line is bad
 pub part_bad : (s : Contents) (d : State) (line : List ℕ) (lines : List (List ℕ)) (r : Reply) → target_of line ≡ None → IsReply r (with_line_feed (codes "no 52 BadCommand"))
-    → IsWorkAnswer s d (part_command (target_of line) (text_of_block lines)) r s d
+    → IsWorkAnswer s d (part_command (target_of line) (made_text lines) (text_of_block lines)) r s d
 part_bad s d line lines r none shown =
-    same_command s s d d (part_command None (text_of_block lines)) (part_command (target_of line) (text_of_block lines)) r (ap (λ (o : Option ScriptEdit). part_command o (text_of_block lines)) (sym none))
+    same_command s s d d (part_command None (made_text lines) (text_of_block lines)) (part_command (target_of line) (made_text lines) (text_of_block lines)) r (ap (λ (o : Option ScriptEdit). part_command o (made_text lines) (text_of_block lines)) (sym none))
     (with_line_feed (codes "no 52 BadCommand"), shown, ((Enough, (refl, refl)), inl (refl, refl)))
 
 -- an allocation for the line failed
 pub part_unkept : (s : Contents) (d : State) (line : List ℕ) (lines : List (List ℕ)) (r : Reply) → is_some (target_of line) ≡ true → IsReply r (edit_text (Some fault.OutOfMemory))
-    → IsWorkAnswer s d (part_command (target_of line) (text_of_block lines)) r s d
+    → IsWorkAnswer s d (part_command (target_of line) (made_text lines) (text_of_block lines)) r s d
 part_unkept s d line lines r some shown = by (target_of line) some
   where
-    by : (o : Option ScriptEdit) → is_some o ≡ true → IsWorkAnswer s d (part_command o (text_of_block lines)) r s d
+    by : (o : Option ScriptEdit) → is_some o ≡ true → IsWorkAnswer s d (part_command o (made_text lines) (text_of_block lines)) r s d
     by None e = let no : false ≡ true = e in absurd (cc no)
-    by (Some what) e = (edit_text (Some fault.OutOfMemory), shown, part_memory s d what (text_of_block lines))
+    by (Some what) e = (edit_text (Some fault.OutOfMemory), shown, part_memory s d what (made_text lines) (text_of_block lines))
+
+-- what is kept of bytes that are too long, and of others
+kept_long : (what : ScriptEdit) (bytes : List ℕ) (f : ScriptFault) → max_script < length bytes → refused_part what bytes f ≡ LongText
+kept_long what bytes f long = let test : nat_lt max_script (length bytes) ≡ true = grind (arith, nat_tests) in rw test refl
+
+kept_short : (what : ScriptEdit) (bytes : List ℕ) (f : ScriptFault) → length bytes ≤ max_script → refused_part what bytes f ≡ PartText what bytes f
+kept_short what bytes f few = let test : nat_lt max_script (length bytes) ≡ false = grind (arith, nat_tests) in rw test refl
 
 -- the block has no text
-pub part_refused : (s : Contents) (d : State) (what : ScriptEdit) (lines : List (List ℕ)) (f : EditFault) (r : Reply) → NamesText (Err f) (made_text lines) → IsReply r (edit_text (Some f))
-    → IsWorkAnswer s d (part_command (Some what) (text_of_block lines)) r s d
-part_refused s d what lines f r (inl long) shown =
+pub part_refused : (s : Contents) (d e : State) (what : ScriptEdit) (lines : List (List ℕ)) (f : EditFault) (r : Reply) → NamesText (Err f) (made_text lines)
+    → e ≡ kept_after (Err f) (λ g. LongText) d → IsReply r (edit_text (Some f)) → IsWorkAnswer s d (part_command (Some what) (made_text lines) (text_of_block lines)) r s e
+part_refused s d e what lines f r (inl long) is shown =
     let text : IsReply r (edit_text (Some (fault.Script script.ScriptTooLong))) = subst (λ (g : EditFault). IsReply r (edit_text (Some g))) long.0 shown in
-    same_command s s d d (part_command (Some what) (Err script.ScriptTooLong)) (part_command (Some what) (text_of_block lines)) r (ap (part_command (Some what)) (sym (text_long lines long.1)))
-    (edit_text (Some (fault.Script script.ScriptTooLong)), text, ((Enough, (refl, refl)), inl (refl, refl)))
-part_refused s d what lines f r (inr memory) shown =
+    let kept : e ≡ record d { refused = Some LongText } = is ∙ ap (λ (g : EditFault). kept_after (Err g) (λ h. LongText) d) long.0 in
+    same_command s s d e (part_command (Some what) (made_text lines) (Err script.ScriptTooLong)) (part_command (Some what) (made_text lines) (text_of_block lines)) r
+    (ap (part_command (Some what) (made_text lines)) (sym (text_long lines long.1))) (
+      edit_text (Some (fault.Script script.ScriptTooLong)),
+      text,
+      inl (refl, refl, kept ∙ ap (λ (x : RefusedText). record d { refused = Some x }) (sym (kept_long what (made_text lines) script.ScriptTooLong long.1))),
+    )
+part_refused s d e what lines f r (inr memory) is shown =
     let text : IsReply r (edit_text (Some fault.OutOfMemory)) = subst (λ (g : EditFault). IsReply r (edit_text (Some g))) memory shown in
-    (edit_text (Some fault.OutOfMemory), text, part_memory s d what (text_of_block lines))
+    let kept : e ≡ d = is ∙ ap (λ (g : EditFault). kept_after (Err g) (λ h. LongText) d) memory in
+    subst (λ (x : State). IsWorkAnswer s d (part_command (Some what) (made_text lines) (text_of_block lines)) r s x) (sym kept)
+    (edit_text (Some fault.OutOfMemory), text, part_memory s d what (made_text lines) (text_of_block lines))
 
-part_text : (s t : Contents) (d e : State) (what : ScriptEdit) (bytes : List ℕ) (result : Result (Unit {0}) EditFault) → IsTextResult result what bytes s d t e
-    → IsWorkReply s d (part_command (Some what) (Ok bytes)) (edit_text (fault_in result)) t e
-part_text s t d e what bytes result (inl so) = inl (so.0, result, so.1, so.2, refl)
-part_text s t d e what bytes result (inr memory) = inr (ap (λ (x : Result (Unit {0}) EditFault). edit_text (fault_in x)) memory.0, memory.1, memory.2)
+-- what is kept after an edit by bytes that are short enough
+kept_result : (what : ScriptEdit) (bytes : List ℕ) (d : State) (result : Result (Unit {0}) EditFault) → length bytes ≤ max_script
+    → kept_after result (PartText what bytes) d ≡ kept_after result (refused_part what bytes) d
+kept_result what bytes d result few =
+    let test : nat_lt max_script (length bytes) ≡ false = grind (arith, nat_tests) in
+    let P : Bool → Type 0 = λ b. PartText what bytes ≡ (λ (f : ScriptFault). if b then LongText else PartText what bytes f) in
+    let base : P false = refl in
+    let same : PartText what bytes ≡ refused_part what bytes = subst P (sym test) base in
+    ap (λ (m : ScriptFault → RefusedText). kept_after result m d) same
+
+part_text : (s t : Contents) (d m e : State) (what : ScriptEdit) (bytes : List ℕ) (result : Result (Unit {0}) EditFault) → length bytes ≤ max_script → IsTextResult result what bytes s d t m
+    → e ≡ kept_after result (PartText what bytes) m → IsWorkReply s d (part_command (Some what) bytes (Ok bytes)) (edit_text (fault_in result)) t e
+part_text s t d m e what bytes result few (inl so) is = inl (so.0, result, m, so.1, so.2, is ∙ kept_result what bytes m result few, refl)
+part_text s t d m e what bytes result few (inr memory) is =
+    let kept : e ≡ m = is ∙ ap (λ (x : Result (Unit {0}) EditFault). kept_after x (PartText what bytes) m) memory.0 in
+    inr (ap (λ (x : Result (Unit {0}) EditFault). edit_text (fault_in x)) memory.0, memory.1, kept ∙ memory.2)
 
 -- the block has a text, or bytes that are none
-pub part_held : (s t : Contents) (d e : State) (what : ScriptEdit) (bytes : List ℕ) (lines : List (List ℕ)) (result : Result (Unit {0}) EditFault) (r : Reply)
-    → bytes ≡ made_text lines → length (made_text lines) ≤ max_script → IsPartResult result what bytes s d t e → IsReply r (edit_text (fault_in result))
-    → IsWorkAnswer s d (part_command (Some what) (text_of_block lines)) r t e
-part_held s t d e what bytes lines result r same few so shown = by (is_utf8 (made_text lines)) refl (subst (λ (x : List ℕ). IsPartResult result what x s d t e) same so)
+pub part_held : (s t : Contents) (d m e : State) (what : ScriptEdit) (bytes : List ℕ) (lines : List (List ℕ)) (result : Result (Unit {0}) EditFault) (r : Reply)
+    → bytes ≡ made_text lines → length (made_text lines) ≤ max_script → IsPartResult result what bytes s d t m → e ≡ kept_after result (PartText what bytes) m → IsReply r (edit_text (fault_in result))
+    → IsWorkAnswer s d (part_command (Some what) (made_text lines) (text_of_block lines)) r t e
+part_held s t d m e what bytes lines result r same few so kept shown =
+    by (is_utf8 (made_text lines)) refl (subst (λ (x : List ℕ). IsPartResult result what x s d t m) same so) (kept ∙ ap (λ (x : List ℕ). kept_after result (PartText what x) m) same)
   where
-    by : (b : Bool) → is_utf8 (made_text lines) ≡ b → IsPartResult result what (made_text lines) s d t e → IsWorkAnswer s d (part_command (Some what) (text_of_block lines)) r t e
-    by true is part =
-        let text : IsTextResult result what (made_text lines) s d t e = rw is at part in
-        same_command s t d e (part_command (Some what) (Ok (made_text lines))) (part_command (Some what) (text_of_block lines)) r (ap (part_command (Some what)) (sym (text_is lines true few is)))
-        (edit_text (fault_in result), shown, part_text s t d e what (made_text lines) result text)
-    by false is part =
-        let bad : (result ≡ Err (fault.Script script.NotUtf8)) × (t ≡ s) × (e ≡ d) = rw is at part in
-        same_command s t d e (part_command (Some what) (Err script.NotUtf8)) (part_command (Some what) (text_of_block lines)) r (ap (part_command (Some what)) (sym (text_is lines false few is)))
-        (edit_text (fault_in result), shown, ((Enough, (ap (λ (x : Result (Unit {0}) EditFault). edit_text (fault_in x)) bad.0, bad.1)), inl (ap (λ (x : Contents). x.setting.limit) bad.1, bad.2)))
+    by : (b : Bool) → is_utf8 (made_text lines) ≡ b → IsPartResult result what (made_text lines) s d t m → e ≡ kept_after result (PartText what (made_text lines)) m
+        → IsWorkAnswer s d (part_command (Some what) (made_text lines) (text_of_block lines)) r t e
+    by true is part last =
+        let text : IsTextResult result what (made_text lines) s d t m = rw is at part in
+        same_command s t d e (part_command (Some what) (made_text lines) (Ok (made_text lines))) (part_command (Some what) (made_text lines) (text_of_block lines)) r
+        (ap (part_command (Some what) (made_text lines)) (sym (text_is lines true few is)))
+        (edit_text (fault_in result), shown, part_text s t d m e what (made_text lines) result few text last)
+    by false is part last =
+        let bad : (result ≡ Err (fault.Script script.NotUtf8)) × (t ≡ s) × (m ≡ d) = rw is at part in
+        let noted : e ≡ record m { refused = Some (PartText what (made_text lines) script.NotUtf8) } =
+        last ∙ ap (λ (x : Result (Unit {0}) EditFault). kept_after x (PartText what (made_text lines)) m) bad.0 in
+        same_command s t d e (part_command (Some what) (made_text lines) (Err script.NotUtf8)) (part_command (Some what) (made_text lines) (text_of_block lines)) r
+        (ap (part_command (Some what) (made_text lines)) (sym (text_is lines false few is))) (
+          edit_text (fault_in result),
+          shown,
+          inl (
+            ap (λ (x : Result (Unit {0}) EditFault). edit_text (fault_in x)) bad.0,
+            bad.1,
+            noted ∙ ap (λ (x : State). record x { refused = Some (PartText what (made_text lines) script.NotUtf8) }) bad.2
+                ∙ ap (λ (x : RefusedText). record d { refused = Some x }) (sym (kept_short what (made_text lines) script.NotUtf8 few)),
+          ),
+        )
+
+-- no memory for what is kept
+pub part_kept : (s t : Contents) (d e : State) (what : ScriptEdit) (bytes : List ℕ) (lines : List (List ℕ)) (result : Result (Unit {0}) EditFault) (r : Reply)
+    → bytes ≡ made_text lines → length (made_text lines) ≤ max_script → IsKeptPart result what bytes s d t e → IsReply r (edit_text (fault_in result))
+    → IsWorkAnswer s d (part_command (Some what) (made_text lines) (text_of_block lines)) r t e
+part_kept s t d e what bytes lines result r same few (inl so) shown = part_held s t d so.0 e what bytes lines result r same few so.1 so.2 shown
+part_kept s t d e what bytes lines result r same few (inr memory) shown =
+    let text : IsReply r (edit_text (Some fault.OutOfMemory)) = subst (λ (x : Result (Unit {0}) EditFault). IsReply r (edit_text (fault_in x))) memory.0 shown in
+    subst (λ (x : Contents). IsWorkAnswer s d (part_command (Some what) (made_text lines) (text_of_block lines)) r x e) (sym memory.1)
+    (subst (λ (x : State). IsWorkAnswer s d (part_command (Some what) (made_text lines) (text_of_block lines)) r s x) (sym memory.2)
+    (edit_text (Some fault.OutOfMemory), text, part_memory s d what (made_text lines) (text_of_block lines)))
+
+-- ---- a whole script that is kept
+
+whole_long : (bytes : List ℕ) → max_script < length bytes → (λ (f : ScriptFault). LongText) ≡ refused_whole bytes
+whole_long bytes long =
+    let test : nat_lt max_script (length bytes) ≡ true = grind (arith, nat_tests) in
+    let P : Bool → Type 0 = λ b. (λ (f : ScriptFault). LongText) ≡ (λ (f : ScriptFault). if b then LongText else WholeText bytes) in
+    let base : P true = refl in
+    subst P (sym test) base
+
+-- the block has no text
+pub whole_kept : (s : Contents) (d e : State) (bytes : List ℕ) (f : EditFault) (result : Result (Unit {0}) EditFault) → NamesText (Err f) bytes → result ≡ Err f
+    → e ≡ kept_after (Err f) (λ g. LongText) d → ReplacesKept result bytes s d s e
+whole_kept s d e bytes f result names is kept =
+    subst (λ (r : Result (Unit {0}) EditFault). ReplacesKept r bytes s d s e) (sym is) (d, whole_refused s d bytes f names, kept ∙ same names)
+  where
+    same : NamesText (Err f) bytes → kept_after (Err f) (λ g. LongText) d ≡ kept_after (Err f) (refused_whole bytes) d
+    same (inl long) = ap (λ (m : ScriptFault → RefusedText). kept_after (Err f) m d) (whole_long bytes long.1)
+    same (inr memory) =
+        ap (λ (g : EditFault). kept_after (Err g) (λ h. LongText) d) memory ∙ sym (ap (λ (g : EditFault). kept_after (Err g) (refused_whole bytes) d) memory)
+
+-- these bytes replace it, and are kept
+pub whole_noted : (s t : Contents) (d m e : State) (bytes : List ℕ) (result noted : Result (Unit {0}) EditFault) (x : RefusedText) → Replaces result OfScript (Whole bytes) (Some bytes) s d t m
+    → noted ≡ result → e ≡ kept_after result (λ f. x) m → x ≡ refused_whole bytes script.NotUtf8 → ReplacesKept noted bytes s d t e
+whole_noted s t d m e bytes result noted x so same kept is =
+    subst (λ (r : Result (Unit {0}) EditFault). ReplacesKept r bytes s d t e) (sym same)
+    (m, so, kept ∙ ap (λ (y : RefusedText). kept_after result (λ f. y) m) is)
 
 -- ---- the bytes of a part
 
@@ -204,16 +284,16 @@ families_refused s d lines f r (inr memory) shown = by (nat_lt max_script (lengt
 -- ---- a line with its block
 
 pub part_block : (s t : Contents) (d e : State) (line : List ℕ) (lines : List (List ℕ)) (r : Reply) (asked : Bool) → asked ≡ true
-    → IsWorkAnswer s d (part_command (target_of line) (text_of_block lines)) r t e
-    → IsWorkAnswer s d (if asked then part_command (target_of line) (text_of_block lines) else (if is_replace line then command.EditWhole (made_text lines) else families_command lines)) r t e
+    → IsWorkAnswer s d (part_command (target_of line) (made_text lines) (text_of_block lines)) r t e
+    → IsWorkAnswer s d (if asked then part_command (target_of line) (made_text lines) (text_of_block lines) else (if is_replace line then command.EditWhole (made_text lines) else families_command lines)) r t e
 part_block s t d e line lines r asked is answer = rw is answer
 
 pub families_block : (s t : Contents) (d e : State) (line : List ℕ) (lines : List (List ℕ)) (r : Reply) (asked replaces : Bool) → asked ≡ false → replaces ≡ false
     → IsWorkAnswer s d (families_command lines) r t e
-    → IsWorkAnswer s d (if asked then part_command (target_of line) (text_of_block lines) else (if replaces then command.EditWhole (made_text lines) else families_command lines)) r t e
+    → IsWorkAnswer s d (if asked then part_command (target_of line) (made_text lines) (text_of_block lines) else (if replaces then command.EditWhole (made_text lines) else families_command lines)) r t e
 families_block s t d e line lines r asked replaces is other answer = rw (is, other) answer
 
 pub replace_block : (s t : Contents) (d e : State) (line : List ℕ) (lines : List (List ℕ)) (r : Reply) (asked replaces : Bool) → asked ≡ false → replaces ≡ true
     → IsWorkAnswer s d (command.EditWhole (made_text lines)) r t e
-    → IsWorkAnswer s d (if asked then part_command (target_of line) (text_of_block lines) else (if replaces then command.EditWhole (made_text lines) else families_command lines)) r t e
+    → IsWorkAnswer s d (if asked then part_command (target_of line) (made_text lines) (text_of_block lines) else (if replaces then command.EditWhole (made_text lines) else families_command lines)) r t e
 replace_block s t d e line lines r asked replaces is same answer = rw (is, same) answer

@@ -7,7 +7,7 @@ use Rattle.sbl_io.specs.Devices.{Tally}
 use Rattle.sbl_io.specs.HeldInput.{AllFit, Took, input_of, line_of}
 use Rattle.sbl_io.specs.declared.faults.ServeFault.{ServeFault}
 use Rattle.sbl_io.specs.declared.lines.Lines.{Lines}
-use Rattle.sbl_reports.specs.Block.{BlockLines, Breaks, NoPoint}
+use Rattle.sbl_reports.specs.Block.{BlockLines, Breaks, NoPoint, made_text}
 use Rattle.sbl_sessions.specs.inside.SessionParts.{block_lines}
 use Rattle.sbl_sessions.specs.declared.replies.Reply.{Reply}
 use Rattle.sbl_sessions.specs.Commands.{target_of, text_of_block}
@@ -46,7 +46,7 @@ BreaksLine left lines new_lines bench desk new_bench new_desk f =
 
 -- the edit of a part of the script that a line asks for with its block
 abbrev pub part_edit : List ℕ → List (List ℕ) → WorkCommand
-part_edit line lines = part_command (target_of line) (text_of_block lines)
+part_edit line lines = part_command (target_of line) (made_text lines) (text_of_block lines)
 
 -- work over lines, a writer, a bench and a desk
 abbrev pub Works : {R W : Type 0} → (R → Option (List ℕ)) → (W → Option (List ℕ)) → List ℕ → Lines R → Lines R → W → W

@@ -22,6 +22,8 @@ pub data WorkCommand : Type 0 where
   Session : session.Command → WorkCommand
   -- a text replaces a part of the script
   EditPart : ScriptEdit → List ℕ → WorkCommand
+  -- bytes for a part of the script that are no text, with their fault
+  NoPart : ScriptEdit → List ℕ → ScriptFault → WorkCommand
   -- these bytes replace the whole script
   EditWhole : List ℕ → WorkCommand
   -- takes back the last edit that undo can take back: one of the script, or a limit
@@ -40,6 +42,10 @@ pub data WorkCommand : Type 0 where
   Words : List ℕ → WorkCommand
   -- what differs from the mark
   Changes : WorkCommand
+  -- the first changes of each kind from the mark, so many of each
+  FirstChanges : ℕ → WorkCommand
+  -- how many changes of each kind there are from the mark
+  Figures : WorkCommand
   -- figures of the bench
   Stats : WorkCommand
   -- what no word uses
@@ -78,6 +84,10 @@ pub data WorkCommand : Type 0 where
   Tokens : WorkCommand
   -- the tokens of the text with these bytes
   TokensOf : List ℕ → WorkCommand
+  -- all faults of the text that was refused last
+  Faults : WorkCommand
+  -- all faults of the text with these bytes
+  FaultsOf : List ℕ → WorkCommand
   -- the name and the version of the program
   Hello : WorkCommand
 
@@ -123,6 +133,10 @@ find_command (b ∷ text) = Find (chars (b ∷ text))
 abbrev pub mark_command : Option (List ℕ) → List ℕ → WorkCommand
 mark_command file line = if bytes_eq (argument line) [] then Session (session.line_command line) else with_file MarkStems file
 
+-- so many of the first changes of each kind; the line is bad without a number above 0
+abbrev pub first_changes_command : List ℕ → WorkCommand
+first_changes_command text = option_map_or FirstChanges (count_in text) (Session session.Bad)
+
 -- the command of a line by its command word
 abbrev pub word_command : Option (List ℕ) → List ℕ → WorkCommand
 word_command file line =
@@ -141,7 +155,9 @@ word_command file line =
     else (if bytes_eq (command_word line) (codes "mark") then mark_command file line
     else (if bytes_eq (command_word line) (codes "approve") then Approve (is_some file)
     else (if bytes_eq (command_word line) (codes "tokens") then with_file TokensOf file
-    else Session (session.line_command line)))))))))))))))
+    else (if bytes_eq (command_word line) (codes "faults") then with_file FaultsOf file
+    else (if bytes_eq (command_word line) (codes "changes") then first_changes_command (argument line)
+    else Session (session.line_command line)))))))))))))))))
 
 -- the command of a line that is no comment and no `echo`
 abbrev pub text_command : Option (List ℕ) → List ℕ → WorkCommand
@@ -160,8 +176,10 @@ text_command file line =
     else (if bytes_eq line (codes "text") then Text
     else (if bytes_eq line (codes "places") then Places
     else (if bytes_eq line (codes "tokens") then Tokens
+    else (if bytes_eq line (codes "faults") then Faults
     else (if bytes_eq line (codes "hello") then Hello
-    else word_command file line))))))))))))))
+    else (if bytes_eq line (codes "figures") then Figures
+    else word_command file line))))))))))))))))
 
 -- whether a line begins with `#`
 abbrev pub is_comment : List ℕ → Bool
@@ -175,9 +193,9 @@ utf8_command file line =
     else text_command file line
 
 -- The command of a line without a block. The file has these bytes: the script's for `reload`, that of the words for `words`, the
--- one that the line names for `replace`, `families`, `mark` and `tokens`; for `save` and `approve` any if it was written, and for `append` the lines
--- that were put at its end; none if it could not be read or written. A line that is not UTF-8 and no comment is a command of a
--- session, where it is bad.
+-- one that the line names for `replace`, `families`, `mark`, `tokens` and `faults`; for `save` and `approve` any if it was written,
+-- and for `append` the lines that were put at its end; none if it could not be read or written. A line that is not UTF-8 and no
+-- comment is a command of a session, where it is bad.
 unfoldable pub alone_command : Option (List ℕ) → List ℕ → WorkCommand
 alone_command file line =
     if is_comment line then Nothing
@@ -194,10 +212,10 @@ abbrev pub asks_work_block : List ℕ → Bool
 asks_work_block line = asks_block line || (is_replace line || bytes_eq line (codes "families"))
 
 -- A line that is bad comes before a fault of its block.
-abbrev pub part_command : Option ScriptEdit → Result (List ℕ) ScriptFault → WorkCommand
-part_command None text = Session session.Bad
-part_command (Some what) (Ok text) = EditPart what text
-part_command (Some what) (Err f) = Session (session.HasNoText f)
+abbrev pub part_command : Option ScriptEdit → List ℕ → Result (List ℕ) ScriptFault → WorkCommand
+part_command None bytes text = Session session.Bad
+part_command (Some what) bytes (Ok text) = EditPart what text
+part_command (Some what) bytes (Err f) = NoPart what bytes f
 
 abbrev pub families_command : List (List ℕ) → WorkCommand
 families_command lines =
@@ -205,7 +223,7 @@ families_command lines =
 
 abbrev pub block_command : List ℕ → List (List ℕ) → WorkCommand
 block_command line lines =
-    if asks_block line then part_command (session.target_of line) (session.text_of_block lines)
+    if asks_block line then part_command (session.target_of line) (made_text lines) (session.text_of_block lines)
     else (if is_replace line then EditWhole (made_text lines)
     else families_command lines)
 

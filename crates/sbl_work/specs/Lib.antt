@@ -1,6 +1,7 @@
 -- definitions that public contracts depend on
 pub mod Questions
 pub mod Commands
+pub mod FaultReplies
 pub mod Replies
 pub mod ReplyViews
 pub mod Serving

@@ -9,6 +9,7 @@ use Rattle.sbl_bench.specs.Edits.{Edits, Whole}
 use Rattle.sbl_bench.specs.Whys.{refusal_of_why}
 use Rattle.sbl_bench.specs.declared.fault.EditFault.{EditFault}
 use Rattle.sbl_bench.specs.declared.fault.EditFault.TheVariants as edit
+use Rattle.sbl_text.specs.declared.fault.ScriptFault.{ScriptFault}
 use Rattle.sbl_text.specs.declared.fault.ScriptFault.TheVariants as script
 use Rattle.sbl_reports.specs.Block.{max_script}
 use Rattle.sbl_script.specs.Edits.{ScriptEdit}
@@ -25,6 +26,8 @@ use Rattle.sbl_explain.specs.WhyRows as rows
 use Rattle.sbl_work.specs.Commands.{WorkCommand, Nothing, Session, EditPart, EditWhole, Undo, Redo, Mark, Changes, Stats}
 use Rattle.sbl_work.specs.Commands.{Unused, Largest, Families, Why, Integers, Uses, Counts, Find, Stem, Show, Saved, NoWords, NoFile, Echo}
 use Rattle.sbl_work.specs.Commands.{MarkStems, Approve, Words, Text, Places, Tokens, TokensOf, Hello, History}
+use Rattle.sbl_work.specs.Commands.{NoPart, Faults, FaultsOf, FirstChanges, Figures}
+use Rattle.sbl_work.specs.FaultReplies.{IsFaultsText, IsRefusedText, kept_after, kept_after_turn, refused_part, refused_whole}
 use Rattle.sbl_input.specs.FileWords.{file_lines, file_words, first_line_fault}
 use Rattle.sbl_io.specs.LinesOf.{lines_of}
 use Rattle.sbl_input.specs.declared.faults.LoadFault.{LoadFault}
@@ -37,11 +40,13 @@ use Rattle.sbl_history.specs.Desks.{Redoes, State, Undoes, text_in}
 use Rattle.sbl_history.specs.Editing.{IsLimitNoted, Replaces, ReplacesPart}
 use Rattle.sbl_history.specs.History.{OfScript}
 use Rattle.sbl_history.specs.Listing.{history_text}
+use Rattle.sbl_history.specs.Refused.{RefusedText}
 use Rattle.sbl_reports.specs.Families.{families_in, families_text}
 use Rattle.sbl_source_map.specs.Heads.{IsWithoutHead}
 use Rattle.sbl_text_rows.specs.PlaceRows.{IsPlacesText}
 use Rattle.sbl_text_rows.specs.TokenRows.{IsTokensText}
 use Rattle.sbl_reports.specs.Lookups.{found_text, stem_text}
+use Rattle.sbl_changes.specs.ChangeReports.{change_figures_text, first_changes_text}
 use Rattle.sbl_reports.specs.Reports.{changes_text, largest_text, stats_text}
 use Rattle.sbl_reports.specs.StemLines.{are_text, have_lines, stems_in}
 use Rattle.sbl_history.specs.declared.history.HistoryFault.{HistoryFault}
@@ -171,15 +176,39 @@ IsWordsReply bytes s d text t e =
 abbrev pub ReplacesWhole : Result (Unit {0}) EditFault → List ℕ → Contents → State → Contents → State → Type 0
 ReplacesWhole result bytes s d t e = Replaces result OfScript (Whole bytes) (Some bytes) s d t e
 
+-- the same, and the bytes are kept if they have a fault
+abbrev pub ReplacesKept : Result (Unit {0}) EditFault → List ℕ → Contents → State → Contents → State → Type 0
+ReplacesKept result bytes s d t e = (mid : State) × ReplacesWhole result bytes s d t mid × (e ≡ kept_after result (refused_whole bytes) mid)
+
 abbrev pub IsWholeReply : List ℕ → Contents → State → List ℕ → Contents → State → Type 0
 IsWholeReply bytes s d text t e =
-    (result : Result (Unit {0}) EditFault) × ReplacesWhole result bytes s d t e × (text ≡ edit_text (fault_in result))
+    (result : Result (Unit {0}) EditFault) × ReplacesKept result bytes s d t e × (text ≡ edit_text (fault_in result))
 
--- a part of the script is replaced by this text, without the beginning of a definition
+-- A part of the script is replaced by this text, without the beginning of a definition. The text is kept if it has a fault.
 abbrev pub IsPartReply : ScriptEdit → List ℕ → Contents → State → List ℕ → Contents → State → Type 0
 IsPartReply what block s d text t e =
-    (rest : List ℕ) × (result : Result (Unit {0}) EditFault) × IsWithoutHead what block rest × ReplacesPart result what rest s d t e
-    × (text ≡ edit_text (fault_in result))
+    (rest : List ℕ) × (result : Result (Unit {0}) EditFault) × (mid : State) × IsWithoutHead what block rest
+    × ReplacesPart result what rest s d t mid × (e ≡ kept_after result (refused_part what block) mid) × (text ≡ edit_text (fault_in result))
+
+-- an edit is undone or redone; then no refused text is kept
+abbrev pub IsTurnReply : (Result (Unit {0}) HistoryFault → Contents → State → Contents → State → Type 0)
+    → (Result (Unit {0}) HistoryFault → List ℕ) → Contents → State → List ℕ → Contents → State → Type 0
+IsTurnReply Turns turn_reply s d text t e =
+    (result : Result (Unit {0}) HistoryFault) × (mid : State) × Turns result s d t mid × (e ≡ kept_after_turn result mid) × (text ≡ turn_reply result)
+
+-- bytes for a part are no text, and are kept
+abbrev pub IsNoPartReply : ScriptEdit → List ℕ → ScriptFault → Contents → State → List ℕ → Contents → State → Type 0
+IsNoPartReply what bytes f s d text t e =
+    (text ≡ edit_text (Some (edit.Script f))) × (t ≡ s) × (e ≡ record d { refused = Some (refused_part what bytes f) })
+
+-- the rows of all faults of a text; or an allocation fails
+abbrev pub TellsFaults : (List ℕ → Type 0) → Contents → State → List ℕ → Contents → State → Type 0
+TellsFaults AreRows s d text t e = (AreRows text × (t ≡ s) × (e ≡ d)) ⊎ TellsMemory s d text t e
+
+-- the faults of the text that was refused last; no rows if none is kept
+abbrev pub IsFaultsReply : Option RefusedText → Contents → State → List ℕ → Contents → State → Type 0
+IsFaultsReply None s d text t e = TellsAlone [] s d text t e
+IsFaultsReply (Some refused) s d text t e = TellsFaults (IsRefusedText s refused) s d text t e
 
 abbrev pub IsDefinitionReply : Option (List ℕ) → Contents → State → List ℕ → Contents → State → Type 0
 IsDefinitionReply None s d text t e = TellsAlone (edit_text (Some edit.NoRoutine)) s d text t e
@@ -213,15 +242,18 @@ abbrev pub IsWorkReply : Contents → State → WorkCommand → List ℕ → Con
 IsWorkReply s d Nothing text t e = TellsAlone [] s d text t e
 IsWorkReply s d (Session command) text t e = IsTextAnswer s command text t × IsLimitNoted s t d e
 IsWorkReply s d (EditPart what block) text t e = IsPartReply what block s d text t e ⊎ TellsMemory s d text t e
+IsWorkReply s d (NoPart what bytes f) text t e = IsNoPartReply what bytes f s d text t e ⊎ TellsMemory s d text t e
 IsWorkReply s d (EditWhole bytes) text t e = IsWholeReply bytes s d text t e
-IsWorkReply s d Undo text t e = (result : Result (Unit {0}) HistoryFault) × Undoes result s d t e × (text ≡ undo_text result)
-IsWorkReply s d Redo text t e = (result : Result (Unit {0}) HistoryFault) × Redoes result s d t e × (text ≡ redo_text result)
+IsWorkReply s d Undo text t e = IsTurnReply Undoes undo_text s d text t e
+IsWorkReply s d Redo text t e = IsTurnReply Redoes redo_text s d text t e
 IsWorkReply s d History text t e = TellsReport (history_text d.past) s d text t e
 IsWorkReply s d Mark text t e = SetsMark (rows_now s) s d text t e
 IsWorkReply s d (MarkStems bytes) text t e = IsMarkReply (mark_refusal s bytes) bytes s d text t e
 IsWorkReply s d (Approve is_written) text t e = TellsReport (approve_text s is_written) s d text t e
 IsWorkReply s d (Words bytes) text t e = IsWordsReply bytes s d text t e
 IsWorkReply s d Changes text t e = TellsReport (changes_text d.marked s) s d text t e
+IsWorkReply s d (FirstChanges n) text t e = TellsReport (first_changes_text n d.marked s) s d text t e
+IsWorkReply s d Figures text t e = TellsReport (change_figures_text d.marked s) s d text t e
 IsWorkReply s d Stats text t e = TellsReport (stats_text s) s d text t e
 IsWorkReply s d Unused text t e = TellsReport (unused.unused_text s.setting s.words) s d text t e
 IsWorkReply s d (Largest number) text t e = IsLargestReply number s d text t e
@@ -241,4 +273,6 @@ IsWorkReply s d Text text t e = TellsReport (text_in s d.text) s d text t e
 IsWorkReply s d Places text t e = IsRowsReply IsPlacesText (text_in s d.text) s d text t e
 IsWorkReply s d Tokens text t e = IsRowsReply IsTokensText (text_in s d.text) s d text t e
 IsWorkReply s d (TokensOf bytes) text t e = IsFileTokensReply bytes s d text t e
+IsWorkReply s d Faults text t e = IsFaultsReply d.refused s d text t e
+IsWorkReply s d (FaultsOf bytes) text t e = TellsFaults (IsFaultsText bytes s.setting.script.external) s d text t e
 IsWorkReply s d Hello text t e = TellsAlone hello_text s d text t e

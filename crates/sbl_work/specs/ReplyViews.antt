@@ -18,10 +18,12 @@ use Rattle.sbl_sessions.specs.declared.replies.Reply.{Reply}
 use Rattle.sbl_text.specs.declared.fault.ScriptFault.TheVariants as script
 use Rattle.sbl_work.specs.Commands as command
 use Rattle.sbl_work.specs.Commands.{WorkCommand, alone_command, append_command, count_in, families_in_file, find_command, is_replace, uses_command}
-use Rattle.sbl_work.specs.Commands.{with_file}
+use Rattle.sbl_work.specs.Commands.{first_changes_command, with_file}
 use Rattle.sbl_history.specs.Desks.{State, state_of}
 use Rattle.sbl_history.specs.declared.desk.Desk.{Desk}
 use Rattle.sbl_history.specs.Editing.{ReplacesPart}
+use Rattle.sbl_history.specs.Refused.{PartText}
+use Rattle.sbl_work.specs.FaultReplies.{kept_after}
 use Rattle.sbl_source_map.specs.Heads.{IsWithoutHead}
 use Rattle.sbl_reports.specs.Families.{families_in, families_text}
 use Rattle.sbl_work.specs.Replies.{IsRowsReply, IsWorkReply, TellsReport}
@@ -45,6 +47,8 @@ view_request file line (variants.MarkStems path) = with_file command.MarkStems f
 view_request file line (variants.Approve path) = command.Approve (is_some file)
 view_request file line variants.Words = with_file command.Words file
 view_request file line variants.Changes = command.Changes
+view_request file line (variants.FirstChanges number) = first_changes_command number.now
+view_request file line variants.Figures = command.Figures
 view_request file line variants.Stats = command.Stats
 view_request file line variants.Unused = command.Unused
 view_request file line (variants.Largest number) = command.Largest (count_in number.now)
@@ -65,6 +69,8 @@ view_request file line variants.Text = command.Text
 view_request file line variants.Places = command.Places
 view_request file line variants.Tokens = command.Tokens
 view_request file line (variants.TokensOf path) = with_file command.TokensOf file
+view_request file line variants.Faults = command.Faults
+view_request file line (variants.FaultsOf path) = with_file command.FaultsOf file
 view_request file line variants.Hello = command.Hello
 view_request file line variants.Session = command.Session (line_command line)
 
@@ -114,3 +120,9 @@ IsBytesResult false result what bytes s d t e = (result ≡ Err (edit.Script scr
 
 abbrev pub IsPartResult : Result (Unit {0}) EditFault → ScriptEdit → List ℕ → Contents → State → Contents → State → Type 0
 IsPartResult result what bytes s d t e = IsBytesResult (is_utf8 bytes) result what bytes s d t e
+
+-- the same, and what was typed is kept if it has a fault; or an allocation failed
+abbrev pub IsKeptPart : Result (Unit {0}) EditFault → ScriptEdit → List ℕ → Contents → State → Contents → State → Type 0
+IsKeptPart result what bytes s d t e =
+    ((mid : State) × IsPartResult result what bytes s d t mid × (e ≡ kept_after result (PartText what bytes) mid))
+    ⊎ ((result ≡ Err edit.OutOfMemory) × (t ≡ s) × (e ≡ d))

@@ -20,9 +20,9 @@ pub record IsOpened (external bytes : List ℕ) (s : Contents) : Type 0 where
   pub are_words : opening_fault [] words ≡ None
   pub bench : s ≡ opening_contents script words
 
--- the desk at the start: these bytes are its text, nothing can be undone or redone, and the mark is set
+-- the desk at the start: these bytes are its text, nothing can be undone or redone, the mark is set, and no text was refused
 abbrev pub first_desk : Contents → List ℕ → State
-first_desk s bytes = record { text = Some bytes; past = record { earlier = []; later = [] }; marked = rows_now s }
+first_desk s bytes = record { text = Some bytes; past = record { earlier = []; later = [] }; marked = rows_now s; refused = None }
 
 -- the status is 0 without a fault, and 1 with one
 abbrev pub status_of : {F : Type 0} → Result (Unit {0}) F → ℕ

@@ -8,10 +8,14 @@ ghost use Rattle.sbl_sessions.specs.{Answers.with_line_feed, Commands.line_comma
 ghost use Rattle.sbl_work.specs.Commands as spec;
 ghost use Rattle.sbl_history.specs.Desks.{State, state_of};
 ghost use Rattle.sbl_reports.specs.Reports as reports;
+ghost use Rattle.sbl_work.specs.Replies.{ReplacesKept};
 ghost use Rattle.sbl_work.specs.ReplyViews.{IsWorkAnswer, view_file};
 
+use crate::change_replies::{figures_reply, first_changes_reply};
+use crate::fault_replies::{faults_reply, file_faults_reply};
 use crate::lookups::{counts_reply, find_reply, stem_reply, uses_reply};
 use crate::parts::families_reply;
+use crate::refusals::{note_turn, note_whole, refused_whole};
 use crate::replies::{
     BAD_NUMBER, NO_FILE, NOTHING_TO_APPEND, edit_reply, memory_reply, redo_reply, undo_reply,
 };
@@ -21,20 +25,42 @@ use crate::text_replies::{file_tokens_reply, hello_reply, places_reply, text_rep
 use crate::whys::{integers_reply, why_reply};
 use crate::word_files::words_reply;
 use sbl_bench::{Bench, EditFault};
+use sbl_changes::changes_text;
 use sbl_explain::{KeptTakes, unused_text};
 use sbl_history::Desk;
 use sbl_io::first_line;
-use sbl_reports::{changes_text, largest_text, stats_text};
+use sbl_reports::{largest_text, stats_text};
 use sbl_sessions::{Reply, report};
 use sbl_source_map::definition_text;
 use std::alloc::{AllocError, Global};
 
+/// Replaces the whole script by the bytes of a file. Keeps them if they have a fault.
+pub(crate) fn replace_by_bytes(
+    alloc: Global,
+    desk: &mut Desk,
+    bench: &mut Bench,
+    bytes: &[u8],
+) -> Result<(), EditFault>
+    ensures { ReplacesKept result bytes.now (contents_of bench.old) (state_of desk.old) (contents_of bench.new) (state_of desk.new) }
+{
+    let Ok(refused) = refused_whole(alloc, bytes) else {
+        return Err(EditFault::OutOfMemory);
+    };
+    let answer = desk.replace(bench, bytes);
+    note_whole(desk, answer, refused)
+}
+
 /// Returns the reply to `reload` and to `replace` with a file, for its bytes; none if it cannot be read.
-pub(crate) fn reload(desk: &mut Desk, bench: &mut Bench, file: Option<&[u8]>) -> Reply
+pub(crate) fn reload(
+    alloc: Global,
+    desk: &mut Desk,
+    bench: &mut Bench,
+    file: Option<&[u8]>,
+) -> Reply
     ensures { IsWorkAnswer (contents_of bench.old) (state_of desk.old) (spec.with_file spec.EditWhole (view_file file.entry)) result (contents_of bench.new) (state_of desk.new) }
 {
     match file {
-        Some(bytes) => edit_reply(desk.replace(bench, bytes)),
+        Some(bytes) => edit_reply(replace_by_bytes(alloc, desk, bench, bytes)),
         None => Reply::Fixed(NO_FILE),
     }
 }
@@ -43,14 +69,16 @@ pub(crate) fn reload(desk: &mut Desk, bench: &mut Bench, file: Option<&[u8]>) ->
 fn undo(desk: &mut Desk, bench: &mut Bench) -> Reply
     ensures { IsWorkAnswer (contents_of bench.old) (state_of desk.old) spec.Undo result (contents_of bench.new) (state_of desk.new) }
 {
-    undo_reply(desk.undo(bench))
+    let answer = desk.undo(bench);
+    undo_reply(note_turn(desk, answer))
 }
 
 /// Returns the reply to `redo`.
 fn redo(desk: &mut Desk, bench: &mut Bench) -> Reply
     ensures { IsWorkAnswer (contents_of bench.old) (state_of desk.old) spec.Redo result (contents_of bench.new) (state_of desk.new) }
 {
-    redo_reply(desk.redo(bench))
+    let answer = desk.redo(bench);
+    redo_reply(note_turn(desk, answer))
 }
 
 /// Returns the reply to `history`.
@@ -210,7 +238,7 @@ fn session(alloc: Global, desk: &mut Desk, bench: &mut Bench, line: &[u8]) -> Re
 /// Makes the edit or the report that a line without a block asks for, and returns the reply.
 ///
 /// `file` has the bytes of the file that the line needs: of the script's for `reload`, of that of the words for `words`, of the one that
-/// `replace`, `families`, `mark` or `tokens` names. It is `None` if the file could not be read. For `save` and `approve` it has any bytes if the file was written, and for `append` the lines
+/// `replace`, `families`, `mark`, `tokens` or `faults` names. It is `None` if the file could not be read. For `save` and `approve` it has any bytes if the file was written, and for `append` the lines
 /// that were put at the file's end; it is `None` if the file was not written. Other commands do not look at it.
 ///
 /// If an allocation fails, the reply is `no 49 OutOfMemory`.
@@ -226,7 +254,7 @@ pub(crate) fn answer_line(
 {
     match request_of(line) {
         Request::Comment => Reply::Fixed(""),
-        Request::Reload => reload(desk, bench, file),
+        Request::Reload => reload(alloc, desk, bench, file),
         Request::Undo => undo(desk, bench),
         Request::Redo => redo(desk, bench),
         Request::History => history(desk, bench),
@@ -235,11 +263,13 @@ pub(crate) fn answer_line(
         Request::Approve(_) => approve_reply(bench, file.is_some()),
         Request::Words => words_reply(alloc, bench, file),
         Request::Changes => changes(alloc, desk, bench),
+        Request::FirstChanges(argument) => first_changes_reply(alloc, desk, bench, argument),
+        Request::Figures => figures_reply(alloc, desk, bench),
         Request::Stats => stats(alloc, bench),
         Request::Unused => unused_reply(alloc, bench, kept),
         Request::Largest(argument) => largest(alloc, bench, argument),
         Request::Families(_) => families(alloc, bench, file),
-        Request::Replace(_) => reload(desk, bench, file),
+        Request::Replace(_) => reload(alloc, desk, bench, file),
         Request::Why(word) => why(alloc, bench, word),
         Request::Integers(word) => integers(alloc, bench, word),
         Request::Uses(text) => uses_reply(alloc, bench, kept, text),
@@ -255,6 +285,8 @@ pub(crate) fn answer_line(
         Request::Places => places_reply(alloc, desk, bench),
         Request::Tokens => tokens_reply(alloc, desk, bench),
         Request::TokensOf(_) => file_tokens_reply(alloc, file),
+        Request::Faults => faults_reply(alloc, desk, bench),
+        Request::FaultsOf(_) => file_faults_reply(alloc, bench, file),
         Request::Hello => hello_reply(),
         Request::Session => session(alloc, desk, bench, line),
     }

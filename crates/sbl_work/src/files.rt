@@ -9,7 +9,7 @@ use sbl_history::{has_crlf, push_crlf};
 use sbl_input::{LoadFault, words_in};
 use sbl_reports::stem_lines;
 use sbl_saving::{Former, ReadFault, SaveFault, is_same_file, read_file, save_file};
-use sbl_script::Script;
+use sbl_script::{Script, ScriptFault};
 use std::alloc::{AllocError, Global};
 use std::hash::RandomState;
 use std::rt::Files;
@@ -42,7 +42,9 @@ pub(crate) struct Texts {
 pub(crate) enum OpenFault {
     /// The file of this name cannot be read.
     File(String, io::Error),
-    /// The script or the words are refused.
+    /// The script is refused for this text.
+    Script(ScriptFault, Vec<u8>),
+    /// The words are refused, or the input has a fault.
     Load(LoadFault),
 }
 
@@ -118,14 +120,12 @@ pub(crate) fn open<F: Files + AllocGlobal>(
 {
     let texts = read_texts(files, paths)?;
     let words = read_words(files, paths)?;
-    let bench = bench_of(
-        files.alloc(),
-        keys,
-        &texts.text,
-        paths.external.as_str(),
-        words,
-    )?;
-    Ok((bench, texts))
+    let external = paths.external.as_str();
+    match bench_of(files.alloc(), keys, &texts.text, external, words) {
+        Ok(bench) => Ok((bench, texts)),
+        Err(LoadFault::Script(fault)) => Err(OpenFault::Script(fault, texts.text)),
+        Err(fault) => Err(OpenFault::Load(fault)),
+    }
 }
 
 /// Returns a text whose lines end in a carriage return and a line feed if each line of the old text does.

@@ -3,9 +3,13 @@
 
 mod answers;
 mod appending;
+mod change_replies;
+mod fault_replies;
 mod files;
 mod lookups;
+mod observing;
 mod parts;
+mod refusals;
 mod replies;
 mod requests;
 mod script_files;
@@ -16,5 +20,5 @@ mod whys;
 mod word_files;
 
 pub use files::Paths;
-pub use requests::{BlockRequest, block_request};
-pub use serving::work;
+pub use observing::{NoObserver, Observer, RefusedSource};
+pub use serving::{work, work_observed};

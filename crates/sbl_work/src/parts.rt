@@ -7,14 +7,16 @@ ghost use Rattle.sbl_sessions.specs.Commands.{text_of_block};
 ghost use Rattle.sbl_work.specs.Answering.{part_edit};
 ghost use Rattle.sbl_work.specs.Commands as spec;
 ghost use Rattle.sbl_history.specs.Desks.{State, state_of};
-ghost use Rattle.sbl_work.specs.Replies.{ReplacesWhole};
+ghost use Rattle.sbl_work.specs.Replies.{ReplacesKept};
 ghost use Rattle.sbl_script.specs.Parts.{view_part};
-ghost use Rattle.sbl_work.specs.ReplyViews.{Answers, FindsBlock, IsFamiliesAnswer, IsPartResult, IsWorkAnswer, NamesText};
+ghost use Rattle.sbl_work.specs.ReplyViews.{Answers, FindsBlock, IsFamiliesAnswer, IsKeptPart, IsPartResult, IsWorkAnswer, NamesText};
 
+use crate::observing::{RefusedSource, refused_block};
+use crate::refusals::{note_part, note_whole};
 use crate::replies::{NOT_TEXT, edit_reply};
 use crate::requests::BlockRequest;
 use sbl_bench::{Bench, EditFault};
-use sbl_history::Desk;
+use sbl_history::{Desk, HeldPart, Refused};
 use sbl_reports::{BlockFault, BlockText, families_text};
 use sbl_script::{Part, ScriptFault};
 use sbl_sessions::{BAD_COMMAND, Reply, part_of, report};
@@ -32,13 +34,23 @@ fn text_of(block: BlockText) -> Result<Vec<u8>, EditFault>
     }
 }
 
-/// Replaces the whole script by the text of a block.
-fn replace_by(desk: &mut Desk, bench: &mut Bench, block: BlockText) -> Result<(), EditFault>
-    ensures { (lines : List (List ℕ)) → HoldsText block lines → ReplacesWhole result (made_text lines) (contents_of bench.old) (state_of desk.old) (contents_of bench.new) (state_of desk.new) }
+/// Replaces the whole script by the text of a block. Keeps the text if it has a fault; then `refused` has it, too.
+fn replace_by(
+    alloc: Global,
+    refused: &mut Option<RefusedSource>,
+    desk: &mut Desk,
+    bench: &mut Bench,
+    block: BlockText,
+) -> Result<(), EditFault>
+    ensures { (lines : List (List ℕ)) → HoldsText block lines → ReplacesKept result (made_text lines) (contents_of bench.old) (state_of desk.old) (contents_of bench.new) (state_of desk.new) }
 {
     match text_of(block) {
-        Ok(text) => desk.replace(bench, &text),
-        Err(fault) => Err(fault),
+        Ok(text) => {
+            let answer = desk.replace(bench, &text);
+            *refused = refused_block(alloc, "replace", &text, answer);
+            note_whole(desk, answer, Refused::Whole(text))
+        }
+        Err(fault) => note_whole(desk, Err(fault), Refused::TooLong),
     }
 }
 
@@ -61,24 +73,45 @@ fn replace_part_by(
     }
 }
 
-/// Makes the edit of a part by a block, and returns the reply.
-fn edit_part(
+/// Replaces a part of the script by what was typed after a line. Keeps it if it has a fault; `refused` has it if it is refused.
+fn replace_part_kept(
     alloc: Global,
+    refused: &mut Option<RefusedSource>,
     desk: &mut Desk,
     bench: &mut Bench,
+    line: &str,
+    part: Part<'_>,
+    typed: Vec<u8>,
+) -> Result<(), EditFault>
+    ensures { IsKeptPart result (view_part part.entry) typed.items (contents_of bench.old) (state_of desk.old) (contents_of bench.new) (state_of desk.new) }
+{
+    let held = HeldPart::copy_of(alloc, part)?;
+    let answer = replace_part_by(alloc, desk, bench, part, &typed);
+    *refused = refused_block(alloc, line, &typed, answer);
+    note_part(desk, answer, held, typed)
+}
+
+/// Makes the edit of a part by the block after a line, and returns the reply. `refused` has the text of the block if it is refused.
+fn edit_part(
+    alloc: Global,
+    refused: &mut Option<RefusedSource>,
+    desk: &mut Desk,
+    bench: &mut Bench,
+    line: &str,
     part: Part<'_>,
     block: BlockText,
 ) -> Reply
-    ensures { (lines : List (List ℕ)) → HoldsText block lines → Answers bench.old desk.old (spec.part_command (Some (view_part part.entry)) (text_of_block lines)) result bench.new desk.new }
+    ensures { (lines : List (List ℕ)) → HoldsText block lines → Answers bench.old desk.old (spec.part_command (Some (view_part part.entry)) (made_text lines) (text_of_block lines)) result bench.new desk.new }
 {
     match text_of(block) {
-        Ok(text) => edit_reply(replace_part_by(alloc, desk, bench, part, &text)),
-        Err(fault) => edit_reply(Err(fault)),
+        Ok(text) => edit_reply(replace_part_kept(alloc, refused, desk, bench, line, part, text)),
+        Err(fault) => edit_reply(note_whole(desk, Err(fault), Refused::TooLong)),
     }
 }
 
 fn edit_named(
     alloc: Global,
+    refused: &mut Option<RefusedSource>,
     desk: &mut Desk,
     bench: &mut Bench,
     line: &str,
@@ -87,7 +120,7 @@ fn edit_named(
     ensures { (lines : List (List ℕ)) → HoldsText block lines → Answers bench.old desk.old (part_edit line.now lines) result bench.new desk.new }
 {
     match part_of(line) {
-        Some(part) => edit_part(alloc, desk, bench, part, block),
+        Some(part) => edit_part(alloc, refused, desk, bench, line, part, block),
         None => Reply::Fixed(BAD_COMMAND),
     }
 }
@@ -95,6 +128,7 @@ fn edit_named(
 /// Makes the edit that a line and its block ask for, and returns the reply. A bad line is refused, whatever its block is.
 fn edit_kept(
     alloc: Global,
+    refused: &mut Option<RefusedSource>,
     desk: &mut Desk,
     bench: &mut Bench,
     kept: Result<Option<String>, AllocError>,
@@ -103,17 +137,23 @@ fn edit_kept(
     ensures { (line : List ℕ) (lines : List (List ℕ)) → KeepsLine kept line → HoldsText block lines → Answers bench.old desk.old (part_edit line lines) result bench.new desk.new }
 {
     match kept {
-        Ok(Some(line)) => edit_named(alloc, desk, bench, line.as_str(), block),
+        Ok(Some(line)) => edit_named(alloc, refused, desk, bench, line.as_str(), block),
         Ok(None) => Reply::Fixed(BAD_COMMAND),
         Err(_) => edit_reply(Err(EditFault::OutOfMemory)),
     }
 }
 
 /// Makes the edit of `replace`, and returns the reply.
-fn replace_reply(desk: &mut Desk, bench: &mut Bench, block: BlockText) -> Reply
+fn replace_reply(
+    alloc: Global,
+    refused: &mut Option<RefusedSource>,
+    desk: &mut Desk,
+    bench: &mut Bench,
+    block: BlockText,
+) -> Reply
     ensures { (lines : List (List ℕ)) → HoldsText block lines → Answers bench.old desk.old (spec.EditWhole (made_text lines)) result bench.new desk.new }
 {
-    edit_reply(replace_by(desk, bench, block))
+    edit_reply(replace_by(alloc, refused, desk, bench, block))
 }
 
 /// Returns the reply to `families`, for the text of the families.
@@ -144,9 +184,10 @@ fn families_of(alloc: Global, bench: &Bench, block: BlockText) -> Reply
 }
 
 /// Makes the edit or the report that a line asks for with its block, and returns the reply. `request` is what `block_request`
-/// returns for the line.
+/// returns for the line. `refused` has the text of the block if it is refused.
 pub(crate) fn answer_block(
     alloc: Global,
+    refused: &mut Option<RefusedSource>,
     desk: &mut Desk,
     bench: &mut Bench,
     request: BlockRequest,
@@ -155,8 +196,8 @@ pub(crate) fn answer_block(
     ensures { (line : List ℕ) (lines : List (List ℕ)) → FindsBlock request line → HoldsText block lines → Answers bench.old desk.old (spec.block_command line lines) result bench.new desk.new }
 {
     match request {
-        BlockRequest::Part(kept) => edit_kept(alloc, desk, bench, kept, block),
-        BlockRequest::Whole => replace_reply(desk, bench, block),
+        BlockRequest::Part(kept) => edit_kept(alloc, refused, desk, bench, kept, block),
+        BlockRequest::Whole => replace_reply(alloc, refused, desk, bench, block),
         BlockRequest::Families => families_of(alloc, bench, block),
     }
 }

@@ -35,6 +35,10 @@ pub(crate) enum Request<'a> {
     Words,
     /// Reports what differs from the mark.
     Changes,
+    /// Reports the first changes of each kind from the mark.
+    FirstChanges(&'a str),
+    /// Reports how many changes of each kind there are from the mark.
+    Figures,
     /// Reports figures of the rows and classes.
     Stats,
     /// Reports the largest classes.
@@ -67,6 +71,10 @@ pub(crate) enum Request<'a> {
     Tokens,
     /// Reports the tokens of a file.
     TokensOf(&'a str),
+    /// Reports all faults of the text that was refused last.
+    Faults,
+    /// Reports all faults of a file.
+    FaultsOf(&'a str),
     /// Reports the name and the version of the program.
     Hello,
     /// Writes a text.
@@ -79,7 +87,7 @@ pub(crate) enum Request<'a> {
 
 /// What a line with a block asks for.
 #[derive(Debug, Drop)]
-pub enum BlockRequest {
+pub(crate) enum BlockRequest {
     /// Replaces the part of the script that the line names; none if the line is bad, or an allocation for it failed.
     Part(Result<Option<String>, AllocError>),
     /// Replaces the whole script.
@@ -109,7 +117,7 @@ fn split(line: &[u8]) -> (&[u8], &[u8])
 }
 
 /// Returns what a line asks for with the block after it; `None` if no block follows the line.
-pub fn block_request(alloc: Global, line: &[u8]) -> Option<BlockRequest>
+pub(crate) fn block_request(alloc: Global, line: &[u8]) -> Option<BlockRequest>
     ensures { MatchOption result (spec.asks_work_block line.now ≡ false) (λ request. FindsBlock request line.now) }
 {
     if asks_block(line) {
@@ -177,7 +185,9 @@ fn text_request(line: &str) -> Request<'_>
         "text" => Request::Text,
         "places" => Request::Places,
         "tokens" => Request::Tokens,
+        "faults" => Request::Faults,
         "hello" => Request::Hello,
+        "figures" => Request::Figures,
         _ => word_request(line),
     }
 }
@@ -210,6 +220,8 @@ fn word_request(line: &str) -> Request<'_>
         "mark" => mark_request(argument),
         "approve" => Request::Approve(argument),
         "tokens" => Request::TokensOf(argument),
+        "changes" => Request::FirstChanges(argument),
+        "faults" => Request::FaultsOf(argument),
         _ => Request::Session,
     }
 }

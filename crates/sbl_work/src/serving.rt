@@ -15,7 +15,9 @@ ghost use Rattle.sbl_work.specs.WholeWork.{WorksOver, status_of};
 
 use crate::answers::answer_line;
 use crate::appending::Added;
+use crate::fault_replies::faults_by_file;
 use crate::files::{OpenFault, Paths, Texts, append, open, save};
+use crate::observing::{NoObserver, Observer, RefusedSource};
 use crate::parts::answer_block;
 use crate::replies::edit_reply;
 use crate::requests::{Request, block_request, is_quit, request_of};
@@ -33,6 +35,7 @@ use sbl_saving::{ReadFault, SaveFault, read_file};
 use sbl_sessions::{Reply, write_reply};
 use std::alloc::Global;
 use std::hash::RandomState;
+use std::mem::replace;
 use std::rt::Files;
 
 /// What is written before each line is read, if work is done at a terminal.
@@ -41,8 +44,8 @@ const PROMPT: &[u8] = b"> ";
 /// What is written if an allocation fails for the line that says why there is no desk.
 const NO_MEMORY: &[u8] = b"snowbench: 49 OutOfMemory\n";
 
-/// The files of work, the bytes that were read last from the file of the script, the words that were added, and what is kept for
-/// questions about uses.
+/// The files of work, the bytes that were read last from the file of the script, the words that were added, what is kept for
+/// questions about uses, and the text that the last request was refused for.
 #[derive(Drop)]
 struct Folder<'a, F> {
     files: &'a F,
@@ -50,6 +53,7 @@ struct Folder<'a, F> {
     seen: Vec<u8>,
     added: Added,
     kept: KeptTakes,
+    refused: Option<RefusedSource>,
 }
 
 /// Writes the text of the current script to a file.
@@ -74,29 +78,15 @@ fn answer_alone<F: Files + AllocGlobal>(
     ensures { IsFileAnswer (contents_of bench.old) (state_of desk.old) line.now result (contents_of bench.new) (state_of desk.new) }
 {
     match request_of(line) {
-        Request::Reload => match read_file(folder.files, folder.paths.script.as_str()) {
-            Ok(bytes) => {
-                let reply = answer_line(
-                    alloc,
-                    desk,
-                    bench,
-                    &mut folder.kept,
-                    line,
-                    Some(bytes.as_slice()),
-                );
-                folder.seen = bytes;
-                reply
-            }
-            Err(ReadFault::Unreadable) => answer_line(
-                alloc,
-                desk,
-                bench,
-                &mut folder.kept,
-                line,
-                None,
-            ),
-            Err(ReadFault::OutOfMemory) => edit_reply(Err(EditFault::OutOfMemory)),
-        },
+        Request::Reload => replace_by_file(
+            folder.files,
+            folder.paths,
+            &mut folder.seen,
+            &mut folder.refused,
+            desk,
+            bench,
+            folder.paths.script.as_str(),
+        ),
         Request::Families(path) => match read_file(folder.files, path) {
             Ok(bytes) => answer_line(
                 alloc,
@@ -150,6 +140,7 @@ fn answer_alone<F: Files + AllocGlobal>(
             folder.files,
             folder.paths,
             &mut folder.seen,
+            &mut folder.refused,
             desk,
             bench,
             path,
@@ -164,6 +155,7 @@ fn answer_alone<F: Files + AllocGlobal>(
             bench,
         ),
         Request::TokensOf(path) => tokens_by_file(folder.files, alloc, path),
+        Request::FaultsOf(path) => faults_by_file(folder.files, alloc, bench, path),
         _ => answer_line(alloc, desk, bench, &mut folder.kept, line, None),
     }
 }
@@ -204,14 +196,28 @@ fn answer<F: Files + AllocGlobal, R: Source + Drop>(
         None => Ok(answer_noted(folder, desk, bench, lines.alloc(), lines.line())),
         Some(request) => {
             let block = read_block(lines)?;
-            Ok(answer_block(lines.alloc(), desk, bench, request, block))
+            Ok(answer_block(
+                lines.alloc(),
+                &mut folder.refused,
+                desk,
+                bench,
+                request,
+                block,
+            ))
         }
     }
 }
 
-/// Writes a reply and the prompt after it. Returns `Write` if the writer fails or is interrupted more than 1,000 times in a row;
-/// then a prefix of the two is written.
-fn write_prompted<W: Sink>(writer: &mut W, reply: &Reply, prompt: &[u8]) -> Result<(), ServeFault>
+/// Writes a reply, tells `observer` of the text that was refused, and writes the prompt after it. Returns `Write` if the writer fails or
+/// is interrupted more than 1,000 times in a row; then a prefix of the reply and the prompt is written.
+fn write_prompted<W: Sink, S: Observer>(
+    writer: &mut W,
+    reply: &Reply,
+    prompt: &[u8],
+    bench: &Bench,
+    refused: Option<RefusedSource>,
+    observer: &mut S,
+) -> Result<(), ServeFault>
     ensures all { OnOk result ((text : List ℕ) → IsReply reply.now text → Appends (W.held writer.old) (W.held writer.new) (with_prompt prompt.now text)) }
     ensures prefix { (text : List ℕ) → IsReply reply.now text → (n : ℕ) × Appends (W.held writer.old) (W.held writer.new) (take n (with_prompt prompt.now text)) }
     ensures later { (W.tally writer.old).failures ≤ (W.tally writer.new).failures }
@@ -221,6 +227,9 @@ fn write_prompted<W: Sink>(writer: &mut W, reply: &Reply, prompt: &[u8]) -> Resu
     ensures rested { OnOk result ((W.tally writer.old).interruptions ≡ 0 → (W.tally writer.new).interruptions ≡ 0) }
 {
     write_reply(writer, reply)?;
+    if let Some(refused) = &refused {
+        observer.see_refused(bench, refused);
+    }
     write_all(writer, prompt)
 }
 
@@ -231,13 +240,14 @@ fn write_prompted<W: Sink>(writer: &mut W, reply: &Reply, prompt: &[u8]) -> Resu
 /// interrupted more than 1,000 times in a row, `LineTooLong` at a line of more than 65,536 bytes, and `Cut` if the input ends
 /// inside a block. The requests before the fault have their replies. After `Write` the edit of the current request is made, and a
 /// prefix of its reply and of the prompt after it is written.
-fn serve<F: Files + AllocGlobal, R: Source + Drop, W: Sink>(
+fn serve<F: Files + AllocGlobal, R: Source + Drop, W: Sink, S: Observer>(
     folder: &mut Folder<'_, F>,
     desk: &mut Desk,
     bench: &mut Bench,
     prompt: &[u8],
     lines: &mut Lines<R>,
     writer: &mut W,
+    observer: &mut S,
 ) -> Result<(), ServeFault>
     ensures work { fault_of lines.old ≡ None → Works R.left W.held prompt.now lines.old lines.new writer.old writer.new bench.old desk.old bench.new desk.new result }
     ensures ends { Ends R.tally W.tally lines.old lines.new writer.old writer.new result }
@@ -250,7 +260,8 @@ fn serve<F: Files + AllocGlobal, R: Source + Drop, W: Sink>(
             return Ok(());
         }
         let reply = answer(folder, desk, bench, lines)?;
-        write_prompted(writer, &reply, prompt)?;
+        let refused = replace(&mut folder.refused, None);
+        write_prompted(writer, &reply, prompt, bench, refused, observer)?;
     }
     Ok(())
 }
@@ -261,6 +272,7 @@ fn write_fault<E: Sink>(alloc: Global, errors: &mut E, fault: &OpenFault)
 {
     let line = match fault {
         OpenFault::File(path, error) => format!(in alloc; "snowbench: {path}: {error}\n"),
+        OpenFault::Script(fault, _) => format!(in alloc; "snowbench: {fault}\n"),
         OpenFault::Load(fault) => format!(in alloc; "snowbench: {fault}\n"),
     };
     // The status reports the fault even if its line cannot be written.
@@ -272,20 +284,21 @@ fn write_fault<E: Sink>(alloc: Global, errors: &mut E, fault: &OpenFault)
 
 /// Replies to each request of the input in turn over the bench of a script and its words, up to `quit` or the end of input. The script
 /// was read from this text.
-fn serve_bench<F: Files + AllocGlobal, R: Source + Drop, W: Sink>(
+fn serve_bench<F: Files + AllocGlobal, R: Source + Drop, W: Sink, S: Observer>(
     folder: &mut Folder<'_, F>,
     bench: &mut Bench,
     text: Vec<u8>,
     prompt: &[u8],
     lines: &mut Lines<R>,
     writer: &mut W,
+    observer: &mut S,
 ) -> Result<(), ServeFault>
     ensures works { fault_of lines.old ≡ None → WorksOnBench R.left R.tally W.held W.tally text.items prompt.now lines.old lines.new writer.old writer.new bench.old result }
     ensures reads_in_time { KeepsTime R.tally lines.old lines.new }
     ensures writes_in_time { WritesInTime W.tally writer.old writer.new }
 {
     let mut desk = Desk::new(lines.alloc(), bench, text)?;
-    serve(folder, &mut desk, bench, prompt, lines, writer)
+    serve(folder, &mut desk, bench, prompt, lines, writer, observer)
 }
 
 /// Returns what is written before each line is read.
@@ -296,13 +309,14 @@ fn prompt_of(prompts: bool) -> &'static [u8]
 }
 
 /// Opens the bench of the files, and replies to each request of the input in turn, up to `quit` or the end of input.
-fn work_on<F: Files + AllocGlobal, R: Source + Drop, W: Sink>(
+fn work_on<F: Files + AllocGlobal, R: Source + Drop, W: Sink, S: Observer>(
     files: &F,
     keys: RandomState,
     paths: &Paths,
     prompt: &[u8],
     lines: &mut Lines<R>,
     writer: &mut W,
+    observer: &mut S,
 ) -> Result<(), OpenFault>
     ensures works { fault_of lines.old ≡ None → WorksOver R.left R.tally W.held W.tally (string_bytes paths.now.external) prompt.now lines.old lines.new writer.old writer.new (status_of result) }
     ensures reads_in_time { KeepsTime R.tally lines.old lines.new }
@@ -317,8 +331,17 @@ fn work_on<F: Files + AllocGlobal, R: Source + Drop, W: Sink>(
         seen,
         added,
         kept: KeptTakes::new(files.alloc()),
+        refused: None,
     };
-    let served = serve_bench(&mut folder, &mut bench, text, prompt, lines, writer);
+    let served = serve_bench(
+        &mut folder,
+        &mut bench,
+        text,
+        prompt,
+        lines,
+        writer,
+        observer,
+    );
     bench.leak();
     match served {
         Ok(()) => Ok(()),
@@ -348,10 +371,51 @@ pub fn work<F: Files + AllocGlobal, R: Source + Drop, W: Sink, E: Sink>(
     ensures writes_in_time { WritesInTime W.tally writer.old writer.new }
     ensures errors_in_time { WritesInTime E.tally errors.old errors.new }
 {
-    match work_on(files, keys, paths, prompt_of(prompts), lines, writer) {
+    work_observed(
+        files,
+        keys,
+        paths,
+        prompts,
+        lines,
+        writer,
+        errors,
+        &mut NoObserver {},
+    )
+}
+
+/// Does what `work` does, and tells `observer` of each text of the script that is refused. What `observer` does has no part in the work.
+pub fn work_observed<F: Files + AllocGlobal, R: Source + Drop, W: Sink, E: Sink, S: Observer>(
+    files: &F,
+    keys: RandomState,
+    paths: &Paths,
+    prompts: bool,
+    lines: &mut Lines<R>,
+    writer: &mut W,
+    errors: &mut E,
+    observer: &mut S,
+) -> u8
+    ensures works { fault_of lines.old ≡ None → WorksOver R.left R.tally W.held W.tally (string_bytes paths.now.external) (serving.prompt_of prompts) lines.old lines.new writer.old writer.new result }
+    ensures quiet { result ≡ 0 → E.held errors.new ≡ E.held errors.old }
+    ensures status { result ≤ 1 }
+    ensures reads_in_time { KeepsTime R.tally lines.old lines.new }
+    ensures writes_in_time { WritesInTime W.tally writer.old writer.new }
+    ensures errors_in_time { WritesInTime E.tally errors.old errors.new }
+{
+    match work_on(
+        files,
+        keys,
+        paths,
+        prompt_of(prompts),
+        lines,
+        writer,
+        observer,
+    ) {
         Ok(()) => 0,
         Err(fault) => {
             write_fault(lines.alloc(), errors, &fault);
+            if let OpenFault::Script(_, text) = &fault {
+                observer.see_start(text);
+            }
             1
         }
     }

@@ -1,14 +1,10 @@
 //! Work on the files of a script and of words.
 
-use crate::messages::{FAILED, NO_KEYS, REFUSED, fail_memory, print_line};
-use crate::talk::Talk;
-use crate::watching::{Context, Quiet, WatchedReader, file_text};
-use sbl_diagnostics::fault_of;
-use sbl_work::{Paths, work};
-use snowbench::{Device, Face, Lines, Options, Sink, Source, Wanted};
-use std::alloc::{AllocError, Global};
-use std::cell::RefCell;
-use std::fs;
+use crate::messages::{FAILED, NO_KEYS, REFUSED, fail_memory};
+use crate::work_places::WorkPlaces;
+use sbl_work::{NoObserver, Observer, Paths, work_observed};
+use snowbench::{Device, Face, Lines, Options, Wanted};
+use std::alloc::AllocError;
 use std::hash::RandomState;
 use std::io::IsTerminal;
 
@@ -18,6 +14,14 @@ fn shows_places(rt: &HostRuntime, face: Option<Face>) -> bool {
         Some(Face::Rows) => false,
         Some(Face::Text) => true,
         None => rt.stdout().is_terminal(),
+    }
+}
+
+/// Returns the name of the file of the text that the work begins with.
+fn first_text(paths: &Paths) -> &str {
+    match &paths.from {
+        Some(path) => path.as_str(),
+        None => paths.script.as_str(),
     }
 }
 
@@ -58,10 +62,10 @@ pub(crate) fn start_work(rt: &HostRuntime, wanted: Wanted) -> u8 {
     let is_terminal = rt.stdin().is_terminal() && rt.stdout().is_terminal();
     let prompts = is_terminal && face != Some(Face::Rows);
     let ended = if shows_places(rt, face) {
-        let talk = RefCell::new(Talk::new(rt.alloc()));
-        work_in_text(rt, keys, &paths, prompts, &talk)
+        let mut places = WorkPlaces::new(rt, paths.external.as_str(), first_text(&paths));
+        work_over(rt, keys, &paths, prompts, &mut places)
     } else {
-        work_in_rows(rt, keys, &paths, prompts)
+        work_over(rt, keys, &paths, prompts, &mut NoObserver {})
     };
     match ended {
         Ok(status) => status,
@@ -69,93 +73,25 @@ pub(crate) fn start_work(rt: &HostRuntime, wanted: Wanted) -> u8 {
     }
 }
 
-/// Works over a reader and two writers, and returns the exit status.
-fn work_over<R: Source + Drop, W: Sink, E: Sink>(
+/// Works over standard input, output and error, and returns the exit status.
+fn work_over<S: Observer>(
     rt: &HostRuntime,
     keys: RandomState,
     paths: &Paths,
     prompts: bool,
-    reader: R,
-    writer: &mut W,
-    errors: &mut E,
+    observer: &mut S,
 ) -> Result<u8, AllocError> {
-    let mut lines = Lines::new(rt.alloc(), reader)?;
-    Ok(work(rt, keys, paths, prompts, &mut lines, writer, errors))
-}
-
-/// Works without places, and returns the exit status.
-fn work_in_rows(
-    rt: &HostRuntime,
-    keys: RandomState,
-    paths: &Paths,
-    prompts: bool,
-) -> Result<u8, AllocError> {
-    let reader = Device::new(rt.stdin());
+    let mut lines = Lines::new(rt.alloc(), Device::new(rt.stdin()))?;
     let mut writer = Device::new(rt.stdout());
     let mut errors = Device::new(rt.stderr());
-    work_over(rt, keys, paths, prompts, reader, &mut writer, &mut errors)
-}
-
-/// Works, shows the place of each fault of a script or of a block, and returns the exit status.
-fn work_in_text(
-    rt: &HostRuntime,
-    keys: RandomState,
-    paths: &Paths,
-    prompts: bool,
-    talk: &RefCell<Talk>,
-) -> Result<u8, AllocError> {
-    let context = Context {
-        external: paths.external.as_str(),
-        script: paths.script.as_str(),
+    Ok(work_observed(
+        rt,
+        keys,
+        paths,
         prompts,
-    };
-    let reader = Device::new(WatchedReader::new(rt, context, rt.stdin(), talk)?);
-    let mut writer = Device::new(Quiet::new(rt.stdout(), talk));
-    let mut errors = Device::new(Vec::new(rt.alloc()));
-    let status = work_over(rt, keys, paths, prompts, reader, &mut writer, &mut errors)?;
-    print_end(rt, paths, &errors.into_inner())?;
-    Ok(status)
-}
-
-/// Returns the name of the file of the text that the work begins with.
-fn first_text(paths: &Paths) -> &str {
-    match &paths.from {
-        Some(path) => path.as_str(),
-        None => paths.script.as_str(),
-    }
-}
-
-/// Prints why the work has ended, and the place of the fault if it is one of the script.
-fn print_end(rt: &HostRuntime, paths: &Paths, said: &[u8]) -> Result<(), AllocError> {
-    if said.is_empty() {
-        return Ok(());
-    }
-    if let Ok(said) = str::from_utf8(said) {
-        let _ = eprint!(rt; "{said}");
-    }
-    let Ok(text) = fs::read(rt, first_text(paths)) else {
-        return Ok(());
-    };
-    if let Some(shown) = start_text(rt.alloc(), paths, &text, said)? {
-        print_line(rt, Ok(shown), FAILED);
-    }
-    Ok(())
-}
-
-/// Returns the lines on the fault of the script if that is the fault that was said.
-fn start_text(
-    alloc: Global,
-    paths: &Paths,
-    text: &[u8],
-    said: &[u8],
-) -> Result<Option<String>, AllocError> {
-    let external = paths.external.as_str();
-    let Some(fault) = fault_of(alloc, text, external) else {
-        return Ok(None);
-    };
-    let line = format!(in alloc; "snowbench: {fault}\n")?;
-    if line.as_bytes() != said {
-        return Ok(None);
-    }
-    file_text(alloc, first_text(paths), text, external)
+        &mut lines,
+        &mut writer,
+        &mut errors,
+        observer,
+    ))
 }

@@ -13,8 +13,7 @@ mod place_watch;
 mod run_result;
 mod sessions;
 mod streams;
-mod talk;
-mod watching;
+mod work_places;
 
 use crate::at_work::start_work;
 use crate::comparisons::start_compare;

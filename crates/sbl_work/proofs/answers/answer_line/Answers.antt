@@ -2,8 +2,8 @@ use Rattle.std.proofs.Common.{◌≡◌, ◌∙◌, ap}
 use Rattle.std.specs.Option.{is_some}
 use Rattle.std.specs.Str.{chars}
 use Rattle.sbl_bench.specs.KeptRuns.{contents_of}
-use Rattle.sbl_work.specs.Commands.{Approve, Words, Hello, Places, Text, Tokens, TokensOf, Counts, Echo, Integers, Largest, Saved, Show, Stats, Stem, Unused, Why, alone_command, append_command}
-use Rattle.sbl_work.specs.Commands.{count_in, families_in_file, find_command, uses_command, with_file}
+use Rattle.sbl_work.specs.Commands.{Approve, Figures, Words, Hello, Places, Text, Tokens, TokensOf, Faults, FaultsOf, Counts, Echo, Integers, Largest, Saved, Show, Stats, Stem, Unused, Why}
+use Rattle.sbl_work.specs.Commands.{alone_command, append_command, count_in, families_in_file, find_command, first_changes_command, uses_command, with_file}
 use Rattle.sbl_history.specs.Desks.{state_of}
 use Rattle.sbl_work.specs.ReplyViews.{view_file}
 use Rattle.sbl_work.proofs.ReplyFacts.{same_command}
@@ -15,6 +15,18 @@ returns-in-Stats c =
     let s = contents_of c.args.bench.now in
     let d = state_of c.args.desk.now in
     same_command s s d d (Stats) (alone_command (view_file c.args.file) c.args.line.now) c.stats.result (c.in-Stats.ensures (view_file c.args.file)) (c.stats.ensures d)
+
+pub returns-in-Figures : goal.returns-in-Figures
+returns-in-Figures c =
+    let s = contents_of c.args.bench.now in
+    let d = state_of c.args.desk.now in
+    same_command s s d d (Figures) (alone_command (view_file c.args.file) c.args.line.now) c.figures_reply.result (c.in-Figures.ensures (view_file c.args.file)) (c.figures_reply.ensures)
+
+pub returns-in-FirstChanges : goal.returns-in-FirstChanges
+returns-in-FirstChanges c =
+    let s = contents_of c.args.bench.now in
+    let d = state_of c.args.desk.now in
+    same_command s s d d (first_changes_command c.in-FirstChanges.argument.now) (alone_command (view_file c.args.file) c.args.line.now) c.first_changes_reply.result (c.in-FirstChanges.ensures (view_file c.args.file)) (c.first_changes_reply.ensures)
 
 pub returns-in-Unused : goal.returns-in-Unused
 returns-in-Unused c =
@@ -136,3 +148,15 @@ returns-in-Hello c =
     let s = contents_of c.args.bench.now in
     let d = state_of c.args.desk.now in
     same_command s s d d (Hello) (alone_command (view_file c.args.file) c.args.line.now) c.hello_reply.result (c.in-Hello.ensures (view_file c.args.file)) (c.hello_reply.ensures s d)
+
+pub returns-in-Faults : goal.returns-in-Faults
+returns-in-Faults c =
+    let s = contents_of c.args.bench.now in
+    let d = state_of c.args.desk.now in
+    same_command s s d d (Faults) (alone_command (view_file c.args.file) c.args.line.now) c.faults_reply.result (c.in-Faults.ensures (view_file c.args.file)) (c.faults_reply.ensures)
+
+pub returns-in-FaultsOf : goal.returns-in-FaultsOf
+returns-in-FaultsOf c =
+    let s = contents_of c.args.bench.now in
+    let d = state_of c.args.desk.now in
+    same_command s s d d (with_file FaultsOf (view_file c.args.file)) (alone_command (view_file c.args.file) c.args.line.now) c.file_faults_reply.result (c.in-FaultsOf.ensures (view_file c.args.file)) (c.file_faults_reply.ensures d)

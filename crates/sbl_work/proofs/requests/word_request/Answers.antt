@@ -37,8 +37,10 @@ no_other : (file : Option (List ℕ)) (line : List ℕ)
     → bytes_eq (command_word line) (codes "mark") ≡ false
     → bytes_eq (command_word line) (codes "approve") ≡ false
     → bytes_eq (command_word line) (codes "tokens") ≡ false
+    → bytes_eq (command_word line) (codes "faults") ≡ false
+    → bytes_eq (command_word line) (codes "changes") ≡ false
     → Session (line_command line) ≡ word_command file line
-no_other file line w1 w2 w3 w4 w5 w6 w7 w8 w9 w10 w11 w12 w13 w14 w15 = rw (w1, w2, w3, w4, w5, w6, w7, w8, w9, w10, w11, w12, w13, w14, w15) refl
+no_other file line w1 w2 w3 w4 w5 w6 w7 w8 w9 w10 w11 w12 w13 w14 w15 w16 w17 = rw (w1, w2, w3, w4, w5, w6, w7, w8, w9, w10, w11, w12, w13, w14, w15, w16, w17) refl
 
 pub returns-in_default : goal.returns-in_default
 returns-in_default c = λ file.
@@ -61,3 +63,5 @@ returns-in_default c = λ file.
     (lacks (codes "mark") c.in_default.not-mark)
     (lacks (codes "approve") c.in_default.not-approve)
     (lacks (codes "tokens") c.in_default.not-tokens)
+    (lacks (codes "faults") c.in_default.not-faults)
+    (lacks (codes "changes") c.in_default.not-changes)

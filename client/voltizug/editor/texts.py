@@ -1,0 +1,122 @@
+"""Texts that are in no file: in memory, where the program reads them by a name, or in a revision of git; and places in a text, as editors and
+browsers count them and as the program does.
+"""
+import bisect
+import os
+import re
+import subprocess
+from itertools import accumulate
+from typing import Any, Dict, List, Optional, Sequence
+
+from ..rows import Token
+
+# For how many seconds git may run.
+PATIENCE = 10
+LINE_END = re.compile("\r\n|\n|\r")
+
+
+class Memory:
+    """A file in memory, which a program reads by its name."""
+
+    def __init__(self, text: str = ""):
+        self.number, self.data = os.memfd_create("voltizug"), b""
+        self.path = "/dev/fd/%d" % self.number
+        self.fill(encoded(text))
+
+    def __del__(self) -> None:
+        os.close(self.number)
+
+    def fill(self, data: bytes) -> None:
+        os.ftruncate(self.number, 0)
+        self.data, at = data, 0
+        while at < len(data):
+            at += os.pwrite(self.number, data[at:], at)
+
+
+def encoded(text: str) -> bytes:
+    return text.encode("utf-8", "surrogatepass")
+
+
+def by_characters(text: str, tokens: Sequence[Token]) -> List[Token]:
+    """Returns the tokens of a text with places by characters: the program counts bytes."""
+    data, found, byte, at = b"" if text.isascii() else encoded(text), [], 0, 0
+    for token in tokens if data else ():
+        start = at + len(data[byte : token.start].decode("utf-8", "surrogatepass"))
+        byte, at = token.end, start + len(data[token.start : token.end].decode("utf-8", "surrogatepass"))
+        found.append(token._replace(start=start, end=at))
+    return found if data else list(tokens)
+
+
+def of_revision(path: str, revision: str) -> Optional[str]:
+    """Returns the text of a file in a revision of git; nothing if git has none."""
+    folder, name = os.path.split(path)
+    call = ["git", "-C", folder, "show", "%s:./%s" % (revision, name)]
+    try:
+        done = subprocess.run(call, stdin=subprocess.DEVNULL, stdout=subprocess.PIPE, stderr=subprocess.DEVNULL, timeout=PATIENCE)
+    except (OSError, ValueError, subprocess.TimeoutExpired):
+        return None
+    return done.stdout.decode("utf-8", "surrogateescape") if done.returncode == 0 and not revision.startswith("-") else None
+
+
+def lines_of(data: bytes) -> List[str]:
+    """Returns the lines of a file, without a carriage return at their ends."""
+    lines = data.decode("utf-8", "surrogateescape").split("\n")
+    return [line[:-1] if line.endswith("\r") else line for line in (lines if lines[-1] else lines[:-1])]
+
+
+class Text:
+    """A text and the offsets of its lines. `unit` is what columns are counted in: utf-16, as editors do, or utf-32, which are characters."""
+
+    def __init__(self, text: str, unit: str = "utf-16"):
+        self.text, self.unit = text, unit
+        lines = [len(line) + 1 for line in text.split("\n")]
+        self.starts = [0, *(accumulate(lines[:-1]) if "\r" not in text else (found.end() for found in LINE_END.finditer(text)))]
+
+    def line(self, number: int) -> str:
+        """Returns a line without its end."""
+        end = self.starts[number + 1] if number + 1 < len(self.starts) else len(self.text)
+        return self.text[self.starts[number] : end].rstrip("\r\n") if 0 <= number < len(self.starts) else ""
+
+    def offset(self, position: Dict[str, Any]) -> int:
+        number, column = max(0, int(position["line"])), max(0, int(position["character"]))
+        if number >= len(self.starts):
+            return len(self.text)
+        start, row = self.starts[number], self.line(number)
+        if self.unit == "utf-32" or row.isascii():
+            return start + min(column, len(row))
+        for at, character in enumerate(row):
+            if column <= 0:
+                return start + at
+            column -= 2 if character > "\uffff" else 1
+        return start + len(row)
+
+    def position(self, offset: int) -> Dict[str, Any]:
+        number = bisect.bisect_right(self.starts, offset) - 1
+        return {"line": number, "character": self.width(self.text[self.starts[number] : offset])}
+
+    def width(self, text: str) -> int:
+        return len(text) if self.unit == "utf-32" or text.isascii() else len(text) + sum(character > "\uffff" for character in text)
+
+    def range(self, start: int, end: int) -> Dict[str, Any]:
+        return {"start": self.position(start), "end": self.position(end)}
+
+    def line_range(self, number: int) -> Dict[str, Any]:
+        return {"start": {"line": number, "character": 0}, "end": {"line": number, "character": self.width(self.line(number))}}
+
+    def at(self, line: int, column: int) -> int:
+        """Returns the offset of a place of the program, which counts line feeds and characters, from 1."""
+        start = 0
+        for _ in range(line - 1):
+            start = self.text.find("\n", start) + 1
+        return min(start + column - 1, len(self.text))
+
+    def changed(self, changes: Sequence[Dict[str, Any]]) -> "Text":
+        """Returns the text after the changes of a client."""
+        now = self
+        for change in changes:
+            new = change["text"]
+            if change.get("range"):
+                start, end = sorted(now.offset(change["range"][side]) for side in ("start", "end"))
+                new = now.text[:start] + new + now.text[end:]
+            now = Text(new, self.unit)
+        return now

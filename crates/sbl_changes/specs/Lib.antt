@@ -1,0 +1,2 @@
+-- definitions that the contracts of public functions use
+pub mod ChangeReports

@@ -1,0 +1,3 @@
+pub mod ClassFacts
+pub mod RowSteps
+pub mod RowFacts

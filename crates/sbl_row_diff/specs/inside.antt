@@ -1,0 +1,3 @@
+-- What the functions inside the crate promise each other.
+pub mod TextSets
+pub mod Noted
