@@ -5,7 +5,7 @@ use Rattle.snowbench.proofs.listing.run_list.Goals as goal
 pub returns-in-Ok-Some-clause-runs : goal.returns-in-Ok-Some-clause-runs
 returns-in-Ok-Some-clause-runs g c = λ none. record {
   result = Ok (Some c.in-Ok-Some.words);
-  is_written = rw c.in-Ok-Some.is at (c.in-Ok-Some.ensures.listed none);
+  is_written = rw (← c.in-Ok-Some.is) at (c.in-Ok-Some.ensures.listed none);
   is_counted = refl;
   has_cause = tt;
   is_reported = (refl, Appends-nil (g.E.Sink.held c.args.errors.now));
@@ -14,7 +14,7 @@ returns-in-Ok-Some-clause-runs g c = λ none. record {
 pub returns-in-Ok-None-clause-runs : goal.returns-in-Ok-None-clause-runs
 returns-in-Ok-None-clause-runs g c = λ none. record {
   result = Ok None;
-  is_written = rw c.in-Ok-None.is at (c.in-Ok-None.ensures.listed none);
+  is_written = rw (← c.in-Ok-None.is) at (c.in-Ok-None.ensures.listed none);
   is_counted = refl;
   has_cause = tt;
   is_reported = (refl, Appends-nil (g.E.Sink.held c.args.errors.now));
