@@ -218,12 +218,17 @@ part_kept s t d e what bytes lines result r same few (inr memory) shown =
 
 -- ---- a whole script that is kept
 
-whole_long : (bytes : List ℕ) → max_script < length bytes → (λ (f : ScriptFault). LongText) ≡ refused_whole bytes
+abbrev always_long : ScriptFault → RefusedText
+always_long f = LongText
+
+abbrev whole_or_long : List ℕ → Bool → ScriptFault → RefusedText
+whole_or_long bytes b f = if b then LongText else WholeText bytes
+
+whole_long : (bytes : List ℕ) → max_script < length bytes → always_long ≡ refused_whole bytes
 whole_long bytes long =
     let test : nat_lt max_script (length bytes) ≡ true = grind (arith, nat_tests) in
-    let P : Bool → Type 0 = λ b. (λ (f : ScriptFault). LongText) ≡ (λ (f : ScriptFault). if b then LongText else WholeText bytes) in
-    let base : P true = refl in
-    subst P (sym test) base
+    let base : always_long ≡ whole_or_long bytes true = refl in
+    subst (λ (b : Bool). always_long ≡ whole_or_long bytes b) (sym test) base
 
 -- the block has no text
 pub whole_kept : (s : Contents) (d e : State) (bytes : List ℕ) (f : EditFault) (result : Result (Unit {0}) EditFault) → NamesText (Err f) bytes → result ≡ Err f
