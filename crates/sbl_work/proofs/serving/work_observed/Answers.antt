@@ -2,7 +2,7 @@ use Rattle.std.proofs.Common.{List, ℕ, subst, string_bytes}
 use Rattle.sbl_io.specs.HeldInput.{input_of}
 use Rattle.sbl_sessions.specs.Session.{Ends}
 use Rattle.sbl_work.specs.WholeWork.{IsWholeWork}
-use Rattle.sbl_work.proofs.serving.work.Goals as goal
+use Rattle.sbl_work.proofs.serving.work_observed.Goals as goal
 
 pub returns-in-Ok-clause-works : goal.returns-in-Ok-clause-works
 returns-in-Ok-clause-works g c = λ none.
@@ -12,8 +12,8 @@ returns-in-Ok-clause-works g c = λ none.
     (string_bytes c.args.paths.now.external) prompt (input_of read.left c.args.lines.now) (input_of read.left c.work_on.new.lines) (write.held c.args.writer.now) (write.held c.work_on.new.writer) 0)
     c.prompt_of.ensures (c.in-Ok.ensures.works none)
 
-pub returns-in-Err-clause-works : goal.returns-in-Err-clause-works
-returns-in-Err-clause-works g c = λ none.
+pub returns-after-fault-clause-works : goal.returns-after-fault-clause-works
+returns-after-fault-clause-works g c = λ none.
     let read = g.R.Source in
     let write = g.W.Sink in
     subst (λ (prompt : List ℕ). IsWholeWork (Ends read.tally write.tally c.args.lines.now c.work_on.new.lines c.args.writer.now c.work_on.new.writer)
