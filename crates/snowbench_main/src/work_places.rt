@@ -29,6 +29,28 @@ fn file_text(
     }
 }
 
+/// Returns the lines on the fault of the block after a line.
+fn block_text<'x>(
+    alloc: Global,
+    bench: &Bench,
+    external: &'x str,
+    line: &str,
+    block: &'x [u8],
+) -> Result<Option<String>, AllocError> {
+    let script = bench.script().print(alloc)?;
+    let typed = TypedBlock {
+        block,
+        script: script.as_bytes(),
+        external,
+        takes_heads: true,
+        source: None,
+    };
+    match part_of(line) {
+        Some(part) => part_text(alloc, typed, part),
+        None => whole_text(alloc, typed),
+    }
+}
+
 impl<'a> WorkPlaces<'a> {
     /// Returns these before the work.
     pub(crate) fn new(rt: &'a HostRuntime, external: &'a str, first: &'a str) -> WorkPlaces<'a> {
@@ -36,27 +58,6 @@ impl<'a> WorkPlaces<'a> {
             rt,
             external,
             first,
-        }
-    }
-
-    /// Returns the lines on the fault of the block after a line.
-    fn block_text(
-        &self,
-        bench: &Bench,
-        line: &str,
-        block: &[u8],
-    ) -> Result<Option<String>, AllocError> {
-        let script = bench.script().print(self.rt.alloc())?;
-        let typed = TypedBlock {
-            block,
-            script: script.as_bytes(),
-            external: self.external,
-            takes_heads: true,
-            source: None,
-        };
-        match part_of(line) {
-            Some(part) => part_text(self.rt.alloc(), typed, part),
-            None => whole_text(self.rt.alloc(), typed),
         }
     }
 
@@ -81,7 +82,9 @@ impl Observer for WorkPlaces<'_> {
             RefusedSource::File { path, text } => {
                 file_text(self.rt.alloc(), path.as_str(), text, self.external)
             }
-            RefusedSource::Block { line, text } => self.block_text(bench, line.as_str(), text),
+            RefusedSource::Block { line, text } => {
+                block_text(self.rt.alloc(), bench, self.external, line.as_str(), text)
+            }
         };
         self.show(text, 0);
     }
