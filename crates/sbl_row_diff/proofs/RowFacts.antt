@@ -241,8 +241,8 @@ module _ (f : List ℕ → Outcome') (before after : List Row) (words stems kept
     abbrev IsAbsorbed : Row → Type 0
     IsAbsorbed y = kept y.word ≡ false → (m : Pair) → MoveOf y ≡ Some m → stems m.0 ≡ true → test m ≡ true → Total ≡ true
 
-    each_absorbed : AllByRecursion IsAbsorbed after
-    each_absorbed = all_one IsAbsorbed after (λ y one h m hm hs ht. by y one h m hs ht y.outcome refl (sym (ap (λ o. move_of o y.outcome) (own_move y one (not_noted y.word h))) ∙ hm))
+    each_absorption : AllByRecursion IsAbsorbed after
+    each_absorption = all_one IsAbsorbed after (λ y one h m hm hs ht. by y one h m hs ht y.outcome refl (sym (ap (λ o. move_of o y.outcome) (own_move y one (not_noted y.word h))) ∙ hm))
       where
         by : (y : Row) → IsOneOf after y → kept y.word ≡ false → (m : Pair) → stems m.0 ≡ true → test m ≡ true → (o : Outcome') → y.outcome ≡ o → move_of (Some y.outcome) y.outcome ≡ Some m → Total ≡ true
         by y one h m hs ht (Refused n) e hm =
@@ -264,9 +264,9 @@ module _ (f : List ℕ → Outcome') (before after : List Row) (words stems kept
                 let one_move : (x, x) ≡ m = cc (sym (ap (λ (o : Outcome'). move_of (Some o) o) e) ∙ hm) in
                 some_move test after r (x, x) shown.1 shown.4 moves (ap (λ (p : Pair). stems p.0) one_move ∙ hs) (ap test one_move ∙ ht)
 
-    absorbed : (rows : List Row) → AllByRecursion IsAbsorbed rows → (list_any test (Moves rows) || Total) ≡ (list_any test (Moves (kept_rows kept rows)) || Total)
-    absorbed [] a = refl
-    absorbed (y ∷ rows) a = by (kept y.word) refl (absorbed rows a.1)
+    absorption : (rows : List Row) → AllByRecursion IsAbsorbed rows → (list_any test (Moves rows) || Total) ≡ (list_any test (Moves (kept_rows kept rows)) || Total)
+    absorption [] a = refl
+    absorption (y ∷ rows) a = by (kept y.word) refl (absorption rows a.1)
       where
         all_moves : List Pair
         all_moves = moves_of (outcome_in before) rows
@@ -349,7 +349,7 @@ module _ (f : List ℕ → Outcome') (before after : List Row) (words stems kept
         by false e rest = there (MoveOf y) (rest e)
 
     same_moves : list_any test (Moves after) ≡ list_any test (Moves (kept_rows kept after))
-    same_moves = by (list_any test (Moves after)) Total (absorbed after each_absorbed) (no_more after)
+    same_moves = by (list_any test (Moves after)) Total (absorption after each_absorption) (no_more after)
       where
         by : (x t : Bool) → (x || t) ≡ (t || t) → (t ≡ true → x ≡ true) → x ≡ t
         by true true e h = refl
