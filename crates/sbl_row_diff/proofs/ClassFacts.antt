@@ -8,11 +8,12 @@ use Rattle.std.specs.Str.{bytes_eq}
 use Rattle.std.specs.BTreeSet.{insert_key}
 use Rattle.std.proofs.lemmas.List.Kept.{IsStrictlySortedBy-filter}
 use Rattle.std.proofs.lemmas.Slice.Eq.{bytes_eq-Decides}
-use Rattle.sbl_rows.specs.Changes.{Change, Renamed, changes_by, class_merger, class_renaming, class_split, is_from_one, is_one}
+use Rattle.sbl_rows.specs.Changes.{Change, Renamed, changes_by, class_changes, class_merger, class_renaming, class_split, is_from_one, is_one}
 use Rattle.sbl_rows.specs.Classes.{Class, Pair, in_order, members_of, pair_class, pair_classes}
 use Rattle.sbl_rows.specs.Moves.{moves_back}
 use Rattle.sbl_rows.proofs.ChangeLaws.{alike_order}
-use Rattle.sbl_rows.proofs.OrderFacts.{any-in_order, in_order-sorted, in_order-stays, one_order, text_cmp}
+use Rattle.sbl_rows.proofs.ClassLaws.{any-map}
+use Rattle.sbl_rows.proofs.OrderFacts.{any-in_order, any-members, any-stems, in_order-sorted, in_order-stays, one_order, text_cmp}
 use Rattle.sbl_rows.proofs.Sorting.{mem}
 
 abbrev pub Test : Type 0
@@ -222,3 +223,25 @@ changes_by_marked is_marked ms a =
     one_name new now c [] h same = refl
     one_name new now c (n ∷ []) h same = ap (λ (b : Bool). if bytes_eq c.stem n then None else (if b then Some (Renamed c.stem n) else None)) (same n h.0)
     one_name new now c (n ∷ m ∷ ns) h same = refl
+
+-- ---- the same moves, some of them repeated
+
+module _ (a b : List Pair) (same : (test : Pair → Bool) → list_any test a ≡ list_any test b) where
+  same_classes : pair_classes a ≡ pair_classes b
+  same_classes = λ i. map (λ s. record { stem = s; members = members s i }) (stems i)
+    where
+      stems : in_order (map (λ m. m.0) a) ≡ in_order (map (λ m. m.0) b)
+      stems = one_order (map (λ m. m.0) a) (map (λ m. m.0) b)
+          (λ q. any-stems (λ x. is_eq (text_cmp q x)) a ∙ same (λ m. is_eq (text_cmp q m.0)) ∙ sym (any-stems (λ x. is_eq (text_cmp q x)) b))
+
+      members : (s : List ℕ) → in_order (members_of s a) ≡ in_order (members_of s b)
+      members s = one_order (members_of s a) (members_of s b)
+          (λ q. any-members (λ x. is_eq (text_cmp q x)) s a ∙ same (λ m. bytes_eq s m.0 && is_eq (text_cmp q m.1)) ∙ sym (any-members (λ x. is_eq (text_cmp q x)) s b))
+
+-- the changes of classes are those by a list that has the same moves
+pub changes_by_same : (a b : List Pair) → ((test : Pair → Bool) → list_any test a ≡ list_any test b) → changes_by a ≡ changes_by b
+changes_by_same a b same =
+    let classes : pair_classes a ≡ pair_classes b = same_classes a b same in
+    let backs : pair_classes (moves_back a) ≡ pair_classes (moves_back b) = same_classes (moves_back a) (moves_back b)
+    (λ test. any-map (λ (m : Pair). (m.1, m.0)) test a ∙ same (λ m. test (m.1, m.0)) ∙ sym (any-map (λ (m : Pair). (m.1, m.0)) test b)) in
+    λ i. class_changes (classes i) (backs i)

@@ -1,6 +1,6 @@
 -- The changes between two lists of rows are those between the rows of noted words.
-use Rattle.std.proofs.Common.{◌≡◌, ◌∙◌, ◌++◌, Bool, true, false, ℕ, zero, suc, List, [], ◌∷◌, Option, Some, None, cond, if◌then◌else◌, inl, inr, refl, sym, ap, subst, true≢false}
-use Rattle.std.specs.List.{AllByRecursion, cons_option, filter, filter_map, find}
+use Rattle.std.proofs.Common.{◌≡◌, ◌∙◌, ◌++◌, ◌⊎◌, ◌||◌, Bool, true, false, ℕ, zero, suc, List, [], ◌∷◌, Option, Some, None, cond, if◌then◌else◌, inl, inr, refl, sym, ap, subst, true≢false}
+use Rattle.std.specs.List.{AllByRecursion, cons_option, filter, filter_map, find, list_any}
 use Rattle.std.specs.Option.{option_map}
 use Rattle.std.specs.Str.{bytes_eq}
 use Rattle.std.proofs.lemmas.Slice.Eq.{bytes_eq-Decides}
@@ -12,8 +12,9 @@ use Rattle.sbl_rows.specs.Changes.{Changed, changes_by, changes_of, outcome_chan
 use Rattle.sbl_rows.specs.Classes.{Pair}
 use Rattle.sbl_rows.specs.Moves.{move_of, moves_of}
 use Rattle.sbl_rows.specs.Rows.{Row}
-use Rattle.sbl_row_diff.specs.inside.Noted.{IsNoted, IsOneOf, IsStemIn, Test, has_stem}
-use Rattle.sbl_row_diff.proofs.ClassFacts.{IsMarked, changes_by_marked, marked_moves}
+use Rattle.sbl_row_diff.specs.inside.Noted.{IsCovered, IsNoted, IsOneOf, IsShown, IsStemIn, Test}
+use Rattle.sbl_row_diff.proofs.RowSteps.{shown_row}
+use Rattle.sbl_row_diff.proofs.ClassFacts.{IsMarked, changes_by_marked, changes_by_same, marked_moves}
 
 same_self : (o : Outcome') → same_outcome o o ≡ true
 same_self (Stem s) = (bytes_eq-Decides s s).1 refl
@@ -93,7 +94,7 @@ module _ (f : List ℕ → Outcome') (before after : List Row) (words stems kept
     (stems_before : AllByRecursion (λ r. words r.word ≡ true → IsStemIn stems r.outcome) before)
     (stems_after : AllByRecursion (λ r. words r.word ≡ true → IsStemIn stems r.outcome) after)
     (more : (w : List ℕ) → words w ≡ true → kept w ≡ true)
-    (noted_stems : AllByRecursion (λ r. has_stem stems r.outcome ≡ true → kept r.word ≡ true) after) where
+    (covers : AllByRecursion (IsCovered words stems kept after) after) where
   -- a word that is left out is not noted
   not_noted : (w : List ℕ) → kept w ≡ false → words w ≡ false
   not_noted w h = by (words w) refl
@@ -184,47 +185,177 @@ module _ (f : List ℕ → Outcome') (before after : List Row) (words stems kept
       by true rest = (a.0, rest)
       by false rest = rest
 
-  -- a word that is left out moves to its own stem, which is not marked
-  abbrev MovesNot : Row → Type 0
-  MovesNot y = kept y.word ≡ false → (outcome_in before y.word ≡ Some y.outcome) × (has_stem stems y.outcome ≡ false)
+  -- ---- the marked moves
 
-  stays : AllByRecursion MovesNot after
-  stays = all_one MovesNot after (λ y one h. (
-    was y one (not_noted y.word h) ∙ ap Some (sym (of_one (λ y. y.outcome ≡ f y.word) after y is_by one)),
-    no_stem y h (of_one (λ r. has_stem stems r.outcome ≡ true → kept r.word ≡ true) after y noted_stems one),
-  ))
-    where
-      no_stem : (y : Row) → kept y.word ≡ false → (has_stem stems y.outcome ≡ true → kept y.word ≡ true) → has_stem stems y.outcome ≡ false
-      no_stem y h noted = by (has_stem stems y.outcome) refl
-        where
-          by : (b : Bool) → has_stem stems y.outcome ≡ b → b ≡ false
-          by true e = absurd (true≢false (sym (noted e) ∙ h))
-          by false e = refl
+  abbrev Moves : List Row → List Pair
+  Moves rows = marked_moves stems (moves_of (outcome_in before) rows)
 
-  same_moves : (rows : List Row) → AllByRecursion MovesNot rows → marked_moves stems (moves_of (outcome_in before) rows) ≡ marked_moves stems (moves_of (outcome_in before) (kept_rows kept rows))
-  same_moves [] a = refl
-  same_moves (y ∷ rows) a = by (kept y.word) refl (same_moves rows a.1)
+  abbrev MoveOf : Row → Option Pair
+  MoveOf y = move_of (outcome_in before y.word) y.outcome
+
+  -- a word that is not noted moves to its own stem
+  own_move : (y : Row) → IsOneOf after y → words y.word ≡ false → outcome_in before y.word ≡ Some y.outcome
+  own_move y one h = was y one h ∙ ap Some (sym (of_one (λ y. y.outcome ≡ f y.word) after y is_by one))
+
+  -- a move is there if a kept row makes it
+  some_move : (test : Pair → Bool) (rows : List Row) (y : Row) (m : Pair) → IsOneOf rows y → kept y.word ≡ true → MoveOf y ≡ Some m → stems m.0 ≡ true → test m ≡ true
+      → list_any test (Moves (kept_rows kept rows)) ≡ true
+  some_move test [] y m one hk hm hs ht = cc one.1
+  some_move test (r ∷ rows) y m one hk hm hs ht = by (kept r.word) refl one (λ later. some_move test rows y m later hk hm hs ht)
     where
       others : List Pair
       others = moves_of (outcome_in before) (kept_rows kept rows)
 
-      one_more : (m : Option Pair) → marked_moves stems (moves_of (outcome_in before) rows) ≡ marked_moves stems others
-          → marked_moves stems (cons_option m (moves_of (outcome_in before) rows)) ≡ marked_moves stems (cons_option m others)
-      one_more None rest = rest
-      one_more (Some m) rest = λ i. cond (stems m.0) (m ∷ rest i) (rest i)
+      or_true : (b : Bool) → (b || true) ≡ true
+      or_true true = refl
+      or_true false = refl
 
-      none_more : (x : Option Outcome') (o : Outcome') → x ≡ Some o → has_stem stems o ≡ false → marked_moves stems (cons_option (move_of x o) (moves_of (outcome_in before) rows)) ≡ marked_moves stems (moves_of (outcome_in before) rows)
-      none_more (Some (Stem s)) (Stem t) e h =
-          let same : s ≡ t = cc e in
-          ap (λ (b : Bool). cond b ((s, t) ∷ marked_moves stems (moves_of (outcome_in before) rows)) (marked_moves stems (moves_of (outcome_in before) rows))) (ap stems same ∙ h)
-      none_more (Some (Stem s)) (Refused n) e h = refl
-      none_more (Some (Refused m)) o e h = refl
-      none_more None o e h = refl
+      here : (o : Option Pair) → o ≡ Some m → list_any test (marked_moves stems (cons_option o others)) ≡ true
+      here None e = cc e
+      here (Some n) e =
+          let same : n ≡ m = cc e in
+          ap (λ (k : Pair). list_any test (cond (stems k.0) (k ∷ marked_moves stems others) (marked_moves stems others))) same
+          ∙ ap (λ (b : Bool). list_any test (cond b (m ∷ marked_moves stems others) (marked_moves stems others))) hs
+          ∙ ap (λ (b : Bool). b || list_any test (marked_moves stems others)) ht
 
-      by : (b : Bool) → kept y.word ≡ b → marked_moves stems (moves_of (outcome_in before) rows) ≡ marked_moves stems others
-          → marked_moves stems (cons_option (move_of (outcome_in before y.word) y.outcome) (moves_of (outcome_in before) rows)) ≡ marked_moves stems (moves_of (outcome_in before) (cond b (y ∷ kept_rows kept rows) (kept_rows kept rows)))
-      by true e rest = one_more (move_of (outcome_in before y.word) y.outcome) rest
-      by false e rest = none_more (outcome_in before y.word) y.outcome (a.0 e).0 (a.0 e).1 ∙ rest
+      there : (o : Option Pair) → list_any test (marked_moves stems others) ≡ true → list_any test (marked_moves stems (cons_option o others)) ≡ true
+      there None e = e
+      there (Some n) e = by_mark (stems n.0)
+        where
+          by_mark : (b : Bool) → list_any test (cond b (n ∷ marked_moves stems others) (marked_moves stems others)) ≡ true
+          by_mark true = ap (λ (b : Bool). test n || b) e ∙ or_true (test n)
+          by_mark false = e
+
+      by : (b : Bool) → kept r.word ≡ b → IsOneOf (r ∷ rows) y → (IsOneOf rows y → list_any test (marked_moves stems others) ≡ true)
+          → list_any test (Moves (cond b (r ∷ kept_rows kept rows) (kept_rows kept rows))) ≡ true
+      by true e (zero, at) rest = let same : r ≡ y = cc at in here (MoveOf r) (ap MoveOf same ∙ hm)
+      by true e (suc n, at) rest = there (MoveOf r) (rest (n, at))
+      by false e (zero, at) rest = let same : r ≡ y = cc at in absurd (true≢false (sym hk ∙ sym (ap (λ (q : Row). kept q.word) same) ∙ e))
+      by false e (suc n, at) rest = rest (n, at)
+
+  -- what a word that is left out moves by is there without it
+  module _ (test : Pair → Bool) where
+    abbrev Total : Bool
+    Total = list_any test (Moves (kept_rows kept after))
+
+    abbrev IsAbsorbed : Row → Type 0
+    IsAbsorbed y = kept y.word ≡ false → (m : Pair) → MoveOf y ≡ Some m → stems m.0 ≡ true → test m ≡ true → Total ≡ true
+
+    each_absorption : AllByRecursion IsAbsorbed after
+    each_absorption = all_one IsAbsorbed after (λ y one h m hm hs ht. by y one h m hs ht y.outcome refl (sym (ap (λ o. move_of o y.outcome) (own_move y one (not_noted y.word h))) ∙ hm))
+      where
+        by : (y : Row) → IsOneOf after y → kept y.word ≡ false → (m : Pair) → stems m.0 ≡ true → test m ≡ true → (o : Outcome') → y.outcome ≡ o → move_of (Some y.outcome) y.outcome ≡ Some m → Total ≡ true
+        by y one h m hs ht (Refused n) e hm =
+            let none : move_of (Some (Refused n)) (Refused n) ≡ Some m = sym (ap (λ (o : Outcome'). move_of (Some o) o) e) ∙ hm in
+            cc none
+        by y one h m hs ht (Stem x) e hm =
+            let move : Some (x, x) ≡ Some m = sym (ap (λ (o : Outcome'). move_of (Some o) o) e) ∙ hm in
+            let same : (x, x) ≡ m = cc move in
+            shows (of_one (IsCovered words stems kept after) after y covers one x e (ap (λ (p : Pair). stems p.0) same ∙ hs))
+          where
+            shows : (words y.word ≡ true) ⊎ ((kept y.word ≡ true) ⊎ IsShown words kept after x) → Total ≡ true
+            shows (inl noted) = absurd (true≢false (sym (more y.word noted) ∙ h))
+            shows (inr (inl is_kept)) = absurd (true≢false (sym is_kept ∙ h))
+            shows (inr (inr is)) =
+                let shown = shown_row words kept after x is in
+                let r : Row = shown.0 in
+                let own : outcome_in before r.word ≡ Some (Stem x) = own_move r shown.1 shown.3 ∙ ap Some shown.2 in
+                let moves : MoveOf r ≡ Some (x, x) = (λ i. move_of (own i) (shown.2 i)) in
+                let one_move : (x, x) ≡ m = cc (sym (ap (λ (o : Outcome'). move_of (Some o) o) e) ∙ hm) in
+                some_move test after r (x, x) shown.1 shown.4 moves (ap (λ (p : Pair). stems p.0) one_move ∙ hs) (ap test one_move ∙ ht)
+
+    absorption : (rows : List Row) → AllByRecursion IsAbsorbed rows → (list_any test (Moves rows) || Total) ≡ (list_any test (Moves (kept_rows kept rows)) || Total)
+    absorption [] a = refl
+    absorption (y ∷ rows) a = by (kept y.word) refl (absorption rows a.1)
+      where
+        all_moves : List Pair
+        all_moves = moves_of (outcome_in before) rows
+
+        few_moves : List Pair
+        few_moves = moves_of (outcome_in before) (kept_rows kept rows)
+
+        or_same : (b c d e : Bool) → (c || e) ≡ (d || e) → ((b || c) || e) ≡ ((b || d) || e)
+        or_same true c d e h = refl
+        or_same false c d e h = h
+
+        both : (o : Option Pair) → (list_any test (marked_moves stems all_moves) || Total) ≡ (list_any test (marked_moves stems few_moves) || Total)
+            → (list_any test (marked_moves stems (cons_option o all_moves)) || Total) ≡ (list_any test (marked_moves stems (cons_option o few_moves)) || Total)
+        both None rest = rest
+        both (Some m) rest = by_mark (stems m.0)
+          where
+            by_mark : (b : Bool) → (list_any test (cond b (m ∷ marked_moves stems all_moves) (marked_moves stems all_moves)) || Total)
+                ≡ (list_any test (cond b (m ∷ marked_moves stems few_moves) (marked_moves stems few_moves)) || Total)
+            by_mark true = or_same (test m) (list_any test (marked_moves stems all_moves)) (list_any test (marked_moves stems few_moves)) Total rest
+            by_mark false = rest
+
+        without : (o : Option Pair) → ((m : Pair) → o ≡ Some m → stems m.0 ≡ true → test m ≡ true → Total ≡ true)
+            → (list_any test (marked_moves stems (cons_option o all_moves)) || Total) ≡ (list_any test (marked_moves stems all_moves) || Total)
+        without None h = refl
+        without (Some m) h = by_mark (stems m.0) (test m) refl refl
+          where
+            or_total : (b : Bool) → Total ≡ true → (true || b) ≡ (b || Total)
+            or_total true e = refl
+            or_total false e = sym e
+
+            by_mark : (b t : Bool) → stems m.0 ≡ b → test m ≡ t → (list_any test (cond b (m ∷ marked_moves stems all_moves) (marked_moves stems all_moves)) || Total) ≡ (list_any test (marked_moves stems all_moves) || Total)
+            by_mark true true es et = ap (λ (t : Bool). (t || list_any test (marked_moves stems all_moves)) || Total) et ∙ or_total (list_any test (marked_moves stems all_moves)) (h m refl es et)
+            by_mark true false es et = ap (λ (t : Bool). (t || list_any test (marked_moves stems all_moves)) || Total) et
+            by_mark false t es et = refl
+
+        by : (b : Bool) → kept y.word ≡ b → (list_any test (Moves rows) || Total) ≡ (list_any test (Moves (kept_rows kept rows)) || Total)
+            → (list_any test (marked_moves stems (cons_option (MoveOf y) all_moves)) || Total) ≡ (list_any test (Moves (cond b (y ∷ kept_rows kept rows) (kept_rows kept rows))) || Total)
+        by true e rest = both (MoveOf y) rest
+        by false e rest = without (MoveOf y) (a.0 e) ∙ rest
+
+    -- and the kept rows make no other moves
+    no_more : (rows : List Row) → list_any test (Moves (kept_rows kept rows)) ≡ true → list_any test (Moves rows) ≡ true
+    no_more [] h = h
+    no_more (y ∷ rows) h = by (kept y.word) h (no_more rows)
+      where
+        all_moves : List Pair
+        all_moves = moves_of (outcome_in before) rows
+
+        few_moves : List Pair
+        few_moves = moves_of (outcome_in before) (kept_rows kept rows)
+
+        there : (o : Option Pair) → list_any test (marked_moves stems all_moves) ≡ true → list_any test (marked_moves stems (cons_option o all_moves)) ≡ true
+        there None e = e
+        there (Some n) e = by_mark (stems n.0) (test n)
+          where
+            by_mark : (b t : Bool) → list_any test (cond b (n ∷ marked_moves stems all_moves) (marked_moves stems all_moves)) ≡ true
+            by_mark true t = ap (λ (b : Bool). test n || b) e ∙ or_true (test n)
+              where
+                or_true : (b : Bool) → (b || true) ≡ true
+                or_true true = refl
+                or_true false = refl
+            by_mark false t = e
+
+        both : (o : Option Pair) → (list_any test (marked_moves stems few_moves) ≡ true → list_any test (marked_moves stems all_moves) ≡ true)
+            → list_any test (marked_moves stems (cons_option o few_moves)) ≡ true → list_any test (marked_moves stems (cons_option o all_moves)) ≡ true
+        both None rest e = rest e
+        both (Some n) rest e = by_mark (stems n.0) (test n) refl e
+          where
+            by_mark : (b t : Bool) → test n ≡ t → list_any test (cond b (n ∷ marked_moves stems few_moves) (marked_moves stems few_moves)) ≡ true
+                → list_any test (cond b (n ∷ marked_moves stems all_moves) (marked_moves stems all_moves)) ≡ true
+            by_mark true true et e = ap (λ (t : Bool). t || list_any test (marked_moves stems all_moves)) et
+            by_mark true false et e =
+                let later : list_any test (marked_moves stems few_moves) ≡ true = sym (ap (λ (t : Bool). t || list_any test (marked_moves stems few_moves)) et) ∙ e in
+                ap (λ (t : Bool). t || list_any test (marked_moves stems all_moves)) et ∙ rest later
+            by_mark false t et e = rest e
+
+        by : (b : Bool) → list_any test (Moves (cond b (y ∷ kept_rows kept rows) (kept_rows kept rows))) ≡ true
+            → (list_any test (Moves (kept_rows kept rows)) ≡ true → list_any test (Moves rows) ≡ true) → list_any test (marked_moves stems (cons_option (MoveOf y) all_moves)) ≡ true
+        by true e rest = both (MoveOf y) rest e
+        by false e rest = there (MoveOf y) (rest e)
+
+    same_moves : list_any test (Moves after) ≡ list_any test (Moves (kept_rows kept after))
+    same_moves = by (list_any test (Moves after)) Total (absorption after each_absorption) (no_more after)
+      where
+        by : (x t : Bool) → (x || t) ≡ (t || t) → (t ≡ true → x ≡ true) → x ≡ t
+        by true true e h = refl
+        by true false e h = e
+        by false true e h = h refl
+        by false false e h = refl
 
   -- the moves of the kept rows, by the outcomes of these rows
   kept_moves : (rows : List Row) → moves_of (outcome_in before) (kept_rows kept rows) ≡ moves_of (outcome_in (kept_rows kept before)) (kept_rows kept rows)
@@ -239,7 +370,7 @@ module _ (f : List ℕ → Outcome') (before after : List Row) (words stems kept
   same_classes : changes_by (moves_of (outcome_in before) after) ≡ changes_by (moves_of (outcome_in (kept_rows kept before)) (kept_rows kept after))
   same_classes =
       changes_by_marked stems (moves_of (outcome_in before) after) (moves_marked after each_marked)
-      ∙ ap changes_by (same_moves after stays)
+      ∙ changes_by_same (Moves after) (Moves (kept_rows kept after)) same_moves
       ∙ sym (changes_by_marked stems (moves_of (outcome_in before) (kept_rows kept after)) (moves_marked (kept_rows kept after) (all_kept (λ y. MarkedBy (outcome_in before y.word) y) after each_marked)))
       ∙ ap changes_by (kept_moves after)
 

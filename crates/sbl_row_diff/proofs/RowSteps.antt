@@ -1,12 +1,12 @@
 -- Steps of loops over rows.
-use Rattle.std.proofs.Common.{◌≡◌, ◌<◌, ◌≤◌, ◌+◌, ◌-◌, ◌∙◌, ◌++◌, ℕ, zero, suc, arith, List, [], ◌∷◌, Bool, true, false, Some, inl, inr, map, drop, take, length, get_or, refl, sym, ap, subst}
+use Rattle.std.proofs.Common.{◌≡◌, ◌⊎◌, ◌<◌, ◌≤◌, ◌+◌, ◌-◌, ◌∙◌, ◌++◌, ℕ, zero, suc, arith, List, [], ◌∷◌, Bool, true, false, Some, inl, inr, map, drop, take, length, get_or, refl, sym, ap, subst}
 use Rattle.std.specs.Prelude.{slice_get}
 use Rattle.std.specs.List.{AllByRecursion}
 use Rattle.std.proofs.lemmas.List.{length-drop, map-append, take-append-drop, take_all}
 use Rattle.sbl_semantics.specs.Outcome.{Outcome', Stem, Refused}
 use Rattle.sbl_rows.specs.Rows.{Row, view_row, view_rows}
 use Rattle.sbl_rows.specs.declared.row.Row as declared
-use Rattle.sbl_row_diff.specs.inside.Noted.{IsNoted, IsStemIn, Test}
+use Rattle.sbl_row_diff.specs.inside.Noted.{IsCovered, IsNoted, IsOneOf, IsShown, IsStemIn, Test}
 use Rattle.sbl_rows.proofs.ChangeLaws.{each}
 use Rattle.sbl_rows.proofs.Loops.{so_far}
 
@@ -66,3 +66,25 @@ all_noted old new others rows rest i grows is a b =
     (all_both (IsNoted new others) (view_rows (take i rows)) (view_rows (drop i rows))
     (each (IsNoted old others) (IsNoted new others) (noted_grows old new others grows) (view_rows (take i rows)) a)
     (subst (λ (ds : List declared.Row). AllByRecursion (IsNoted new others) (view_rows ds)) is (each (λ r. new r.word ≡ true) (IsNoted new others) (λ r h. inl h) (view_rows rest) b))))
+
+pub shown_by : (words kept : Test) (rows : List Row) (t : List ℕ) (r : Row) → IsOneOf rows r → r.outcome ≡ Stem t → words r.word ≡ false → kept r.word ≡ true → IsShown words kept rows t
+unfolding IsShown
+shown_by words kept rows t r one stem other in_kept = (r, one, stem, other, in_kept)
+
+-- the row that shows a stem
+pub shown_row : (words kept : Test) (rows : List Row) (t : List ℕ) → IsShown words kept rows t → (r : Row) × IsOneOf rows r × (r.outcome ≡ Stem t) × (words r.word ≡ false) × (kept r.word ≡ true)
+unfolding IsShown
+shown_row words kept rows t shown = shown
+
+pub shown_grows : (words old new : Test) (rows : List Row) → ((t : List ℕ) → old t ≡ true → new t ≡ true) → (t : List ℕ) → IsShown words old rows t → IsShown words new rows t
+shown_grows words old new rows grows t shown =
+    let r = shown_row words old rows t shown in
+    shown_by words new rows t r.0 r.1 r.2 r.3 (grows r.0.word r.4)
+
+pub covered_grows : (words stems old new : Test) (rows : List Row) → ((t : List ℕ) → old t ≡ true → new t ≡ true) → (y : Row) → IsCovered words stems old rows y → IsCovered words stems new rows y
+covered_grows words stems old new rows grows y covers = λ x is in_set. by x (covers x is in_set)
+  where
+    by : (x : List ℕ) → (words y.word ≡ true) ⊎ ((old y.word ≡ true) ⊎ IsShown words old rows x) → (words y.word ≡ true) ⊎ ((new y.word ≡ true) ⊎ IsShown words new rows x)
+    by x (inl noted) = inl noted
+    by x (inr (inl kept)) = inr (inl (grows y.word kept))
+    by x (inr (inr shown)) = inr (inr (shown_grows words old new rows grows x shown))

@@ -1,5 +1,5 @@
 //! Sets of texts that may have more than what was put in.
-ghost use Rattle.std.specs.Prelude.{◌≡◌, ℕ, List, true};
+ghost use Rattle.std.specs.Prelude.{◌≡◌, ℕ, IfOk, List, true};
 ghost use Rattle.sbl_row_diff.specs.inside.TextSets as spec;
 
 use std::alloc::{AllocError, Global};
@@ -15,7 +15,7 @@ pub(crate) struct TextSet {
 }
 
 /// Returns the place of a text.
-fn place_of(text: &[char]) -> usize
+pub(crate) fn place_of(text: &[char]) -> usize
     ensures { result ≡ spec.place_of text.now }
 {
     let mut place: usize = 0;
@@ -30,6 +30,15 @@ impl TextSet {
     pub(crate) fn new(alloc: Global) -> Result<TextSet, AllocError> {
         Ok(TextSet {
             places: vec![in alloc; false; PLACES]?,
+        })
+    }
+
+    /// Returns a copy. Returns `AllocError` if an allocation fails.
+    pub(crate) fn copy(&self, alloc: Global) -> Result<TextSet, AllocError>
+        ensures { IfOk result (λ copy. (t : List ℕ) → spec.has copy t ≡ spec.has self.now t) }
+    {
+        Ok(TextSet {
+            places: Vec::from_slice(alloc, self.places.as_slice())?,
         })
     }
 

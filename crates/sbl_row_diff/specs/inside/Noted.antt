@@ -16,12 +16,16 @@ IsOneOf rows r = (n : ℕ) × (slice_get rows n ≡ Some r)
 abbrev pub IsNoted : Test → List Row → Row → Type 0
 IsNoted words others r = (words r.word ≡ true) ⊎ IsOneOf others r
 
--- the stem of the outcome is one of these; a refusal has none
-abbrev pub has_stem : Test → Outcome' → Bool
-has_stem stems (Stem s) = stems s
-has_stem stems (Refused f) = false
-
 -- if the outcome is a stem, it is one of these
 abbrev pub IsStemIn : Test → Outcome' → Type 0
 IsStemIn stems (Stem s) = stems s ≡ true
 IsStemIn stems (Refused f) = ⊤
+
+-- one of these rows has the stem; its word is not noted, but kept
+unfoldable pub IsShown : Test → Test → List Row → List ℕ → Type 0
+IsShown words kept rows stem = (r : Row) × IsOneOf rows r × (r.outcome ≡ Stem stem) × (words r.word ≡ false) × (kept r.word ≡ true)
+
+-- if the stem of a row is one of these, its word is noted or kept, or a row shows the stem
+abbrev pub IsCovered : Test → Test → Test → List Row → Row → Type 0
+IsCovered words stems kept rows y =
+    (x : List ℕ) → y.outcome ≡ Stem x → stems x ≡ true → (words y.word ≡ true) ⊎ ((kept y.word ≡ true) ⊎ IsShown words kept rows x)
