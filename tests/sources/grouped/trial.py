@@ -27,6 +27,8 @@ class Trial:
         self.kit, self.crate, self.sources, self.edits, self.jobs = kit, crate, sources, edits, jobs
         self.seed = f"{kit.folder(crate)}/out/incremental"
         self.verdicts: dict[str, Verdict] = {}
+        # The seconds of the checks of each edit; those of a group are shared out.
+        self.seconds: dict[str, float] = {it.label: 0.0 for it in edits}
         self.checks = 0
         self.minutes = 0.0
 
@@ -77,7 +79,9 @@ class Trial:
         """Checks the crate with these edits, over what is proved of it."""
         texts = edits[0].texts if len(edits) == 1 else self.sources.with_spans([span for it in edits for span in it.spans])
         self.checks += 1
-        number, ran = self.checks, self.kit.check(self.crate, texts, self.seed)
+        begin, number, ran = time.time(), self.checks, self.kit.check(self.crate, texts, self.seed)
+        for it in edits:
+            self.seconds[it.label] += (time.time() - begin) / len(edits)
         keeps = os.environ.get("GROUPED_KEEPS")
         if keeps:
             with open(f"{keeps}/{self.crate}.{number}", "w", encoding="utf-8") as it:
