@@ -117,10 +117,14 @@ class Kit:
                 ran = self.rt.checked(self.crates[crate], texts, words, over)
         return Check(ran.returncode, messages_of(ran.stdout))
 
-    def prove(self, crate: str, seed: str) -> Check:
-        """Checks the crate as it is, and keeps in the seed what was proved."""
-        os.makedirs(seed, exist_ok=True)
-        ran = self.rt.checked(self.crates[crate], {}, ["--jobs", "1"], seed)
+    def is_proved(self, crate: str) -> bool:
+        """Returns whether a library of the crate as it is was built, over what a check of it keeps in out/."""
+        return self.crates[crate].is_built() and os.path.isdir(f"{self.folder(crate)}/out/incremental")
+
+    def prove(self, crate: str) -> Check:
+        """Checks the crate as it is, after the libraries below it are built, and keeps in out/ what was proved."""
+        how = {"cwd": self.folder(crate), "stdin": subprocess.DEVNULL, "stdout": subprocess.PIPE, "stderr": subprocess.STDOUT, "errors": "replace"}
+        ran = subprocess.run(["rt", "check"], **how)
         return Check(ran.returncode, messages_of(ran.stdout))
 
     def take_libraries(self, crates: set[str]) -> str:
