@@ -22,6 +22,7 @@ from __future__ import annotations
 
 import os
 import sys
+from typing import Callable
 
 sys.dont_write_bytecode = True
 
@@ -97,15 +98,16 @@ def checksums(kit: Kit, crates: list[str]) -> dict[tuple[str, str], str]:
     return {(it.crate, it.name): depends.of_edit(it, file_of(kit, it)) for it in edits}
 
 
-def record(kit: Kit, trial: Trial) -> None:
-    """Writes to tried.csv what came of the edits of a crate. Edits that are gone have no row."""
-    now = checksums(kit, [trial.crate])
-    rows = {key: row for key, row in ledger.read().items() if key[0] != trial.crate or key in now}
-    for it in trial.edits:
-        if not it.is_control:
-            key = (it.crate, it.name)
-            rows[key] = ledger.Row(trial.verdicts[it.label].kind.value, round(trial.seconds[it.label]), now[key])
-    ledger.write(rows)
+def keeper(kit: Kit, crate: str) -> Callable:
+    """Returns what writes to tried.csv what came of an edit of this crate. Edits that are gone lose their rows."""
+    now = checksums(kit, [crate])
+
+    def keep(edit: Edit, verdict: Verdict, seconds: float) -> None:
+        key = (edit.crate, edit.name)
+        if not edit.is_control:
+            ledger.change({key: ledger.Row(verdict.kind.value, round(seconds), now[key])}, lambda it: it[0] == crate and it not in now)
+
+    return keep
 
 
 def untried(kit: Kit, crates: list[str]) -> list[str]:
@@ -118,7 +120,7 @@ def try_crate(kit: Kit, crate: str, wanted: set[str], jobs: int, tally: Tally, r
     """Tries the edits of a crate, and returns whether it is proved itself."""
     sources = Sources(kit.folder(crate))
     edits = [it for it in edits_of(kit, crate, sources) if it.is_control or not wanted or it.name in wanted]
-    trial = Trial(kit, crate, sources, edits, jobs)
+    trial = Trial(kit, crate, sources, edits, jobs, *([keeper(kit, crate)] if records else []))
     if all(it.is_control for it in edits):
         return True
     try:
@@ -126,8 +128,6 @@ def try_crate(kit: Kit, crate: str, wanted: set[str], jobs: int, tally: Tally, r
     except NotProved as error:
         print(f"{crate}: {error}", flush=True)
         return False
-    if records:
-        record(kit, trial)
     own = Tally()
     for edit in edits:
         tally.add(edit, trial.verdicts[edit.label])

@@ -6,11 +6,13 @@ their proofs, the crate's contracts, definitions and lemmas, and those of the cr
 from __future__ import annotations
 
 import csv
+import fcntl
 import hashlib
 import os
 import re
 from collections import Counter
 from dataclasses import dataclass
+from typing import Callable
 
 from edits import Edit, Sources, find_functions
 from judging import Kind
@@ -103,6 +105,16 @@ def write(rows: dict[tuple[str, str], Row], file: str = FILE) -> None:
         out.writerow(HEADER)
         out.writerows([*key, row.result, row.seconds, row.checksum] for key, row in sorted(rows.items()))
     os.replace(f"{file}.new", file)
+
+
+def change(rows: dict[tuple[str, str], Row], gone: Callable[[tuple[str, str]], bool], file: str = FILE) -> None:
+    """Writes these rows in the place of those of the same edits, and leaves out those that are gone. Another process may do so at the same time."""
+    folder = os.open(os.path.dirname(os.path.abspath(file)), os.O_RDONLY)
+    try:
+        fcntl.flock(folder, fcntl.LOCK_EX)
+        write({key: row for key, row in {**read(file), **rows}.items() if not gone(key)}, file)
+    finally:
+        os.close(folder)
 
 
 def is_tried(row: Row | None, now: str) -> bool:

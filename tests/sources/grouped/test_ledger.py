@@ -71,6 +71,8 @@ class Rows(unittest.TestCase):
             with open(f"{room}/tried.csv", encoding="utf-8") as it:
                 self.assertEqual(it.read(), "crate,edit,result,seconds,checksum\na,x,refused,12,02\nb,y,by a name,3,01\n")
             self.assertEqual(ledger.read(f"{room}/tried.csv"), rows)
+            ledger.change({("a", "x"): Row("refused", 2, "03"), ("a", "z"): Row("refused", 1, "04")}, lambda it: it[1] == "y", f"{room}/tried.csv")
+            self.assertEqual([it.checksum for it in ledger.read(f"{room}/tried.csv").values()], ["03", "04"])
 
     def test_a_row_stands_for_what_it_was_written_of(self) -> None:
         self.assertEqual([ledger.is_tried(it, "02") for it in (Row("refused", 1, "02"), Row("refused", 1, "01"), Row("renamed", 1, "02"), None)], [True, False, False, False])

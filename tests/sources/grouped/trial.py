@@ -23,8 +23,10 @@ class NotProved(Exception):
 class Trial:
     """The edits of one crate, and what checks said of them."""
 
-    def __init__(self, kit: Kit, crate: str, sources: Sources, edits: list[Edit], jobs: int) -> None:
+    def __init__(self, kit: Kit, crate: str, sources: Sources, edits: list[Edit], jobs: int, keep: Callable = lambda edit, verdict, seconds: None) -> None:
         self.kit, self.crate, self.sources, self.edits, self.jobs = kit, crate, sources, edits, jobs
+        # This is called with each edit that is settled, what is said of it, and the seconds of its checks.
+        self.keep = keep
         self.seed = f"{kit.folder(crate)}/out/incremental"
         self.verdicts: dict[str, Verdict] = {}
         # The seconds of the checks of each edit; those of a group are shared out.
@@ -43,7 +45,7 @@ class Trial:
             in_groups = {it.label for it in left} | self.verdicts.keys()
             left += [it for it in self.edits if it.label not in in_groups]
             for edit, verdict in zip(left, pool.map(self.try_alone, left)):
-                self.verdicts[edit.label] = verdict
+                self.settle(edit, verdict)
         if self.kit.files(self.seed) != was:
             raise NotProved(f"what was proved of {self.crate} was changed meanwhile")
         self.minutes = (time.time() - begin) / 60
@@ -53,6 +55,10 @@ class Trial:
         whole = None if self.kit.is_proved(self.crate) else self.kit.prove(self.crate)
         if whole and whole.status:
             raise NotProved(f"{self.crate} is not proved itself: {whole.said[-1]}")
+
+    def settle(self, edit: Edit, verdict: Verdict) -> None:
+        self.verdicts[edit.label] = verdict
+        self.keep(edit, verdict, self.seconds[edit.label])
 
     def find(self) -> None:
         """Finds the functions that each edit changes."""
@@ -104,9 +110,9 @@ class Trial:
             find_paths(edit, functions_in(ran.said))
             verdict = None if edit.alone else judge(changes_of(edit), ran.said)
             if verdict and verdict.kind in (Kind.REFUSED, Kind.RENAMED, Kind.FORM):
-                self.verdicts[edit.label] = verdict
+                self.settle(edit, verdict)
             elif verdict and verdict.kind is Kind.ACCEPTED and edit.is_control:
-                self.verdicts[edit.label] = verdict
+                self.settle(edit, verdict)
             else:
                 left.append(edit)
         return left
@@ -115,7 +121,7 @@ class Trial:
         """Returns whether the crate does not compile with this edit alone."""
         error = self.kit.compiles(self.crate, edit.texts).error()
         if error:
-            self.verdicts[edit.label] = Verdict(Kind.BAD, f"it does not compile: {error}")
+            self.settle(edit, Verdict(Kind.BAD, f"it does not compile: {error}"))
         return bool(error)
 
     def try_alone(self, edit: Edit) -> Verdict:
