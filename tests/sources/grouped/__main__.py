@@ -2,6 +2,9 @@
 """Tries wrong bodies of crates several at a time: edits of different functions in one check.
 
   python3 tests/sources/grouped TOP JOBS CRATE[/EDIT]..         TOP: a copy of the repository in which these crates were checked
+  python3 tests/sources/grouped TOP JOBS --record CRATE[/EDIT]..         the same; writes what came of each edit to tests/sources/tried.csv
+  python3 tests/sources/grouped TOP JOBS --untried CRATE..      prints the edits that tried.csv does not say are refused as all is now
+  python3 tests/sources/grouped TOP JOBS --tried CRATE..        only says what tried.csv has of these crates' edits
   python3 tests/sources/grouped TOP JOBS --sample N COMMIT      tries N edits of all crates, which the commit chooses
   python3 tests/sources/grouped TOP JOBS --compile CRATE[/EDIT]..         only says which edits do not compile; proves nothing
 
@@ -19,9 +22,11 @@ from __future__ import annotations
 
 import os
 import sys
+from typing import Callable
 
 sys.dont_write_bytecode = True
 
+import ledger
 from compiling import Compiling, has_code
 from edits import Edit, Sources, edit_files, read_edit
 from judging import Kind, Verdict
@@ -77,11 +82,45 @@ def edits_by_crate(names: list[str]) -> dict[str, set[str]]:
     return found
 
 
-def try_crate(kit: Kit, crate: str, wanted: set[str], jobs: int, tally: Tally) -> bool:
+def file_of(kit: Kit, edit: Edit) -> str:
+    """Returns the text of the file of an edit."""
+    folder = kit.folder(edit.crate)
+    names = [f"{folder}/{it}/{edit.name}.edit" for it in ("must-fail", "wrong-bodies")]
+    with open(next(it for it in names if os.path.exists(it)), encoding="utf-8") as it:
+        return it.read()
+
+
+def checksums(kit: Kit, crates: list[str]) -> dict[tuple[str, str], str]:
+    """Returns, of each edit of these crates, the checksum of what its checks depend on."""
+    sources = {it: Sources(kit.folder(it)) for it in kit.crates}
+    depends = ledger.Dependencies(sources, {it: sorted(below.name for below in crate.below()) for it, crate in kit.crates.items()})
+    edits = [edit for it in crates for edit in edits_of(kit, it, sources[it]) if not edit.is_control]
+    return {(it.crate, it.name): depends.of_edit(it, file_of(kit, it)) for it in edits}
+
+
+def keeper(kit: Kit, crate: str) -> Callable:
+    """Returns what writes to tried.csv what came of an edit of this crate. Edits that are gone lose their rows."""
+    now = checksums(kit, [crate])
+
+    def keep(edit: Edit, verdict: Verdict, seconds: float) -> None:
+        key = (edit.crate, edit.name)
+        if not edit.is_control:
+            ledger.change({key: ledger.Row(verdict.kind.value, round(seconds), now[key])}, lambda it: it[0] == crate and it not in now)
+
+    return keep
+
+
+def untried(kit: Kit, crates: list[str]) -> list[str]:
+    """Returns the edits of these crates that tried.csv does not say are refused as all is now."""
+    rows = ledger.read()
+    return [f"{crate}/{edit}" for (crate, edit), now in checksums(kit, crates).items() if not ledger.is_tried(rows.get((crate, edit)), now)]
+
+
+def try_crate(kit: Kit, crate: str, wanted: set[str], jobs: int, tally: Tally, records: bool) -> bool:
     """Tries the edits of a crate, and returns whether it is proved itself."""
     sources = Sources(kit.folder(crate))
     edits = [it for it in edits_of(kit, crate, sources) if it.is_control or not wanted or it.name in wanted]
-    trial = Trial(kit, crate, sources, edits, jobs)
+    trial = Trial(kit, crate, sources, edits, jobs, *([keeper(kit, crate)] if records else []))
     if all(it.is_control for it in edits):
         return True
     try:
@@ -119,13 +158,20 @@ def compile_edits(kit: Kit, wanted: dict[str, set[str]]) -> bool:
 
 def main(top: str, jobs: str, *names: str) -> int:
     kit, tally, is_proved = Kit(top), Tally(), True
-    if names[0] == "--compile":
-        return 0 if compile_edits(kit, edits_by_crate(list(names[1:]))) else 1
-    if names[0] == "--sample":
-        try_sample(kit, int(jobs), int(names[1]), names[2], tally)
+    verb, words = (names[0], list(names[1:])) if names[0].startswith("--") else ("", list(names))
+    if verb == "--compile":
+        return 0 if compile_edits(kit, edits_by_crate(words)) else 1
+    if verb == "--untried":
+        print("".join(f"{it}\n" for it in untried(kit, words or list(kit.crates))), end="")
+        return 0
+    if verb == "--tried":
+        print(ledger.summary(ledger.read(), checksums(kit, words or list(kit.crates))))
+        return 1 if untried(kit, words or list(kit.crates)) else 0
+    if verb == "--sample":
+        try_sample(kit, int(jobs), int(words[0]), words[1], tally)
     else:
-        for crate, wanted in edits_by_crate(list(names)).items():
-            is_proved &= try_crate(kit, crate, wanted, int(jobs), tally)
+        for crate, wanted in edits_by_crate(words).items():
+            is_proved &= try_crate(kit, crate, wanted, int(jobs), tally, verb == "--record")
     print(tally.line())
     return 0 if tally.is_well() and is_proved else 1
 

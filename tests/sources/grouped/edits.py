@@ -2,10 +2,11 @@
 from __future__ import annotations
 
 import os
+import re
 from dataclasses import dataclass, field
 
 from kit import Kit
-from sources import Function, functions_of
+from sources import Function, functions_of, module_of
 
 
 @dataclass(frozen=True)
@@ -115,14 +116,30 @@ def find_functions(edit: Edit, sources: Sources) -> None:
             edit.functions.append(inside[0])
 
 
-def find_paths(edit: Edit, proved: list[str]) -> None:
-    """Finds the paths of the edit's functions among those that a check proved."""
-    for function in edit.functions:
-        path = function.path_among(edit.crate, proved)
-        if not path:
-            edit.alone = f"the check names no function, or several, for {function.name}"
-            return
-        edit.paths.append(path)
+def home_of(owner: str, file: str, sources: Sources) -> str:
+    """Returns the file that defines a type, or the given one if no other does: a check names a method by the module of its type."""
+    for folder, _, names in os.walk(f"{sources.folder}/src"):
+        for name in sorted(names):
+            path = os.path.relpath(f"{folder}/{name}", sources.folder)
+            if name.endswith(".rt") and re.search(rf"\b(struct|enum|union) {owner}\b", sources.text(path)):
+                return path
+    return file
+
+
+def name_paths(edit: Edit, sources: Sources) -> None:
+    """Names the functions of an edit as a check most likely does."""
+    for it in edit.functions:
+        module = module_of(home_of(it.owner, it.file, sources) if it.owner else it.file)
+        owner = f"::{it.owner}" if it.owner else ""
+        edit.paths.append(f"{edit.crate}{module}{owner}::{it.name}")
+
+
+def find_paths(edit: Edit, named: list[str]) -> None:
+    """Finds the paths of the edit's functions among those that a check named; without all of them the edit is to be tried alone."""
+    edit.paths = [path for it in edit.functions if (path := it.path_among(edit.crate, named))]
+    missing = [it.name for it in edit.functions if not it.path_among(edit.crate, named)]
+    if missing:
+        edit.alone = f"the check names no function, or several, for {missing[0]}"
 
 
 def edit_files(folder: str) -> list[str]:

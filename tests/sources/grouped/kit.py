@@ -13,6 +13,10 @@ from dataclasses import dataclass
 from types import ModuleType
 
 ERROR = re.compile(r"\berror\[[\w-]+\]")
+# How the prover says that it stopped at a limit of its own.
+LIMIT = re.compile(r"\blimit\b|could not tell|no verdict")
+# The only file of kept work that a check writes in place, at each use: it has no proofs.
+LAST_USED = "rattle-last-used"
 # The root of a crate with an error that the compiler finds last of all: after it no proof begins.
 LAST_ERROR = "#![tactic(auto)]\n\npub fn last(items: Vec<u8>) -> usize {\n    drop(items);\n    items.len()\n}\n"
 
@@ -37,6 +41,22 @@ def messages_of(said: str) -> list[str]:
             found[-1] += " " + line.strip()
         else:
             found.append(line)
+    return found
+
+
+def link_tree(folder: str, to: str) -> None:
+    """Makes a copy of a folder of kept work by hard links: a check writes a file of it anew, and never in place."""
+    shutil.copytree(folder, to, copy_function=os.link, ignore=shutil.ignore_patterns(LAST_USED))
+
+
+def listing(folder: str) -> dict[str, tuple[int, int, int]]:
+    """Returns the size, the time and the number of each file of a folder of kept work, by its path."""
+    found = {}
+    for at, _, names in os.walk(folder):
+        for name in names:
+            if name != LAST_USED:
+                it = os.stat(f"{at}/{name}")
+                found[os.path.relpath(f"{at}/{name}", folder)] = (it.st_size, it.st_mtime_ns, it.st_ino)
     return found
 
 
@@ -80,7 +100,7 @@ class Kit:
 
     def limit_message(self, check: Check) -> str:
         """Returns the message by which the prover stopped at a limit of its own, or an empty text."""
-        return next((it for it in check.said if check.status == 3 and self.rt.LIMITS.search(it)), "")
+        return next((it for it in check.said if check.status == 3 and LIMIT.search(it)), "")
 
     def check(self, crate: str, texts: dict[str, str], seed: str | None, only: list[str] | None = None) -> Check:
         """Checks the crate with these texts, over a copy of what the seed keeps; or only these functions."""
@@ -90,25 +110,30 @@ class Kit:
         with tempfile.TemporaryDirectory(prefix=f"grouped-{os.getpid()}-") as room:
             over = f"{room}/over" if seed else None
             if seed:
-                self.rt.linked(seed, over)
+                link_tree(seed, over)
             ran = self.rt.checked(self.crates[crate], texts, words, over)
             if ran.returncode < 0:
                 # It was killed, most likely for memory.
                 ran = self.rt.checked(self.crates[crate], texts, words, over)
         return Check(ran.returncode, messages_of(ran.stdout))
 
-    def prove(self, crate: str, seed: str) -> Check:
-        """Checks the crate as it is, and keeps in the seed what was proved."""
-        os.makedirs(seed, exist_ok=True)
-        ran = self.rt.checked(self.crates[crate], {}, ["--jobs", "1"], seed)
+    def is_proved(self, crate: str) -> bool:
+        """Returns whether a library of the crate as it is was built, over what a check of it keeps in out/."""
+        return self.crates[crate].is_built() and os.path.isdir(f"{self.folder(crate)}/out/incremental")
+
+    def prove(self, crate: str) -> Check:
+        """Checks the crate as it is, after the libraries below it are built, and keeps in out/ what was proved."""
+        how = {"cwd": self.folder(crate), "stdin": subprocess.DEVNULL, "stdout": subprocess.PIPE, "stderr": subprocess.STDOUT, "errors": "replace"}
+        ran = subprocess.run(["rt", "check"], **how)
         return Check(ran.returncode, messages_of(ran.stdout))
 
     def take_libraries(self, crates: set[str]) -> str:
         """Gives the libraries below these crates to the checkout: those that are built there, or else those that rt ci has kept on this
-        machine. Returns the name of the first one that is neither, or an empty text."""
+        machine, if the kit keeps any. Returns the name of the first one that is neither, or an empty text."""
         below = {dep for it in crates for dep in self.crates[it].below()}
-        if all(it.is_built() for it in below):
-            return ""
+        missing = next((it.name for it in below if not it.is_built()), "")
+        if not missing or not hasattr(self.rt, "Kept"):
+            return missing
         kept = self.rt.Kept(list(self.crates.values()))
         for it in sorted(below, key=lambda it: len(it.below())):
             shutil.rmtree(f"{it.folder}/out", ignore_errors=True)
@@ -161,4 +186,4 @@ class Kit:
 
     def files(self, folder: str) -> dict[str, tuple[int, int, int]]:
         """Returns what tells whether a file of the folder was changed, lost or added."""
-        return self.rt.listing(folder)
+        return listing(folder)

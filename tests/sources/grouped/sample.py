@@ -6,14 +6,11 @@ the other functions of the crate: these rt ci has proved.
 from __future__ import annotations
 
 import hashlib
-import os
-import re
 from concurrent.futures import ThreadPoolExecutor
 
-from edits import Edit, Sources, find_functions
+from edits import Edit, Sources, find_functions, name_paths
 from judging import Kind, Verdict, judge
 from kit import Kit
-from sources import module_of
 from trial import changes_of, verdict_of
 
 
@@ -21,24 +18,6 @@ def choose(edits: list[Edit], number: int, commit: str) -> list[Edit]:
     """Returns so many of the edits, the same ones for the same commit."""
     order = sorted(edits, key=lambda it: hashlib.sha256(f"{commit} {it.label}".encode()).hexdigest())
     return order[:number]
-
-
-def home_of(owner: str, file: str, sources: Sources) -> str:
-    """Returns the file that defines a type, or the given one if no other does: a check names a method by the module of its type."""
-    for folder, _, names in os.walk(f"{sources.folder}/src"):
-        for name in sorted(names):
-            path = os.path.relpath(f"{folder}/{name}", sources.folder)
-            if name.endswith(".rt") and re.search(rf"\b(struct|enum|union) {owner}\b", sources.text(path)):
-                return path
-    return file
-
-
-def name_paths(edit: Edit, sources: Sources) -> None:
-    """Names the functions of an edit as a check does."""
-    for it in edit.functions:
-        module = module_of(home_of(it.owner, it.file, sources) if it.owner else it.file)
-        owner = f"::{it.owner}" if it.owner else ""
-        edit.paths.append(f"{edit.crate}{module}{owner}::{it.name}")
 
 
 def groups_by_crate(edits: list[Edit]) -> list[list[Edit]]:

@@ -7,7 +7,7 @@ import time
 from concurrent.futures import ThreadPoolExecutor
 from typing import Callable
 
-from edits import Edit, Sources, find_functions, find_paths
+from edits import Edit, Sources, find_functions, find_paths, name_paths
 from groups import groups_of
 from judging import Changed, Kind, Verdict, judge, judge_elsewhere
 from kit import Check, Kit
@@ -23,35 +23,44 @@ class NotProved(Exception):
 class Trial:
     """The edits of one crate, and what checks said of them."""
 
-    def __init__(self, kit: Kit, crate: str, sources: Sources, edits: list[Edit], jobs: int) -> None:
+    def __init__(self, kit: Kit, crate: str, sources: Sources, edits: list[Edit], jobs: int, keep: Callable = lambda edit, verdict, seconds: None) -> None:
         self.kit, self.crate, self.sources, self.edits, self.jobs = kit, crate, sources, edits, jobs
+        # This is called with each edit that is settled, what is said of it, and the seconds of its checks.
+        self.keep = keep
         self.seed = f"{kit.folder(crate)}/out/incremental"
         self.verdicts: dict[str, Verdict] = {}
+        # The seconds of the checks of each edit; those of a group are shared out.
+        self.seconds: dict[str, float] = {it.label: 0.0 for it in edits}
         self.checks = 0
         self.minutes = 0.0
 
     def run(self) -> None:
-        """Tries all edits. Raises NotProved if the crate is not proved, before or after."""
+        """Tries all edits. Raises NotProved if the crate is not proved, or what was kept of its proofs is not the same after."""
         begin = time.time()
-        self.find(self.prove())
+        self.find()
+        self.prove()
         was = self.kit.files(self.seed)
         with ThreadPoolExecutor(self.jobs) as pool:
-            left = self.try_groups([it for it in self.edits if not it.misfit and not it.alone and it.paths], pool.map)
-            left += [it for it in self.edits if not it.misfit and (it.alone or not it.paths)]
+            left = self.try_groups([it for it in self.edits if not it.misfit and not it.alone], pool.map)
+            in_groups = {it.label for it in left} | self.verdicts.keys()
+            left += [it for it in self.edits if it.label not in in_groups]
             for edit, verdict in zip(left, pool.map(self.try_alone, left)):
-                self.verdicts[edit.label] = verdict
-        if self.kit.files(self.seed) != was or self.kit.prove(self.crate, self.seed).status:
+                self.settle(edit, verdict)
+        if self.kit.files(self.seed) != was:
             raise NotProved(f"what was proved of {self.crate} was changed meanwhile")
         self.minutes = (time.time() - begin) / 60
 
-    def prove(self) -> list[str]:
-        """Proves the crate as it is, and returns the paths of its functions."""
-        whole = self.kit.prove(self.crate, self.seed)
-        if whole.status:
+    def prove(self) -> None:
+        """Proves the crate as it is, if it was not proved already."""
+        whole = None if self.kit.is_proved(self.crate) else self.kit.prove(self.crate)
+        if whole and whole.status:
             raise NotProved(f"{self.crate} is not proved itself: {whole.said[-1]}")
-        return [it[len("fn ") : -len(": proved")] for it in whole.said if re.fullmatch(r"fn \S+: proved", it)]
 
-    def find(self, proved: list[str]) -> None:
+    def settle(self, edit: Edit, verdict: Verdict) -> None:
+        self.verdicts[edit.label] = verdict
+        self.keep(edit, verdict, self.seconds[edit.label])
+
+    def find(self) -> None:
         """Finds the functions that each edit changes."""
         for edit in self.edits:
             if edit.misfit:
@@ -59,12 +68,13 @@ class Trial:
             elif not edit.alone:
                 find_functions(edit, self.sources)
                 if not edit.alone:
-                    find_paths(edit, proved)
+                    name_paths(edit, self.sources)
 
     def try_groups(self, edits: list[Edit], call: Callable) -> list[Edit]:
         """Tries edits in groups, in two turns, and returns those that no group settles."""
         for most in TURNS:
-            groups = [it for it in groups_of(edits, self.sources, most, self.jobs) if len(it) > 1]
+            groups = groups_of([it for it in edits if not it.alone], self.sources, most, self.jobs)
+            groups = [it for it in groups if len(it) > 1]
             in_groups = {edit.label for group in groups for edit in group}
             left = [it for it in edits if it.label not in in_groups]
             left += [edit for found in call(self.try_group, groups) for edit in found]
@@ -77,7 +87,9 @@ class Trial:
         """Checks the crate with these edits, over what is proved of it."""
         texts = edits[0].texts if len(edits) == 1 else self.sources.with_spans([span for it in edits for span in it.spans])
         self.checks += 1
-        number, ran = self.checks, self.kit.check(self.crate, texts, self.seed)
+        begin, number, ran = time.time(), self.checks, self.kit.check(self.crate, texts, self.seed)
+        for it in edits:
+            self.seconds[it.label] += (time.time() - begin) / len(edits)
         keeps = os.environ.get("GROUPED_KEEPS")
         if keeps:
             with open(f"{keeps}/{self.crate}.{number}", "w", encoding="utf-8") as it:
@@ -95,11 +107,12 @@ class Trial:
             return edits
         left = []
         for edit in edits:
-            verdict = judge(changes_of(edit), ran.said)
+            find_paths(edit, functions_in(ran.said))
+            verdict = None if edit.alone else judge(changes_of(edit), ran.said)
             if verdict and verdict.kind in (Kind.REFUSED, Kind.RENAMED, Kind.FORM):
-                self.verdicts[edit.label] = verdict
+                self.settle(edit, verdict)
             elif verdict and verdict.kind is Kind.ACCEPTED and edit.is_control:
-                self.verdicts[edit.label] = verdict
+                self.settle(edit, verdict)
             else:
                 left.append(edit)
         return left
@@ -108,13 +121,20 @@ class Trial:
         """Returns whether the crate does not compile with this edit alone."""
         error = self.kit.compiles(self.crate, edit.texts).error()
         if error:
-            self.verdicts[edit.label] = Verdict(Kind.BAD, f"it does not compile: {error}")
+            self.settle(edit, Verdict(Kind.BAD, f"it does not compile: {error}"))
         return bool(error)
 
     def try_alone(self, edit: Edit) -> Verdict:
         """Tries one edit alone."""
         ran = self.check([edit])
+        if not edit.alone and ran.is_refusal:
+            find_paths(edit, functions_in(ran.said))
         return verdict_of(self.kit, edit, ran)
+
+
+def functions_in(said: list[str]) -> list[str]:
+    """Returns the paths of the functions that a check names."""
+    return [at[1] for it in said if (at := re.match(r"fn (\S+): ", it))]
 
 
 def changes_of(edit: Edit) -> list[Changed]:
