@@ -287,7 +287,7 @@ function layout() {
   S.ruleAt = new Map(ink.rules.map((rule, i) => [rule[5], i]));
   // (a text that is not the current script has colours of its own between its beginning and its end, if they are known)
   S.inked = S.typed && S.typed.text === text ? S.typed.spans : fault ? fault.spans : [];
-  $('lines').style.height = TOP + lines.length * LINE + (S.gap ? GAP : 0) + 60 + 'px';
+  $('lines').style.height = TOP + lines.length * LINE + gapHeight() + 60 + 'px';
   $('lines').style.width = `max(100%, calc(${most}ch + 150px))`;
   const all = !fault ? [] : fault.all.length ? fault.all : [[fault.line, -1, -1, fault.sentence]];
   S.oops = all.filter(([, from]) => from >= 0);
@@ -300,12 +300,14 @@ function layout() {
   else drawLines(true);
   S.faultShown = shown;
 }
-const topOf = n => TOP + (n - 1) * LINE + (S.gap && n > S.gap ? GAP : 0);
+// (the box below a line with a fault: the carets, and the sentence in lines of some 60 letters)
+const gapHeight = () => S.gap ? Math.min(GAP, LINE + 6 + 18 * Math.ceil(S.fault.sentence.length / 60)) : 0;
+const topOf = n => TOP + (n - 1) * LINE + (n > S.gap ? gapHeight() : 0);
 // (all lines of a short one when there is time, so that the browser finds text in them)
 function drawLines(isNew, isIdle) {
   const host = $('code'), n = S.lines.length, high = host.clientHeight, isShort = n <= ALL && !S.editing;
   if (!high) return;
-  const back = S.gap ? GAP / LINE + 1 : 0, all = isShort && isIdle;
+  const back = S.gap ? gapHeight() / LINE + 1 : 0, all = isShort && isIdle;
   const from = all ? 0 : Math.max(0, Math.floor((host.scrollTop - TOP) / LINE - back) - 5), to = all ? n : Math.min(n, Math.ceil((host.scrollTop + high) / LINE) + 5);
   if (!isNew && S.from <= from && S.to >= to) return;
   notLater(S.idle);
@@ -377,6 +379,7 @@ function drawLine(k, before) {
   const more = fault.all.length > 1 ? ` (${count(fault.all.length - 1, 'more fault')} below)` : '';
   const box = el('div', { class: 'fault', role: 'alert' }, el('pre', { 'aria-hidden': 'true' }, indent + '^'.repeat(Math.max(1, fault.length))), el('p', {}, named(fault.sentence) + more));
   box.style.top = topOf(n) + LINE + 'px';
+  box.style.height = gapHeight() + 'px';
   return [line, box];
 }
 function countCell(n, rules, isCounted) {
