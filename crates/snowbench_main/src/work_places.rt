@@ -29,28 +29,6 @@ fn file_text(
     }
 }
 
-/// Returns the lines on the fault of the block after a line.
-fn block_text<'x>(
-    alloc: Global,
-    bench: &Bench,
-    external: &'x str,
-    line: &str,
-    block: &'x [u8],
-) -> Result<Option<String>, AllocError> {
-    let script = bench.script().print(alloc)?;
-    let typed = TypedBlock {
-        block,
-        script: script.as_bytes(),
-        external,
-        takes_heads: true,
-        source: None,
-    };
-    match part_of(line) {
-        Some(part) => part_text(alloc, typed, part),
-        None => whole_text(alloc, typed),
-    }
-}
-
 impl<'a> WorkPlaces<'a> {
     /// Returns these before the work.
     pub(crate) fn new(rt: &'a HostRuntime, external: &'a str, first: &'a str) -> WorkPlaces<'a> {
@@ -58,6 +36,31 @@ impl<'a> WorkPlaces<'a> {
             rt,
             external,
             first,
+        }
+    }
+
+    /// Returns the lines on the fault of the block after a line.
+    fn block_text(
+        &self,
+        bench: &Bench,
+        line: &str,
+        block: &[u8],
+    ) -> Result<Option<String>, AllocError> {
+        let alloc = self.rt.alloc();
+        let script = bench.script().print(alloc)?;
+        // Copies, so that all that the typed block refers to has one lifetime.
+        let external = String::from_str(alloc, self.external)?;
+        let block = Vec::from_slice(alloc, block)?;
+        let typed = TypedBlock {
+            block: block.as_slice(),
+            script: script.as_bytes(),
+            external: external.as_str(),
+            takes_heads: true,
+            source: None,
+        };
+        match part_of(line) {
+            Some(part) => part_text(alloc, typed, part),
+            None => whole_text(alloc, typed),
         }
     }
 
@@ -82,9 +85,7 @@ impl Observer for WorkPlaces<'_> {
             RefusedSource::File { path, text } => {
                 file_text(self.rt.alloc(), path.as_str(), text, self.external)
             }
-            RefusedSource::Block { line, text } => {
-                block_text(self.rt.alloc(), bench, self.external, line.as_str(), text)
-            }
+            RefusedSource::Block { line, text } => self.block_text(bench, line.as_str(), text),
         };
         self.show(text, 0);
     }
