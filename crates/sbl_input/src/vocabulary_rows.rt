@@ -136,7 +136,9 @@ fn write_row(
         word,
         outcome: &traced.outcome,
     };
-    records.push(&row)
+    let written = records.push(&row);
+    meter.reuse_stem(traced.outcome);
+    written
 }
 
 /// Returns the text of the rows of the vocabulary of these words. Returns `WordTooLong`, `Full` or `OutOfMemory` as
