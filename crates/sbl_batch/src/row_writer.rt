@@ -61,5 +61,6 @@ pub(crate) fn row_text(
     };
     meter.reuse(traced.touches);
     let (kind, text) = outcome_fields(&mut rows.stem, &traced.outcome)?;
+    meter.reuse_stem(traced.outcome);
     next_line(alloc, &mut rows.lines, word.as_bytes(), kind, text)
 }
