@@ -5,7 +5,7 @@ ghost use Rattle.sbl_batch.specs.Compare as spec;
 ghost use Rattle.sbl_batch.specs.Opening.{OpensBoth, OpensOver, ParsesPair};
 ghost use Rattle.sbl_script.specs.ParsedScript.{source_of};
 
-use sbl_bench::{Bench, WordKeys};
+use sbl_bench::{Bench, Progress, WordKeys};
 use sbl_input::{LoadFault, words_in};
 use sbl_io::ServeFault;
 use sbl_script::{Script, ScriptFault};
@@ -112,11 +112,12 @@ fn parse_pair(alloc: Global, input: &CompareInput<'_>) -> Result<ScriptPair, Com
 }
 
 /// Opens the bench of a script over the words of a file. Returns the fault of the words, or `OutOfMemory`.
-fn open_over(
+fn open_over<P: Progress>(
     alloc: Global,
     keys: WordKeys,
     script: Script,
     words: &[u8],
+    progress: &mut P,
 ) -> Result<Bench, LoadFault>
     ensures { OpensOver (source_of script) words.now result }
 {
@@ -127,30 +128,31 @@ fn open_over(
             return Err(fault);
         }
     };
-    match Bench::open_with_keys(alloc, keys, script, words) {
+    match Bench::open_observed(alloc, keys, script, words, progress) {
         Ok(bench) => Ok(bench),
         Err(fault) => Err(LoadFault::Open(fault)),
     }
 }
 
 /// Opens the benches of two scripts over the words of a file. Returns the fault of the words, or `OutOfMemory`.
-fn open_both(
+fn open_both<P: Progress>(
     alloc: Global,
     keys: WordKeys,
     scripts: ScriptPair,
     words: &[u8],
+    progress: &mut P,
 ) -> Result<BenchPair, LoadFault>
     ensures { OpensBoth scripts words.now result }
 {
     let ScriptPair { old, new } = scripts;
-    let old = match open_over(alloc, keys, old, words) {
+    let old = match open_over(alloc, keys, old, words, progress) {
         Ok(old) => old,
         Err(fault) => {
             new.discard();
             return Err(fault);
         }
     };
-    match open_over(alloc, keys, new, words) {
+    match open_over(alloc, keys, new, words, progress) {
         Ok(new) => Ok(BenchPair { old, new }),
         Err(fault) => {
             old.leak();
@@ -160,22 +162,24 @@ fn open_both(
 }
 
 /// Opens the benches of two scripts over the words of a file: one word a line, as `words_in` returns them. Both benches have
-/// the limit of 100,000 steps. The keys are those of the hash by which words are found.
+/// the limit of 100,000 steps. The keys are those of the hash by which words are found. `progress` sees how many words were run, by the
+/// old script and then by the new one.
 ///
 /// # Errors
 ///
 /// Returns the fault of the old script, else that of the new one, else that of the words: of the first line that is too long or
 /// not UTF-8, or that of `Bench::open`. Returns `OutOfMemory` as one of these if an allocation fails.
-pub fn open_pair(
+pub fn open_pair<P: Progress>(
     alloc: Global,
     keys: WordKeys,
     input: &CompareInput<'_>,
+    progress: &mut P,
 ) -> Result<BenchPair, CompareFault>
     ensures pair { IfOk result (λ pair. spec.IsPair input.now (contents_of pair.old) (contents_of pair.new)) }
     ensures fault { IfErr result (λ fault. spec.LacksPair input.now fault) }
 {
     let scripts = parse_pair(alloc, input)?;
-    match open_both(alloc, keys, scripts, input.words) {
+    match open_both(alloc, keys, scripts, input.words, progress) {
         Ok(pair) => Ok(pair),
         Err(fault) => Err(CompareFault::Words(fault)),
     }

@@ -9,7 +9,7 @@ ghost use Rattle.sbl_io.specs.Devices.{HasStopped, WritesInTime};
 ghost use Rattle.sbl_batch.specs.Differences as spec;
 
 use csv::ByteRecord;
-use sbl_bench::MAX_WORD_LENGTH;
+use sbl_bench::{MAX_WORD_LENGTH, NoProgress, Progress};
 use sbl_input::text_line;
 use sbl_io::{ServeFault, Sink, first_line, record_line, text_of, write_all};
 use sbl_machine::{DEFAULT_LIMIT, Machine, Meter, Outcome, RunTrace, Table};
@@ -157,6 +157,23 @@ pub fn check<W: Sink>(
     ensures why { IfErr result (λ fault. fault ≡ ServeFault.Write → HasStopped W.tally writer.old writer.new) }
     ensures writes_in_time { WritesInTime W.tally writer.old writer.new }
 {
+    check_observed(alloc, script, words, expected, writer, &mut NoProgress {})
+}
+
+/// Does what `check` does. `progress` sees how many lines were compared.
+pub fn check_observed<W: Sink, P: Progress>(
+    alloc: Global,
+    script: &Script,
+    words: &[u8],
+    expected: &[u8],
+    writer: &mut W,
+    progress: &mut P,
+) -> Result<u64, ServeFault>
+    ensures checked { IsChecked (source_of script.now) words.now expected.now (W.held writer.old) (W.held writer.new) result }
+    ensures steady { OnOk result ((W.tally writer.new).failures ≡ (W.tally writer.old).failures) }
+    ensures why { IfErr result (λ fault. fault ≡ ServeFault.Write → HasStopped W.tally writer.old writer.new) }
+    ensures writes_in_time { WritesInTime W.tally writer.old writer.new }
+{
     let machine = Machine::new(alloc, script)?;
     let mut meter = Meter::new();
     let mut words_left = words;
@@ -171,9 +188,11 @@ pub fn check<W: Sink>(
         if compare(alloc, &machine, &mut meter, number, word, stem, writer)? {
             differences += 1;
         }
+        progress.see_words(number);
         words_left = words_after;
         expected_left = expected_after;
     }
+    progress.see_end();
     match first_line(expected_left) {
         None => Ok(differences),
         Some(_) => Err(ServeFault::LengthsDiffer),

@@ -8,7 +8,7 @@ ghost use Rattle.sbl_io.specs.Devices.{HasStopped, WritesInTime};
 
 use crate::bench_pair::{BenchPair, CompareFault, CompareInput, open_pair};
 use crate::comparison_rows::comparison_text;
-use sbl_bench::{Bench, WordKeys, differences};
+use sbl_bench::{Bench, Progress, WordKeys, differences};
 use sbl_io::{ServeFault, Sink, write_all};
 use sbl_machine::Item;
 use sbl_rows::{ChangeRow, changes};
@@ -84,25 +84,26 @@ fn text_of_pair(alloc: Global, pair: &BenchPair) -> Result<(Vec<u8>, usize), All
 }
 
 /// Compares two scripts over the words of a file, writes the rows of the comparison, and returns the number of words that
-/// changed.
+/// changed. `progress` sees how many words were run, as by `open_pair`.
 ///
 /// # Errors
 ///
 /// Returns the faults of `open_pair`, and `Rows` with `OutOfMemory` if an allocation for the rows fails: nothing is written
 /// then. Returns `Rows` with `Write` if the writer fails or is interrupted more than 1,000 times in a row; then a prefix of the
 /// rows is written.
-pub fn write_comparison<W: Sink>(
+pub fn write_comparison<W: Sink, P: Progress>(
     alloc: Global,
     keys: WordKeys,
     input: &CompareInput<'_>,
     writer: &mut W,
+    progress: &mut P,
 ) -> Result<usize, CompareFault>
     ensures compares { spec.Compares input.now (W.held writer.old) (W.held writer.new) result }
     ensures steady { OnOk result ((W.tally writer.new).failures ≡ (W.tally writer.old).failures) }
     ensures why { IfErr result (λ fault. fault ≡ CompareFault.Rows ServeFault.Write → HasStopped W.tally writer.old writer.new) }
     ensures writes_in_time { WritesInTime W.tally writer.old writer.new }
 {
-    let pair = open_pair(alloc, keys, input)?;
+    let pair = open_pair(alloc, keys, input, progress)?;
     let made = text_of_pair(alloc, &pair);
     pair.leak();
     let (text, changed) = made?;

@@ -126,6 +126,7 @@ pub(crate) fn push_row(
     meter.reuse(traced.touches);
     rows.steps = rows.steps.saturating_add(traced.used);
     let (kind, text) = outcome_fields(&mut rows.stem, &traced.outcome)?;
+    meter.reuse_stem(traced.outcome);
     push_line(
         alloc,
         &mut rows.lines,

@@ -16,6 +16,7 @@ pub mod laws;
 mod meeting_rows;
 mod open;
 mod pairs;
+mod progress;
 mod refusal;
 mod replace_words;
 mod script_diff;
@@ -24,6 +25,7 @@ mod word_hash;
 
 pub use bench::{Bench, MAX_LIMIT, MAX_WORDS};
 pub use fault::EditFault;
+pub use progress::{NoProgress, Progress};
 pub use refusal::word_fault;
 pub use sbl_rows::{ChangedRow, Class, Row};
 pub use sbl_run_state::MAX_WORD_LENGTH;

@@ -15,6 +15,7 @@ ghost use Rattle.sbl_rows.specs.Setting.{under};
 use crate::bench::{Bench, MAX_WORDS};
 use crate::fault::EditFault;
 use crate::last_run::{LastRun, SharedLists};
+use crate::progress::{NoProgress, Progress};
 use crate::refusal::word_fault;
 use crate::traces::{Traces, has_word};
 use crate::word_hash::WordKeys;
@@ -56,6 +57,20 @@ impl Bench {
         ensures opens { Opens (source_of script) (map (λ w. w.items) words.items) (λ b. contents_of b) result }
         ensures changes { IfOk result (λ b. b.changes ≡ []) }
     {
+        Bench::open_observed(alloc, keys, script, words, &mut NoProgress {})
+    }
+
+    /// Returns the same bench as `open_with_keys`, or the same fault. `progress` sees how many words were run.
+    pub fn open_observed<P: Progress>(
+        alloc: Global,
+        keys: WordKeys,
+        script: Script,
+        words: Vec<Vec<char>>,
+        progress: &mut P,
+    ) -> Result<Bench, EditFault>
+        ensures opens { Opens (source_of script) (map (λ w. w.items) words.items) (λ b. contents_of b) result }
+        ensures changes { IfOk result (λ b. b.changes ≡ []) }
+    {
         let machine = match Machine::new(alloc, &script) {
             Ok(machine) => machine,
             Err(refused) => {
@@ -64,7 +79,7 @@ impl Bench {
                 return Err(refused.into());
             }
         };
-        match first_runs(alloc, keys, &machine, words) {
+        match first_runs(alloc, keys, &machine, words, progress) {
             Ok((traces, meter)) => Ok(Bench {
                 alloc,
                 script,
@@ -86,11 +101,12 @@ impl Bench {
 
 /// Runs each word of a list once, as `Bench::open` does. Returns the words of the vocabulary with their runs, and the count of
 /// these; or a fault as `Bench::open` does.
-fn first_runs(
+fn first_runs<P: Progress>(
     alloc: Global,
     keys: WordKeys,
     machine: &Machine<Table>,
     words: Vec<Vec<char>>,
+    progress: &mut P,
 ) -> Result<(Traces, Meter), EditFault>
     requires linked { (s : Source) × IsLinkedMachineOf machine.now s }
     ensures words { IfOk result (λ runs. words_in runs.0.entries ≡ vocabulary (map (λ w. w.items) words.items)) }
@@ -103,9 +119,13 @@ fn first_runs(
     let mut traces = IndexMap::with_hasher(alloc, keys);
     traces.reserve(words.len().min(MAX_WORDS))?;
     let mut lists = SharedLists::new(alloc);
+    let mut taken: u64 = 0;
     for word in words {
         take_word(alloc, machine, &mut meter, &mut lists, &mut traces, word)?;
+        taken = taken.saturating_add(1);
+        progress.see_words(taken);
     }
+    progress.see_end();
     Ok((traces, meter))
 }
 

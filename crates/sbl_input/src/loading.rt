@@ -17,7 +17,7 @@ ghost use Rattle.sbl_input.specs.Loading.{HasReason, IsLoaded, ReadsScript};
 use crate::faults::LoadFault;
 use crate::vocabulary_rows::vocabulary_rows;
 use crate::word_list::WordList;
-use sbl_bench::{Bench, EditFault, WordKeys};
+use sbl_bench::{Bench, EditFault, NoProgress, Progress, WordKeys};
 use sbl_io::{Lines, ServeFault, Source};
 use sbl_reports::{BlockFault, read_block};
 use sbl_script::{Script, ScriptFault};
@@ -76,7 +76,7 @@ fn ascii_characters(alloc: Global, line: &[u8]) -> Result<Vec<char>, LoadFault>
 {
     let mut word = Vec::with_capacity(alloc, line.len())?;
     for byte in line {
-        word.push(*byte as char)?;
+        word.push_reserved(*byte as char);
     }
     Ok(word)
 }
@@ -136,16 +136,17 @@ fn read_input<R: Source + Drop>(
 
 /// Returns the bench of a script and of words that were read. Returns `WordTooLong`, `Full` and `OutOfMemory` as `Bench::open`
 /// does with all of them.
-fn open_words(
+fn open_words<P: Progress>(
     alloc: Global,
     keys: WordKeys,
     script: Script,
     words: WordList,
+    progress: &mut P,
 ) -> Result<Bench, EditFault>
     ensures { (all : List (List ℕ)) → HoldsWords words all → Opens (source_of script) all (λ b. contents_of b) result }
 {
     match words.into_words() {
-        Ok(words) => Bench::open_with_keys(alloc, keys, script, words),
+        Ok(words) => Bench::open_observed(alloc, keys, script, words, progress),
         Err(_) => {
             script.discard();
             Err(EditFault::OutOfMemory)
@@ -200,8 +201,28 @@ pub fn load_with_keys<R: Source + Drop>(
     ensures again { (fault : LineFault) → fault_of lines.old ≡ Some fault → (result ≡ Err (LoadFault.Input (serve_fault_of fault))) × Keeps (input_of R.left lines.old) (input_of R.left lines.new) }
     ensures bound { reads_bound R.tally lines.new ≡ reads_bound R.tally lines.old }
 {
+    load_observed(lines, keys, external, &mut NoProgress {})
+}
+
+/// Returns the same bench as `load_with_keys`, or the same fault, and leaves the input as `load` does. `progress` sees how many words
+/// were run.
+pub fn load_observed<R: Source + Drop, P: Progress>(
+    lines: &mut Lines<R>,
+    keys: WordKeys,
+    external: &str,
+    progress: &mut P,
+) -> Result<Bench, LoadFault>
+    ensures loaded { fault_of lines.old ≡ None → IsLoaded (input_of R.left lines.old) (input_of R.left lines.new) external.now (λ b. contents_of b) result }
+    ensures later { (R.tally lines.old.reader).failures ≤ (R.tally lines.new.reader).failures }
+    ensures steady { OnOk result ((R.tally lines.new.reader).failures ≡ (R.tally lines.old.reader).failures) }
+    ensures why { IfErr result (λ fault. HasReason R.tally lines.old lines.new fault) }
+    ensures in_time { KeepsTime R.tally lines.old lines.new }
+    ensures remembered { fault_of lines.new ≡ left_by_load result }
+    ensures again { (fault : LineFault) → fault_of lines.old ≡ Some fault → (result ≡ Err (LoadFault.Input (serve_fault_of fault))) × Keeps (input_of R.left lines.old) (input_of R.left lines.new) }
+    ensures bound { reads_bound R.tally lines.new ≡ reads_bound R.tally lines.old }
+{
     let ParsedInput { script, words } = read_input(lines, keys, external)?;
-    match open_words(lines.alloc(), keys, script, words) {
+    match open_words(lines.alloc(), keys, script, words, progress) {
         Ok(bench) => Ok(bench),
         Err(fault) => Err(LoadFault::Open(fault)),
     }

@@ -21,7 +21,7 @@ ghost use Rattle.sbl_semantics.specs.Events.{event_of, view_events};
 
 use crate::item_ref::ItemRef;
 use crate::marks::marks_of;
-use crate::meter::Meter;
+use crate::meter::{Meter, SpareLists};
 use crate::naming::{Names, is_touched, item_refs, items_touched, routine_at};
 use crate::outcome::{Ran, RunTrace, Why};
 use crate::run_stop::RunStop;
@@ -229,7 +229,7 @@ impl<S: AmongSearch> Machine<S> {
         &self,
         alloc: Global,
         kept: &mut Option<State>,
-        spare: Vec<Touch>,
+        spare: SpareLists,
         word: &[char],
         limit: u32,
     ) -> Result<RunTrace, AllocError>
@@ -240,13 +240,30 @@ impl<S: AmongSearch> Machine<S> {
     {
         match kept {
             Some(state) => self.ran(alloc, state, spare, word, limit),
-            None => {
-                let mut state = State::new(alloc);
-                let traced = self.ran(alloc, &mut state, spare, word, limit)?;
-                *kept = Some(state);
-                Ok(traced)
-            }
+            None => self.run_first(alloc, kept, spare, word, limit),
         }
+    }
+
+    // Runs in a new state, which it then keeps. It is a call, so that other runs have no room for a state to clear.
+    #[cold]
+    #[inline(never)]
+    fn run_first(
+        &self,
+        alloc: Global,
+        kept: &mut Option<State>,
+        spare: SpareLists,
+        word: &[char],
+        limit: u32,
+    ) -> Result<RunTrace, AllocError>
+        requires { length word.now ≤ max_word_length }
+        ensures outcome { (script : Source) → IsMachineOf S S.entries S.mode self.now script → IfOk result (λ traced. outcome_of traced.outcome ≡ run_of script word.now limit) }
+        ensures touches { (script : Source) → IsMachineOf S S.entries S.mode self.now script → IfOk result (λ traced. traced.touches.items ≡ touches_of script word.now limit) }
+        ensures used { (script : Source) → IsMachineOf S S.entries S.mode self.now script → IfOk result (λ traced. traced.used ≡ used_of script word.now limit) }
+    {
+        let mut state = State::new(alloc);
+        let traced = self.ran(alloc, &mut state, spare, word, limit)?;
+        *kept = Some(state);
+        Ok(traced)
     }
 
     // Makes a run with its events, in this state.
@@ -266,7 +283,7 @@ impl<S: AmongSearch> Machine<S> {
         self.restart(state, word, limit)?;
         state.record_events();
         let end = self.call_external(state);
-        let traced = result_of_end(alloc, end, limit, state, Vec::new(alloc))?;
+        let traced = result_of_end(end, limit, state, SpareLists::new(alloc))?;
         let integers = state.integers(alloc)?;
         Ok(Why {
             outcome: traced.outcome,
@@ -302,7 +319,7 @@ impl<S: AmongSearch> Machine<S> {
         &self,
         alloc: Global,
         state: &mut State,
-        spare: Vec<Touch>,
+        spare: SpareLists,
         word: &[char],
         limit: u32,
     ) -> Result<RunTrace, AllocError>
@@ -313,18 +330,17 @@ impl<S: AmongSearch> Machine<S> {
     {
         self.restart(state, word, limit)?;
         let end = self.call_external(state);
-        result_of_end(alloc, end, limit, state, spare)
+        result_of_end(end, limit, state, spare)
     }
 }
 
-/// Returns the result of a run that ended in this way, with its touches in place of those in `touches`. Returns `AllocError` if
+/// Returns the result of a run that ended in this way, with its lists in place of those in `spare`. Returns `AllocError` if
 /// it ended because an allocation failed, or if one fails.
 fn result_of_end(
-    alloc: Global,
     end: Result<bool, Halt>,
     limit: u32,
     state: &State,
-    touches: Vec<Touch>,
+    spare: SpareLists,
 ) -> Result<RunTrace, AllocError>
     ensures outcome { (e : Ending) → Follows end state.now e → IfOk result (λ traced. outcome_of traced.outcome ≡ outcome_at e) }
     ensures touches { (e : Ending) → Follows end state.now e → IfOk result (λ traced. traced.touches.items ≡ touched_at e) }
@@ -333,7 +349,10 @@ fn result_of_end(
     ensures integers { (e : Ending) → Follows end state.now e → IfOk result (λ _. state.now.integers ≡ integers_at e) }
 {
     let paid = u64::from(limit.saturating_sub(state.steps()));
-    let mut touches = touches;
+    let SpareLists {
+        mut touches,
+        mut stem,
+    } = spare;
     touches.clear();
     touches.extend_from_slice(state.touches())?;
     match end {
@@ -349,11 +368,15 @@ fn result_of_end(
                 },
             }),
         },
-        Ok(_) => Ok(RunTrace {
-            outcome: Outcome::Stem(Vec::from_slice(alloc, state.text())?),
-            touches,
-            used: paid,
-        }),
+        Ok(_) => {
+            stem.clear();
+            stem.extend_from_slice(state.text())?;
+            Ok(RunTrace {
+                outcome: Outcome::Stem(stem),
+                touches,
+                used: paid,
+            })
+        }
     }
 }
 

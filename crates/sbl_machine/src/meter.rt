@@ -3,6 +3,7 @@
 ghost use Rattle.std.specs.Prelude.{◌≡◌, ◌+◌, ◌<◌, IsTrue, false, ◌↔◌};
 
 use sbl_run_state::{State, Touch};
+use sbl_semantics::Outcome;
 use std::alloc::Global;
 use std::marker::Model;
 
@@ -13,7 +14,28 @@ pub struct Meter {
     // The state of the last run. The next run begins in its buffers.
     pub(crate) state: Option<State>,
     // A list of touches that was given back. The next run puts its touches into it.
-    spare: Option<Vec<Touch>>,
+    touches: Option<Vec<Touch>>,
+    // A stem that was given back. The next run puts its stem into it.
+    stem: Option<Vec<char>>,
+}
+
+/// What the results of a run are put into.
+#[derive(Drop)]
+pub(crate) struct SpareLists {
+    /// A list of touches.
+    pub(crate) touches: Vec<Touch>,
+    /// A stem.
+    pub(crate) stem: Vec<char>,
+}
+
+impl SpareLists {
+    /// Returns empty lists. Does not allocate.
+    pub(crate) fn new(alloc: Global) -> SpareLists {
+        SpareLists {
+            touches: Vec::new(alloc),
+            stem: Vec::new(alloc),
+        }
+    }
 }
 
 impl Model for Meter {
@@ -32,7 +54,8 @@ impl Meter {
         Meter {
             runs: 0,
             state: None,
-            spare: None,
+            touches: None,
+            stem: None,
         }
     }
 
@@ -55,16 +78,25 @@ impl Meter {
     pub fn reuse(&mut self, touches: Vec<Touch>)
         ensures { self.new ≡ self.old }
     {
-        self.spare = Some(touches);
+        self.touches = Some(touches);
     }
 
-    /// Returns the list that was given back, or a new one.
-    pub(crate) fn take_spare(&mut self, alloc: Global) -> Vec<Touch>
+    /// Gives back a stem, so that the next run needs no new one. The count stays. Does not allocate.
+    pub fn reuse_stem(&mut self, outcome: Outcome)
         ensures { self.new ≡ self.old }
     {
-        match self.spare.take() {
-            Some(touches) => touches,
-            None => Vec::new(alloc),
+        if let Outcome::Stem(stem) = outcome {
+            self.stem = Some(stem);
+        }
+    }
+
+    /// Returns the lists that were given back, or new ones.
+    pub(crate) fn take_spare(&mut self, alloc: Global) -> SpareLists
+        ensures { self.new ≡ self.old }
+    {
+        SpareLists {
+            touches: list_or_new(alloc, self.touches.take()),
+            stem: list_or_new(alloc, self.stem.take()),
         }
     }
 
@@ -75,5 +107,13 @@ impl Meter {
     {
         let Meter { runs, .. } = self;
         *runs += 1;
+    }
+}
+
+/// Returns the list, or a new one if there is none.
+fn list_or_new<T>(alloc: Global, list: Option<Vec<T>>) -> Vec<T> {
+    match list {
+        Some(list) => list,
+        None => Vec::new(alloc),
     }
 }

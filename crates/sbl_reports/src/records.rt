@@ -1,4 +1,4 @@
-//! The text of records. Its bytes are counted before memory for it is asked for.
+//! The text of records.
 ghost use Rattle.std.specs.Prelude.{◌≡◌, ◌++◌, ◌∷◌, [], ℕ, IfOk, List, OnOk, encode_utf8_all, map};
 ghost use Rattle.csv.specs.Records.{fields_of, partial_of};
 ghost use Rattle.sbl_rows.specs.Classes.{texts_of};
@@ -22,14 +22,36 @@ pub trait Record {
         ensures { OnOk result (fields_of csv_record.new ≡ fields self.now) };
 }
 
-/// Returns the text of these records: for each a line with its fields, quoted as `csv` quotes them. Returns `AllocError` if an
-/// allocation fails.
+/// Returns the text of these records: for each a line with its fields, quoted as `csv` quotes them. The bytes are counted before memory
+/// for them is asked for. Returns `AllocError` if an allocation fails.
 pub fn records_text<T: Record>(alloc: Global, records: &[T]) -> Result<Vec<u8>, AllocError>
     ensures { IfOk result (λ text. text.items ≡ spec.records_text (map T.fields records.now)) }
 {
     let mut length = ReportLength::new();
     push_records(alloc, &mut length, records)?;
-    let mut out = ReportText::with_length(alloc, &length)?;
+    text_with_length(alloc, &length, records)
+}
+
+/// Returns the same text as `records_text`. The bytes are not counted before, so each record is made once, and memory grows with the text:
+/// for a text that is hardly longer than what is kept already. Returns `AllocError` if an allocation fails.
+pub fn records_text_in_one_pass<T: Record>(
+    alloc: Global,
+    records: &[T],
+) -> Result<Vec<u8>, AllocError>
+    ensures { IfOk result (λ text. text.items ≡ spec.records_text (map T.fields records.now)) }
+{
+    text_with_length(alloc, &ReportLength::new(), records)
+}
+
+/// Returns the text of records. Its memory is at first as long as `length` says. Returns `AllocError` if an allocation fails.
+fn text_with_length<T: Record>(
+    alloc: Global,
+    length: &ReportLength,
+    records: &[T],
+) -> Result<Vec<u8>, AllocError>
+    ensures { IfOk result (λ text. text.items ≡ spec.records_text (map T.fields records.now)) }
+{
+    let mut out = ReportText::with_length(alloc, length)?;
     push_records(alloc, &mut out, records)?;
     out.into_bytes()
 }

@@ -1,8 +1,7 @@
-//! The reports of work: what changed since some rows, figures, and the largest classes.
+//! The reports of work: a change as a record, figures, and the largest classes.
 ghost use Rattle.std.specs.Prelude.{◌≡◌, ◌++◌, [], IfOk, OnOk, map};
 ghost use Rattle.csv.specs.Records.{fields_of, partial_of};
 ghost use Rattle.sbl_bench.specs.KeptRuns.{contents_of};
-ghost use Rattle.sbl_rows.specs.Rows.{view_row};
 ghost use Rattle.sbl_rows.specs.Changes.{view_change};
 ghost use Rattle.sbl_rows.specs.Stats.{view_stats};
 ghost use Rattle.sbl_io.specs.Records.{record_line, records_text};
@@ -11,9 +10,9 @@ ghost use Rattle.sbl_reports.specs.Reports as spec;
 use crate::records::{Record, push_named, records_text};
 use crate::row_records::push_outcome;
 use csv::ByteRecord;
-use sbl_bench::{Bench, Row};
+use sbl_bench::Bench;
 use sbl_io::push_line;
-use sbl_rows::{ChangeRow, RowStats, changes, largest_classes, stats};
+use sbl_rows::{ChangeRow, RowStats, largest_classes, stats};
 use std::alloc::{AllocError, Global};
 
 impl Record for ChangeRow<'_> {
@@ -43,19 +42,6 @@ impl Record for ChangeRow<'_> {
             }
         }
     }
-}
-
-/// Returns the report of what changed: a row for each change between some rows and those of the bench.
-///
-/// # Errors
-///
-/// Returns `AllocError` if an allocation fails.
-pub fn changes_text(alloc: Global, before: &[Row<'_>], bench: &Bench) -> Result<Vec<u8>, AllocError>
-    ensures { IfOk result (λ text. text.items ≡ spec.changes_text (map view_row before.now) (contents_of bench.now)) }
-{
-    let rows = bench.rows()?;
-    let found = changes(alloc, before, &rows)?;
-    records_text(alloc, &found)
 }
 
 /// Appends the line of a figure. Returns `AllocError` if an allocation fails.

@@ -17,7 +17,7 @@ use crate::session_edits::{MAX_LOOKED_AT, first_characters};
 use sbl_bench::laws::words_fit;
 use sbl_bench::{Bench, EditFault, Row};
 use sbl_machine::ItemRef;
-use sbl_reports::{records_text, rows_text};
+use sbl_reports::{records_text, records_text_in_one_pass, rows_text};
 use std::alloc::{AllocError, Global};
 use std::collections::BTreeSet;
 
@@ -41,7 +41,7 @@ pub(crate) fn classes_text(alloc: Global, bench: &Bench) -> Result<Vec<u8>, Allo
     ensures { IfOk result (λ text. text.items ≡ spec.classes_text (contents_of bench.now)) }
 {
     let classes = bench.classes()?;
-    records_text(alloc, &classes)
+    records_text_in_one_pass(alloc, &classes)
 }
 
 /// Returns the report of the script: its canonical text. Returns `AllocError` if an allocation fails.

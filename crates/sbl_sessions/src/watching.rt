@@ -1,6 +1,6 @@
-//! Who is told of edits that are refused.
+//! Watching a session: a watch sees each edit that the session refuses.
 
-use sbl_bench::{Bench, EditFault};
+use sbl_bench::{Bench, EditFault, Progress};
 
 /// An edit of the script that was refused.
 #[derive(Drop)]
@@ -31,4 +31,12 @@ impl Watch for NoWatch {
     fn begin(&mut self, _bench: &Bench) {}
 
     fn see_refused(&mut self, _bench: &Bench, _edit: &RefusedEdit, _row: u64) {}
+}
+
+impl Progress for NoWatch {
+    #[inline(always)]
+    fn see_words(&mut self, _words: u64) {}
+
+    #[inline(always)]
+    fn see_end(&mut self) {}
 }

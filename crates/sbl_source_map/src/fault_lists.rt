@@ -111,7 +111,7 @@ fn check_faults(
     with_ranges(alloc, &faults, &ranges)
 }
 
-/// Returns the one fault because of which bytes are not read. Returns `AllocError` if an allocation fails.
+/// Returns the one fault for which bytes are not read as a script. Returns `AllocError` if an allocation fails.
 fn only_fault(
     alloc: Global,
     bytes: &[u8],

@@ -225,7 +225,7 @@ fn placed_range(
     }
 }
 
-/// Returns the range of a fault because of which bytes are not read; `None` if it is at no place. Returns `AllocError` if an
+/// Returns the range of the fault for which bytes are not read as a script; `None` if it is at no place. Returns `AllocError` if an
 /// allocation fails.
 pub(crate) fn range_of(
     alloc: Global,

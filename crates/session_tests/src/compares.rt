@@ -1,7 +1,7 @@
 //! Tests of comparisons with writers in memory. tests/cases has more of them.
 
 use sbl_batch::{CompareFault, CompareInput, write_comparison};
-use sbl_bench::WordKeys;
+use sbl_bench::{NoProgress, WordKeys};
 use sbl_io::Device;
 use std::alloc::{AllocError, Global};
 use std::test::Fail;
@@ -55,7 +55,13 @@ fn compare_scripts(alloc: Global, row: &str) -> Result<Vec<u8>, Fail> {
         new: &new,
         words: &words,
     };
-    let ending = match write_comparison(alloc, WordKeys::constant(), &input, &mut writer) {
+    let ending = match write_comparison(
+        alloc,
+        WordKeys::constant(),
+        &input,
+        &mut writer,
+        &mut NoProgress {},
+    ) {
         Ok(changed) => format!(in alloc; "!{changed}")?,
         Err(fault) => text_of_fault(alloc, fault)?,
     };

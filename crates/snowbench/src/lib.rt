@@ -12,7 +12,7 @@ pub use file_filter::{FilterEnd, run_filter};
 pub use listing::{ListEnd, ListKind, run_list};
 pub use program::{run, run_watched, run_with};
 pub use sbl_batch::{CompareFault, CompareInput, check};
-pub use sbl_bench::WordKeys;
+pub use sbl_bench::{NoProgress, Progress, WordKeys};
 pub use sbl_command_line::{Face, Options, Verb, Wanted, read_words};
 pub use sbl_input::{LoadFault, load};
 pub use sbl_io::{Device, Lines, ServeFault, Sink, Source, Stop};

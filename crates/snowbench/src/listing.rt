@@ -32,9 +32,9 @@ pub struct ListEnd {
     pub words: Option<usize>,
 }
 
-/// Reads from `lines` a script block and words, as `run` does, and writes the list of the words to `writer`. There is no list after a fault,
-/// and if `Stems` has not a stem for each word, without a line feed and without a carriage return at its end. A fault is one line in `errors`: `snowbench: ` and the text of the fault. After a fault nothing is written, and after a failed write
-/// a prefix of the list.
+/// Reads from `lines` a script block and words, as `run` does, and writes the list of the words to `writer`. After a fault there is no
+/// list, nor if `Stems` has not a stem for each word, without a line feed and without a carriage return at its end. A fault is one line in
+/// `errors`: `snowbench: ` and the text of the fault. After a failed write a prefix of the list is written, after another fault nothing.
 pub fn run_list<R: Source + Drop, W: Sink, E: Sink>(
     kind: ListKind,
     external: &str,

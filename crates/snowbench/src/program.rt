@@ -12,10 +12,10 @@ ghost use Rattle.snowbench.specs.StemmedRows.{IsStemmed};
 ghost use Rattle.snowbench.specs.WholeCheck.{ChecksLists, IsWholeCheck, ReadsExpected, ReadsWords};
 ghost use Rattle.snowbench.specs.WholeSession.{IsWholeSession};
 
-use sbl_batch::{check, filter};
-use sbl_bench::WordKeys;
+use sbl_batch::{check_observed, filter};
+use sbl_bench::{Progress, WordKeys};
 use sbl_command_line::{Verb, Wanted};
-use sbl_input::{LoadFault, load_rows, load_with_keys, read_script};
+use sbl_input::{LoadFault, load_observed, load_rows, read_script};
 use sbl_io::{Lines, ServeFault, Sink, Source, write_all};
 use sbl_script::Script;
 use sbl_sessions::{NoWatch, Watch, serve_watched};
@@ -88,8 +88,9 @@ pub fn run_with<R: Source + Drop, W: Sink, E: Sink>(
     run_watched(wanted, keys, lines, writer, errors, &mut NoWatch {})
 }
 
-/// Does what `run_with` does, and tells `watch` of each edit of a session that is refused, as `serve_watched` does.
-pub fn run_watched<R: Source + Drop, W: Sink, E: Sink, S: Watch>(
+/// Does what `run_with` does. `watch` sees each edit that a session refuses, as by `serve_watched`, and for `session` and `check` how many
+/// words were run.
+pub fn run_watched<R: Source + Drop, W: Sink, E: Sink, S: Watch + Progress>(
     wanted: &Wanted,
     keys: WordKeys,
     lines: &mut Lines<R>,
@@ -135,7 +136,7 @@ fn line_of_fault(fault: LoadFault) -> InlineText<MAX_FAULT_LINE>
 }
 
 /// Does what the command line asks for, and returns the number of differences.
-fn answer<R: Source + Drop, W: Sink, S: Watch>(
+fn answer<R: Source + Drop, W: Sink, S: Watch + Progress>(
     wanted: &Wanted,
     keys: WordKeys,
     lines: &mut Lines<R>,
@@ -160,14 +161,14 @@ fn answer<R: Source + Drop, W: Sink, S: Watch>(
             filter(lines, external, writer)?;
             Ok(0)
         }
-        Verb::Check => check_input(lines, external, writer),
+        Verb::Check => check_input(lines, external, writer, watch),
         // `compare` and `work` read files, and have entries of their own.
         Verb::Compare | Verb::Work => Ok(0),
     }
 }
 
 /// Loads a bench and answers the commands after it.
-fn session<R: Source + Drop, W: Sink, S: Watch>(
+fn session<R: Source + Drop, W: Sink, S: Watch + Progress>(
     lines: &mut Lines<R>,
     keys: WordKeys,
     external: &str,
@@ -178,7 +179,7 @@ fn session<R: Source + Drop, W: Sink, S: Watch>(
     ensures answering { Answering R.tally W.tally lines.old lines.new writer.old writer.new result }
     ensures bound { reads_bound R.tally lines.new ≡ reads_bound R.tally lines.old }
 {
-    let mut bench = load_with_keys(lines, keys, external)?;
+    let mut bench = load_observed(lines, keys, external, watch)?;
     watch.begin(&bench);
     let served = serve_watched(&mut bench, lines, writer, watch);
     bench.leak();
@@ -204,10 +205,11 @@ fn stem<R: Source + Drop, W: Sink>(
 
 /// Reads a script block, a block of words and the expected stems, runs the script on the words and compares the results
 /// with the expected stems. Returns the number of differences.
-fn check_input<R: Source + Drop, W: Sink>(
+fn check_input<R: Source + Drop, W: Sink, P: Progress>(
     lines: &mut Lines<R>,
     external: &str,
     writer: &mut W,
+    progress: &mut P,
 ) -> Result<u64, LoadFault>
     ensures checked { fault_of lines.old ≡ None → IsWholeCheck (input_of R.left lines.old) (input_of R.left lines.new) external.now (W.held writer.old) (W.held writer.new) result }
     ensures answering { Answering R.tally W.tally lines.old lines.new writer.old writer.new result }
@@ -215,17 +217,18 @@ fn check_input<R: Source + Drop, W: Sink>(
 {
     let text = read_script(lines)?;
     let script = Script::parse(lines.alloc(), &text, external)?;
-    let differences = check_lists(lines, &script, writer);
+    let differences = check_lists(lines, &script, writer, progress);
     script.discard();
     Ok(differences?)
 }
 
 /// Reads a block of words and the expected stems, runs the script on the words and compares the results with the
 /// expected stems. Returns the number of differences.
-fn check_lists<R: Source + Drop, W: Sink>(
+fn check_lists<R: Source + Drop, W: Sink, P: Progress>(
     lines: &mut Lines<R>,
     script: &Script,
     writer: &mut W,
+    progress: &mut P,
 ) -> Result<u64, ServeFault>
     ensures checked { fault_of lines.old ≡ None → ChecksLists (source_of script.now) (input_of R.left lines.old) (input_of R.left lines.new) (W.held writer.old) (W.held writer.new) result }
     ensures why { fault_of lines.old ≡ None → IfErr result (λ fault. HasReasons R.tally W.tally lines.old lines.new writer.old writer.new (LoadFault.Input fault)) }
@@ -235,7 +238,14 @@ fn check_lists<R: Source + Drop, W: Sink>(
 {
     let words = read_word_block(lines)?;
     let expected = read_expected(lines)?;
-    check(lines.alloc(), script, &words, &expected, writer)
+    check_observed(
+        lines.alloc(),
+        script,
+        &words,
+        &expected,
+        writer,
+        progress,
+    )
 }
 
 /// Reads the lines up to a line `.` and returns them, each as `push_line` appends it. Returns `Cut` if the input ends

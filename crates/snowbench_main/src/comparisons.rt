@@ -4,6 +4,7 @@ use crate::compared_words::comparison_words;
 use crate::fault_texts::words_fault_text;
 use crate::file_names::{FileNames, file_name, reads_twice};
 use crate::messages::{NO_KEYS, NO_MEMORY, REFUSED, print_line};
+use crate::progress_line::ProgressLine;
 use crate::run_result::RunResult;
 use crate::sessions::{CLOSED_PIPE, MAX_FAULT_LINE, print_said, read_named};
 use crate::streams::Output;
@@ -11,7 +12,7 @@ use sbl_batch::{BenchPair, compare, compare_status, open_pair};
 use sbl_diagnostics::{plain_text, script_fault_text};
 use sbl_io::write_all;
 use snowbench::{
-    CompareFault, CompareInput, Device, Face, ScriptFault, Wanted, WordKeys, run_compare,
+    CompareFault, CompareInput, Device, Face, ScriptFault, Verb, Wanted, WordKeys, run_compare,
 };
 use std::alloc::{AllocError, Global};
 use std::hash::RandomState;
@@ -108,7 +109,15 @@ fn compare_in_rows(
     };
     let mut writer = Device::new(Output::new(rt.stdout()));
     let mut errors = Device::new(said);
-    let end = run_compare(rt.alloc(), keys, input, &mut writer, &mut errors);
+    let mut progress = ProgressLine::new(rt, Verb::Compare);
+    let end = run_compare(
+        rt.alloc(),
+        keys,
+        input,
+        &mut writer,
+        &mut errors,
+        &mut progress,
+    );
     let output = writer.into_inner();
     let ended = RunResult::new(end.status, errors.into_inner(), &output);
     let Some(fault) = end.fault else {
@@ -129,7 +138,8 @@ fn compare_in_words(
     names: CompareNames<'_>,
     input: &CompareInput<'_>,
 ) -> u8 {
-    let pair = match open_pair(rt.alloc(), keys, input) {
+    let mut progress = ProgressLine::new(rt, Verb::Compare);
+    let pair = match open_pair(rt.alloc(), keys, input, &mut progress) {
         Ok(pair) => pair,
         Err(fault) => {
             let cause = fault.cause();

@@ -10,6 +10,7 @@ mod file_names;
 mod lists;
 mod messages;
 mod place_watch;
+mod progress_line;
 mod run_result;
 mod sessions;
 mod streams;

@@ -1,15 +1,16 @@
 //! The places of edits that a session refuses, on standard error.
 
 use crate::messages::print_line;
+use crate::progress_line::ProgressLine;
 use crate::streams::FirstBytes;
-use sbl_bench::{Bench, EditFault};
+use sbl_bench::{Bench, EditFault, Progress};
 use sbl_diagnostics::{TypedBlock, part_text};
 use sbl_sessions::part_of;
-use snowbench::{RefusedEdit, Watch};
+use snowbench::{RefusedEdit, Wanted, Watch};
 use std::alloc::AllocError;
 use std::cell::RefCell;
 
-/// Prints what is wrong with each block that is refused for its text.
+/// Prints what is wrong with each block that is refused for its text, and shows how many words were run before the session.
 #[derive(Drop)]
 pub(crate) struct PlaceWatch<'a> {
     rt: &'a HostRuntime,
@@ -20,6 +21,8 @@ pub(crate) struct PlaceWatch<'a> {
     kept: Option<&'a RefCell<FirstBytes>>,
     /// The number of its lines before the commands.
     lines_before: usize,
+    /// Shows how many words were run.
+    progress: ProgressLine<'a>,
 }
 
 /// Returns the number of lines up to and including the first line `.`.
@@ -38,16 +41,17 @@ impl<'a> PlaceWatch<'a> {
     /// Returns the watch before the session.
     pub(crate) fn new(
         rt: &'a HostRuntime,
-        external: &'a str,
+        wanted: &'a Wanted,
         input: &'a str,
         kept: Option<&'a RefCell<FirstBytes>>,
     ) -> PlaceWatch<'a> {
         PlaceWatch {
             rt,
-            external,
+            external: wanted.external.as_str(),
             input,
             kept,
             lines_before: 0,
+            progress: ProgressLine::new(rt, wanted.verb),
         }
     }
 
@@ -97,5 +101,15 @@ impl Watch for PlaceWatch<'_> {
             }
             _ => {}
         }
+    }
+}
+
+impl Progress for PlaceWatch<'_> {
+    fn see_words(&mut self, words: u64) {
+        self.progress.see_words(words);
+    }
+
+    fn see_end(&mut self) {
+        self.progress.see_end();
     }
 }

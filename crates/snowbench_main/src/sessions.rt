@@ -8,7 +8,8 @@ use crate::place_watch::PlaceWatch;
 use crate::run_result::RunResult;
 use crate::streams::{FirstBytes, FirstBytesReader, Output};
 use snowbench::{
-    Device, Lines, NoWatch, Verb, Wanted, Watch, WordKeys, run_filter as run_words, run_watched,
+    Device, Lines, NoWatch, Progress, Verb, Wanted, Watch, WordKeys, run_filter as run_words,
+    run_watched,
 };
 use std::alloc::{AllocError, Global};
 use std::cell::RefCell;
@@ -24,7 +25,7 @@ pub(crate) const CLOSED_PIPE: u8 = 141;
 pub(crate) const MAX_FAULT_LINE: usize = 96;
 
 /// Runs what the command line asks for over a reader.
-fn run_reader<R: Read + Drop, S: Watch>(
+fn run_reader<R: Read + Drop, S: Watch + Progress>(
     rt: &HostRuntime,
     wanted: &Wanted,
     reader: R,
@@ -116,8 +117,7 @@ fn run_standard_input(
 ) -> Result<RunResult, AllocError> {
     let reader = FirstBytesReader::new(rt.stdin(), kept);
     if wanted.options.shows_places {
-        let external = wanted.external.as_str();
-        let mut watch = PlaceWatch::new(rt, external, STANDARD_INPUT, Some(kept));
+        let mut watch = PlaceWatch::new(rt, wanted, STANDARD_INPUT, Some(kept));
         return run_reader(rt, wanted, reader, &mut watch);
     }
     run_reader(rt, wanted, reader, &mut NoWatch {})
@@ -213,7 +213,7 @@ fn run_commands<'x>(
         None => STANDARD_INPUT,
         Some(path) => file_name(path),
     };
-    let mut watch = PlaceWatch::new(rt, wanted.external.as_str(), name, None);
+    let mut watch = PlaceWatch::new(rt, wanted, name, None);
     run_reader(rt, wanted, input, &mut watch)
 }
 
@@ -339,7 +339,8 @@ pub(crate) fn run_check(
         Ok(read) => read,
         Err(status) => return status,
     };
-    let Ok(ended) = run_reader(rt, wanted, input.as_slice(), &mut NoWatch {}) else {
+    let mut watch = PlaceWatch::new(rt, wanted, file_name(names.words), None);
+    let Ok(ended) = run_reader(rt, wanted, input.as_slice(), &mut watch) else {
         return fail_memory(rt);
     };
     let status = print_fault(rt, wanted, Some(names), &input, &ended);

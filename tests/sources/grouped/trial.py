@@ -13,7 +13,7 @@ from judging import Changed, Kind, Verdict, judge, judge_elsewhere
 from kit import Check, Kit
 
 # How many edits a group of the first turn has, and one of the second.
-TURNS = (12, 6)
+TURNS = (40, 8)
 
 
 class NotProved(Exception):

@@ -242,11 +242,11 @@ fn first_read(mode: Mode, part: &[char]) -> Option<char>
 fn is_other(character: Option<char>, wanted: Option<char>) -> bool
     ensures { (text string : List ℕ) → IsTrue result → character ≡ slice_get text 0 → wanted ≡ slice_get string 0 → starts_with nat_eq text string ≡ false }
 {
-    match wanted {
-        None => false,
-        Some(wanted) => match character {
-            None => true,
-            Some(character) => character != wanted,
+    match character {
+        None => wanted.is_some(),
+        Some(character) => match wanted {
+            None => false,
+            Some(wanted) => character != wanted,
         },
     }
 }

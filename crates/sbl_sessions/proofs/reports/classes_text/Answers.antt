@@ -14,4 +14,4 @@ returns c =
     let all : List Class = classes_of (rows_now (contents_of c.args.bench.now)) in
     let are : map view_class c.in_ok-classes.classes.items ≡ all = c.in_ok-classes.ensures in
     let shown : map view_class c.deref.result.now ≡ all = subst (λ (xs : List declared.Class). map view_class xs ≡ all) (sym c.deref.ensures.value) are in
-    text_of_views c.records_text.result class_fields view_class c.deref.result.now all shown c.records_text.ensures
+    text_of_views c.records_text_in_one_pass.result class_fields view_class c.deref.result.now all shown c.records_text_in_one_pass.ensures
