@@ -60,6 +60,10 @@ REFUSALS: Dict[str, str] = {
 }
 
 
+class Refused(Exception):
+    """What somebody asked a face for cannot be done: a sentence says why."""
+
+
 def sentence(reply: Reply, lines: Sequence[str], bench: Bench) -> str:
     """Returns the sentence after a refused command."""
     code, line = (reply.refusal() or (0, ""))[0], lines[0]
