@@ -45,6 +45,24 @@ class Moment(NamedTuple):
     stems: str = ""
 
 
+class Memory:
+    """A file in memory, which a program that is started later reads by its name."""
+
+    def __init__(self, data: bytes = b""):
+        self.number = os.memfd_create("voltizug")
+        self.path = "/dev/fd/%d" % self.number
+        self.fill(data)
+
+    def __del__(self) -> None:
+        os.close(self.number)
+
+    def fill(self, data: bytes) -> None:
+        os.ftruncate(self.number, 0)
+        self.data, at = data, 0
+        while at < len(data):
+            at += os.pwrite(self.number, data[at:], at)
+
+
 class Program:
     """`work` over a script and words, by their names. `room` is a folder of the client alone."""
 

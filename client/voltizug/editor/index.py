@@ -35,11 +35,9 @@ class Index(Names):
 
     def at(self, offset: int) -> Optional[Token]:
         """Returns the token at an offset, or the one that ends there if only a sign begins."""
-        number = bisect_right(self.starts, offset) - 1
-        if number < 0 or offset > self.tokens[number].end:
-            return None
-        token, before = self.tokens[number], self.tokens[number - 1] if number else None
-        return before if before and before.end == offset and token.kind == "sign" else token
+        after = bisect_right(self.starts, offset)
+        found = [token for token in self.tokens[max(0, after - 2) : after] if token.end >= offset]
+        return min(reversed(found), key=lambda token: token.kind == "sign", default=None)
 
     def range_of(self, item: Item) -> Tuple[int, int]:
         return self.tokens[item.first].start, self.tokens[item.last].end

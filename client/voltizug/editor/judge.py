@@ -4,9 +4,9 @@ from typing import Any, Dict, List, NamedTuple, Optional, Set, Tuple
 from .. import rows
 from ..faults import place_of
 from ..language import COMMANDS, CONTROL, DECLARATIONS, ITEMS, OTHERS, VALUES
-from ..program import DONE, Program, Reply
+from ..program import DONE, Memory, Program, Reply
 from .index import Index
-from .texts import Memory, Text, by_characters, encoded
+from .texts import Text, by_characters, encoded
 
 # For how many seconds the program is asked about a text; how many faults, and how many lines that have no tokens, are looked at.
 PATIENCE, MOST, LINES = 20.0, 100, 5
@@ -35,7 +35,7 @@ class Judge:
 
     def program(self, external: str) -> Tuple[Program, Memory]:
         if external not in self.programs:
-            memory = Memory("externals ( %s )\ndefine %s as true\n" % (external, external))
+            memory = Memory(b"externals ( %s )\ndefine %s as true\n" % (external.encode(), external.encode()))
             self.programs[external] = begun(self.command, external, memory), memory
         return self.programs[external]
 
@@ -52,8 +52,6 @@ class Judge:
 
     def ask_known(self, text: str, external: str, word: str) -> Optional[Reply]:
         """Asks a command about a text; nothing if the program lacks it."""
-        if word in self.lacking:
-            return None
         reply = self.ask(text, external, word)
         self.lacking |= {word} if reply.refusal() == (52, "BadCommand") else set()
         return reply if reply.is_done else None

@@ -72,13 +72,12 @@ class Server:
         self.coming, self.came = 0, 0
         self.unit, self.is_over, self.status = "utf-16", False, 1
 
-    # The loop
-
     def run(self) -> int:
         threading.Thread(target=self.read, daemon=True).start()
         while not self.is_over:
+            times = [document.due for document in self.documents.values() if document.due] + [until for _, until, _ in self.waiting]
             with contextlib.suppress(queue.Empty):
-                self.queue.get(timeout=self.rest())()
+                self.queue.get(timeout=max(0.0, min(times) - time.monotonic()) if times else None)()
             for document in list(self.documents.values()):
                 with contextlib.suppress(OSError, ValueError):
                     self.look_at(document, self.coming == self.came, time.monotonic())
@@ -102,10 +101,6 @@ class Server:
             document.due = 0.0
             self.run_words(document)
 
-    def rest(self) -> Optional[float]:
-        times = [document.due for document in self.documents.values() if document.due] + [until for _, until, _ in self.waiting]
-        return max(0.0, min(times) - time.monotonic()) if times else None
-
     def send(self, message: Message) -> None:
         try:
             write_message(sys.stdout.buffer, message)
@@ -115,14 +110,11 @@ class Server:
     def take(self, message: Message) -> None:
         """Does what a message asks for. A fault of this server ends no more than that."""
         number, name = message.get("id"), str(message.get("method")).rpartition("/")[2]
-        handler, reply = getattr(self, "on_" + name, None), {}  # type: Any, Message
+        handler, reply = getattr(self, "on_" + name, None), {"error": {"code": UNKNOWN, "message": "the server has no %s" % name}}
         try:
-            reply["result"] = handler(message.get("params") or {}) if handler else None
-            reply = reply if handler else {"error": {"code": UNKNOWN, "message": "the server has no %s" % name}}
-        except Refused as why:
-            reply = {"error": {"code": REFUSED, "message": str(why)}}
+            reply = {"result": handler(message.get("params") or {})} if handler else reply
         except Exception as why:
-            reply = {"error": {"code": FAILED, "message": repr(why)}}
+            reply = {"error": {"code": REFUSED, "message": str(why)} if isinstance(why, Refused) else {"code": FAILED, "message": repr(why)}}
         if number is not None and "method" in message and callable(reply.get("result")):
             self.waiting.append((number, time.monotonic() + PATIENCE, reply["result"]))
         elif number is not None and "method" in message:
@@ -130,12 +122,10 @@ class Server:
 
     def answer_waiting(self) -> None:
         """Replies to requests that wait for figures, when these are there or their time is up."""
-        waiting, self.waiting = self.waiting, []
-        for number, until, result in waiting:
+        for number, until, result in list(self.waiting):
             answer = result(time.monotonic() >= until)
-            if answer is None:
-                self.waiting.append((number, until, result))
-            else:
+            if answer is not None:
+                self.waiting.remove((number, until, result))
                 self.send({"id": number, "result": answer})
 
     def on_initialize(self, params: Message) -> Message:
@@ -170,15 +160,12 @@ class Server:
             document.is_judged = True
             self.judge_script(document)  # (also if a newer text waits: this one is the mark)
         elif not self.scripts_of(document):
-            self.open_beside(document)
+            # (the script beside it, as it is on the disk, if no client has that open)
+            path = os.path.splitext(document.path)[0] + ".sbl"
+            data, uri = read_file(path), "file://" + quote(path)
+            if data is not None and all(other.path != path for other in self.documents.values()):
+                self.documents[uri] = Document(uri, "script", Text(data.decode("utf-8", "surrogateescape"), self.unit), None)
         self.words_changed(document)
-
-    def open_beside(self, document: Document) -> None:
-        """Opens the script beside a file of words or stems, as it is on the disk, if no client has it open."""
-        path = os.path.splitext(document.path)[0] + ".sbl"
-        data, uri = read_file(path), "file://" + quote(path)
-        if data is not None and not any(other.path == path for other in self.documents.values()):
-            self.documents[uri] = Document(uri, "script", Text(data.decode("utf-8", "surrogateescape"), self.unit), None)
 
     def on_didChange(self, params: Message) -> None:
         self.came += 1
@@ -197,7 +184,7 @@ class Server:
         document.close_words()
         self.publish(document, [])
         self.words_changed(document)
-        if document.kind != "script" and all(other.version is None for other in self.documents.values()):
+        if all(other.version is None for other in self.documents.values()):
             # (the scripts that no client has open were there for it)
             while self.documents:
                 self.documents.popitem()[1].close_words()
@@ -293,9 +280,8 @@ class Server:
         """After a step of the words: shows a failure, differences, and has the client ask again for what is shown in the text."""
         if said:
             self.tell("%s: %s" % (script.name, said))
-        for document in list(self.documents.values()):
-            if document.kind != "script" and script in self.scripts_of(document):
-                self.show_differences(document)
+        for document in self.documents.values():
+            document.is_judged = document.is_judged and document.kind == "script"
         for name in filter(self.can_refresh, ("codeLens", "inlayHint")):
             self.send({"id": "%s-%.6f" % (name, time.monotonic()), "method": "workspace/%s/refresh" % name})
 

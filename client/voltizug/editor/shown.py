@@ -4,13 +4,13 @@ from typing import Any, Callable, Dict, List, Optional, Tuple
 
 from .. import layout, rows
 from ..layout import counted, named
-from ..program import comparison
+from ..program import Memory, comparison
 from ..rows import Token
 from ..words import Refused
 from .fixes import Fixes
 from .index import Index
 from .server import Document
-from .texts import Memory, of_revision
+from .texts import encoded, of_revision
 from .vocabulary import State, Vocabulary
 from .wire import Message
 
@@ -73,22 +73,25 @@ class Shown(Fixes):
         """How many words take each string of the amongs; in a file of words the stem of each word."""
         document, part = self.document(params), params["range"]
         script, make = self.script_of(document), {"script": self.strings_beside, "words": self.stems_beside}.get(document.kind)
-        return self.waited(script, "inlayHint", lambda: make(document, script.state, part)) if script and make else []
+        if script is None or make is None:
+            return []
+        hints = lambda: [{"position": place, "label": label, "paddingLeft": True} for place, label in make(document, script.state, part)]
+        return self.waited(script, "inlayHint", hints)
 
-    def strings_beside(self, document: Document, state: Optional[State], part: Message) -> List[Message]:
+    def strings_beside(self, document: Document, state: Optional[State], part: Message) -> List[Tuple[Message, str]]:
         start, end = document.text.offset(part["start"]), document.text.offset(part["end"])
         index = self.index(document)
         found = [(token, taken(state, index, token)) for token in index.strings if start <= token.end <= end]
-        return [hint(document.text.position(token.end), "{:,}".format(one[1])) for token, one in found if one]
+        return [(document.text.position(token.end), "{:,}".format(one[1])) for token, one in found if one]
 
-    def stems_beside(self, document: Document, state: Optional[State], part: Message) -> List[Message]:
+    def stems_beside(self, document: Document, state: Optional[State], part: Message) -> List[Tuple[Message, str]]:
         found = []
         for line in range(part["start"]["line"], min(part["end"]["line"] + 1, len(document.text.starts))):
             row = state.outcomes.get(document.text.line(line)) if state else None
             if state and row:
                 was = state.changed.get(row.word)
                 label = "-> " + layout.outcome(row.kind, row.stem) + (" (was %s)" % layout.outcome(was.kind, was.stem) if was else "")
-                found.append(hint(document.text.line_range(line)["end"], label))
+                found.append((document.text.line_range(line)["end"], label))
         return found
 
     # Hovers
@@ -136,12 +139,11 @@ class Shown(Fixes):
 
     def compare(self, script: Document, revision: str) -> Any:
         """How the text that was accepted last differs from that of a git revision, and what that changes for the words."""
-        files = [Memory(text) for text in (of_revision(script.path, revision or "HEAD"), script.accepted.text if script.accepted else "", "")]
-        external = self.external(script)
+        texts = of_revision(script.path, revision or "HEAD"), script.accepted.text if script.accepted else ""
+        old, new = (Memory(encoded(text)) for text in texts)
 
         def make(words: Vocabulary) -> List[str]:
-            files[2].fill(words.has.words)
-            lines, said = comparison(self.command, ["--external", external, *(file.path for file in files)], PATIENCE)
+            lines, said = comparison(self.command, ["--external", words.external, old.path, new.path, words.words.path], PATIENCE)
             differs = ["  differs  " + " ".join(map(named, row.part)) for row in rows.read("compare", lines) if row.kind == "differs"]
             return said[:1] or differs + layout.changes(rows.read("changes", lines), {}) or ["nothing differs"]
 
@@ -150,10 +152,6 @@ class Shown(Fixes):
 
 def used(count: int) -> str:
     return counted(count, "word uses it", "words use it") if count else "no word uses it"
-
-
-def hint(position: Message, label: str) -> Message:
-    return {"position": position, "label": label, "paddingLeft": True}
 
 
 def taken(state: Optional[State], index: Index, token: Token) -> Optional[Tuple[str, int]]:

@@ -1,6 +1,4 @@
-"""Texts that are in no file: in memory, where the program reads them by a name, or in a revision of git; and places in a text, as editors count
-them and as the program does.
-"""
+"""Texts that an editor has, or a revision of git; and places in a text, as editors count them and as the program does."""
 import contextlib
 import os
 import re
@@ -16,24 +14,6 @@ from ..words import Refused
 # For how many seconds git may run.
 PATIENCE = 10
 LINE_END = re.compile("\r\n|\n|\r")
-
-
-class Memory:
-    """A file in memory, which a program reads by its name."""
-
-    def __init__(self, text: str = ""):
-        self.number = os.memfd_create("voltizug")
-        self.path = "/dev/fd/%d" % self.number
-        self.fill(encoded(text))
-
-    def __del__(self) -> None:
-        os.close(self.number)
-
-    def fill(self, data: bytes) -> None:
-        os.ftruncate(self.number, 0)
-        self.data, at = data, 0
-        while at < len(data):
-            at += os.pwrite(self.number, data[at:], at)
 
 
 def encoded(text: str) -> bytes:

@@ -7,11 +7,11 @@ from itertools import groupby, zip_longest
 from typing import Any, Callable, Dict, List, NamedTuple, Optional, Sequence, Tuple
 
 from .. import layout, reports, rows
-from ..bench import Bench
-from ..program import BROKEN, DONE, Moment, Program, Reply
+from ..bench import Stage, pairs_of
+from ..program import BROKEN, DONE, Memory, Moment, Program, Reply
 from ..words import sentence
 from .judge import begun
-from .texts import Memory, encoded, lines_of
+from .texts import encoded, lines_of
 
 # Of how many changed words it is asked where they begin to differ.
 MOST = 500
@@ -28,23 +28,11 @@ class Wish(NamedTuple):
     path: str = ""
 
 
-class Stage(Bench):
-    """A bench over a program that is there, for sentences and places alone. It begins nothing again."""
-
-    def __init__(self, program: Program, script: str, wish: Wish):
-        self.program, self.script, self.words, self.known_places, self.seen = program, script, wish.path, None, {}
-        self.file_text = encoded(wish.text)
-        program.now = Moment(self.file_text)
-
-    def settled(self, reply: Reply) -> Reply:
-        return reply
-
-
 class State:
     """What is known of a text over the words. The counts of its parts and `begins` come later: until then the counts are those of the text before."""
 
     def __init__(self, wish: Wish, replies: Sequence[Reply], older: Optional["State"]):
-        stats, stems, changes, *families = (reply.lines for reply in replies)
+        stats, stems, changes = (reply.lines for reply in replies[:3])
         self.wish, self.is_counted, self.changes = wish, False, rows.read("changes", changes)
         self.figures = {row.kind: int(row.count) for row in rows.read("stats", stats)}
         # (rows that are as in the state before are not read again, if each is one line)
@@ -53,8 +41,7 @@ class State:
         self.stems, self.outcomes = stems, {**(same.outcomes if same else {}), **{row.word: row for row in new}}
         # By word the outcome at the mark, if it is another one.
         self.changed = {row.word: rows.Outcome(row.word, row.old_kind, row.old) for row in self.changes if row.kind == "changed"}
-        pairs = [row for lines in families for row in rows.read("families", lines) if row.kind == "pairs"]
-        self.pairs = layout.families_line((pairs[0], pairs[0]) if pairs else ())
+        self.pairs = layout.families_line(2 * pairs_of(*replies[3:]))
         # The expected stems, and by word how its stem differs, if there is one for each word.
         self.lines = lines_of(wish.stems) if wish.stems is not None else []
         expected = zip(self.outcomes.values(), self.lines) if len(self.lines) == len(self.outcomes) else ()
@@ -73,9 +60,10 @@ class Vocabulary:
         # What is wanted, what was begun last, and what is known of it.
         self.wish, self.done, self.state = None, None, None  # type: Optional[Wish], Optional[Wish], Optional[State]
         self.thread, self.is_over = ThreadPoolExecutor(1), False
-        # The program, and one without words that has the marked text; their files; what the program has; a text that was given up.
-        self.program, self.old = None, None  # type: Optional[Program], Optional[Program]
+        # The program, what it says, and a program without words that has the marked text; their files.
+        self.program, self.stage, self.old = None, None, None  # type: Any, Any, Optional[Program]
         self.script, self.words, self.mark = Memory(), Memory(), Memory()
+        # What the program has; a text that was given up.
         self.has, self.slow = Wish("", "", b""), b""
 
     # In the main thread
@@ -143,18 +131,20 @@ class Vocabulary:
             self.words.fill(b"")
             self.script.fill(encoded(wish.text))
             self.program = begun(self.command, self.external, self.script, self.words.path)
+            self.stage = Stage(self.program, self.name, wish.path)
         if wish.marked != self.has.marked:
             self.read_mark(wish)
         if wish.words != self.has.words:
             self.words.fill(wish.words)
             reply = self.ask("words")[0]
             if not reply.is_done:
-                raise ChildProcessError(sentence(reply, ["words"], self.bench()))
+                raise ChildProcessError(sentence(reply, ["words"], self.stage))
         if wish.marked != self.has.marked:
             self.ask("mark")
         self.script.fill(encoded(wish.text))
         reload, *replies = self.ask("reload", "stats", "stems", "changes", *(["families " + wish.families] if wish.families else []))
         if reload.is_done:
+            self.program.now, self.stage.file_text = Moment(self.script.data), self.script.data
             self.state, self.has = State(wish, replies, self.state), wish
             self.report("")
             self.order(self.count, self.state)
@@ -201,42 +191,37 @@ class Vocabulary:
 
     # Orders: they return lines
 
-    def bench(self) -> Stage:
-        """Returns what tells sentences, and places in the text that the program has."""
-        return Stage(self.program, self.name, self.done)
-
     def answer(self, name: str, argument: str) -> List[str]:
-        """Returns the lines of a command: of one of those here, or of a report of the program."""
-        own = {"changes": self.changes, "why": self.why, "differ": self.differing, "families": self.families}.get(name)
-        return own(argument) if own else self.asked(name + " " * bool(argument) + argument)
+        """Returns the lines of a command."""
+        if name == "differ":
+            return list(self.state.differing.values()) if self.state else []
+        if name in ("changes", "why"):
+            return (self.changes if name == "changes" else self.why)(argument)
+        return self.asked(name, argument or self.has.families * (name == "families"))
 
-    def differing(self, _: str) -> List[str]:
-        return list(self.state.differing.values()) if self.state else []
-
-    def families(self, file: str) -> List[str]:
-        return self.asked("families " + (file or self.has.families))
-
-    def asked(self, line: str) -> List[str]:
-        """Returns the report of a command, laid out."""
-        reply, command = self.ask(line)[0], line.partition(" ")[0]
-        return reports.laid_out(command, reply.lines, self.bench().places) if reply.is_done else [sentence(reply, [line], self.bench())]
+    def asked(self, name: str, argument: str) -> List[str]:
+        """Returns a report of the program, laid out."""
+        line = name + " " * bool(argument) + argument
+        reply = self.ask(line)[0]
+        return reports.laid_out(name, reply.lines, self.stage.places) if reply.is_done else [sentence(reply, [line], self.stage)]
 
     def why(self, word: str) -> List[str]:
         """Why a word has its stem, and its class."""
         events, figures = self.ask("events " + word, "integers " + word)
         if not events.is_done:
-            return [sentence(events, ["why " + word], self.bench())]
-        shown = reports.why(word, rows.read("events", events.lines), rows.read("integers", figures.lines), self.bench().places(), {})
-        return shown + self.asked("class " + word)
+            return [sentence(events, ["why " + word], self.stage)]
+        shown = reports.why(word, rows.read("events", events.lines), rows.read("integers", figures.lines), self.stage.places(), {})
+        return shown + self.asked("class", word)
 
     def changes(self, name: str) -> List[str]:
         """What differs from the mark; with the name of a routine the words that begin to differ there."""
-        if self.state is None:
+        state = self.state
+        if state is None:
             raise ChildProcessError("the words are not there yet")
         if name:
-            self.compare(self.state)
-        begins, found = self.state.begins.get(name, []), self.state.changes
-        return layout.changes([row for row in found if not name or row.kind == "changed" and row.word in begins], self.state.outcomes) or [layout.figures([])]
+            self.compare(state)
+        found = [row for row in state.changes if not name or row.kind == "changed" and row.word in state.begins.get(name, [])]
+        return layout.changes(found, state.outcomes) or [layout.figures(found)]
 
 
 def deeds(reply: Reply) -> List[Tuple[str, ...]]:
