@@ -1,4 +1,4 @@
-"""Quick fixes. For a fault there are texts that may be without it: the program tries each, and the best ones are offered."""
+"""Quick fixes: what may help against a fault. The program tries each, and the best ones are offered."""
 import re
 from typing import Iterable, List, Tuple
 
@@ -8,12 +8,8 @@ from ..lints import end_of
 from ..near import near
 from .index import Index
 from .judge import Fault
-from .requests import Requests
-from .server import Document
-from .wire import Message
 
-# Of how many faults fixes are looked for; when a fault is looked for, if it is no check of names (those come last).
-MOST = 8
+# When a fault is looked for, if it is no check of names (those come last).
 FIRST = ("BadCharacter", "UnclosedString", "UnclosedComment", "UnknownEscape", "BadCode", "NumberTooLarge")
 STAGES = {**dict.fromkeys(FIRST, 0), "OutOfProfile": 1, "Syntax": 2, "TooDeep": 2}
 # Faults at misspelt names, and at what may be too much; all of what a fault is in, and what is begun; what may be instead, and what may be lacking.
@@ -23,41 +19,21 @@ WHOLE = {"UnknownEscape": "[\\w'\"^`~]+", "NumberTooLarge": "[0-9]+"}
 BEGUN = {"UnclosedString": "[^\\s()']*", "UnclosedComment": ".*"}
 INSTEAD = {"size": "len", "sizeof": "lenof", "NumberTooLarge": "maxint"}
 LACKING = {"Syntax": (") ", "( ", "as "), "WrongMode": ("backwards ",), "UnclosedString": ("'",), "UnclosedComment": (" */",)}
-TITLES = {"mark": "Mark: compare with this text from now on", "changes": "Show what differs from the mark", "unused": "Show what no word uses"}
 # From where to where there is what after an edit.
 Edit = Tuple[int, int, str]
 # In what a definition can be: that of a routine in either mode.
 FRAMES = {"external": ("%s", "backwardmode ( %s )"), "routine": ("%s", "backwardmode ( %s )"), "grouping": ("%s",)}
 
 
-class Fixes(Requests):
-    """A server that replies with quick fixes, too."""
-
-    def on_codeAction(self, params: Message) -> List[Message]:
-        document = self.document(params)
-        start, end = (document.text.offset(params["range"][side]) for side in ("start", "end"))
-        here = [fault for fault in document.faults if fault.start <= end and start <= fault.end][:MOST]
-        calls = [{"title": title, "command": "snowbench." + name, "arguments": [document.uri]} for name, title in TITLES.items() if document.vocabulary]
-        commands = [{"title": call["title"], "kind": "source", "command": call} for call in calls]
-        return [action for fault in here for action in self.fixes(document, fault)] + commands
-
-    def fixes(self, document: Document, fault: Fault) -> List[Message]:
-        """Returns those after which the first fault is looked for later, or fewer are left, or (if the program says only one) it is nearer to the end."""
-        text, external, ranked = document.text, self.external(document), []  # type: Any, str, List[Tuple[Tuple[int, int], Message]]
-        for title, parts in candidates(text.text, self.index(document), fault, external):
-            edits = [{"range": text.range(start, end), "newText": new} for start, end, new in sorted(parts, key=lambda part: part[:2])]
-            action, fixed = {"title": title, "kind": "quickfix", "edit": {"changes": {document.uri: edits}}}, text.changed(edits[::-1])
-            ranked.append((self.rank(self.judge.faults(fixed, external), len(fixed.text)), action))
-        best, now = max((place[0] for place, _ in ranked), default=0), self.rank(document.faults, len(text.text))
-        return [action for place, action in ranked if place[0] == best and place > now]
-
-    def rank(self, faults: List[Fault], size: int) -> Tuple[int, int]:
-        """Returns how far a text of this size is from having no fault: the higher the nearer."""
-        stage, has_all = STAGES.get(faults[0].name, 3) if faults else 4, "faults" not in self.judge.lacking
-        return stage, -len(faults) if has_all and stage >= 3 else faults[0].start - size if faults else 0
+def rank(faults: List[Fault], size: int, has_all: bool) -> Tuple[int, int]:
+    """Returns how far a text is from having no fault, the higher the nearer: the first fault is looked for later, or fewer are left, or (if the
+    program says only one) it is nearer to the end."""
+    stage = STAGES.get(faults[0].name, 3) if faults else 4
+    return stage, -len(faults) if has_all and stage >= 3 else faults[0].start - size if faults else 0
 
 
 def candidates(text: str, index: Index, fault: Fault, external: str) -> Iterable[Tuple[str, List[Edit]]]:
+    """Returns edits that may help, with their titles."""
     what, item = fault.name, next((item for item in index.order if index.range_of(item)[0] <= fault.start < index.range_of(item)[1]), None)
     start, end = span(WHOLE[what], text, fault.start + (what == "UnknownEscape")) if what in WHOLE else (fault.start, fault.end)
     name, begin = text[start:end], index.range_of(item)[0] if item else len(text)

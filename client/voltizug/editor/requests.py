@@ -1,20 +1,25 @@
-"""What is asked about the names of a text: places, lists, renaming and completion."""
-from typing import List, Optional, Tuple
+"""What is asked about the names and faults of a text: places, lists, renaming, completion and quick fixes."""
+from typing import Any, List, Optional, Tuple
 
 from ..layout import named
 from ..rows import Token
 from ..words import Refused
+from .fixes import candidates, rank
 from .index import Index
-from .judge import BLANK
+from .judge import BLANK, Fault
 from .server import Document, Server
 from .wire import Message
 
 # The numbers of the protocol for kinds of symbols and of completions.
 NUMBERS = {"routine": (12, 3), "external": (6, 2), "grouping": (10, 13), "integer": (13, 6), "string": (13, 6), "boolean": (13, 6)}
 
+# Of how many faults fixes are looked for; what is always offered.
+MOST = 8
+TITLES = {"mark": "Mark: compare with this text from now on", "changes": "Show what differs from the mark", "unused": "Show what no word uses"}
+
 
 class Requests(Server):
-    """A server that replies to what is asked about names."""
+    """A server that replies to what is asked about names and faults."""
 
     def place(self, params: Message) -> Tuple[Document, Index, Optional[Token], str]:
         """Returns the text, its names, the token at a place, and the name there if the script declares it."""
@@ -80,6 +85,25 @@ class Requests(Server):
         names = [name for name in names if not is_new or name not in index.items or index.items[name].name.start == start]
         found = [{"label": name, "kind": NUMBERS[index.kinds[name]][1], "detail": index.kinds[name]} for name in names]
         return found + [{"label": word, "kind": 14} for word in fitting if word != "NAME"]
+
+    def on_codeAction(self, params: Message) -> List[Message]:
+        document = self.document(params)
+        start, end = (document.text.offset(params["range"][side]) for side in ("start", "end"))
+        here = [fault for fault in document.faults if fault.start <= end and start <= fault.end][:MOST]
+        calls = [{"title": title, "command": "snowbench." + name, "arguments": [document.uri]} for name, title in TITLES.items() if document.vocabulary]
+        commands = [{"title": call["title"], "kind": "source", "command": call} for call in calls]
+        return [action for fault in here for action in self.fixes(document, fault)] + commands
+
+    def fixes(self, document: Document, fault: Fault) -> List[Message]:
+        """Returns the best fixes of those that help."""
+        text, external, has_all = document.text, self.external(document), "faults" not in self.judge.lacking
+        ranked: List[Any] = []
+        for title, parts in candidates(text.text, self.index(document), fault, external):
+            edits = [{"range": text.range(start, end), "newText": new} for start, end, new in sorted(parts, key=lambda part: part[:2])]
+            action, fixed = {"title": title, "kind": "quickfix", "edit": {"changes": {document.uri: edits}}}, text.changed(edits[::-1])
+            ranked.append((rank(self.judge.faults(fixed, external), len(fixed.text), has_all), action))
+        best, now = max((place[0] for place, _ in ranked), default=0), rank(document.faults, len(text.text), has_all)
+        return [action for place, action in ranked if place[0] == best and place > now]
 
 
 def location(document: Document, token: Token) -> Message:

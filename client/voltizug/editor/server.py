@@ -66,7 +66,8 @@ class Server:
 
     def __init__(self, command: str, capabilities: Message):
         self.command, self.capabilities, self.judge = command, capabilities, Judge(command)
-        self.settings, self.client, self.documents = {}, {}, {}  # type: Message, Message, Dict[str, Document]
+        # The documents by their names; what the client sets, and which figures it can be asked to refresh.
+        self.documents, self.settings, self.refreshing = {}, {}, []  # type: Dict[str, Document], Message, List[str]
         self.queue, self.waiting = queue.Queue(), []  # type: Any, List[Tuple[Any, float, Callable[[bool], Any]]]
         # How many changes of texts came in, and how many are made.
         self.coming, self.came = 0, 0
@@ -129,8 +130,10 @@ class Server:
                 self.send({"id": number, "result": answer})
 
     def on_initialize(self, params: Message) -> Message:
-        self.client, self.settings = params.get("capabilities") or {}, settings_of(params.get("initializationOptions"))
-        self.unit = "utf-32" if "utf-32" in ((self.client.get("general") or {}).get("positionEncodings") or []) else "utf-16"
+        client, self.settings = params.get("capabilities") or {}, settings_of(params.get("initializationOptions"))
+        self.unit = "utf-32" if "utf-32" in ((client.get("general") or {}).get("positionEncodings") or []) else "utf-16"
+        figures = client.get("workspace") or {}
+        self.refreshing = [name for name in ("codeLens", "inlayHint") if (figures.get(name) or {}).get("refreshSupport")]
         return {"serverInfo": {"name": "snowbench"}, "capabilities": {"positionEncoding": self.unit, **self.capabilities}}
 
     def on_initialized(self, params: Message) -> None:
@@ -282,14 +285,11 @@ class Server:
             self.tell("%s: %s" % (script.name, said))
         for document in self.documents.values():
             document.is_judged = document.is_judged and document.kind == "script"
-        for name in filter(self.can_refresh, ("codeLens", "inlayHint")):
+        for name in self.refreshing:
             self.send({"id": "%s-%.6f" % (name, time.monotonic()), "method": "workspace/%s/refresh" % name})
 
     def tell(self, sentence: str) -> None:
         self.send({"method": "window/showMessage", "params": {"type": WARNING, "message": "snowbench: " + sentence}})
-
-    def can_refresh(self, name: str) -> bool:
-        return bool(((self.client.get("workspace") or {}).get(name) or {}).get("refreshSupport"))
 
 
 def settings_of(given: Any) -> Message:

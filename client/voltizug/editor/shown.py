@@ -7,8 +7,8 @@ from ..layout import counted, named
 from ..program import Memory, comparison
 from ..rows import Token
 from ..words import Refused
-from .fixes import Fixes
 from .index import Index
+from .requests import Requests
 from .server import Document
 from .texts import encoded, of_revision
 from .vocabulary import State, Vocabulary
@@ -22,7 +22,7 @@ STRANGE = re.compile("[\r\n\ud800-\udfff]|.{10000}")
 COMMANDS = "mark compare changes why differ families class uses unused counts stats".split()
 
 
-class Shown(Fixes):
+class Shown(Requests):
     """A server that shows what the runs of the words say, too."""
 
     def script_of(self, document: Optional[Document]) -> Optional[Document]:
@@ -30,7 +30,7 @@ class Shown(Fixes):
 
     def waited(self, script: Document, name: str, make: Callable[[], Any]) -> Any:
         """A client that can be asked to refresh gets what there is, and is asked later. Another one waits for the figures."""
-        return make() if self.can_refresh(name) else lambda is_late: make() if is_late or not script.is_waiting() else None
+        return make() if name in self.refreshing else lambda is_late: make() if is_late or not script.is_waiting() else None
 
     def later(self, script: Document, make: Callable[[Vocabulary], Any], instead: Any = LATE) -> Any:
         """Has the thread of the words make a result. Returns a function for it; `instead` is what there is when its time is up."""
@@ -41,8 +41,6 @@ class Shown(Fixes):
         result = script.vocabulary.order(make, script.vocabulary)
         result.add_done_callback(lambda _: self.queue.put(lambda: None))
         return lambda is_late: result.result() or instead if result.done() else instead if is_late else None
-
-    # Figures
 
     def on_codeLens(self, params: Message) -> Any:
         document = self.document(params)
@@ -94,8 +92,6 @@ class Shown(Fixes):
                 found.append((document.text.line_range(line)["end"], label))
         return found
 
-    # Hovers
-
     def on_hover(self, params: Message) -> Any:
         document, index, token, name = self.place(params)
         if document.kind == "words":
@@ -119,8 +115,6 @@ class Shown(Fixes):
         if not asked or STRANGE.search(asked):
             return known
         return self.later(document, lambda words: markdown([about, *users(document, words, asked), *code], part), known)
-
-    # Commands
 
     def on_executeCommand(self, params: Message) -> Any:
         """Does a command, whose first argument is the text: a script, or its words."""

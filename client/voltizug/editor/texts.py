@@ -41,12 +41,6 @@ def of_revision(path: str, revision: str) -> str:
     raise Refused("git has no %s of the revision %s" % (name, named(revision)))
 
 
-def lines_of(data: bytes) -> List[str]:
-    """Returns the lines of a file, without a carriage return at their ends."""
-    lines = data.decode("utf-8", "surrogateescape").split("\n")
-    return [line.removesuffix("\r") for line in (lines if lines[-1] else lines[:-1])]
-
-
 class Text:
     """A text and the offsets of its lines. `unit` is what columns are counted in: utf-16, as editors do, or utf-32, which are characters."""
 

@@ -11,7 +11,7 @@ from ..bench import Stage, pairs_of
 from ..program import BROKEN, DONE, Memory, Moment, Program, Reply
 from ..words import sentence
 from .judge import begun
-from .texts import encoded, lines_of
+from .texts import encoded
 
 # Of how many changed words it is asked where they begin to differ.
 MOST = 500
@@ -33,17 +33,17 @@ class State:
 
     def __init__(self, wish: Wish, replies: Sequence[Reply], older: Optional["State"]):
         stats, stems, changes = (reply.lines for reply in replies[:3])
-        self.wish, self.is_counted, self.changes = wish, False, rows.read("changes", changes)
-        self.figures = {row.kind: int(row.count) for row in rows.read("stats", stats)}
+        self.wish, self.is_counted, self.figures = wish, False, {row.kind: int(row.count) for row in rows.read("stats", stats)}
         # (rows that are as in the state before are not read again, if each is one line)
         same = older if older and older.wish.words == wish.words and len(older.outcomes) == len(older.stems) == len(stems) else None
         new = rows.outcomes([line for line, was in zip(stems, same.stems) if line != was] if same else stems)
         self.stems, self.outcomes = stems, {**(same.outcomes if same else {}), **{row.word: row for row in new}}
         # By word the outcome at the mark, if it is another one.
-        self.changed = {row.word: rows.Outcome(row.word, row.old_kind, row.old) for row in self.changes if row.kind == "changed"}
+        self.changed = {row.word: rows.Outcome(row.word, row.old_kind, row.old) for row in rows.read("changes", changes) if row.kind == "changed"}
         self.pairs = layout.families_line(2 * pairs_of(*replies[3:]))
         # The expected stems, and by word how its stem differs, if there is one for each word.
-        self.lines = lines_of(wish.stems) if wish.stems is not None else []
+        lines = (wish.stems or b"").decode("utf-8", "surrogateescape").split("\n")
+        self.lines = [line.removesuffix("\r") for line in (lines if lines[-1] else lines[:-1])]
         expected = zip(self.outcomes.values(), self.lines) if len(self.lines) == len(self.outcomes) else ()
         self.differing = {row.word: difference(row, stem) for row, stem in expected if (row.kind, row.stem) != ("stem", stem)}
         # How many words use each definition, and each string of each among; by routine the changed words whose run begins to differ there.
@@ -79,9 +79,8 @@ class Vocabulary:
 
     def stop(self) -> None:
         self.is_over = True
-        for process in [program.process for program in (self.program, self.old) if program]:
-            if process:
-                process.kill()
+        for process in filter(None, [program.process for program in (self.program, self.old) if program]):
+            process.kill()
         self.thread.submit(self.close)
         self.thread.shutdown(wait=False)
 
@@ -97,10 +96,9 @@ class Vocabulary:
 
     def give_up(self, program: Program) -> bool:
         """Gives a run that takes long up if there is a newer text: the script before may loop."""
-        is_late = self.wish != self.done
-        if is_late:
+        if self.wish != self.done:
             program.break_off()
-        return is_late
+        return self.wish != self.done
 
     def close(self) -> None:
         for program in filter(None, (self.program, self.old)):
@@ -117,9 +115,7 @@ class Vocabulary:
         if replies[-1].state == DONE:
             return replies
         self.close()
-        if replies[-1].state == BROKEN:
-            self.slow = self.script.data
-            raise ChildProcessError("given up")
+        self.slow = self.script.data if replies[-1].state == BROKEN else self.slow
         raise ChildProcessError(" ".join(replies[0].said) or "the program has ended")
 
     def run(self) -> None:
@@ -150,19 +146,17 @@ class Vocabulary:
             self.order(self.count, self.state)
             self.order(self.compare, self.state)
 
-    def read(self, text: str) -> str:
-        """Has the program read a text. Returns what is wrong with it."""
-        self.script.fill(encoded(text))
-        reload = self.ask("reload")[0]
-        return "" if reload.is_done else "is refused: " + " ".join(reload.said[:1]).replace(self.script.path + ":", "", 1)
-
     def read_mark(self, wish: Wish) -> None:
         """Has the program read the text of the mark. If that is refused, or took too long, the mark is the text as it is now."""
         is_slow = encoded(wish.marked) == self.slow != encoded(wish.text)
-        wrong = "takes too long: the mark is the text as it is now" if is_slow else self.read(wish.marked)
-        if wrong:
-            self.report("the text of the mark " + wrong)
-            self.read(wish.text)
+        self.script.fill(encoded(wish.text if is_slow else wish.marked))
+        reload = self.ask("reload")[0]
+        if is_slow:
+            self.report("the text of the mark takes too long: the mark is the text as it is now")
+        if not reload.is_done:
+            self.report("the text of the mark is refused: " + "".join(reload.said[:1]).replace(self.script.path + ":", "", 1))
+            self.script.fill(encoded(wish.text))
+            self.ask("reload")
         self.mark.fill(self.script.data)
 
     def count(self, state: State) -> None:
@@ -189,8 +183,6 @@ class Vocabulary:
         state.begins = begins
         self.report("")
 
-    # Orders: they return lines
-
     def answer(self, name: str, argument: str) -> List[str]:
         """Returns the lines of a command."""
         if name == "differ":
@@ -215,13 +207,11 @@ class Vocabulary:
 
     def changes(self, name: str) -> List[str]:
         """What differs from the mark; with the name of a routine the words that begin to differ there."""
-        state = self.state
-        if state is None:
-            raise ChildProcessError("the words are not there yet")
-        if name:
+        state, found = self.state, rows.read("changes", self.ask("changes")[0].lines)
+        if state and name:
             self.compare(state)
-        found = [row for row in state.changes if not name or row.kind == "changed" and row.word in state.begins.get(name, [])]
-        return layout.changes(found, state.outcomes) or [layout.figures(found)]
+            found = [row for row in found if row.kind == "changed" and row.word in state.begins.get(name, [])]
+        return layout.changes(found, state.outcomes if state else {}) or [layout.figures(found)]
 
 
 def deeds(reply: Reply) -> List[Tuple[str, ...]]:
