@@ -1,6 +1,6 @@
 """Quick fixes: what may help against a fault. The program tries each, and the best ones are offered."""
 import re
-from typing import Iterable, List, Tuple
+from typing import Any, Dict, Iterable, List, Tuple
 
 from ..language import COMMANDS, CONTROL, DECLARATIONS, ITEMS, VALUES
 from ..layout import named
@@ -15,8 +15,8 @@ STAGES = {**dict.fromkeys(FIRST, 0), "OutOfProfile": 1, "Syntax": 2, "TooDeep": 
 # Faults at misspelt names, and at what may be too much; all of what a fault is in, and what is begun; what may be instead, and what may be lacking.
 MISSPELT = ("Undeclared", "WrongKind", "Undefined", "WrongMode", "Syntax", "UnknownEscape")
 TOO_MUCH = ("BadCharacter", "Syntax", "DeclaredTwice", "Substring", "RepeatedString", "NestedBackwards")
-WHOLE = {"UnknownEscape": "[\\w'\"^`~]+", "NumberTooLarge": "[0-9]+"}
-BEGUN = {"UnclosedString": "[^\\s()']*", "UnclosedComment": ".*"}
+WHOLE: Dict[str, Any] = {"UnknownEscape": re.compile("[\\w'\"^`~]*"), "NumberTooLarge": re.compile("[0-9]*")}
+BEGUN: Dict[str, Any] = {"UnclosedString": re.compile("[^\\s()']*"), "UnclosedComment": re.compile(".*")}
 INSTEAD = {"size": "len", "sizeof": "lenof", "NumberTooLarge": "maxint"}
 LACKING = {"Syntax": (") ", "( ", "as "), "WrongMode": ("backwards ",), "UnclosedString": ("'",), "UnclosedComment": (" */",)}
 # From where to where there is what after an edit.
@@ -35,14 +35,14 @@ def rank(faults: List[Fault], size: int, has_all: bool) -> Tuple[int, int]:
 def candidates(text: str, index: Index, fault: Fault, external: str) -> Iterable[Tuple[str, List[Edit]]]:
     """Returns edits that may help, with their titles."""
     what, item = fault.name, next((item for item in index.order if index.range_of(item)[0] <= fault.start < index.range_of(item)[1]), None)
-    start, end = span(WHOLE[what], text, fault.start + (what == "UnknownEscape")) if what in WHOLE else (fault.start, fault.end)
+    start, end = WHOLE[what].match(text, fault.start + (what == "UnknownEscape")).span() if what in WHOLE else (fault.start, fault.end)
     name, begin = text[start:end], index.range_of(item)[0] if item else len(text)
     known = list(index.macros) if what == "UnknownEscape" else [*index.kinds, *CONTROL, *COMMANDS, *VALUES, *ITEMS]
     instead = INSTEAD.get(what) or INSTEAD.get(name)
     for other in [instead] if instead else near(name, known) if what in MISSPELT else []:
         yield "Replace by " + other, [(start, end, other)]
     for sign in LACKING.get(what, ()):
-        at = span(BEGUN[what], text, end)[1] if what in BEGUN else start
+        at = BEGUN[what].match(text, end).end() if what in BEGUN else start
         yield "Insert " + sign.strip(), [(at, at, sign)]
     if what in TOO_MUCH and name.strip("\r\n") and not (what == "RepeatedString" and text[end:].lstrip()[:1].isalpha()):
         yield "Remove " + named(name), [(start, end + (text[end : end + 1] == " "), "")]
@@ -62,11 +62,6 @@ def candidates(text: str, index: Index, fault: Fault, external: str) -> Iterable
         at = index.starts.index(start) + 2
         begin, end = index.starts[at], index.tokens[end_of(index.tokens, at) - 1].end
         yield "Put the commands before the among", [(start, start, text[begin:end] + " "), (begin, end, "")]
-
-
-def span(pattern: str, text: str, at: int) -> Tuple[int, int]:
-    found = re.compile(pattern).match(text, at)
-    return found.span() if found else (at, at)
 
 
 def declaration(index: Index, before: int, word: str, name: str) -> Edit:

@@ -25,13 +25,11 @@ def begun(command: str, external: str, script: Memory, words: Optional[str] = No
 
 
 class Judge:
-    """A program without words for each external that is asked for."""
+    """A program without words for each external that is asked for. `lacking` are the commands that it does not know."""
 
     def __init__(self, command: str):
-        self.command = command
+        self.command, self.lacking = command, set()  # type: str, Set[str]
         self.programs: Dict[str, Tuple[Program, Memory]] = {}
-        # The commands that this program does not know.
-        self.lacking: Set[str] = set()
 
     def program(self, external: str) -> Tuple[Program, Memory]:
         if external not in self.programs:

@@ -12,7 +12,6 @@ from .wire import Message
 
 # The numbers of the protocol for kinds of symbols and of completions.
 NUMBERS = {"routine": (12, 3), "external": (6, 2), "grouping": (10, 13), "integer": (13, 6), "string": (13, 6), "boolean": (13, 6)}
-
 # Of how many faults fixes are looked for; what is always offered.
 MOST = 8
 TITLES = {"mark": "Mark: compare with this text from now on", "changes": "Show what differs from the mark", "unused": "Show what no word uses"}
@@ -33,12 +32,13 @@ class Requests(Server):
         document, index, token, name = self.place(params)
         macro = index.macro_at(token, document.text.offset(params["position"])) if token else None
         found = macro or (index.items[name].name if name in index.items else index.declared.get(name))
-        return location(document, found) if found else None
+        return {"uri": document.uri, "range": document.text.range(found.start, found.end)} if found else None
 
     def on_references(self, params: Message) -> List[Message]:
         document, index, _, name = self.place(params)
         left_out = None if (params.get("context") or {}).get("includeDeclaration", True) else index.declared.get(name)
-        return [location(document, token) for token in index.uses.get(name, []) if token is not left_out]
+        found = [token for token in index.uses.get(name, []) if token is not left_out]
+        return [{"uri": document.uri, "range": document.text.range(token.start, token.end)} for token in found]
 
     def on_rename(self, params: Message) -> Message:
         """Gives a name another one everywhere, if the program finds no other fault in the text then."""
@@ -90,24 +90,20 @@ class Requests(Server):
         document = self.document(params)
         start, end = (document.text.offset(params["range"][side]) for side in ("start", "end"))
         here = [fault for fault in document.faults if fault.start <= end and start <= fault.end][:MOST]
-        calls = [{"title": title, "command": "snowbench." + name, "arguments": [document.uri]} for name, title in TITLES.items() if document.vocabulary]
+        calls = [{"title": title, "command": "snowbench." + name, "arguments": [document.uri]} for name, title in TITLES.items()]
         commands = [{"title": call["title"], "kind": "source", "command": call} for call in calls]
-        return [action for fault in here for action in self.fixes(document, fault)] + commands
+        return [action for fault in here for action in self.fixes(document, fault)] + (commands if document.vocabulary else [])
 
     def fixes(self, document: Document, fault: Fault) -> List[Message]:
         """Returns the best fixes of those that help."""
-        text, external, has_all = document.text, self.external(document), "faults" not in self.judge.lacking
-        ranked: List[Any] = []
+        text, external, ranked = document.text, self.external(document), []  # type: Any, str, List[Any]
+        has_all = "faults" not in self.judge.lacking
         for title, parts in candidates(text.text, self.index(document), fault, external):
             edits = [{"range": text.range(start, end), "newText": new} for start, end, new in sorted(parts, key=lambda part: part[:2])]
             action, fixed = {"title": title, "kind": "quickfix", "edit": {"changes": {document.uri: edits}}}, text.changed(edits[::-1])
             ranked.append((rank(self.judge.faults(fixed, external), len(fixed.text), has_all), action))
         best, now = max((place[0] for place, _ in ranked), default=0), rank(document.faults, len(text.text), has_all)
         return [action for place, action in ranked if place[0] == best and place > now]
-
-
-def location(document: Document, token: Token) -> Message:
-    return {"uri": document.uri, "range": document.text.range(token.start, token.end)}
 
 
 def symbol(document: Document, name: str, kind: int, start: int, end: int, token: Token) -> Message:
@@ -117,5 +113,4 @@ def symbol(document: Document, name: str, kind: int, start: int, end: int, token
 def is_skipped(text: str, before: Index) -> bool:
     """Whether the end of a text is in a comment or a literal: the program has no token there for what is begun and not ended."""
     end = max((tokens[-1].end for tokens in (before.tokens, before.comments) if tokens), default=0)
-    last = before.comments[-1] if before.comments else Token("", 0, 0, "")
-    return bool(text[end:].strip(BLANK)) or last.end >= len(text) and text.startswith("//", last.start)
+    return bool(text[end:].strip(BLANK)) or any(last.end >= len(text) and text.startswith("//", last.start) for last in before.comments[-1:])

@@ -20,8 +20,7 @@ from .texts import Text, encoded, of_revision
 from .vocabulary import State, Vocabulary, Wish
 from .wire import Message, read_message, write_message
 
-# For how long a text has to stay before it is run, and how long a request waits for figures, in seconds; the most differences that are shown;
-# and numbers of the protocol.
+# For how many seconds a text rests before it is run, and a request waits for figures; the most differences shown; numbers of the protocol.
 QUIET, PATIENCE, MOST = 0.2, 4.0, 500
 ERROR, WARNING, REFUSED, UNKNOWN, FAILED = 1, 2, -32803, -32601, -32603
 KINDS = {"snowball-words": "words", "snowball-stems": "stems", ".words": "words", ".stems": "stems"}
@@ -32,8 +31,7 @@ class Document:
 
     def __init__(self, uri: str, kind: str, text: Text, version: Optional[int]):
         self.uri, self.kind, self.text, self.version = uri, kind, text, version
-        parts = urlsplit(uri)
-        self.path = os.path.realpath(unquote(parts.path)) if parts.scheme == "file" else ""
+        self.path = os.path.realpath(unquote(urlsplit(uri).path)) if urlsplit(uri).scheme == "file" else ""
         self.name, self.index = os.path.basename(self.path) or uri, None  # type: str, Optional[Index]
         # The faults that it has, whether they are looked for, and when it is run.
         self.faults, self.is_judged, self.due = [], False, 0.0  # type: List[Fault], bool, float
@@ -132,8 +130,8 @@ class Server:
     def on_initialize(self, params: Message) -> Message:
         client, self.settings = params.get("capabilities") or {}, settings_of(params.get("initializationOptions"))
         self.unit = "utf-32" if "utf-32" in ((client.get("general") or {}).get("positionEncodings") or []) else "utf-16"
-        figures = client.get("workspace") or {}
-        self.refreshing = [name for name in ("codeLens", "inlayHint") if (figures.get(name) or {}).get("refreshSupport")]
+        workspace = client.get("workspace") or {}
+        self.refreshing = [name for name in ("codeLens", "inlayHint") if (workspace.get(name) or {}).get("refreshSupport")]
         return {"serverInfo": {"name": "snowbench"}, "capabilities": {"positionEncoding": self.unit, **self.capabilities}}
 
     def on_initialized(self, params: Message) -> None:
@@ -168,34 +166,33 @@ class Server:
             data, uri = read_file(path), "file://" + quote(path)
             if data is not None and all(other.path != path for other in self.documents.values()):
                 self.documents[uri] = Document(uri, "script", Text(data.decode("utf-8", "surrogateescape"), self.unit), None)
-        self.words_changed(document)
+        self.run_soon(document)
 
     def on_didChange(self, params: Message) -> None:
         self.came += 1
         document = self.document(params)
         document.text, document.version = document.text.changed(params["contentChanges"]), params["textDocument"].get("version")
         document.is_judged, document.index = False, None
-        self.words_changed(document)
+        if document.kind != "script":
+            self.run_soon(document)
 
     def on_didSave(self, params: Message) -> None:
-        """A save needs no rest."""
-        for script in self.scripts_of(self.document(params)):
-            script.due = time.monotonic()
+        self.run_soon(self.document(params), 0.0)
 
     def on_didClose(self, params: Message) -> None:
         document = self.documents.pop(params["textDocument"]["uri"])
         document.close_words()
         self.publish(document, [])
-        self.words_changed(document)
+        self.run_soon(document)
         if all(other.version is None for other in self.documents.values()):
             # (the scripts that no client has open were there for it)
             while self.documents:
                 self.documents.popitem()[1].close_words()
 
-    def words_changed(self, document: Document) -> None:
-        """Has the scripts run again whose words or stems a text has."""
-        for script in self.scripts_of(document) if document.kind != "script" else []:
-            script.due = time.monotonic() + QUIET
+    def run_soon(self, document: Document, rest: float = QUIET) -> None:
+        """Has the scripts run after a rest whose words or stems a text has; a script itself. (A save needs no rest.)"""
+        for script in self.scripts_of(document):
+            script.due = time.monotonic() + rest
 
     def document(self, params: Message) -> Document:
         if params["textDocument"]["uri"] not in self.documents:
@@ -264,14 +261,14 @@ class Server:
 
     def run_words(self, document: Document) -> None:
         """Has the words run under the text that was accepted last."""
-        external, path, families = self.external(document), self.file_of(document, "words"), self.file_of(document, "families")
-        words, stems = self.bytes_of(path), self.bytes_of(self.file_of(document, "stems"))
+        external, path = self.external(document), self.file_of(document, "words")
+        words, stems = self.bytes_of(path), self.bytes_of(self.file_of(document, "stems")) or b""
         if words is None or document.accepted is None or self.settings.get("run") == "never":
             return
         if document.vocabulary is None or document.vocabulary.external != external:
             document.close_words()
-            document.vocabulary = Vocabulary(self.command, external, document.name, lambda said: self.queue.put(partial(self.reported, document, said)))
-        document.vocabulary.want(Wish(document.accepted.text, document.marked or "", words, stems, families, path))
+            document.vocabulary = Vocabulary(self.command, external, document.name, lambda said: self.queue.put(lambda: self.report(document, said)))
+        document.vocabulary.want(Wish(document.accepted.text, document.marked or "", words, stems, self.file_of(document, "families"), path))
 
     def scripts_of(self, document: Document) -> List[Document]:
         """Returns the open scripts whose words or stems a text is; a script itself."""
@@ -279,7 +276,7 @@ class Server:
         files = [self.file_of(script, document.kind) if document.kind != "script" else "" for script in scripts]
         return [script for script, file in zip(scripts, files) if script is document or file and document.path == os.path.realpath(file)]
 
-    def reported(self, script: Document, said: str) -> None:
+    def report(self, script: Document, said: str) -> None:
         """After a step of the words: shows a failure, differences, and has the client ask again for what is shown in the text."""
         if said:
             self.tell("%s: %s" % (script.name, said))

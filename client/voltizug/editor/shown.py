@@ -1,6 +1,6 @@
 """What is shown in a text of the words' runs: figures above definitions and beside strings, hovers, stems beside words, and the commands."""
 import re
-from typing import Any, Callable, Dict, List, Optional, Tuple
+from typing import Any, Callable, List, Optional, Tuple
 
 from .. import layout, rows
 from ..layout import counted, named
@@ -40,7 +40,12 @@ class Shown(Requests):
             raise Refused("there are no words: name a file of words in the settings, or put it beside the script as NAME.words")
         result = script.vocabulary.order(make, script.vocabulary)
         result.add_done_callback(lambda _: self.queue.put(lambda: None))
-        return lambda is_late: result.result() or instead if result.done() else instead if is_late else None
+
+        def answer(is_late: bool) -> Any:
+            made = result.result() if result.done() else None
+            return instead if made is None and (is_late or result.done()) else made
+
+        return answer
 
     def on_codeLens(self, params: Message) -> Any:
         document = self.document(params)
@@ -71,25 +76,22 @@ class Shown(Requests):
         """How many words take each string of the amongs; in a file of words the stem of each word."""
         document, part = self.document(params), params["range"]
         script, make = self.script_of(document), {"script": self.strings_beside, "words": self.stems_beside}.get(document.kind)
-        if script is None or make is None:
-            return []
-        hints = lambda: [{"position": place, "label": label, "paddingLeft": True} for place, label in make(document, script.state, part)]
-        return self.waited(script, "inlayHint", hints)
+        return self.waited(script, "inlayHint", lambda: make(document, script.state, part)) if script and make else []
 
-    def strings_beside(self, document: Document, state: Optional[State], part: Message) -> List[Tuple[Message, str]]:
+    def strings_beside(self, document: Document, state: Optional[State], part: Message) -> List[Message]:
         start, end = document.text.offset(part["start"]), document.text.offset(part["end"])
         index = self.index(document)
         found = [(token, taken(state, index, token)) for token in index.strings if start <= token.end <= end]
-        return [(document.text.position(token.end), "{:,}".format(one[1])) for token, one in found if one]
+        return [{"position": document.text.position(token.end), "label": "{:,}".format(one[1]), "paddingLeft": True} for token, one in found if one]
 
-    def stems_beside(self, document: Document, state: Optional[State], part: Message) -> List[Tuple[Message, str]]:
+    def stems_beside(self, document: Document, state: Optional[State], part: Message) -> List[Message]:
         found = []
         for line in range(part["start"]["line"], min(part["end"]["line"] + 1, len(document.text.starts))):
             row = state.outcomes.get(document.text.line(line)) if state else None
             if state and row:
                 was = state.changed.get(row.word)
                 label = "-> " + layout.outcome(row.kind, row.stem) + (" (was %s)" % layout.outcome(was.kind, was.stem) if was else "")
-                found.append((document.text.line_range(line)["end"], label))
+                found.append({"position": document.text.line_range(line)["end"], "label": label, "paddingLeft": True})
         return found
 
     def on_hover(self, params: Message) -> Any:

@@ -1,10 +1,11 @@
 """The words of a script at work: a thread runs the newest text that was accepted over them, in steps. First come the rows, then the counts,
 and then in which routine the run of each changed word begins to differ.
 """
+from collections import namedtuple
 from concurrent.futures import Future, ThreadPoolExecutor
 from functools import partial
 from itertools import groupby, zip_longest
-from typing import Any, Callable, Dict, List, NamedTuple, Optional, Sequence, Tuple
+from typing import Any, Callable, Dict, List, Optional, Sequence, Tuple
 
 from .. import layout, reports, rows
 from ..bench import Stage, pairs_of
@@ -15,17 +16,9 @@ from .texts import encoded
 
 # Of how many changed words it is asked where they begin to differ.
 MOST = 500
-
-
-class Wish(NamedTuple):
-    """What is to be run: a text, that of the mark, the words and expected stems as files have them, and the files of families and of words."""
-
-    text: str
-    marked: str
-    words: bytes
-    stems: Optional[bytes] = None
-    families: str = ""
-    path: str = ""
+# What is to be run: a text, that of the mark, the words and the expected stems as files have them, and the files of families and of words.
+Wish = namedtuple("Wish", "text marked words stems families path", defaults=(b"", "", ""))
+NOTHING = Wish("", "", b"")
 
 
 class State:
@@ -42,10 +35,13 @@ class State:
         self.changed = {row.word: rows.Outcome(row.word, row.old_kind, row.old) for row in rows.read("changes", changes) if row.kind == "changed"}
         self.pairs = layout.families_line(2 * pairs_of(*replies[3:]))
         # The expected stems, and by word how its stem differs, if there is one for each word.
-        lines = (wish.stems or b"").decode("utf-8", "surrogateescape").split("\n")
+        lines = wish.stems.decode("utf-8", "surrogateescape").split("\n")
         self.lines = [line.removesuffix("\r") for line in (lines if lines[-1] else lines[:-1])]
         expected = zip(self.outcomes.values(), self.lines) if len(self.lines) == len(self.outcomes) else ()
-        self.differing = {row.word: difference(row, stem) for row, stem in expected if (row.kind, row.stem) != ("stem", stem)}
+        self.differing = {
+            row.word: "%s: expected %s, got %s" % (layout.named(row.word), layout.outcome("stem", stem), layout.outcome(row.kind, row.stem))
+            for row, stem in expected if (row.kind, row.stem) != ("stem", stem)
+        }
         # How many words use each definition, and each string of each among; by routine the changed words whose run begins to differ there.
         self.names: Dict[str, int] = older.names if older else {}
         self.strings: Dict[Tuple[str, int], List[Tuple[str, int]]] = older.strings if older else {}
@@ -60,11 +56,10 @@ class Vocabulary:
         # What is wanted, what was begun last, and what is known of it.
         self.wish, self.done, self.state = None, None, None  # type: Optional[Wish], Optional[Wish], Optional[State]
         self.thread, self.is_over = ThreadPoolExecutor(1), False
-        # The program, what it says, and a program without words that has the marked text; their files.
+        # The program, what it says, and one without words that has the marked text; their files; what the program has; a text that was given up.
         self.program, self.stage, self.old = None, None, None  # type: Any, Any, Optional[Program]
         self.script, self.words, self.mark = Memory(), Memory(), Memory()
-        # What the program has; a text that was given up.
-        self.has, self.slow = Wish("", "", b""), b""
+        self.has, self.slow = NOTHING, b""
 
     # In the main thread
 
@@ -103,7 +98,7 @@ class Vocabulary:
     def close(self) -> None:
         for program in filter(None, (self.program, self.old)):
             program.stop()
-        self.program, self.old, self.has = None, None, Wish("", "", b"")
+        self.program, self.old, self.has = None, None, NOTHING
 
     def ask(self, *requests: str, program: Optional[Program] = None) -> List[Reply]:
         """Asks the program. If it is gone then, the next text starts another one."""
@@ -176,23 +171,22 @@ class Vocabulary:
             return
         self.old = self.old or begun(self.command, self.external, self.mark)
         events, begins = ["events " + word for word in state.changed][:MOST], {}  # type: List[str], Dict[str, List[str]]
-        for word, old, new in zip(state.changed, self.ask("reload", *events, program=self.old)[1:], self.ask(*events)):
-            differing = [after or before for before, after in zip_longest(deeds(old), deeds(new)) if before != after]
+        for word, *runs in zip(state.changed, self.ask("reload", *events, program=self.old)[1:], self.ask(*events)):
+            # (what the runs took and put, each with its routine first)
+            deeds = [[tuple(row[2:]) for row in rows.read("events", run.lines) if row.kind in ("taken", "put")] for run in runs]
+            differing = [new or old for old, new in zip_longest(*deeds) if old != new]
             if differing:
                 begins.setdefault(differing[0][0], []).append(word)
         state.begins = begins
         self.report("")
 
     def answer(self, name: str, argument: str) -> List[str]:
-        """Returns the lines of a command."""
+        """Returns the lines of a command, most often of a report of the program."""
         if name == "differ":
             return list(self.state.differing.values()) if self.state else []
         if name in ("changes", "why"):
-            return (self.changes if name == "changes" else self.why)(argument)
-        return self.asked(name, argument or self.has.families * (name == "families"))
-
-    def asked(self, name: str, argument: str) -> List[str]:
-        """Returns a report of the program, laid out."""
+            return (self.why if name == "why" else self.changes)(argument)
+        argument = argument or self.has.families * (name == "families")
         line = name + " " * bool(argument) + argument
         reply = self.ask(line)[0]
         return reports.laid_out(name, reply.lines, self.stage.places) if reply.is_done else [sentence(reply, [line], self.stage)]
@@ -203,7 +197,7 @@ class Vocabulary:
         if not events.is_done:
             return [sentence(events, ["why " + word], self.stage)]
         shown = reports.why(word, rows.read("events", events.lines), rows.read("integers", figures.lines), self.stage.places(), {})
-        return shown + self.asked("class", word)
+        return shown + self.answer("class", word)
 
     def changes(self, name: str) -> List[str]:
         """What differs from the mark; with the name of a routine the words that begin to differ there."""
@@ -212,12 +206,3 @@ class Vocabulary:
             self.compare(state)
             found = [row for row in found if row.kind == "changed" and row.word in state.begins.get(name, [])]
         return layout.changes(found, state.outcomes if state else {}) or [layout.figures(found)]
-
-
-def deeds(reply: Reply) -> List[Tuple[str, ...]]:
-    """Returns what a run took and put, each with its routine first."""
-    return [tuple(row[2:]) for row in rows.read("events", reply.lines) if row.kind in ("taken", "put")]
-
-
-def difference(row: rows.Outcome, stem: str) -> str:
-    return "%s: expected %s, got %s" % (layout.named(row.word), layout.outcome("stem", stem), layout.outcome(row.kind, row.stem))
