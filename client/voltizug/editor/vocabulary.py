@@ -24,16 +24,16 @@ NOTHING = Wish("", "", b"")
 class State:
     """What is known of a text over the words. The counts of its parts and `begins` come later: until then the counts are those of the text before."""
 
-    def __init__(self, wish: Wish, replies: Sequence[Reply], older: Optional["State"]):
-        stats, stems, changes = (reply.lines for reply in replies[:3])
+    def __init__(self, wish: Wish, replies: Sequence[Reply], older: Optional["State"], marked: Dict[str, rows.Outcome]):
+        stats, stems = (reply.lines for reply in replies[:2])
         self.wish, self.is_counted, self.figures = wish, False, {row.kind: int(row.count) for row in rows.read("stats", stats)}
         # (rows that are as in the state before are not read again, if each is one line)
         same = older if older and older.wish.words == wish.words and len(older.outcomes) == len(older.stems) == len(stems) else None
         new = rows.outcomes([line for line, was in zip(stems, same.stems) if line != was] if same else stems)
         self.stems, self.outcomes = stems, {**(same.outcomes if same else {}), **{row.word: row for row in new}}
         # By word the outcome at the mark, if it is another one.
-        self.changed = {row.word: rows.Outcome(row.word, row.old_kind, row.old) for row in rows.read("changes", changes) if row.kind == "changed"}
-        self.pairs = layout.families_line(2 * pairs_of(*replies[3:]))
+        self.changed = {row.word: marked[row.word] for row in self.outcomes.values() if marked.get(row.word, row) != row}
+        self.pairs = layout.families_line(2 * pairs_of(*replies[2:]))
         # The expected stems, and by word how its stem differs, if there is one for each word.
         lines = wish.stems.decode("utf-8", "surrogateescape").split("\n")
         self.lines = [line.removesuffix("\r") for line in (lines if lines[-1] else lines[:-1])]
@@ -56,10 +56,11 @@ class Vocabulary:
         # What is wanted, what was begun last, and what is known of it.
         self.wish, self.done, self.state = None, None, None  # type: Optional[Wish], Optional[Wish], Optional[State]
         self.thread, self.is_over = ThreadPoolExecutor(1), False
-        # The program, what it says, and one without words that has the marked text; their files; what the program has; a text that was given up.
+        # The program, what it says, and one without words that has the marked text; their files; what the program has, and the outcomes at the
+        # mark; a text that was given up.
         self.program, self.stage, self.old = None, None, None  # type: Any, Any, Optional[Program]
         self.script, self.words, self.mark = Memory(), Memory(), Memory()
-        self.has, self.slow = NOTHING, b""
+        self.has, self.marked, self.slow = NOTHING, {}, b""  # type: Wish, Dict[str, rows.Outcome], bytes
 
     # In the main thread
 
@@ -131,12 +132,12 @@ class Vocabulary:
             if not reply.is_done:
                 raise ChildProcessError(sentence(reply, ["words"], self.stage))
         if wish.marked != self.has.marked:
-            self.ask("mark")
+            self.marked = {row.word: row for row in rows.outcomes(self.ask("mark", "stems")[1].lines)}
         self.script.fill(encoded(wish.text))
-        reload, *replies = self.ask("reload", "stats", "stems", "changes", *(["families " + wish.families] if wish.families else []))
+        reload, *replies = self.ask("reload", "stats", "stems", *(["families " + wish.families] if wish.families else []))
         if reload.is_done:
             self.program.now, self.stage.file_text = Moment(self.script.data), self.script.data
-            self.state, self.has = State(wish, replies, self.state), wish
+            self.state, self.has = State(wish, replies, self.state, self.marked), wish
             self.report("")
             self.order(self.count, self.state)
             self.order(self.compare, self.state)
