@@ -26,8 +26,7 @@ FRAMES = {"external": ("%s", "backwardmode ( %s )"), "routine": ("%s", "backward
 
 
 def rank(faults: List[Fault], size: int, has_all: bool) -> Tuple[int, int]:
-    """Returns how far a text is from having no fault, the higher the nearer: the first fault is looked for later, or fewer are left, or (if the
-    program says only one) it is nearer to the end."""
+    """Ranks a text: the first fault is looked for later, or fewer are left, or (if the program says only one) it is nearer to the end."""
     stage = STAGES.get(faults[0].name, 3) if faults else 4
     return stage, -len(faults) if has_all and stage >= 3 else faults[0].start - size if faults else 0
 

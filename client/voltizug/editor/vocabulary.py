@@ -56,10 +56,10 @@ class Vocabulary:
         # What is wanted, what was begun last, and what is known of it.
         self.wish, self.done, self.state = None, None, None  # type: Optional[Wish], Optional[Wish], Optional[State]
         self.thread, self.is_over = ThreadPoolExecutor(1), False
-        # The program, what it says, and one without words that has the marked text; their files; what the program has, and the outcomes at the
-        # mark; a text that was given up.
+        # The program, what it says, and a program without words that has the marked text; their files.
         self.program, self.stage, self.old = None, None, None  # type: Any, Any, Optional[Program]
         self.script, self.words, self.mark = Memory(), Memory(), Memory()
+        # What the program has; by word the outcome at the mark; a text that was given up.
         self.has, self.marked, self.slow = NOTHING, {}, b""  # type: Wish, Dict[str, rows.Outcome], bytes
 
     # In the main thread
@@ -185,8 +185,9 @@ class Vocabulary:
         """Returns the lines of a command, most often of a report of the program."""
         if name == "differ":
             return list(self.state.differing.values()) if self.state else []
-        if name in ("changes", "why"):
-            return (self.why if name == "why" else self.changes)(argument)
+        own = {"changes": self.changes, "why": self.why}.get(name)
+        if own:
+            return own(argument)
         argument = argument or self.has.families * (name == "families")
         line = name + " " * bool(argument) + argument
         reply = self.ask(line)[0]
