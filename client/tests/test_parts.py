@@ -2,10 +2,11 @@
 import os
 import time
 
-from voltizug import layout, loops, near, options, reports, rows, warn
+from voltizug import faults, layout, loops, near, options, reports, rows, warn
 from voltizug.bench import Edit
 from voltizug.conditions import Routine
 from voltizug.kept import Kept
+from voltizug.names import Names
 from voltizug.places import Places, line_and_column
 from voltizug.program import Reply
 
@@ -63,6 +64,27 @@ class Loops(Case):
 
 
 class Others(Case):
+    def test_the_place_of_a_fault(self):
+        said = ["my.sbl:4:16: tale is not declared", "    define stem as tale", "                   ^^^^"]
+        self.assertEqual(faults.place_of(said, "my.sbl", "replace"), (4, 16, 4, "tale is not declared"))
+        self.assertEqual(faults.place_of(["replace:2:1: x", "my.sbl: y"], "my.sbl", "replace"), (2, 1, 0, "x"))
+        self.assertEqual(faults.place_of(["my.sbl: no external"], "my.sbl"), (0, 0, 0, "my.sbl: no external"))
+
+    def test_names_of_tokens(self):
+        """Also of a text that is not ended: a definition ends at a bracket that it did not open, or where another item begins."""
+        text, found, at = "externals ( stem ) integers p backwardmode ( define r as ( p ) ) define stem as r define v", [], 0
+        words = ("externals", "integers", "backwardmode", "define", "as")
+        for part in text.split():
+            kind = "word" if part in words else "name" if part.isalpha() else "sign"
+            found.append(rows.Token(kind, at, at + len(part), part))
+            at += len(part) + 1
+        names = Names(found)
+        self.assertEqual(names.kinds, {"stem": "external", "p": "integer"})
+        self.assertEqual(names.declared["stem"].start, 12)
+        parts = [(" ".join(token.text for token in names.part(item)), item.is_routine, item.is_backward) for item in names.order]
+        self.assertEqual(parts, [("define r as ( p )", True, True), ("define stem as r", True, False), ("define v", False, False)])
+        self.assertEqual([Names(found[:count]).is_in_backwardmode for count in (6, 8, 14, 15)], [False, True, True, False])
+
     def test_near_names(self):
         found = [near.distance(*pair) for pair in (("substring", "subtring"), ("ab", "ba"), ("", "ab"), ("kitten", "sitting"), ("a", "a"))]
         self.assertEqual(found, [1, 1, 2, near.MOST + 1, 0])

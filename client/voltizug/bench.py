@@ -10,7 +10,6 @@ from .places import LARGEST, Places
 from .program import BROKEN, DONE, ENDED, LONGEST, USUAL_LIMIT, Moment, Program, Reply, encoded
 
 
-
 class Edit(NamedTuple):
     """What an edit did. `step` is what undo took back or redo made again; `aside` are the names of the typed edits that a reload put aside, or
     nothing; `notes` are keys of words.NOTES; `pairs` are the figures of the families before and now."""
@@ -25,22 +24,60 @@ class Edit(NamedTuple):
     pairs: Tuple[Any, ...] = ()
 
 
-class Bench:
+class Stage:
+    """What a program that is there says of a script and words: reports, outcomes and places. It begins nothing again."""
+
+    def __init__(self, program: Program, script: str, words: Optional[str]):
+        self.program, self.script, self.words = program, script, words
+        # The states of the files when they were read, and the text that SCRIPT had then.
+        self.seen: Dict[str, FileState] = {}
+        self.file_text: Optional[bytes] = None
+        self.known_places: Optional[Places] = None
+
+    def saved(self) -> Dict[str, FileState]:
+        """Returns the files that were saved since they were read, with their states. (An editor may take a file away for a moment.)"""
+        now = {path: (state_of(path), state) for path, state in dict(self.seen).items()}
+        return {path: state for path, (state, before) in now.items() if state not in (None, before)}
+
+    def settled(self, reply: Reply) -> Reply:
+        """Returns the reply after what has to be done if the program is gone."""
+        return reply
+
+    def known(self, *lines: str) -> List[Optional[List[str]]]:
+        """Asks reports: returns the lines of each, or nothing if it is refused. If it is broken off meanwhile, the program begins again."""
+        replies = self.program.ask_each([[line] for line in lines])
+        self.settled(replies[-1])
+        return [reply.lines if reply.is_done else None for reply in replies]
+
+    def read(self, line: str) -> List[Any]:
+        """Returns the rows of a report; none if it is refused."""
+        return rows.read(line.partition(" ")[0], self.known(line)[0] or [])
+
+    def places(self) -> Places:
+        """Returns where everything is in the current text, and in SCRIPT."""
+        text, known = self.program.now.text, self.known_places
+        if known is None or known.text is not text or known.file_text != self.file_text:
+            tokens = self.known("tokens")[0] if len(text) <= LARGEST else None
+            known = self.known_places = Places(self.script, text, self.file_text, self.read("places"), rows.tokens(tokens or []))
+        known.note = ", as it was read" if self.script in self.saved() else ""
+        return known
+
+    def outcomes(self) -> List[rows.Outcome]:
+        return rows.outcomes(self.known("stems")[0] or [])
+
+
+class Bench(Stage):
     """A script and words at work."""
 
     def __init__(self, command: Sequence[str], script: str, words: Optional[str], kept: Kept):
-        self.script, self.words, self.kept = script, words, kept
-        self.program = Program(command, script, words, kept.room)
-        self.is_waiting = True
+        super().__init__(Program(command, script, words, kept.room), script, words)
+        self.kept, self.is_waiting = kept, True
         self.on_restart: Callable[[Reply], None] = lambda reply: None
         # (called after an edit was accepted, and before it is asked what that changed)
         self.on_accepted: Callable[[], None] = lambda: None
-        # The states of the files when they were read, and of those that were written here.
-        self.seen: Dict[str, FileState] = {}
+        # The states of the files that were written here.
         self.written: Dict[str, FileState] = {}
-        # The text that SCRIPT had when it was read or written; the bytes of one that was refused; the texts that were read, by their hashes;
-        # whether undo took back what SCRIPT has.
-        self.file_text: Optional[bytes] = None
+        # The bytes of a text of SCRIPT that was refused; the texts that were read, by their hashes; whether undo took back what SCRIPT has.
         self.refused_text: Optional[bytes] = None
         self.read_texts: Set[int] = set()
         self.is_older = False
@@ -52,7 +89,6 @@ class Bench:
         self.changes: List[Any] = []
         self.size = 0
         self.families, self.pairs = "", ()  # type: str, Tuple[Any, ...]
-        self.known_places: Optional[Places] = None
 
     # Beginning and ending
 
@@ -73,11 +109,6 @@ class Bench:
     def look(self, *paths: str) -> None:
         """Notes files as they are now, all without names: they are read next."""
         self.seen.update({path: state_of(path) for path in paths or (self.script, self.words) if path})
-
-    def saved(self) -> Dict[str, FileState]:
-        """Returns the files that were saved since they were read, with their states. (An editor may take a file away for a moment.)"""
-        now = {path: (state_of(path), state) for path, state in dict(self.seen).items()}
-        return {path: state for path, (state, before) in now.items() if state not in (None, before)}
 
     def close(self, is_kept: bool) -> None:
         """Ends the program. The room may be kept if it has typed edits."""
@@ -133,16 +164,6 @@ class Bench:
             self.families, self.pairs = argument, pairs_of(reply)
         if word in ("add", "remove", "words", "append"):
             self.kept.note("added", self.added)
-
-    def known(self, *lines: str) -> List[Optional[List[str]]]:
-        """Asks reports: returns the lines of each, or nothing if it is refused. If it is broken off meanwhile, the program begins again."""
-        replies = self.program.ask_each([[line] for line in lines])
-        self.settled(replies[-1])
-        return [reply.lines if reply.is_done else None for reply in replies]
-
-    def read(self, line: str) -> List[Any]:
-        """Returns the rows of a report; none if it is refused."""
-        return rows.read(line.partition(" ")[0], self.known(line)[0] or [])
 
     def settled(self, reply: Reply) -> Reply:
         """After a program that is gone: begins it again. The state of the reply stays; it is `lost` if that fails."""
@@ -258,20 +279,6 @@ class Bench:
         if reply.is_done and word == "save":
             self.keep()
         return reply
-
-    # What the program says
-
-    def places(self) -> Places:
-        """Returns where everything is in the current text, and in SCRIPT."""
-        text, known = self.program.now.text, self.known_places
-        if known is None or known.text is not text or known.file_text != self.file_text:
-            tokens = self.known("tokens")[0] if len(text) <= LARGEST else None
-            known = self.known_places = Places(self.script, text, self.file_text, self.read("places"), rows.tokens(tokens or []))
-        known.note = ", as it was read" if self.script in self.saved() else ""
-        return known
-
-    def outcomes(self) -> List[rows.Outcome]:
-        return rows.outcomes(self.known("stems")[0] or [])
 
 
 def pairs_of(*replies: Reply) -> Tuple[Any, ...]:

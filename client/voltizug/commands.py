@@ -1,6 +1,8 @@
 """The commands of `work`: what each takes and does, for help, TAB and sentences."""
 from typing import Dict, List, NamedTuple, Sequence, Tuple
 
+from .language import ITEMS, RESERVED
+
 
 class Command(NamedTuple):
     """`takes` says what may follow: text, file, routine, grouping, name, among, part, number, command, or nothing; `more` is for help COMMAND."""
@@ -88,7 +90,7 @@ GROUPS: Sequence[Tuple[str, str]] = (
 # A block follows one of these and its name; and one of these alone.
 BLOCKS, OPEN_BLOCKS = ("routine", "among", "grouping"), ("families", "replace")
 # Of the commands' words these are the language's, too.
-LANGUAGE = ("among", "integers", "limit")
+LANGUAGE = [name for name in COMMANDS if name in RESERVED]
 # A blank at the end of these may belong to a word.
 WITH_TEXT = ("add", "remove", "class", "stem", "find", "trace", "why", "tests", "events", "integers", "changes", "uses", "echo")
 # Reports: they can be written to a file by > FILE, and have a pager.
@@ -96,7 +98,7 @@ REPORTING = (
     "changes class classes counts events families find history integers largest lint script show stats stem stems".split()
     + "tests trace unused uses why".split()
 )
-DECLARATIONS = ("externals", "routines", "groupings", "strings", "integers", "booleans", "stringescapes", "stringdef", "backwardmode")
+DECLARATIONS = [word for word in ITEMS if word != "define"]
 # By the beginning of a line that is no command what is said of it. {c} is its first word.
 IN_SHELL = {"check": "SCRIPT WORDS STEMS", "compare": "OLD NEW WORDS", "filter": "SCRIPT < WORDS", "run": "SCRIPT WORDS", "work": "SCRIPT WORDS"}
 STRANGE: Sequence[Tuple[str, str]] = (

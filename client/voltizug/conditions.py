@@ -1,15 +1,15 @@
 """The tests of a script: the commands in its routines that can signal f and have no name of their own, as 'a', non-v or $p1 <= cursor. They are
-found by the tokens and the definitions that the program tells.
+found by the tokens that the program tells.
 """
-from itertools import takewhile
-from typing import Dict, List, Optional, Sequence, Tuple
+from typing import Dict, List, Sequence
 
 from .layout import named
+from .names import Names
 from .places import Places
 from .rows import Token
 
-# By the word of a declaration, whether its names are tests.
-DECLARING = {"strings": True, "booleans": True, "groupings": True, "integers": False, "routines": False, "externals": False}
+# The kinds of names that are tests.
+TESTING = ("string", "boolean", "grouping")
 # What follows the first word of a command: C a command, N a number, W a word.
 PARTS: Dict[str, str] = {
     **dict.fromkeys("test try do repeat goto gopast backwards not fail".split(), "C"), "loop": "NC", "atleast": "NC", "setlimit": "CWC",
@@ -140,18 +140,9 @@ class Routine:
 
 def routines_of(places: Places) -> List[Routine]:
     """Returns the routines of a script that the program accepts, with their tests."""
-    tokens, starts = [token for token in places.tokens if token.kind != "comment"], {int(row.start): row for row in places.definitions.values()}
-    is_test, declaring, depth, found = {}, None, 0, []  # type: Dict[str, bool], Optional[bool], int, List[Tuple[str, List[Token], bool]]
-    for i, token in enumerate(tokens):
-        declaring = DECLARING.get(token.text, None if token.text == ")" else declaring)
-        if declaring is not None and token.kind == "name":
-            is_test[token.text] = declaring
-        # (a definition in brackets is in those of a backwardmode)
-        depth += (token.text == "(") - (token.text == ")")
-        row = starts.get(token.start)
-        if row and row.kind == "routine":
-            found.append((row.name, list(takewhile(lambda other: other.end <= int(row.end), tokens[i:])), depth > 0))
-    return [Routine(name, part, is_test, is_backward) for name, part, is_backward in found]
+    names = Names(places.tokens)
+    is_test = {name: kind in TESTING for name, kind in names.kinds.items()}
+    return [Routine(item.name.text, names.part(item), is_test, item.is_backward) for item in names.order if item.is_routine]
 
 
 def text_of(tokens: Sequence[Token]) -> str:

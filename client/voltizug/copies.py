@@ -6,7 +6,7 @@ from typing import Any, Dict, Iterator, List, NamedTuple, Sequence, Tuple
 from . import rows
 from .conditions import Routine, Test, routines_of
 from .places import Places
-from .program import Program, encoded
+from .program import Memory, Program, encoded
 
 # The largest limit of steps.
 MOST_STEPS = 10000000
@@ -72,12 +72,10 @@ class Copy:
 
     def events(self, program: Program, word: str, limit: int) -> List[Any]:
         """Returns the events of a word's run by the copy under a limit; none if it cannot be run."""
-        path = program.copy_path + ".tests"
-        with open(path, "wb") as file:
-            file.write(self.text)
-        runner = Program(program.command, path, None, "", program.bell)
+        copy = Memory(self.text)
+        runner = Program(program.command, copy.path, None, "", program.bell)
         try:
-            runner.begin([], path)
+            runner.begin([], copy.path)
             replies = runner.ask_each([["limit %d" % limit], ["events " + word]])
         finally:
             runner.stop()

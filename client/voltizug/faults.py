@@ -2,13 +2,15 @@
 editor does not. It does not name the file that has to be converted, nor say in words why a file cannot be read.
 """
 import re
-from typing import List, Optional, Sequence
+from typing import List, NamedTuple, Optional, Sequence
 
 from .layout import named, short
 from .places import BOM
 from .words import in_shell, unreadable
 
 INDENT = "    "
+# What follows the name of a file: line, column and sentence.
+PLACE = re.compile(r":(\d+):(\d+): (.*)", re.S)
 CANNOT_BE_READ = re.compile(r"snowbench: (.+): [^:]+ \(os error \d+\)")
 CODE = re.compile(r"snowbench: (\d+) (\w+)")
 
@@ -17,6 +19,23 @@ def code_of(said: Sequence[str]) -> int:
     """Returns the number of the fault for which the program ended; 0 if it says none."""
     found = CODE.match(said[0]) if said else None
     return int(found[1]) if found else 0
+
+
+class Place(NamedTuple):
+    """Where a fault is, how many characters it has, and its sentence; zeros if it is of the whole text."""
+
+    line: int
+    column: int
+    length: int
+    sentence: str
+
+
+def place_of(said: Sequence[str], *names: str) -> Place:
+    """Returns the place of the first fault in what is said of a file with one of these names."""
+    found = [PLACE.match(line[len(name) :]) for line in said for name in names if line.startswith(name + ":")]
+    place = next(filter(None, found), None)
+    carets = next((line for line in said if line.strip() and not line.strip("^ ")), "")
+    return Place(int(place[1]), int(place[2]), carets.count("^"), place[3]) if place else Place(0, 0, 0, " ".join(said))
 
 
 def shown(said: Sequence[str], script: str, text: Optional[bytes], width: int) -> List[str]:

@@ -75,6 +75,11 @@ def counted(count: int, one: str, many: str = "") -> str:
     return "{:,} {}".format(count, one if count == 1 else many or one + "s")
 
 
+def sizes(figures: Dict[str, int]) -> str:
+    """Returns how large a vocabulary is, by its figures."""
+    return "{}, {}, {:,} refused".format(counted(figures["words"], "word"), counted(figures["classes"], "class", "classes"), figures["refused"])
+
+
 def listed(names: Sequence[str]) -> str:
     return ", ".join(named(name) or "(empty)" for name in names)
 

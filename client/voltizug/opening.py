@@ -5,7 +5,7 @@ from typing import Dict, List, Optional, Sequence
 from . import faults, rows, words
 from .desk import Desk
 from .kept import read_file
-from .layout import counted, in_words, short
+from .layout import counted, in_words, short, sizes
 from .lints import lints
 from .program import BROKEN, DONE, ROWS, Reply
 
@@ -93,8 +93,7 @@ class Opening(Desk):
             say(edits + ": rescue brings them back, rescue drop forgets them." + older)
         if not figures["words"] and not bench.words:
             say("To see stems: add WORD, or start with a file of words: ./snowbench work SCRIPT WORDS")
-        size = counted(figures["words"], "word"), counted(figures["classes"], "class", "classes")
-        say("%s, %s, %s refused" % (*size, "{:,}".format(figures["refused"])))
+        say(sizes(figures))
 
     def first_refused(self) -> str:
         """Returns the sentence on the first word whose run is refused."""

@@ -45,6 +45,24 @@ class Moment(NamedTuple):
     stems: str = ""
 
 
+class Memory:
+    """A file in memory, which a program that is started later reads by its name."""
+
+    def __init__(self, data: bytes = b""):
+        self.number = os.memfd_create("voltizug")
+        self.path = "/dev/fd/%d" % self.number
+        self.fill(data)
+
+    def __del__(self) -> None:
+        os.close(self.number)
+
+    def fill(self, data: bytes) -> None:
+        os.ftruncate(self.number, 0)
+        self.data, at = data, 0
+        while at < len(data):
+            at += os.pwrite(self.number, data[at:], at)
+
+
 class Program:
     """`work` over a script and words, by their names. `room` is a folder of the client alone."""
 
@@ -57,7 +75,8 @@ class Program:
         self.now = self.marked = Moment()
         # The number of the program's rows; the command that reads SCRIPT.
         self.rows, self.reload = "", "reload"
-        self.on_long: Optional[Callable[[], None]] = None
+        # (called once, or again and again while it returns False)
+        self.on_long: Optional[Callable[[], Optional[bool]]] = None
         # Whether a request is on its way; how the last one ended; Ctrl-C rings the bell, but not if WORDS could not be read again.
         self.is_busy, self.state, self.bell, self.is_deaf = False, DONE, bell or os.pipe(), False
         for end in self.bell:
@@ -75,11 +94,10 @@ class Program:
 
     def begin(self, options: Sequence[str], script: str) -> None:
         self.stop()
-        words = [*self.command, *options, "--", script, *([self.words] if self.words else [])]
-        pipe, files = subprocess.PIPE, [int(name[8:]) for name in words if re.fullmatch("/dev/fd/[0-9]+", name) and os.path.exists(name)]
+        pipe, words = subprocess.PIPE, [*self.command, *options, "--", script, *([self.words] if self.words else [])]
         # (with its signals as they are here, a write to a file that may not grow fails, and ends nothing)
         self.process = subprocess.Popen(
-            words, stdin=pipe, stdout=pipe, stderr=pipe, bufsize=0, start_new_session=True, restore_signals=False, pass_fds=files
+            words, stdin=pipe, stdout=pipe, stderr=pipe, bufsize=0, start_new_session=True, restore_signals=False, pass_fds=in_memory(words)
         )
         for number in self.pipes():
             os.set_blocking(number, False)
@@ -136,8 +154,7 @@ class Program:
             while not state:
                 passed = time.monotonic() - begin
                 if not is_long and passed >= LONG:
-                    is_long = True
-                    self.on_long()
+                    is_long = self.on_long() is not False
                 ready = {key.fd for key, _ in selector.select(LOOK)}
                 if to in ready:
                     left = left[write_some(to, left) :]
@@ -185,6 +202,21 @@ class Program:
         except OSError:
             return False
         return all(reply.is_done for reply in self.ask_each([[line] for line in requests], is_deaf=True))
+
+
+def comparison(program: str, words: Sequence[str], seconds: Optional[float] = None) -> Tuple[List[str], List[str]]:
+    """Returns the rows of `compare` with these words after it; of what cannot be compared none, and what the program says then."""
+    command, pipe = [program, "compare", "--rows", *words], subprocess.PIPE
+    ended = subprocess.run(command, stdin=subprocess.DEVNULL, stdout=pipe, stderr=pipe, check=False, pass_fds=in_memory(words), timeout=seconds)
+    if ended.returncode in (0, 1) and ended.stdout:
+        return lines_of(ended.stdout), []
+    said = ended.stderr.decode("utf-8", "surrogateescape").splitlines()
+    return [], said or ["snowbench: the program ended with status %d" % ended.returncode]
+
+
+def in_memory(words: Sequence[str]) -> List[int]:
+    """Returns the numbers of the open files that words of a command name."""
+    return [int(name[8:]) for name in words if re.fullmatch("/dev/fd/[0-9]+", name) and os.path.exists(name)]
 
 
 def take(number: int, into: bytearray) -> Optional[bytes]:

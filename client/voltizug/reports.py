@@ -199,3 +199,12 @@ EMPTY = {
     "history": "no edit is held: there is nothing to undo", "stems": "there are no words: add WORD", "classes": "there are no classes",
     "largest": "there are no classes", "trace": "the run uses no routine, among or grouping",
 }
+
+
+def laid_out(command: str, lines: List[str], places: Callable[[], Places]) -> List[str]:
+    """Returns the reply to a command as it is shown. Places are asked for only if it has some."""
+    if not lines and command in EMPTY:
+        return [EMPTY[command]]
+    if command in PLACED:
+        return PLACED[command](lines, places())
+    return REPORTS[command](lines) if command in REPORTS else lines

@@ -10,6 +10,7 @@ TABLE: Dict[str, Dict[str, str]] = {
         "added": "word", "removed": "word", "changed": "word old_kind old new_kind new",
         "split": "old *new", "merged": "new *old", "renamed": "old new",
     },
+    "compare": {"differs": "*part", "words": "count differing"},
     "figures": {kind: "count" for kind in "added removed changed split merged renamed".split()},
     "events": {
         "call": "depth name", "search": "depth name k", "taken": "depth name k string", "none": "depth name k", "test": "depth name n signal",

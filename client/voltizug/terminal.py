@@ -102,13 +102,7 @@ class Terminal(Opening):
         own = getattr(self, "reply_" + command, None)
         if own:
             return own(argument, lines)
-        if lines == ["ok"]:
-            return []
-        if not lines and command in reports.EMPTY:
-            return [reports.EMPTY[command]]
-        if command in reports.PLACED:
-            return reports.PLACED[command](lines, self.bench.places())
-        return reports.REPORTS[command](lines) if command in reports.REPORTS else lines
+        return [] if lines == ["ok"] else reports.laid_out(command, lines, self.bench.places)
 
     # Replies that are shown with more than their rows
 

@@ -5,7 +5,7 @@ import re
 import shlex
 from typing import Callable, Dict, List, Sequence
 
-from .bench import Bench, Edit
+from .bench import Bench, Edit, Stage
 from .commands import COMMANDS, DECLARATIONS, OPEN_BLOCKS, STRANGE
 from .kept import is_same
 from .layout import counted, in_words, named, short
@@ -60,7 +60,11 @@ REFUSALS: Dict[str, str] = {
 }
 
 
-def sentence(reply: Reply, lines: Sequence[str], bench: Bench) -> str:
+class Refused(Exception):
+    """What somebody asked a face for cannot be done: a sentence says why."""
+
+
+def sentence(reply: Reply, lines: Sequence[str], bench: Stage) -> str:
     """Returns the sentence after a refused command."""
     code, line = (reply.refusal() or (0, ""))[0], lines[0]
     if code in SPECIAL:
@@ -81,7 +85,7 @@ def in_quotes(word: str, is_sure: bool = False) -> str:
     return '"%s"' % short(word) if is_sure or word != word.strip() else short(word)
 
 
-def absent(line: str, bench: Bench) -> str:
+def absent(line: str, bench: Stage) -> str:
     command, _, word = line.partition(" ")
     if not word:
         return "%s needs a word: %s." % (command, usage(command))
@@ -102,7 +106,7 @@ def misspelt(word: str, bench: Bench) -> str:
     return "%s is not in the vocabulary.%s" % (in_quotes(word), question) if question else ""
 
 
-def no_class(line: str, bench: Bench) -> str:
+def no_class(line: str, bench: Stage) -> str:
     stem = line.partition(" ")[2]
     if not stem:
         return "No word has the empty stem."
@@ -111,7 +115,7 @@ def no_class(line: str, bench: Bench) -> str:
     return "No word has the stem %s. find %s shows the words and stems that have it in them." % (in_quotes(stem), short(stem))
 
 
-def no_stem(_: str, bench: Bench) -> str:
+def no_stem(_: str, bench: Stage) -> str:
     refused = [row.word for row in bench.outcomes() if row.kind == "refused"]
     if not refused:
         return "A stem has a line feed, or ends in a carriage return, and is not one line. Nothing was written."
@@ -120,7 +124,7 @@ def no_stem(_: str, bench: Bench) -> str:
     return "The run of %s%s is refused, so there is no stem to write: %s" % (in_quotes(refused[0]), more, where)
 
 
-def no_name(line: str, bench: Bench) -> str:
+def no_name(line: str, bench: Stage) -> str:
     """The sentence for a name that the script does not define so."""
     command, _, argument = line.partition(" ")
     kinds = {"show": ("routine", "grouping"), "uses": ("routine", "grouping"), "grouping": ("grouping",)}.get(command, ("routine",))
@@ -144,7 +148,7 @@ def no_name(line: str, bench: Bench) -> str:
     return "%sthere is no %s of this name.%s" % (begin, " or ".join(kinds), meant(name, there) or others)
 
 
-def amongs_of(line: str, bench: Bench) -> str:
+def amongs_of(line: str, bench: Stage) -> str:
     name = line.split(" ")[1]
     count = bench.places().count(name)
     if not count:
@@ -158,7 +162,7 @@ def is_of_script(line: str) -> bool:
     return line.lstrip().startswith(("//", "/*")) or line.partition(" ")[0] in DECLARATIONS
 
 
-def unknown(line: str, bench: Bench) -> str:
+def unknown(line: str, bench: Stage) -> str:
     """The sentence for what is no command, or one that lacks something or has too much."""
     command, _, argument = line.partition(" ")
     if any("\udc80" <= character <= "\udcff" for character in line):
@@ -177,7 +181,7 @@ def unknown(line: str, bench: Bench) -> str:
     return "%s is not a command.%s help lists the commands." % (short(command or line.strip()), question)
 
 
-def bad_file(line: str, bench: Bench) -> str:
+def bad_file(line: str, bench: Stage) -> str:
     command, _, argument = line.partition(" ")
     if command in ("save", "approve", "append"):
         return not_written(command, argument, bench)
@@ -190,12 +194,12 @@ def bad_file(line: str, bench: Bench) -> str:
     return "%s cannot be read: %s" % (short(path), unreadable(path))
 
 
-def not_text(line: str, bench: Bench) -> str:
+def not_text(line: str, bench: Stage) -> str:
     path = bench.words or "" if line == "words" else line.partition(" ")[2] or bench.script
     return "%s is not UTF-8. If it is Latin-1: %s" % (short(path), converting("latin1", path))
 
 
-def not_written(command: str, path: str, bench: Bench) -> str:
+def not_written(command: str, path: str, bench: Stage) -> str:
     """Why `save`, `approve` or `append` could not write to a file."""
     if command == "append" and not path and not bench.words:
         return "There is no file of words: append FILE writes a new one."
@@ -248,7 +252,7 @@ def converting(code: str, path: str) -> str:
     return "iconv -f %s -t utf-8 %s > NEW. Then, if NEW is right: mv NEW %s" % (code, name, name)
 
 
-def early(line: str, bench: Bench) -> str:
+def early(line: str, bench: Stage) -> str:
     """Returns what is wrong with the line before a block, so that it opens none."""
     command, _, argument = line.partition(" ")
     name, _, k = argument.partition(" ")
@@ -273,6 +277,6 @@ def notes(edit: Edit, script: str) -> List[str]:
 
 
 # By the number of a refusal what makes its sentence of the line and the bench.
-SPECIAL: Dict[int, Callable[[str, Bench], str]] = {
+SPECIAL: Dict[int, Callable[[str, Stage], str]] = {
     41: absent, 45: no_name, 46: amongs_of, 52: unknown, 53: no_name, 57: bad_file, 59: no_class, 67: no_stem, 75: not_text,
 }

@@ -4,8 +4,8 @@ import re
 import tempfile
 import unittest
 
-from voltizug.editor import language
-from voltizug.editor.index import Index
+from voltizug import language
+from voltizug.editor.index import AFTER, AS_COMMAND, AS_CONDITION, Index
 from voltizug.editor.judge import Judge
 from voltizug.program import DONE, Reply
 from voltizug.editor.texts import Text
@@ -35,10 +35,10 @@ class Table(unittest.TestCase):
         for where, kinds in re.findall(r"^- (.*): ([a-z, ]+)[;.]$", names[1], re.M):
             for word in re.findall("`([^`]+)`", where.split("before")[0]) or ["as a command"]:
                 wanted.setdefault(word, set()).update(set(re.findall("[a-z]+", kinds)) - {"or"})
-        self.assertEqual(wanted.pop("as a command"), set(language.AS_COMMAND))
-        self.assertEqual(wanted, {word: set(kinds) for word, kinds in language.AFTER.items()})
+        self.assertEqual(wanted.pop("as a command"), set(AS_COMMAND))
+        self.assertEqual(wanted, {word: set(kinds) for word, kinds in AFTER.items()})
         condition = re.search(r"as a condition after a string of an `among`: ([a-z ]+);", self.page)[1]
-        self.assertEqual(condition.split(" or "), list(language.AS_CONDITION))
+        self.assertEqual(condition.split(" or "), list(AS_CONDITION))
 
     def test_the_program_refuses_each_as_a_name(self):
         judge = Judge(PROGRAM)

@@ -1,13 +1,12 @@
 """What the program says of a text that is in no file: its faults, its tokens, and what can come at a place. The text is read from memory."""
-import re
-from typing import Dict, List, NamedTuple, Optional, Set, Tuple
+from typing import Any, Dict, List, NamedTuple, Optional, Set, Tuple
 
 from .. import rows
+from ..faults import place_of
+from ..language import COMMANDS, CONTROL, DECLARATIONS, ITEMS, OTHERS, VALUES
+from ..program import DONE, Memory, Program, Reply
 from .index import Index
-from .language import COMMANDS, CONTROL, DECLARATIONS, ITEMS, OTHERS, VALUES
-from ..program import DONE, Program, Reply
-from ..rows import Token
-from .texts import Memory, Text, by_characters, encoded
+from .texts import Text, by_characters, encoded
 
 # For how many seconds the program is asked about a text; how many faults, and how many lines that have no tokens, are looked at.
 PATIENCE, MOST, LINES = 20.0, 100, 5
@@ -17,22 +16,25 @@ BLANK = "\ufeff \t\r\n\v\f"
 Fault = NamedTuple("Fault", [("name", str), ("start", int), ("end", int), ("sentence", str)])
 
 
+def begun(command: str, external: str, script: Memory, words: Optional[str] = None) -> Program:
+    """Begins a program over texts in memory, and waits until it has read them."""
+    program = Program([command, "work", "--text", "--external", external], script.path, words, "/nowhere")
+    program.begin([], script.path)
+    program.ask(["echo"], PATIENCE)
+    return program
+
+
 class Judge:
-    """A program without words for each external that is asked for."""
+    """A program without words for each external that is asked for. `lacking` are the commands that it does not know."""
 
     def __init__(self, command: str):
-        self.command = command
+        self.command, self.lacking = command, set()  # type: str, Set[str]
         self.programs: Dict[str, Tuple[Program, Memory]] = {}
-        # The commands that this program does not know.
-        self.lacking: Set[str] = set()
 
     def program(self, external: str) -> Tuple[Program, Memory]:
         if external not in self.programs:
-            memory = Memory("externals ( %s )\ndefine %s as true\n" % (external, external))
-            program = Program([self.command, "work", "--text", "--external", external], memory.path, None, "/nowhere")
-            program.begin([], memory.path)
-            program.ask(["echo"], PATIENCE)
-            self.programs[external] = program, memory
+            memory = Memory(b"externals ( %s )\ndefine %s as true\n" % (external.encode(), external.encode()))
+            self.programs[external] = begun(self.command, external, memory), memory
         return self.programs[external]
 
     def ask(self, text: str, external: str, word: str) -> Reply:
@@ -48,35 +50,26 @@ class Judge:
 
     def ask_known(self, text: str, external: str, word: str) -> Optional[Reply]:
         """Asks a command about a text; nothing if the program lacks it."""
-        if word in self.lacking:
-            return None
         reply = self.ask(text, external, word)
         self.lacking |= {word} if reply.refusal() == (52, "BadCommand") else set()
         return reply if reply.is_done else None
 
     def faults(self, text: Text, external: str = "stem") -> List[Fault]:
-        """Returns the faults of a text, the first one first; of a program without rows for them only that one."""
-        reply = self.ask_known(text.text, external, "faults")
+        """Returns the faults of a text, the first one first; of a program without rows for them only that one, as standard error has it."""
+        reply, data = self.ask_known(text.text, external, "faults"), encoded(text.text)
         if reply is None:
-            return self.fault(text, external)
-        found, data, sizes = rows.read("faults", reply.lines)[:MOST], encoded(text.text), []
-        for row in found:
-            # (a fault of the whole text has no place; one at the end is at no character)
-            sizes.append(len(data[int(row.start) : int(row.end)].decode("utf-8", "replace")) or 1 if row.start else 0)
-        return [placed(row.name, text, int(row.line or 1), int(row.column or 1), size, row.sentence) for row, size in zip(found, sizes)]
+            reply, path = self.ask(text.text, external, "reload"), self.program(external)[1].path
+            place, (_, name) = place_of(reply.said or ["the program says no more"], path), reply.refusal() or (0, "Ended")
+            sentence = place.sentence.replace(path + ": ", "", 1)
+            return [] if reply.is_done else [placed(text, name, place.length, place._replace(sentence=sentence))]
+        found = rows.read("faults", reply.lines)[:MOST]
+        # (one at the end is at no character, and one of the whole text has no place)
+        sizes = [len(data[int(row.start or 0) : int(row.end or 0)].decode("utf-8", "replace")) or bool(row.start) for row in found]
+        return [placed(text, row.name, size, row) for row, size in zip(found, sizes)]
 
-    def fault(self, text: Text, external: str) -> List[Fault]:
-        """The fault of a refused text is on standard error: the place with the sentence, the line, and carets."""
-        reply = self.ask(text.text, external, "reload")
-        said, (_, name) = reply.said or [""], reply.refusal() or (0, "Ended")
-        found = re.match(r"/dev/fd/\d+:(?:(\d+):(\d+):)? ", said[0])
-        sentence = said[0][found.end() :] if found else said[0] or "the program says no more"
-        carets = said[2].count("^") if len(said) > 2 and found and found[1] else 0
-        return [] if reply.is_done else [placed(name, text, int(found[1] or 1) if found else 1, int(found[2] or 1) if found else 1, carets, sentence)]
-
-    def tokens(self, text: str) -> List[Token]:
+    def tokens(self, text: str) -> List[rows.Token]:
         """Returns the tokens of a text, by characters. The program has none after a fault of the lexer: the rest of that line is left out then."""
-        found: List[Token] = []
+        found: List[rows.Token] = []
         for _ in range(LINES):
             reply = self.ask_known(text, next(iter(self.programs), "stem"), "tokens")
             if reply is None:
@@ -105,7 +98,7 @@ class Judge:
         return [word for word, found in faults.items() if not found or found[0].name != "Syntax" or found[0].start > len(shown)]
 
 
-def placed(name: str, text: Text, line: int, column: int, length: int, sentence: str) -> Fault:
+def placed(text: Text, name: str, length: int, place: Any) -> Fault:
     """Returns a fault at so many characters. One of the whole text is at the word `externals`, or at the first character."""
-    start = text.at(line, column) if length else max(0, text.text.find("externals"))
-    return Fault(name, start, min(start + (length or len("externals")), len(text.text)), sentence)
+    start = text.at(int(place.line), int(place.column)) if length else max(0, text.text.find("externals"))
+    return Fault(name, start, min(start + (length or len("externals")), len(text.text)), place.sentence)

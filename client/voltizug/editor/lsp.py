@@ -1,23 +1,16 @@
 """`snowbench lsp`: the language server over standard input and output. It takes --program FILE, as `work` does."""
 import os
 import sys
-from typing import Any, Callable, Dict, Sequence
+from typing import Sequence
 
 from ..options import usual_program
-from . import fixes, requests, shown
-from .server import Server
+from .shown import COMMANDS, Shown
 
-# By the end of a method what replies to it.
-REQUESTS: Dict[str, Callable[..., Any]] = {
-    "definition": requests.definition, "references": requests.references, "rename": requests.rename, "documentSymbol": requests.symbols,
-    "completion": requests.completion, "codeAction": fixes.code_actions, "hover": shown.hover, "codeLens": shown.lenses,
-    "inlayHint": shown.hints, "executeCommand": shown.execute,
-}
 CAPABILITIES = {
     "textDocumentSync": {"openClose": True, "change": 2, "save": True}, "codeLensProvider": {"resolveProvider": False},
     **{name + "Provider": True for name in "hover definition references rename documentSymbol inlayHint".split()},
     "completionProvider": {"triggerCharacters": ["$"]}, "codeActionProvider": {"codeActionKinds": ["quickfix", "source"]},
-    "executeCommandProvider": {"commands": ["snowbench." + name for name in shown.COMMANDS]},
+    "executeCommandProvider": {"commands": ["snowbench." + name for name in COMMANDS]},
 }
 
 
@@ -28,4 +21,4 @@ def main(words: Sequence[str]) -> int:
         sys.stderr.write("snowbench: lsp takes no file: an editor starts it, and sends it the texts\n")
         return 2
     sys.setswitchinterval(0.001)
-    os._exit(Server(program, REQUESTS, CAPABILITIES).run())
+    os._exit(Shown(program, CAPABILITIES).run())

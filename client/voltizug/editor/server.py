@@ -1,4 +1,4 @@
-"""The server: messages, texts, their faults, and when the words are run. requests.py and shown.py have what is asked about a text."""
+"""The server: messages, texts, their faults, and when the words are run. requests.py, fixes.py and shown.py have what is asked about a text."""
 import contextlib
 import os
 import queue
@@ -10,24 +10,20 @@ from functools import partial
 from typing import Any, Callable, Dict, Iterable, List, Optional, Tuple
 from urllib.parse import quote, unquote, urlsplit
 
-from .index import Index
 from ..kept import read_file
-from ..layout import counted, named
+from ..layout import counted
 from ..program import ROWS
-from .texts import Text, encoded, of_revision
+from ..words import Refused
+from .index import Index
 from .judge import Fault, Judge
-from .vocabulary import Vocabulary, Wish, difference
+from .texts import Text, encoded, of_revision
+from .vocabulary import State, Vocabulary, Wish
 from .wire import Message, read_message, write_message
 
-# For how long a text has to stay before it is run, and how long a request waits for figures, in seconds; the most differences that are shown;
-# and numbers of the protocol.
+# For how many seconds a text rests before it is run, and a request waits for figures; the most differences shown; numbers of the protocol.
 QUIET, PATIENCE, MOST = 0.2, 4.0, 500
 ERROR, WARNING, REFUSED, UNKNOWN, FAILED = 1, 2, -32803, -32601, -32603
 KINDS = {"snowball-words": "words", "snowball-stems": "stems", ".words": "words", ".stems": "stems"}
-
-
-class Refused(Exception):
-    """Why a request is refused."""
 
 
 class Document:
@@ -35,39 +31,58 @@ class Document:
 
     def __init__(self, uri: str, kind: str, text: Text, version: Optional[int]):
         self.uri, self.kind, self.text, self.version = uri, kind, text, version
-        parts = urlsplit(uri)
-        self.path = os.path.realpath(unquote(parts.path)) if parts.scheme == "file" else ""
-        self.name, self.index_of = os.path.basename(self.path) or uri, ("", Index([]))
+        self.path = os.path.realpath(unquote(urlsplit(uri).path)) if urlsplit(uri).scheme == "file" else ""
+        self.name, self.index = os.path.basename(self.path) or uri, None  # type: str, Optional[Index]
         # The faults that it has, whether they are looked for, and when it is run.
         self.faults, self.is_judged, self.due = [], False, 0.0  # type: List[Fault], bool, float
         # Of a script: the last text that was accepted, the mark, its git revision, and the words at work.
         self.accepted, self.marked, self.mark_name = None, None, ""  # type: Optional[Text], Optional[str], str
         self.vocabulary: Optional[Vocabulary] = None
 
+    @property
+    def state(self) -> Optional[State]:
+        return self.vocabulary.state if self.vocabulary else None
+
+    def is_waiting(self) -> bool:
+        """Whether figures of the text as it is are on their way."""
+        is_shown = self.state and self.state.is_counted and self.vocabulary and self.state.wish == self.vocabulary.wish
+        return bool(self.due or not self.is_judged or self.vocabulary and not self.faults and not is_shown)
+
+    def mark(self, revision: str) -> None:
+        """Marks the text as it is, or that of a git revision."""
+        self.marked = of_revision(self.path, revision) if revision else (self.accepted or self.text).text
+        self.mark_name = revision
+
+    def close_words(self) -> None:
+        if self.vocabulary:
+            self.vocabulary.stop()
+        self.vocabulary = None
+
 
 class Server:
-    """A language server over standard input and output. `requests` has what replies to a request, by the end of its name."""
+    """A language server over standard input and output: on_NAME replies to the messages whose method ends so."""
 
-    def __init__(self, command: str, requests: Dict[str, Callable[["Server", Message], Any]], capabilities: Message):
-        self.command, self.requests, self.capabilities, self.judge = command, requests, capabilities, Judge(command)
-        self.settings, self.client, self.documents = {}, {}, {}  # type: Message, Message, Dict[str, Document]
+    def __init__(self, command: str, capabilities: Message):
+        self.command, self.capabilities, self.judge = command, capabilities, Judge(command)
+        # The documents by their names; what the client sets, and which figures it can be asked to refresh.
+        self.documents, self.settings, self.refreshing = {}, {}, []  # type: Dict[str, Document], Message, List[str]
         self.queue, self.waiting = queue.Queue(), []  # type: Any, List[Tuple[Any, float, Callable[[bool], Any]]]
         # How many changes of texts came in, and how many are made.
         self.coming, self.came = 0, 0
         self.unit, self.is_over, self.status = "utf-16", False, 1
 
-    # The loop
-
     def run(self) -> int:
         threading.Thread(target=self.read, daemon=True).start()
         while not self.is_over:
+            times = [document.due for document in self.documents.values() if document.due] + [until for _, until, _ in self.waiting]
             with contextlib.suppress(queue.Empty):
-                self.queue.get(timeout=self.rest())()
-            with contextlib.suppress(OSError, ValueError):
-                self.look_at_texts()
+                self.queue.get(timeout=max(0.0, min(times) - time.monotonic()) if times else None)()
+            for document in list(self.documents.values()):
+                with contextlib.suppress(OSError, ValueError):
+                    self.look_at(document, self.coming == self.came, time.monotonic())
             self.answer_waiting()
         for document in self.documents.values():
-            self.close_words(document)
+            document.close_words()
         return self.status
 
     def read(self) -> None:
@@ -75,10 +90,6 @@ class Server:
             self.coming += message.get("method") == "textDocument/didChange"
             self.queue.put(partial(self.take, message))
         self.queue.put(partial(self.on_exit, {}))
-
-    def look_at_texts(self) -> None:
-        for document in list(self.documents.values()):
-            self.look_at(document, self.coming == self.came, time.monotonic())
 
     def look_at(self, document: Document, is_quiet: bool = True, until: float = float("inf")) -> None:
         """Looks for the faults of a text, unless a newer one waits, and has it run if it is due."""
@@ -89,10 +100,6 @@ class Server:
             document.due = 0.0
             self.run_words(document)
 
-    def rest(self) -> Optional[float]:
-        times = [document.due for document in self.documents.values() if document.due] + [until for _, until, _ in self.waiting]
-        return max(0.0, min(times) - time.monotonic()) if times else None
-
     def send(self, message: Message) -> None:
         try:
             write_message(sys.stdout.buffer, message)
@@ -102,30 +109,29 @@ class Server:
     def take(self, message: Message) -> None:
         """Does what a message asks for. A fault of this server ends no more than that."""
         number, name = message.get("id"), str(message.get("method")).rpartition("/")[2]
-        handler, result = getattr(self, "on_" + name, None) or self.requests.get(name), None
+        handler, reply = getattr(self, "on_" + name, None), {"error": {"code": UNKNOWN, "message": "the server has no %s" % name}}
         try:
-            result = handler(*([] if hasattr(handler, "__self__") else [self]), message.get("params") or {}) if handler else None
-            failure = {} if handler else {"code": UNKNOWN, "message": "the server has no %s" % name}
+            reply = {"result": handler(message.get("params") or {})} if handler else reply
         except Exception as why:
-            failure = {"code": REFUSED, "message": str(why)} if isinstance(why, Refused) else {"code": FAILED, "message": repr(why)}
-        if number is not None and "method" in message and callable(result):
-            self.waiting.append((number, time.monotonic() + PATIENCE, result))
+            reply = {"error": {"code": REFUSED, "message": str(why)} if isinstance(why, Refused) else {"code": FAILED, "message": repr(why)}}
+        if number is not None and "method" in message and callable(reply.get("result")):
+            self.waiting.append((number, time.monotonic() + PATIENCE, reply["result"]))
         elif number is not None and "method" in message:
-            self.send({"id": number, **({"error": failure} if failure else {"result": result})})
+            self.send({"id": number, **reply})
 
     def answer_waiting(self) -> None:
         """Replies to requests that wait for figures, when these are there or their time is up."""
-        waiting, self.waiting = self.waiting, []
-        for number, until, result in waiting:
+        for number, until, result in list(self.waiting):
             answer = result(time.monotonic() >= until)
-            if answer is None:
-                self.waiting.append((number, until, result))
-            else:
+            if answer is not None:
+                self.waiting.remove((number, until, result))
                 self.send({"id": number, "result": answer})
 
     def on_initialize(self, params: Message) -> Message:
-        self.client, self.settings = params.get("capabilities") or {}, settings_of(params.get("initializationOptions"))
-        self.unit = "utf-32" if "utf-32" in ((self.client.get("general") or {}).get("positionEncodings") or []) else "utf-16"
+        client, self.settings = params.get("capabilities") or {}, settings_of(params.get("initializationOptions"))
+        self.unit = "utf-32" if "utf-32" in ((client.get("general") or {}).get("positionEncodings") or []) else "utf-16"
+        workspace = client.get("workspace") or {}
+        self.refreshing = [name for name in ("codeLens", "inlayHint") if (workspace.get(name) or {}).get("refreshSupport")]
         return {"serverInfo": {"name": "snowbench"}, "capabilities": {"positionEncoding": self.unit, **self.capabilities}}
 
     def on_initialized(self, params: Message) -> None:
@@ -142,7 +148,7 @@ class Server:
     def on_didChangeConfiguration(self, params: Message) -> None:
         before, self.settings = self.settings, settings_of(params.get("settings")) or self.settings
         for document in self.documents.values() if self.settings != before else ():
-            self.close_words(document)
+            document.close_words()
             document.is_judged, document.marked = False, None
 
     # Texts
@@ -155,43 +161,38 @@ class Server:
             document.is_judged = True
             self.judge_script(document)  # (also if a newer text waits: this one is the mark)
         elif not self.scripts_of(document):
-            self.open_beside(document)
-        self.words_changed(document)
-
-    def open_beside(self, document: Document) -> None:
-        """Opens the script beside a file of words or stems, as it is on the disk, if no client has it open."""
-        path = os.path.splitext(document.path)[0] + ".sbl"
-        data, uri = read_file(path), "file://" + quote(path)
-        if data is not None and not any(other.path == path for other in self.documents.values()):
-            self.documents[uri] = Document(uri, "script", Text(data.decode("utf-8", "surrogateescape"), self.unit), None)
+            # (the script beside it, as it is on the disk, if no client has that open)
+            path = os.path.splitext(document.path)[0] + ".sbl"
+            data, uri = read_file(path), "file://" + quote(path)
+            if data is not None and all(other.path != path for other in self.documents.values()):
+                self.documents[uri] = Document(uri, "script", Text(data.decode("utf-8", "surrogateescape"), self.unit), None)
+        self.run_soon(document)
 
     def on_didChange(self, params: Message) -> None:
         self.came += 1
         document = self.document(params)
         document.text, document.version = document.text.changed(params["contentChanges"]), params["textDocument"].get("version")
-        document.is_judged = False
-        self.words_changed(document)
+        document.is_judged, document.index = False, None
+        if document.kind != "script":
+            self.run_soon(document)
 
     def on_didSave(self, params: Message) -> None:
-        """A save needs no rest."""
-        document = self.document(params)
-        for script in self.scripts_of(document):
-            script.due = time.monotonic()
+        self.run_soon(self.document(params), 0.0)
 
     def on_didClose(self, params: Message) -> None:
         document = self.documents.pop(params["textDocument"]["uri"])
-        self.close_words(document)
+        document.close_words()
         self.publish(document, [])
-        self.words_changed(document)
-        if document.kind != "script" and all(other.version is None for other in self.documents.values()):
+        self.run_soon(document)
+        if all(other.version is None for other in self.documents.values()):
             # (the scripts that no client has open were there for it)
             while self.documents:
-                self.close_words(self.documents.popitem()[1])
+                self.documents.popitem()[1].close_words()
 
-    def words_changed(self, document: Document) -> None:
-        """Has the scripts run again whose words or stems a text has."""
-        for script in self.scripts_of(document) if document.kind != "script" else []:
-            script.due = time.monotonic() + QUIET
+    def run_soon(self, document: Document, rest: float = QUIET) -> None:
+        """Has the scripts run after a rest whose words or stems a text has; a script itself. (A save needs no rest.)"""
+        for script in self.scripts_of(document):
+            script.due = time.monotonic() + rest
 
     def document(self, params: Message) -> Document:
         if params["textDocument"]["uri"] not in self.documents:
@@ -199,10 +200,9 @@ class Server:
         return self.documents[params["textDocument"]["uri"]]
 
     def index(self, document: Document) -> Index:
-        text = document.text.text
-        if document.index_of[0] is not text:
-            document.index_of = (text, Index(self.judge.tokens(text) if document.kind == "script" else []))
-        return document.index_of[1]
+        if document.index is None:
+            document.index = Index(self.judge.tokens(document.text.text) if document.kind == "script" else [])
+        return document.index
 
     # Faults
 
@@ -212,10 +212,10 @@ class Server:
         document.accepted = document.accepted if document.faults else document.text
         if document.marked is None and document.accepted:
             try:
-                self.set_mark(document, str(self.settings.get("mark") or ""))
+                document.mark(str(self.settings.get("mark") or ""))
             except Refused as why:
                 self.tell("%s, so the mark is the text as it is now" % why)
-                self.set_mark(document, "")
+                document.mark("")
         is_run = not document.faults and (not document.vocabulary or self.settings.get("run") != "onSave")
         document.due = time.monotonic() + QUIET if is_run else 0.0
 
@@ -236,15 +236,13 @@ class Server:
     def show_differences(self, document: Document) -> None:
         """Shows the words whose stem is not the expected one: each at the word, or in the file of stems at its line."""
         found: List[Tuple[Message, str, int, str]] = []
-        for script in self.scripts_of(document):
-            state = script.vocabulary.state if script.vocabulary else None
-            if state and state.lines and len(state.lines) != len(state.outcomes):
+        for state in filter(None, [script.state for script in self.scripts_of(document)]):
+            if state.lines and len(state.lines) != len(state.outcomes):
                 what = counted(len(state.lines), "expected stem"), counted(len(state.outcomes), "word")
                 found.append((document.text.line_range(0), "%s, and the vocabulary has %s" % what, WARNING, "stems"))
-            elif state and state.expected:
-                words = map(document.text.line, range(len(document.text.starts))) if document.kind == "words" else state.outcomes
-                lines = [(line, word) for line, word in enumerate(words) if word in state.expected][:MOST]
-                found += [(document.text.line_range(line), difference(state, word), WARNING, "stem") for line, word in lines]
+            words = map(document.text.line, range(len(document.text.starts))) if document.kind == "words" else state.outcomes
+            lines = [(line, word) for line, word in enumerate(words) if word in state.differing][:MOST] if state.differing else []
+            found += [(document.text.line_range(line), state.differing[word], WARNING, "stem") for line, word in lines]
         self.publish(document, found)
 
     # Words
@@ -259,30 +257,18 @@ class Server:
     def bytes_of(self, path: str) -> Optional[bytes]:
         """Returns what a file has, also if that is not saved yet."""
         open_ones = [document for document in self.documents.values() if document.kind != "script" and document.path == os.path.realpath(path)]
-        return encoded(open_ones[0].text.text) if open_ones else read_file(path) if path else None
+        return encoded(open_ones[0].text.text) if open_ones else read_file(path)
 
     def run_words(self, document: Document) -> None:
         """Has the words run under the text that was accepted last."""
-        path = self.file_of(document, "words")
-        words = self.bytes_of(path)
+        external, path = self.external(document), self.file_of(document, "words")
+        words, stems = self.bytes_of(path), self.bytes_of(self.file_of(document, "stems")) or b""
         if words is None or document.accepted is None or self.settings.get("run") == "never":
             return
-        external, stems = self.external(document), self.bytes_of(self.file_of(document, "stems"))
-        if document.vocabulary and document.vocabulary.external != external:
-            self.close_words(document)
-        if document.vocabulary is None:
-            document.vocabulary = Vocabulary(self.command, external, document.name, lambda said: self.queue.put(partial(self.reported, document, said)))
+        if document.vocabulary is None or document.vocabulary.external != external:
+            document.close_words()
+            document.vocabulary = Vocabulary(self.command, external, document.name, lambda said: self.queue.put(lambda: self.report(document, said)))
         document.vocabulary.want(Wish(document.accepted.text, document.marked or "", words, stems, self.file_of(document, "families"), path))
-
-    def set_mark(self, document: Document, revision: str) -> None:
-        """Marks the text as it is, or that of a git revision."""
-        document.marked = text_of(document, revision) if revision else (document.accepted or document.text).text
-        document.mark_name = revision
-
-    def close_words(self, document: Document) -> None:
-        if document.vocabulary:
-            document.vocabulary.stop()
-        document.vocabulary = None
 
     def scripts_of(self, document: Document) -> List[Document]:
         """Returns the open scripts whose words or stems a text is; a script itself."""
@@ -290,34 +276,17 @@ class Server:
         files = [self.file_of(script, document.kind) if document.kind != "script" else "" for script in scripts]
         return [script for script, file in zip(scripts, files) if script is document or file and document.path == os.path.realpath(file)]
 
-    def reported(self, script: Document, said: str) -> None:
+    def report(self, script: Document, said: str) -> None:
         """After a step of the words: shows a failure, differences, and has the client ask again for what is shown in the text."""
         if said:
             self.tell("%s: %s" % (script.name, said))
-        for document in list(self.documents.values()):
-            if document.kind != "script" and script in self.scripts_of(document):
-                self.show_differences(document)
-        for name in filter(self.can_refresh, ("codeLens", "inlayHint")):
+        for document in self.documents.values():
+            document.is_judged = document.is_judged and document.kind == "script"
+        for name in self.refreshing:
             self.send({"id": "%s-%.6f" % (name, time.monotonic()), "method": "workspace/%s/refresh" % name})
 
     def tell(self, sentence: str) -> None:
         self.send({"method": "window/showMessage", "params": {"type": WARNING, "message": "snowbench: " + sentence}})
-
-    def can_refresh(self, name: str) -> bool:
-        return bool(((self.client.get("workspace") or {}).get(name) or {}).get("refreshSupport"))
-
-    def is_waiting(self, document: Document) -> bool:
-        """Whether figures of the text as it is are on their way."""
-        vocabulary, state = document.vocabulary, document.vocabulary.state if document.vocabulary else None
-        is_running = vocabulary and not document.faults and not (state and state.is_counted and state.wish == vocabulary.wish)
-        return bool(document.due or not document.is_judged or is_running)
-
-
-def text_of(document: Document, revision: str) -> str:
-    text = of_revision(document.path, revision)
-    if text is None:
-        raise Refused("git has no %s of the revision %s" % (document.name, named(revision)))
-    return text
 
 
 def settings_of(given: Any) -> Message:

@@ -1,36 +1,19 @@
-"""Texts that are in no file: in memory, where the program reads them by a name, or in a revision of git; and places in a text, as editors and
-browsers count them and as the program does.
-"""
-import bisect
+"""Texts that an editor has, or a revision of git; and places in a text, as editors count them and as the program does."""
+import contextlib
 import os
 import re
 import subprocess
+from bisect import bisect_right
 from itertools import accumulate
-from typing import Any, Dict, List, Optional, Sequence
+from typing import Any, Dict, List, Sequence
 
+from ..layout import named
 from ..rows import Token
+from ..words import Refused
 
 # For how many seconds git may run.
 PATIENCE = 10
 LINE_END = re.compile("\r\n|\n|\r")
-
-
-class Memory:
-    """A file in memory, which a program reads by its name."""
-
-    def __init__(self, text: str = ""):
-        self.number, self.data = os.memfd_create("voltizug"), b""
-        self.path = "/dev/fd/%d" % self.number
-        self.fill(encoded(text))
-
-    def __del__(self) -> None:
-        os.close(self.number)
-
-    def fill(self, data: bytes) -> None:
-        os.ftruncate(self.number, 0)
-        self.data, at = data, 0
-        while at < len(data):
-            at += os.pwrite(self.number, data[at:], at)
 
 
 def encoded(text: str) -> bytes:
@@ -47,21 +30,15 @@ def by_characters(text: str, tokens: Sequence[Token]) -> List[Token]:
     return found if data else list(tokens)
 
 
-def of_revision(path: str, revision: str) -> Optional[str]:
-    """Returns the text of a file in a revision of git; nothing if git has none."""
+def of_revision(path: str, revision: str) -> str:
+    """Returns the text of a file in a revision of git."""
     folder, name = os.path.split(path)
     call = ["git", "-C", folder, "show", "%s:./%s" % (revision, name)]
-    try:
-        done = subprocess.run(call, stdin=subprocess.DEVNULL, stdout=subprocess.PIPE, stderr=subprocess.DEVNULL, timeout=PATIENCE)
-    except (OSError, ValueError, subprocess.TimeoutExpired):
-        return None
-    return done.stdout.decode("utf-8", "surrogateescape") if done.returncode == 0 and not revision.startswith("-") else None
-
-
-def lines_of(data: bytes) -> List[str]:
-    """Returns the lines of a file, without a carriage return at their ends."""
-    lines = data.decode("utf-8", "surrogateescape").split("\n")
-    return [line[:-1] if line.endswith("\r") else line for line in (lines if lines[-1] else lines[:-1])]
+    with contextlib.suppress(OSError, ValueError, subprocess.SubprocessError):
+        if path and not revision.startswith("-"):
+            done = subprocess.run(call, stdin=subprocess.DEVNULL, capture_output=True, timeout=PATIENCE, check=True)
+            return done.stdout.decode("utf-8", "surrogateescape")
+    raise Refused("git has no %s of the revision %s" % (name, named(revision)))
 
 
 class Text:
@@ -81,21 +58,17 @@ class Text:
         number, column = max(0, int(position["line"])), max(0, int(position["character"]))
         if number >= len(self.starts):
             return len(self.text)
-        start, row = self.starts[number], self.line(number)
-        if self.unit == "utf-32" or row.isascii():
-            return start + min(column, len(row))
-        for at, character in enumerate(row):
-            if column <= 0:
-                return start + at
-            column -= 2 if character > "\uffff" else 1
-        return start + len(row)
+        row = self.line(number)
+        if self.unit == "utf-16" and not row.isascii():
+            column = len(row.encode("utf-16-le", "surrogatepass")[: 2 * column].decode("utf-16-le", "surrogatepass"))
+        return self.starts[number] + min(column, len(row))
 
     def position(self, offset: int) -> Dict[str, Any]:
-        number = bisect.bisect_right(self.starts, offset) - 1
+        number = bisect_right(self.starts, offset) - 1
         return {"line": number, "character": self.width(self.text[self.starts[number] : offset])}
 
     def width(self, text: str) -> int:
-        return len(text) if self.unit == "utf-32" or text.isascii() else len(text) + sum(character > "\uffff" for character in text)
+        return len(text) if self.unit == "utf-32" or text.isascii() else len(text.encode("utf-16-le", "surrogatepass")) // 2
 
     def range(self, start: int, end: int) -> Dict[str, Any]:
         return {"start": self.position(start), "end": self.position(end)}
@@ -111,10 +84,10 @@ class Text:
         return min(start + column - 1, len(self.text))
 
     def changed(self, changes: Sequence[Dict[str, Any]]) -> "Text":
-        """Returns the text after the changes of a client."""
+        """Returns the text after the changes of a client, or after edits for it."""
         now = self
         for change in changes:
-            new = change["text"]
+            new = change["newText"] if "newText" in change else change["text"]
             if change.get("range"):
                 start, end = sorted(now.offset(change["range"][side]) for side in ("start", "end"))
                 new = now.text[:start] + new + now.text[end:]

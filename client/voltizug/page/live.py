@@ -16,6 +16,7 @@ from ..lints import lints
 from ..places import BOM
 from ..program import DONE, Reply
 from ..warn import warnings_on
+from ..words import Refused
 from . import ink
 from .outcomes import Outcomes, figures_of
 from .refusal import refusal
@@ -31,10 +32,6 @@ MAY_NOT = {
     "undone?": "{} has what undo took back. Nothing was written. If you save again, it is overwritten.",
 }
 ORIGINS = {"file": "saved", "trial": "trial", "undo": "undo", "redo": "redo"}
-
-
-class Refused(Exception):
-    """What the page asked for cannot be done; a sentence."""
 
 
 class Live:

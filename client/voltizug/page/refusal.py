@@ -1,5 +1,4 @@
 """What the page shows of a text that the program refused: the places and sentences of its faults, the first of them as standard error has it."""
-import re
 from typing import Any, Dict, List, Optional, Sequence
 
 from .. import faults, rows, words
@@ -9,7 +8,6 @@ from ..layout import named
 from ..opening import OF_WORDS
 from . import ink
 
-PLACE = re.compile(r":(\d+):(\d+): (.*)", re.S)
 # So many faults are shown.
 MOST = 200
 
@@ -18,19 +16,16 @@ def refusal(bench: Bench, said: Sequence[str], typed: Optional[str] = None) -> D
     """Returns what is shown. The text is that of the file if none was typed."""
     script, data = bench.script, read_file(bench.script) or b""
     lines = faults.shown(said, script, data if typed is None else None, 1 << 20) or [named(line) for line in said]
-    places = [PLACE.match(line[len(start) :]) for line in lines for start in (named(script), "replace") if line.startswith(start + ":")]
-    place = next(filter(None, places), None)
+    place = faults.place_of(lines, named(script), "replace")
     # (a fault of the words has no place in the script)
-    is_of_script = place is not None or typed is not None
+    is_of_script = place.line > 0 or typed is not None
     of_words = OF_WORDS.get(faults.code_of(said)) if bench.words and not is_of_script else None
     if of_words:
-        lines = [of_words.format(name=named(bench.words), quoted=words.in_shell(bench.words))]
-    carets = next((line for line in lines if line.strip() and not line.strip("^ ")), "")
+        place = place._replace(sentence=of_words.format(name=named(bench.words), quoted=words.in_shell(bench.words)))
     sent = data if typed is None else typed.encode("utf-8", "replace")
     return {
         "isOfScript": is_of_script, "isOfWords": bool(of_words), "text": ink.shown_text(sent) if is_of_script else None,
-        "line": int(place[1]) if place else 0, "column": int(place[2]) if place else 0, "length": carets.count("^"),
-        "sentence": place[3] if place else " ".join(lines), "all": all_faults(bench, sent) if is_of_script else [],
+        **place._asdict(), "all": all_faults(bench, sent) if is_of_script else [],
     }
 
 

@@ -8,7 +8,6 @@ import hashlib
 import html
 import os
 import shutil
-import subprocess
 import sys
 import tempfile
 from typing import Any, Dict, List, NamedTuple, Sequence, Tuple
@@ -17,7 +16,7 @@ from .. import rows
 from ..kept import read_file
 from ..layout import counted, named
 from ..options import usual_program
-from ..program import Program
+from ..program import Program, comparison
 from .ink import shown_text
 
 HERE = os.path.dirname(os.path.realpath(__file__))
@@ -60,22 +59,19 @@ class Comparison(NamedTuple):
 
 def compared(program: str, external: Sequence[str], paths: Sequence[str], names: Sequence[str], room: str) -> Comparison:
     """Asks the program what differs from OLD to NEW over WORDS."""
-    command = [program, "compare", "--rows", *external, "--", *paths]
-    ended = subprocess.run(command, stdin=subprocess.DEVNULL, stdout=subprocess.PIPE, stderr=subprocess.PIPE, check=False)
-    if ended.returncode not in (0, 1) or not ended.stdout:
-        said = ended.stderr.decode("utf-8", "surrogateescape").splitlines() or ["snowbench: the program ended with status %d" % ended.returncode]
+    lines, said = comparison(program, [*external, "--", *paths])
+    if said:
         raise Fault([with_names(line, paths, names) for line in said])
-    lines = ended.stdout.decode("utf-8", "surrogateescape").split("\n")[:-1]
-    found = rows.rows_of(lines)
+    found = rows.by_kind(rows.read("compare", lines))
     old, new = (Program([program, "work", *external], path, paths[2], tempfile.mkdtemp(dir=room)) for path in paths[:2])
     try:
         figures = [{row.kind: int(row.count) for row in rows.read("stats", each.start().lines)} for each in (old, new)]
-        differs = [row[1:] for row in found if row[0] == "differs"]
+        differs = [row.part for row in found.get("differs", [])]
         parts = [Part(title(row), alone(old, new, row) if len(differs) <= MOST_PARTS else -1) for row in differs]
     finally:
         old.stop()
         new.stop()
-    words, differing = map(int, found[-1][1:])
+    words, differing = map(int, found["words"][0][1:])
     return Comparison(figures[0], figures[1], parts, rows.by_kind(rows.read("changes", lines)), words, differing)
 
 

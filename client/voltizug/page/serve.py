@@ -20,7 +20,8 @@ from ..bench import Bench
 from ..kept import Kept, home
 from ..layout import named
 from ..options import usual_program
-from .live import Live, Refused
+from ..words import Refused
+from .live import Live
 
 HERE = os.path.dirname(os.path.realpath(__file__))
 KINDS = {"page.html": "text/html", "page.css": "text/css", "page.js": "text/javascript"}
