@@ -1,21 +1,19 @@
 //! `compare` over files.
 
 use crate::compared_words::comparison_words;
-use crate::fault_texts::words_fault_text;
 use crate::file_names::{FileNames, file_name, reads_twice};
-use crate::messages::{NO_KEYS, NO_MEMORY, REFUSED, print_line};
+use crate::fault_texts::{FaultText, words_fault_text};
+use crate::messages::{NO_MEMORY, REFUSED, print_fault, word_keys};
 use crate::progress_line::ProgressLine;
-use crate::run_result::RunResult;
-use crate::sessions::{CLOSED_PIPE, MAX_FAULT_LINE, print_said, read_named};
+use crate::reading::read_named;
 use crate::streams::Output;
-use sbl_batch::{BenchPair, compare, compare_status, open_pair};
+use sbl_batch::{
+    BenchPair, CompareFault, CompareInput, compare, compare_status, open_pair, write_comparison,
+};
 use sbl_diagnostics::{plain_text, script_fault_text};
 use sbl_io::write_all;
-use snowbench::{
-    CompareFault, CompareInput, Device, Face, ScriptFault, Verb, Wanted, WordKeys, run_compare,
-};
+use snowbench::{Device, Face, LoadFault, ScriptFault, Verb, Wanted, WordKeys};
 use std::alloc::{AllocError, Global};
-use std::hash::RandomState;
 use std::io::IsTerminal;
 
 /// The text that is printed if `compare` names standard input twice.
@@ -79,8 +77,7 @@ pub(crate) fn start_compare(rt: &HostRuntime, wanted: &Wanted) -> u8 {
     let Ok(texts) = read_texts(rt, names) else {
         return REFUSED;
     };
-    let Ok(keys) = RandomState::new(rt) else {
-        let _ = eprint!(rt; "{NO_KEYS}");
+    let Some(keys) = word_keys(rt) else {
         return REFUSED;
     };
     let input = CompareInput {
@@ -91,9 +88,9 @@ pub(crate) fn start_compare(rt: &HostRuntime, wanted: &Wanted) -> u8 {
     };
     let is_in_rows = wanted.options.face == Some(Face::Rows) || !rt.stdout().is_terminal();
     if is_in_rows {
-        compare_in_rows(rt, WordKeys::new(keys), names, &input)
+        compare_in_rows(rt, keys, names, &input)
     } else {
-        compare_in_words(rt, WordKeys::new(keys), names, &input)
+        compare_in_words(rt, keys, names, &input)
     }
 }
 
@@ -104,31 +101,15 @@ fn compare_in_rows(
     names: CompareNames<'_>,
     input: &CompareInput<'_>,
 ) -> u8 {
-    let Ok(said) = Vec::with_capacity(rt.alloc(), MAX_FAULT_LINE) else {
-        return fail_memory(rt);
-    };
     let mut writer = Device::new(Output::new(rt.stdout()));
-    let mut errors = Device::new(said);
     let mut progress = ProgressLine::new(rt, Verb::Compare);
-    let end = run_compare(
-        rt.alloc(),
-        keys,
-        input,
-        &mut writer,
-        &mut errors,
-        &mut progress,
-    );
-    let output = writer.into_inner();
-    let ended = RunResult::new(end.status, errors.into_inner(), &output);
-    let Some(fault) = end.fault else {
-        return end.status;
-    };
-    if ended.is_closed {
-        return CLOSED_PIPE;
+    match write_comparison(rt.alloc(), keys, input, &mut writer, &mut progress) {
+        Ok(changed) => compare_status(changed),
+        Err(fault) => {
+            let is_closed = writer.into_inner().is_closed();
+            fail_compare(rt, names, input, fault, is_closed)
+        }
     }
-    print_said(rt, &ended);
-    print_place(rt, names, input, fault);
-    end.status
 }
 
 /// Writes a comparison in words, and returns the exit status.
@@ -141,20 +122,12 @@ fn compare_in_words(
     let mut progress = ProgressLine::new(rt, Verb::Compare);
     let pair = match open_pair(rt.alloc(), keys, input, &mut progress) {
         Ok(pair) => pair,
-        Err(fault) => {
-            let cause = fault.cause();
-            let _ = eprintln!(rt; "snowbench: {cause}");
-            print_place(rt, names, input, fault);
-            return REFUSED;
-        }
+        Err(fault) => return fail_compare(rt, names, input, fault, false),
     };
     let status = match words_of_pair(rt.alloc(), names, &pair) {
         Ok((text, changed)) => match write_all(&mut Device::new(rt.stdout()), text.as_bytes()) {
             Ok(()) => compare_status(changed),
-            Err(fault) => {
-                let _ = eprintln!(rt; "snowbench: {fault}");
-                REFUSED
-            }
+            Err(fault) => print_fault(rt, LoadFault::Input(fault), false, Ok(None), REFUSED),
         },
         Err(_) => fail_memory(rt),
     };
@@ -185,16 +158,16 @@ fn fail_memory(rt: &HostRuntime) -> u8 {
     REFUSED
 }
 
-/// Prints which file has a fault, and its place.
-fn print_place(
+/// Prints a fault, which file has it, and its place. Returns the exit status.
+fn fail_compare(
     rt: &HostRuntime,
     names: CompareNames<'_>,
     input: &CompareInput<'_>,
     fault: CompareFault,
-) {
-    if let Ok(Some(text)) = place_text(rt.alloc(), names, input, fault) {
-        print_line(rt, Ok(text), REFUSED);
-    }
+    is_closed: bool,
+) -> u8 {
+    let text = place_text(rt.alloc(), names, input, fault);
+    print_fault(rt, fault.cause(), is_closed, text, REFUSED)
 }
 
 /// Returns the lines on a fault of a file. A failed allocation has none.
@@ -203,7 +176,7 @@ fn place_text(
     names: CompareNames<'_>,
     input: &CompareInput<'_>,
     fault: CompareFault,
-) -> Result<Option<String>, AllocError> {
+) -> FaultText {
     match fault {
         CompareFault::Old(ScriptFault::OutOfMemory) | CompareFault::New(ScriptFault::OutOfMemory) =>
             { Ok(None) }

@@ -1,4 +1,4 @@
-//! The names of the files of a run.
+//! The names of the files of a run, and their bytes.
 
 /// What standard input is called.
 pub(crate) const STANDARD_INPUT: &str = "standard input";
@@ -10,6 +10,29 @@ pub(crate) struct FileNames<'a> {
     pub(crate) words: &'a str,
     /// The commands of `run`, if they are in a file, or the stems of `check`.
     pub(crate) rest: Option<&'a str>,
+}
+
+/// A file that was read.
+#[derive(Clone, Copy)]
+pub(crate) struct NamedFile<'a> {
+    pub(crate) path: &'a str,
+    pub(crate) bytes: &'a [u8],
+}
+
+impl<'a> NamedFile<'a> {
+    /// Returns the name of the file, as people call it.
+    pub(crate) fn name(&self) -> &'a str {
+        file_name(self.path)
+    }
+}
+
+/// The files of a run.
+#[derive(Clone, Copy)]
+pub(crate) struct FileTexts<'a> {
+    pub(crate) script: NamedFile<'a>,
+    pub(crate) words: NamedFile<'a>,
+    /// The commands of `run`, or the stems of `check`. Empty if there are none.
+    pub(crate) rest: NamedFile<'a>,
 }
 
 /// Returns whether more than one of the files is standard input.
