@@ -1,8 +1,8 @@
 //! `compare` over files.
 
 use crate::compared_words::comparison_words;
-use crate::file_names::{FileNames, file_name, reads_twice};
 use crate::fault_texts::{FaultText, words_fault_text};
+use crate::file_names::{FileNames, file_name, reads_twice};
 use crate::messages::{NO_MEMORY, REFUSED, print_fault, word_keys};
 use crate::progress_line::ProgressLine;
 use crate::reading::read_named;

@@ -28,7 +28,11 @@ pub(crate) struct FileBytes {
 }
 
 /// Reads the files of a run. `what` are the lines of the last one. If one cannot be read, prints why and returns the exit status.
-pub(crate) fn read_files(rt: &HostRuntime, names: FileNames<'_>, what: &str) -> Result<FileBytes, u8> {
+pub(crate) fn read_files(
+    rt: &HostRuntime,
+    names: FileNames<'_>,
+    what: &str,
+) -> Result<FileBytes, u8> {
     let script = read_named(rt, names.script, "lines of the script")?;
     let words = read_named(rt, names.words, "words")?;
     let rest = match names.rest {
