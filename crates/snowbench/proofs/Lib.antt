@@ -2,3 +2,4 @@ pub mod ListFacts
 pub mod LineFacts
 pub mod ReasonFacts
 pub mod AnswerFacts
+pub mod FileFacts
