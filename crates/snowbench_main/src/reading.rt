@@ -9,7 +9,7 @@ use std::{fs, io};
 
 /// Returns the bytes of a file, or of standard input if its name is `-`. If it cannot be read, prints why and returns the exit
 /// status. `what` are its lines.
-pub(crate) fn read_named(rt: &HostRuntime, path: &str, what: &str) -> Result<Vec<u8>, u8> {
+fn read_named(rt: &HostRuntime, path: &str, what: &str) -> Result<Vec<u8>, u8> {
     if path == "-" {
         return read_input(rt, what);
     }
