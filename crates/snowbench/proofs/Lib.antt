@@ -2,4 +2,3 @@ pub mod ListFacts
 pub mod LineFacts
 pub mod ReasonFacts
 pub mod AnswerFacts
-pub mod FileFacts
