@@ -1,9 +1,9 @@
 -- The parts of an answer, put together.
-use Rattle.std.proofs.Common.{◌≡◌, inl, inr, ◌∙◌, ℕ, List, Option, None, Result, Ok, Err, refl, sym, subst}
+use Rattle.std.proofs.Common.{◌≡◌, inl, inr, ◌∙◌, ℕ, List, Option, Result, Ok, Err, refl, sym, subst}
 use Rattle.std.proofs.KnownBytes.{Appends-nil, Keeps-refl}
 use Rattle.std.specs.declared.vec.Vec.{Vec}
 use Rattle.std.specs.declared.alloc.Global.{Global}
-use Rattle.sbl_bench.specs.Contents.{Contents, rows_now}
+use Rattle.sbl_bench.specs.Contents.{Contents}
 use Rattle.sbl_bench.specs.declared.fault.EditFault.TheVariants as edit
 use Rattle.sbl_batch.specs.Differences.{IsChecked}
 use Rattle.sbl_ast.specs.Source.{Source}
@@ -14,13 +14,8 @@ use Rattle.sbl_input.specs.declared.faults.LoadFault.TheVariants.{Input, Open, S
 use Rattle.sbl_io.specs.declared.faults.ServeFault.{ServeFault}
 use Rattle.sbl_io.specs.declared.faults.ServeFault.TheVariants as fault
 use Rattle.sbl_input.proofs.LoadFacts.{script_unread}
-use Rattle.snowbench.specs.WholeCheck.{ChecksLists, IsWholeCheck, LacksScript, ReadsExpected, ReadsWords, list_text}
-use Rattle.snowbench.specs.WholeFilter.{IsWholeFilter, line_of_fault}
-use Rattle.sbl_batch.specs.ToEnd.{FiltersToEnd, without_line}
-use Rattle.sbl_batch.specs.declared.word_fault.WordFault.{WordFault}
-use Rattle.snowbench.specs.WholeList.{IsListed, WritesList}
+use Rattle.snowbench.specs.WholeCheck.{ChecksLists, IsWholeCheck, ReadsExpected, ReadsWords, list_text}
 use Rattle.snowbench.specs.WholeSession.{IsWholeSession, as_load}
-use Rattle.snowbench.specs.declared.listing.ListKind.{ListKind}
 use Rattle.sbl_batch.specs.Filter.{IsFiltered}
 use Rattle.snowbench.specs.StemmedRows.{IsStemmed}
 use Rattle.snowbench.specs.Program.{IsAnswer, IsReported, IsWritten, fault_line}
@@ -64,16 +59,6 @@ pub session_served : {B : Type 0} (a b c : Option (List ℕ)) (external : List �
     → IsWholeSession a c external h i (as_load served)
 session_served a b c external h i state bench t served loaded session = inr (b, state bench, t, served, refl, loaded, session)
 
--- ---- lists
-
-pub list_refused : {B : Type 0} (kind : ListKind) (a b : Option (List ℕ)) (external : List ℕ) (h : Option (List ℕ)) (state : B → Contents) (f : LoadFault)
-    → IsLoaded a b external state (Err f) → IsListed kind a b external h h (Err f)
-list_refused kind a b external h state f is = inl (f, refl, no_bench a b external state f is, Appends-nil h)
-
-pub list_written : {B : Type 0} (kind : ListKind) (a b : Option (List ℕ)) (external : List ℕ) (h i : Option (List ℕ)) (state : B → Contents) (bench : B)
-    (r : Result (Option ℕ) LoadFault) → IsLoaded a b external state (Ok bench) → WritesList kind (rows_now (state bench)) h i r → IsListed kind a b external h i r
-list_written kind a b external h i state bench r loaded writes = inr (state bench, loaded, writes)
-
 -- ---- checks
 
 pub lists_no_words : (s : Source) (a b h : Option (List ℕ)) (f : ServeFault) → ReadsWords a b (Err f) → ChecksLists s a b h h (Err f)
@@ -105,20 +90,6 @@ check_no_text a b external h (Input f) reads = inl (Input f, refl, reads, Append
 pub check_lists : (a b c : Option (List ℕ)) (external : List ℕ) (h i : Option (List ℕ)) (s : Source) (checked : Result ℕ ServeFault) → TookSource a b external s
     → ChecksLists s b c h i checked → IsWholeCheck a c external h i (as_load checked)
 check_lists a b c external h i s checked took lists = inr (b, s, checked, refl, took, lists)
-
--- ---- a filter of a script in a file
-
-pub filter_no_script : (a b : Option (List ℕ)) (external : List ℕ) (h : Option (List ℕ)) (f : LoadFault) → LacksScript a b external f → IsWholeFilter a b external h h (Err f) None
-filter_no_script a b external h f lacks = inl (f, refl, refl, lacks, Appends-nil h)
-
-pub filter_to_end : (a b c : Option (List ℕ)) (external : List ℕ) (h i : Option (List ℕ)) (s : Source) (filtered : Result (Unit {0}) WordFault) → TookSource a b external s
-    → FiltersToEnd s b c h i filtered → IsWholeFilter a c external h i (without_line filtered) (line_of_fault filtered)
-filter_to_end a b c external h i s filtered took words = inr (b, s, filtered, refl, refl, took, words)
-
-pub lacks_text : (a b : Option (List ℕ)) (external : List ℕ) (f : LoadFault) → ReadsScript a b (Err f) → LacksScript a b external f
-lacks_text a b external (Script f) reads = script_unread a b external (λ (s : Contents). s) (Script f) reads
-lacks_text a b external (Open f) reads = reads
-lacks_text a b external (Input f) reads = reads
 
 -- ---- the answer of a subcommand
 

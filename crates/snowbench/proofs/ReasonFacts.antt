@@ -22,7 +22,7 @@ use Rattle.sbl_io.specs.declared.faults.LineFault.TheVariants as line
 use Rattle.sbl_io.specs.declared.faults.ServeFault.{ServeFault}
 use Rattle.sbl_io.specs.declared.faults.ServeFault.TheVariants as fault
 use Rattle.snowbench.specs.Program.{HasReasons}
-use Rattle.snowbench.specs.WholeCheck.{LacksScript, ReadsExpected, ReadsWords}
+use Rattle.snowbench.specs.WholeCheck.{ReadsExpected, ReadsWords}
 
 no_fault : {A : Type 0} (k : Option LineFault) (f : LineFault) → k ≡ None → k ≡ Some f → A
 no_fault k f none some = let e : None ≡ Some f = sym none ∙ some in cc e
@@ -155,12 +155,6 @@ module _ {R W : Type 0} (reads : R → Tally) (writes : W → Tally) where
   serve_reasons a b c w v fault.LengthsDiffer none steady bound ends = absurd ends
   serve_reasons a b c w v fault.NotText none steady bound ends = absurd ends
   serve_reasons a b c w v fault.OutOfMemory none steady bound ends = absurd ends
-
-  -- there is no script
-  pub lacks_reasons : (a b : Lines R) (w v : W) (f : LoadFault) (old new : Option (List ℕ)) (external : List ℕ) → fault_of a ≡ None → load.HasReason reads a b f
-      → LacksScript old new external f → HasReasons reads writes a b w v f
-  lacks_reasons a b w v f old new external none why lacks =
-      load_reasons a b w v f none why (λ is. (let never : LacksScript old new external (Input fault.Write) = subst (λ (f : LoadFault). LacksScript old new external f) is lacks in never))
 
   -- a fault of the words of a filter
   pub filter_reasons : (a b c : Lines R) (w v : W) (f : LoadFault) → fault_of b ≡ None → (reads b.reader).failures ≡ (reads a.reader).failures

@@ -116,7 +116,7 @@ pub fn run_watched<R: Source + Drop, W: Sink, E: Sink, S: Watch + Progress>(
 }
 
 /// Writes the line of a fault. The status reports the fault even if its line cannot be written.
-pub(crate) fn push_fault<E: Sink>(errors: &mut E, fault: LoadFault)
+fn push_fault<E: Sink>(errors: &mut E, fault: LoadFault)
     ensures reported { (answer : Result ℕ LoadFault) → answer ≡ Err fault → IsReported E.held E.tally errors.old errors.new 1 answer }
     ensures in_time { WritesInTime E.tally errors.old errors.new }
 {
@@ -135,8 +135,9 @@ fn line_of_fault(fault: LoadFault) -> InlineText<MAX_FAULT_LINE>
         .and_str("\n", 1)
 }
 
-/// Does what the command line asks for, and returns the number of differences.
-fn answer<R: Source + Drop, W: Sink, S: Watch + Progress>(
+/// Does what the command line asks for with the input of `lines`, and returns the number of differences; only `check` has some. `run` says
+/// what each subcommand reads and writes, and `run_watched` what `watch` sees. What was written before a fault stays in `writer`.
+pub fn answer<R: Source + Drop, W: Sink, S: Watch + Progress>(
     wanted: &Wanted,
     keys: WordKeys,
     lines: &mut Lines<R>,

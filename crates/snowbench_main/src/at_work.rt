@@ -56,7 +56,7 @@ pub(crate) fn start_work(rt: &HostRuntime, wanted: Wanted) -> u8 {
         from,
     };
     let Ok(keys) = RandomState::new(rt) else {
-        let _ = eprint!(rt; "{NO_KEYS}");
+        let _ = eprintln!(rt; "{NO_KEYS}");
         return FAILED;
     };
     let is_terminal = rt.stdin().is_terminal() && rt.stdout().is_terminal();

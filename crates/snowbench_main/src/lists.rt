@@ -1,13 +1,12 @@
 //! `run --as FORM`: the words and stems of files as a list.
 
 use crate::file_names::FileNames;
-use crate::messages::{FAILED, REFUSED, count_and_word, fail_memory, print_line};
-use crate::run_result::RunResult;
-use crate::sessions::{MAX_FAULT_LINE, print_fault, session_input, without_keys};
+use crate::file_runs::fail_files;
+use crate::messages::{FAILED, REFUSED, count_and_word, print_line, word_keys};
+use crate::reading::read_files;
 use crate::streams::Output;
-use snowbench::{Device, Lines, ListForm, ListKind, Wanted, WordKeys, run_list as write_list};
+use snowbench::{Device, ListForm, ListKind, Wanted, list_files};
 use std::alloc::{AllocError, Global};
-use std::hash::RandomState;
 
 /// The text that is printed if there is no such form.
 const NO_FORM: &str = "snowbench: --as takes synonym, override, tsv or stems";
@@ -40,51 +39,31 @@ pub(crate) fn run_list(rt: &HostRuntime, wanted: &Wanted, form: &str, names: Fil
         let _ = eprintln!(rt; "{NO_COMMANDS}");
         return REFUSED;
     }
-    let input = match session_input(rt, names) {
-        Ok(input) => input,
+    let files = match read_files(rt, names, "") {
+        Ok(files) => files,
         Err(status) => return status,
     };
-    let Ok((ended, words)) = list_input(rt, wanted, kind, &input) else {
-        return fail_memory(rt);
+    let Some(keys) = word_keys(rt) else {
+        return FAILED;
     };
-    let status = print_fault(rt, wanted, Some(names), &input, &ended);
-    match words {
-        Some(words) if ended.rows < words => {
-            print_line(
-                rt,
-                left_out_text(rt.alloc(), words - ended.rows, form),
-                status,
-            )
+    let input = files.input(wanted.external.as_str());
+    let mut writer = Device::new(Output::new(rt.stdout()));
+    let listed = list_files(rt.alloc(), kind, keys, &input, &mut writer);
+    let output = writer.into_inner();
+    match listed {
+        Ok(Some(words)) => {
+            let left_out = (words as u64).saturating_sub(output.lines());
+            if left_out > 0 {
+                return print_line(rt, left_out_text(rt.alloc(), left_out, form), 0);
+            }
+            0
         }
-        Some(_) => status,
-        None if ended.said.is_empty() => {
+        Ok(None) => {
             let _ = eprintln!(rt; "{NO_STEMS}");
             FAILED
         }
-        None => status,
+        Err(fault) => fail_files(rt, wanted, &files, fault, output.is_closed()),
     }
-}
-
-/// Writes the list of an input. Returns how that has ended, and the number of words if their list is written.
-fn list_input(
-    rt: &HostRuntime,
-    wanted: &Wanted,
-    kind: ListKind,
-    input: &[u8],
-) -> Result<(RunResult, Option<u64>), AllocError> {
-    let Ok(keys) = RandomState::new(rt) else {
-        return Ok((without_keys(rt.alloc())?, None));
-    };
-    let mut lines = Lines::new(rt.alloc(), Device::new(input))?;
-    let said = Vec::with_capacity(rt.alloc(), MAX_FAULT_LINE)?;
-    let mut writer = Device::new(Output::new(rt.stdout()));
-    let mut errors = Device::new(said);
-    let keys = WordKeys::new(keys);
-    let external = wanted.external.as_str();
-    let end = write_list(kind, external, keys, &mut lines, &mut writer, &mut errors);
-    let output = writer.into_inner();
-    let ended = RunResult::new(end.status, errors.into_inner(), &output);
-    Ok((ended, end.words.map(|words| words as u64)))
 }
 
 /// Returns how many words have no line.

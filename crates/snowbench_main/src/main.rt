@@ -7,21 +7,23 @@ mod compared_words;
 mod comparisons;
 mod fault_texts;
 mod file_names;
+mod file_runs;
 mod lists;
 mod messages;
 mod place_watch;
 mod progress_line;
-mod run_result;
-mod sessions;
+mod reading;
+mod standard_input;
 mod streams;
 mod work_places;
 
 use crate::at_work::start_work;
 use crate::comparisons::start_compare;
 use crate::file_names::{FileNames, reads_twice};
+use crate::file_runs::{run_check, run_filter, run_session};
 use crate::lists::run_list;
 use crate::messages::{NO_MEMORY, REFUSED, fail_memory, print_text};
-use crate::sessions::{run_check, run_filter, run_input, run_session};
+use crate::standard_input::run_input;
 use clap::error::ErrorKind;
 use snowbench::{Verb, Wanted, read_words};
 use std::io;
@@ -90,55 +92,33 @@ fn start(rt: &HostRuntime, wanted: Wanted) -> u8 {
     }
 }
 
-/// Runs a session or a check over files, and returns the exit status.
+/// Runs over files, and returns the exit status.
 fn run_files<'x>(rt: &HostRuntime, wanted: &'x Wanted, script: &'x str) -> u8 {
-    let words = match &wanted.options.words {
-        Some(words) => words.as_str(),
-        None => "-",
-    };
-    if wanted.verb == Verb::Filter {
-        let names = FileNames {
-            script,
-            words,
-            rest: None,
-        };
-        return run_filter(rt, wanted, names);
-    }
-    if wanted.verb == Verb::Check {
-        return check_files(rt, wanted, script, words);
-    }
-    let rest = text_in(&wanted.options.commands);
+    let options = &wanted.options;
+    let stems = text_in(&options.stems);
     let names = FileNames {
         script,
-        words,
-        rest,
+        words: text_in(&options.words).unwrap_or("-"),
+        rest: text_in(&options.commands).or(stems),
+    };
+    let twice = match wanted.verb {
+        Verb::Filter => return run_filter(rt, wanted, names),
+        Verb::Check if stems.is_none() => {
+            let _ = eprintln!(rt; "{THREE_FILES}");
+            return REFUSED;
+        }
+        Verb::Check => NAMED_TWICE_BY_CHECK,
+        _ => NAMED_TWICE,
     };
     if reads_twice(names) {
-        let _ = eprintln!(rt; "{NAMED_TWICE}");
+        let _ = eprintln!(rt; "{twice}");
         return REFUSED;
     }
-    match &wanted.options.form {
-        Some(form) => run_list(rt, wanted, form.as_str(), names),
-        None => run_session(rt, wanted, names),
+    match (wanted.verb, &options.form) {
+        (Verb::Check, _) => run_check(rt, wanted, names),
+        (_, Some(form)) => run_list(rt, wanted, form.as_str(), names),
+        (_, None) => run_session(rt, wanted, names),
     }
-}
-
-/// Compares stems of files, and returns the exit status.
-fn check_files(rt: &HostRuntime, wanted: &Wanted, script: &str, words: &str) -> u8 {
-    let Some(stems) = text_in(&wanted.options.stems) else {
-        let _ = eprintln!(rt; "{THREE_FILES}");
-        return REFUSED;
-    };
-    let names = FileNames {
-        script,
-        words,
-        rest: Some(stems),
-    };
-    if reads_twice(names) {
-        let _ = eprintln!(rt; "{NAMED_TWICE_BY_CHECK}");
-        return REFUSED;
-    }
-    run_check(rt, wanted, names, stems)
 }
 
 /// Returns the text, if there is one.

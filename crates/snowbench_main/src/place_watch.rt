@@ -1,5 +1,6 @@
 //! The places of edits that a session refuses, on standard error.
 
+use crate::blocks::split_at_point;
 use crate::messages::print_line;
 use crate::progress_line::ProgressLine;
 use crate::streams::FirstBytes;
@@ -23,18 +24,6 @@ pub(crate) struct PlaceWatch<'a> {
     lines_before: usize,
     /// Shows how many words were run.
     progress: ProgressLine<'a>,
-}
-
-/// Returns the number of lines up to and including the first line `.`.
-fn lines_to_point(bytes: &[u8]) -> usize {
-    let mut count: usize = 0;
-    for line in bytes.split(|byte| *byte == b'\n') {
-        count = count.saturating_add(1);
-        if line == b".".as_slice() || line == b".\r".as_slice() {
-            return count;
-        }
-    }
-    count
 }
 
 impl<'a> PlaceWatch<'a> {
@@ -85,7 +74,10 @@ impl Watch for PlaceWatch<'_> {
             return;
         };
         if let Ok(kept) = kept.try_borrow() {
-            let script = lines_to_point(kept.bytes());
+            let script = match split_at_point(kept.bytes()) {
+                Some((line, _)) => line as usize,
+                None => 0,
+            };
             // The words are one on a line, and a line `.` ends them.
             self.lines_before = script.saturating_add(bench.len()).saturating_add(1);
         }
