@@ -262,6 +262,9 @@ class Words(OverServer):
         editor, uri = self.begin(my_families="walking walked walks\n")
         self.assertTrue(any(title.startswith("families: understemmed 2 of 3 pairs") for title in editor.titles(uri)[0]))
         self.assertIn("understemmed  walking: walk, walks", "\n".join(editor.run("families", uri)))
+        os.remove(os.path.join(self.folder, "my.families"))
+        self.assertIn("there are no families", editor.run("families", uri)["message"])
+        self.assertIn("walk: walked, walking", editor.run("class", uri, "walked")[0])
 
     def test_commands(self):
         editor, uri = self.begin()

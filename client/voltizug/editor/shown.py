@@ -125,6 +125,9 @@ class Shown(Requests):
         if name not in COMMANDS or script is None or STRANGE.search(argument):
             raise Refused("the script is not open" if name in COMMANDS else "there is no command %s" % named(name))
         self.look_at(script)
+        argument = argument or self.file_of(script, "families") * (name == "families")
+        if name == "families" and not argument:
+            raise Refused("there are no families: name a file of them in the settings, or put it beside the script as NAME.families")
         own = {"mark": self.mark, "compare": self.compare}.get(name)
         return own(script, argument) if own else self.later(script, lambda words: words.answer(name, argument))
 

@@ -188,7 +188,6 @@ class Vocabulary:
         own = {"changes": self.changes, "why": self.why}.get(name)
         if own:
             return own(argument)
-        argument = argument or self.has.families * (name == "families")
         line = name + " " * bool(argument) + argument
         reply = self.ask(line)[0]
         return reports.laid_out(name, reply.lines, self.stage.places) if reply.is_done else [sentence(reply, [line], self.stage)]
