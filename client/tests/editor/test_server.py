@@ -131,6 +131,10 @@ class Names(OverServer):
         self.assertEqual(labels(len(PORTER) + 8), set())
         self.editor_.change(self.uri, PORTER[: self.at("define Step_1a") + 7])
         self.assertEqual(labels(self.at("define Step_1a") + 7) & {"Step_1a", "Step_2", "R1", "p1"}, {"Step_1a", "Step_2"})
+        for part, wanted in (("$p1 ", set()), ("$( ", {"p1", "p2"}), ("$p1 = ( ", {"p1", "p2"}), ("hop ", {"p1", "p2"}), ("$p1 = lenof ", set())):
+            text = PORTER[: self.at("define Step_1a")] + "define Step_1a as ( " + part
+            self.editor_.change(self.uri, text)
+            self.assertEqual(labels(len(text)) & {"p1", "p2", "v", "R1", "Y_found", "Step_2"}, wanted, part)
 
     def test_quick_fixes(self):
         found = self.editor_.change(self.uri, PORTER.replace("Step_1c\n", "Step_1cc\n", 1).replace("do Step_1c", "do Step_1x"))
