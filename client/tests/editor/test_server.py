@@ -216,6 +216,53 @@ class Words(OverServer):
         editor.tell("textDocument/didClose", {"textDocument": {"uri": words}})
         self.assertIn("not open", editor.run("class", uri_of(folder), "walking")["message"])
 
+    def test_a_script_under_two_names(self):
+        """Words that were opened before their script are those of the text that the client has, whatever name it gives to the script."""
+        folder = self.room(my_sbl=SHORT, my_words="walked\n")
+        plain, link = os.path.join(folder, "a (b)+c"), os.path.join(folder, "link")
+        os.mkdir(plain)
+        os.symlink(plain, link)
+        for name in ("my.sbl", "my.words"):
+            os.rename(os.path.join(folder, name), os.path.join(plain, name))
+        for room in (plain.replace(" ", "%20"), link, plain.replace(" ", "%20").replace("(", "%28").replace(")", "%29").replace("+", "%2B")):
+            editor, words = self.editor(), uri_of(room, "my.words")
+            editor.open(words, "walked\n", "snowball-words")
+            part = {"start": {"line": 0, "character": 0}, "end": {"line": 9, "character": 0}}
+            label = lambda: [hint["label"] for hint in editor.about(words, "inlayHint", range=part)]
+            self.assertTrue(editor.wait(lambda: label() == ["-> walk"]))
+            editor.open(uri_of(room), SHORT)
+            editor.titles(uri_of(room))
+            self.assertEqual(len(editor.programs()), 2)
+            editor.change(uri_of(room), SHORT.replace("'ed'", "'es'"))
+            self.assertTrue(editor.wait(lambda: label() == ["-> walked (was walk)"]), room)
+            editor.tell("textDocument/didClose", {"textDocument": {"uri": uri_of(room)}})
+            # (the script is that of the disk again)
+            self.assertTrue(editor.wait(lambda: label() == ["-> walk"]), room)
+
+    def test_a_text_that_is_opened_twice(self):
+        editor, uri = self.begin()
+        editor.titles(uri)
+        editor.open(uri, SHORT.replace("'ed'", "'es'"))
+        self.assertTrue(editor.wait(lambda: editor.titles(uri)[0][0] == "3 words, 3 classes, 0 refused"))
+        self.assertEqual(len(editor.programs()), 2)
+
+    def test_words_that_no_file_has(self):
+        """Words that were never saved count, and those of a file that is gone do while they are open."""
+        folder = self.room(my_sbl=SHORT)
+        editor, uri, words = self.editor(), uri_of(folder), uri_of(folder, "my.words")
+        editor.open(uri, SHORT)
+        editor.open(words, "walked\n", "snowball-words")
+        self.assertTrue(editor.wait(lambda: editor.titles(uri).get(0, [""])[0] == "1 word, 1 class, 0 refused"))
+        write(os.path.join(folder, "my.words"), "walked\nwalks\n")
+        editor.change(words, "walked\nwalks\n")
+        os.remove(os.path.join(folder, "my.words"))
+        self.assertTrue(editor.wait(lambda: editor.titles(uri).get(0, [""])[0] == "2 words, 2 classes, 0 refused"))
+        self.assertIn("walk: walked", editor.run("class", words, "walked")[0])
+        editor.tell("textDocument/didClose", {"textDocument": {"uri": words}})
+        editor.tell("textDocument/didSave", {"textDocument": {"uri": uri}})
+        self.assertTrue(editor.wait(lambda: editor.titles(uri) == {}))
+        self.assertIn("there are no words", editor.run("stats", uri)["message"])
+
     def test_expected_stems(self):
         editor, uri = self.begin(my_stems="walk\nwalk\nwalk\n")
         words = uri_of(self.folder, "my.words")
