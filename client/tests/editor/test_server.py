@@ -282,6 +282,11 @@ class Words(OverServer):
         editor.change(stems, "walk\n")
         what = "1 expected stem, and the vocabulary has 3 words"
         self.assertTrue(editor.wait(lambda: [one["message"] for one in editor.diagnostics[stems]["diagnostics"]] == [what]))
+        self.assertEqual((editor.titles(uri)[0][2], editor.run("differ", uri)), (what, [what]))
+
+    def test_expected_stems_of_other_systems(self):
+        editor, uri = self.begin(my_stems="\ufeffwalk\r\nwalk\r\nwalks\r\n")
+        self.assertEqual(editor.titles(uri)[0][2], "0 words have not the expected stem")
 
     def test_settings(self):
         folder = self.room(my_sbl=SHORT, other_list="walking\n", families_txt="walking walks\n", expected_txt="x\n")

@@ -11,7 +11,6 @@ from typing import Any, Callable, Dict, Iterable, List, Optional, Tuple
 from urllib.parse import quote, unquote, urlsplit
 
 from ..kept import read_file
-from ..layout import counted
 from ..program import ROWS
 from ..words import Refused
 from .index import Index
@@ -241,9 +240,8 @@ class Server:
         """Shows the words whose stem is not the expected one: each at the word, or in the file of stems at its line."""
         found: List[Tuple[Message, str, int, str]] = []
         for state in filter(None, [script.state for script in self.scripts_of(document)]):
-            if state.lines and len(state.lines) != len(state.outcomes):
-                what = counted(len(state.lines), "expected stem"), counted(len(state.outcomes), "word")
-                found.append((document.text.line_range(0), "%s, and the vocabulary has %s" % what, WARNING, "stems"))
+            if state.uneven:
+                found.append((document.text.line_range(0), state.uneven, WARNING, "stems"))
             words = map(document.text.line, range(len(document.text.starts))) if document.kind == "words" else state.outcomes
             lines = [(line, word) for line, word in enumerate(words) if word in state.differing][:MOST] if state.differing else []
             found += [(document.text.line_range(line), state.differing[word], WARNING, "stem") for line, word in lines]

@@ -58,10 +58,7 @@ class Shown(Requests):
         at, size = index.starts[0] if index.starts else 0, state.figures["words"]
         changed = "%s changed since %s" % (counted(len(state.changed), "word"), named(since))
         found = [(at, layout.sizes(state.figures), "stats", ""), (at, changed, "changes", "")]
-        if state.lines:
-            found.append((at, counted(len(state.differing), "word has not the expected stem", "words have not the expected stem"), "differ", ""))
-        if state.pairs:
-            found.append((at, state.pairs, "families", ""))
+        found += [(at, title, name, "") for title, name in ((state.expected, "differ"), (state.pairs, "families")) if title]
         for item in index.order:
             name, at = item.name.text, index.range_of(item)[0]
             if state.names.get(name, size) != size:

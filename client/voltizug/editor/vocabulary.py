@@ -35,13 +35,16 @@ class State:
         self.changed = {row.word: marked[row.word] for row in self.outcomes.values() if marked.get(row.word, row) != row}
         self.pairs = layout.families_line(2 * pairs_of(*replies[2:]))
         # The expected stems, and by word how its stem differs, if there is one for each word.
-        lines = wish.stems.decode("utf-8", "surrogateescape").split("\n")
-        self.lines = [line.removesuffix("\r") for line in (lines if lines[-1] else lines[:-1])]
-        expected = zip(self.outcomes.values(), self.lines) if len(self.lines) == len(self.outcomes) else ()
+        lines = wish.stems.decode("utf-8-sig", "surrogateescape").split("\n")
+        lines = [line.removesuffix("\r") for line in (lines if lines[-1] else lines[:-1])]
+        is_even, sizes = len(lines) == len(self.outcomes), (layout.counted(len(lines), "expected stem"), layout.counted(len(self.outcomes), "word"))
+        self.uneven = "" if is_even or not lines else "%s, and the vocabulary has %s" % sizes
         self.differing = {
             row.word: "%s: expected %s, got %s" % (layout.named(row.word), layout.outcome("stem", stem), layout.outcome(row.kind, row.stem))
-            for row, stem in expected if (row.kind, row.stem) != ("stem", stem)
+            for row, stem in zip(self.outcomes.values(), lines if is_even else ()) if (row.kind, row.stem) != ("stem", stem)
         }
+        lacking = layout.counted(len(self.differing), "word has not the expected stem", "words have not the expected stem")
+        self.expected = self.uneven or lacking * bool(lines)
         # How many words use each definition, and each string of each among; by routine the changed words whose run begins to differ there.
         self.names: Dict[str, int] = older.names if older else {}
         self.strings: Dict[Tuple[str, int], List[Tuple[str, int]]] = older.strings if older else {}
