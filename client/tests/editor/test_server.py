@@ -497,6 +497,10 @@ class Trouble(OverServer):
         editor.open(uri, SHORT)
         said = lambda what: editor.wait(lambda: any(what in note.get("params", {}).get("message", "") for note in editor.notes))
         self.assertTrue(said("my.sbl: A word may have 255 characters at most."))
+        for child in editor.programs():
+            os.kill(child, signal.SIGKILL)
+        # (for a request there is a new one, too)
+        self.assertTrue(editor.wait(lambda: editor.run("class", uri, "walking") == ["  walk: walking   (1 word)"]))
         write(os.path.join(folder, "my.words"), b"walking\xff\n")
         editor.tell("textDocument/didSave", {"textDocument": {"uri": uri}})
         self.assertTrue(said("my.words is not UTF-8. If it is Latin-1: iconv"))

@@ -68,9 +68,8 @@ class Vocabulary:
     # In the main thread
 
     def want(self, wish: Wish) -> None:
-        if wish != self.wish:
-            self.wish = wish
-            self.order(self.run)
+        self.wish = wish
+        self.order(self.run)
 
     def order(self, do: Callable[..., Any], *about: Any) -> "Future[Any]":
         """Has the thread do something after what was wished for before."""
@@ -102,10 +101,10 @@ class Vocabulary:
     def close(self) -> None:
         for program in filter(None, (self.program, self.old)):
             program.stop()
-        self.program, self.old, self.has = None, None, NOTHING
+        self.program, self.old, self.has, self.done = None, None, NOTHING, None
 
     def ask(self, *requests: str, program: Optional[Program] = None) -> List[Reply]:
-        """Asks the program. If it is gone then, the next text starts another one."""
+        """Asks the program. If it is gone then, the next order starts another one."""
         asked = program or self.program
         if asked is None:
             raise ChildProcessError("the words are not there yet")
