@@ -296,6 +296,7 @@ class Words(OverServer):
         self.assertEqual((titles[0], titles[2]), ("1 word, 1 class, 0 refused", "1 word has not the expected stem"))
         editor.tell("workspace/didChangeConfiguration", {"settings": {"snowbench": {"run": "never"}}})
         self.assertEqual(editor.titles(uri), {})
+        self.assertEqual(editor.run("stats", uri)["message"], 'the setting "run" is never')
 
     def test_words_that_run_after_a_save(self):
         editor, uri = self.begin({"run": "onSave"})
@@ -319,7 +320,7 @@ class Words(OverServer):
         self.assertTrue(any(title.startswith("families: understemmed 2 of 3 pairs") for title in editor.titles(uri)[0]))
         self.assertIn("understemmed  walking: walk, walks", "\n".join(editor.run("families", uri)))
         os.remove(os.path.join(self.folder, "my.families"))
-        self.assertIn("there are no families", editor.run("families", uri)["message"])
+        self.assertIn("my.families cannot be read: there is no such file", editor.run("families", uri)[0])
         self.assertIn("walk: walked, walking", editor.run("class", uri, "walked")[0])
 
     def test_commands(self):
@@ -342,6 +343,7 @@ class Words(OverServer):
             # (neither waits for a rest or for figures)
             editor.change(uri, SHORT.replace("'ed'", "'%s'" % string))
             self.assertTrue(any(word in line for line in editor.run("changes", uri, "tail" * (string == "es"))))
+            self.assertEqual(editor.run("changes", uri, "stem"), ["no word changes first in stem"])
             self.assertEqual(editor.run("mark", uri), ["marked: my.sbl"])
             self.assertEqual(editor.run("changes", uri), ["no word and no class differs from the mark"])
         self.assertIn("no command", editor.run("nothing", uri)["message"])
@@ -353,6 +355,8 @@ class Words(OverServer):
         editor.open(uri, SHORT)
         self.assertEqual(editor.titles(uri), {})
         self.assertIn("no words", editor.run("why", uri, "x")["message"])
+        editor.open(uri_of(folder, "other.sbl"), "define")
+        self.assertEqual(editor.run("why", uri_of(folder, "other.sbl"), "x")["message"], "the script has a fault")
 
     def test_a_git_revision(self):
         git = lambda *words: subprocess.run(["git", "-C", folder, "-c", "user.name=x", "-c", "user.email=x@x", *words], check=True, stdout=subprocess.DEVNULL)
@@ -372,6 +376,9 @@ class Words(OverServer):
         self.assertIn("git has no my.sbl", editor.run("compare", uri, "nowhere")["message"])
         self.assertIn("git has no", editor.run("mark", uri, "--output=x")["message"])
         self.assertEqual(editor.titles(uri)[0][1], "1 word changed since HEAD")
+        write(os.path.join(folder, "my.sbl"), SHORT.replace("tail\n", "tale\n"))
+        git("commit", "-q", "-a", "-m", "y")
+        self.assertEqual(editor.run("compare", uri)[0][:56], "my.sbl of HEAD:4:26: tale is not declared. Did you mean ")
         other = self.editor({"mark": "nowhere"})
         other.open(uri, SHORT)
         self.assertTrue(other.wait(lambda: any("git has no" in note["params"].get("message", "") for note in other.notes)))
@@ -490,6 +497,10 @@ class Trouble(OverServer):
         self.assertTrue(editor.wait(lambda: editor.notes))
         editor.change(uri, SHORT.replace("'ed'", "'er'"))
         self.assertTrue(editor.wait(lambda: editor.titles(uri)[0][0] == "1 word, 1 class, 0 refused"))
+        for child in editor.programs():
+            os.kill(child, signal.SIGKILL)
+        # (for a request there is a new one, too)
+        self.assertTrue(editor.wait(lambda: editor.run("class", uri, "walking") == ["  walk: walking   (1 word)"]))
 
     def test_words_that_are_refused(self):
         folder = self.room(my_sbl=SHORT, my_words="x" * 300 + "\n")
@@ -497,10 +508,6 @@ class Trouble(OverServer):
         editor.open(uri, SHORT)
         said = lambda what: editor.wait(lambda: any(what in note.get("params", {}).get("message", "") for note in editor.notes))
         self.assertTrue(said("my.sbl: A word may have 255 characters at most."))
-        for child in editor.programs():
-            os.kill(child, signal.SIGKILL)
-        # (for a request there is a new one, too)
-        self.assertTrue(editor.wait(lambda: editor.run("class", uri, "walking") == ["  walk: walking   (1 word)"]))
         write(os.path.join(folder, "my.words"), b"walking\xff\n")
         editor.tell("textDocument/didSave", {"textDocument": {"uri": uri}})
         self.assertTrue(said("my.words is not UTF-8. If it is Latin-1: iconv"))

@@ -80,8 +80,7 @@ class Requests(Server):
         if document.kind != "script" or is_skipped(text[:start], before):
             return []
         index, fitting = self.index(document), self.judge.fitting(before)
-        # (a number can come where `maxint` can)
-        kinds = ("integer",) if "maxint" in fitting else before.kinds_next()
+        kinds = ("integer",) if "maxint" in fitting else before.kinds_next()  # (`maxint` is a number)
         is_new = bool(before.tokens) and before.tokens[-1].text == "define"
         names = [name for name, kind in index.kinds.items() if kind in kinds] if "NAME" in fitting else []
         names = [name for name in names if not is_new or name not in index.items or index.items[name].name.start == start]

@@ -153,9 +153,9 @@ class Server:
     # Texts
 
     def on_didOpen(self, params: Message) -> None:
+        item = params["textDocument"]
         if item["uri"] in self.documents:
             self.on_didClose(params)
-        item = params["textDocument"]
         kind = KINDS.get(item.get("languageId", "")) or KINDS.get(os.path.splitext(item["uri"])[1], "script")
         document = self.documents[item["uri"]] = Document(item["uri"], kind, Text(item["text"], self.unit), item.get("version", 0))
         if kind == "script":

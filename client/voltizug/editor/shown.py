@@ -37,7 +37,9 @@ class Shown(Requests):
         if script.vocabulary is None:
             self.run_words(script)
         if script.vocabulary is None:
-            raise Refused("there are no words: name a file of words in the settings, or put it beside the script as NAME.words")
+            why = "the script has a fault" if not script.accepted else 'the setting "run" is never' if self.settings.get("run") == "never" else ""
+            raise Refused(why or "there are no words: name a file of words in the settings, or put it beside the script as NAME.words")
+        script.vocabulary.order(script.vocabulary.run)
         result = script.vocabulary.order(make, script.vocabulary)
         result.add_done_callback(lambda _: self.queue.put(lambda: None))
 
@@ -122,9 +124,7 @@ class Shown(Requests):
         if name not in COMMANDS or script is None or STRANGE.search(argument):
             raise Refused("the script is not open" if name in COMMANDS else "there is no command %s" % named(name))
         self.look_at(script)
-        argument = argument or self.file_of(script, "families") * (name == "families")
-        if name == "families" and not argument:
-            raise Refused("there are no families: name a file of them in the settings, or put it beside the script as NAME.families")
+        argument = argument or (self.file_of(script, "families") or script.path.rpartition(".")[0] + ".families") * (name == "families")
         own = {"mark": self.mark, "compare": self.compare}.get(name)
         return own(script, argument) if own else self.later(script, lambda words: words.answer(name, argument))
 
@@ -140,8 +140,9 @@ class Shown(Requests):
 
         def make(words: Vocabulary) -> List[str]:
             lines, said = comparison(self.command, ["--external", words.external, old.path, new.path, words.words.path], PATIENCE)
+            refused = [line.replace(old.path, "%s of %s" % (script.name, revision or "HEAD")) for line in said[1:2] or said]
             differs = ["  differs  " + " ".join(map(named, row.part)) for row in rows.read("compare", lines) if row.kind == "differs"]
-            return said[:1] or differs + layout.changes(rows.read("changes", lines), {}) or ["nothing differs"]
+            return refused or differs + layout.changes(rows.read("changes", lines), {}) or ["nothing differs"]
 
         return self.later(script, make)
 

@@ -78,9 +78,7 @@ class Text:
 
     def at(self, line: int, column: int) -> int:
         """Returns the offset of a place of the program, which counts line feeds and characters, from 1."""
-        start = 0
-        for _ in range(line - 1):
-            start = self.text.find("\n", start) + 1
+        start = sum(len(row) + 1 for row in self.text.split("\n")[: line - 1])
         return min(start + column - 1, len(self.text))
 
     def changed(self, changes: Sequence[Dict[str, Any]]) -> "Text":

@@ -186,7 +186,7 @@ class Vocabulary:
     def answer(self, name: str, argument: str) -> List[str]:
         """Returns the lines of a command, most often of a report of the program."""
         if name == "differ":
-            return list(self.state.differing.values()) if self.state else []
+            return list(filter(None, [self.state.uneven, *self.state.differing.values()])) if self.state else []
         own = {"changes": self.changes, "why": self.why}.get(name)
         if own:
             return own(argument)
@@ -208,4 +208,4 @@ class Vocabulary:
         if state and name:
             self.compare(state)
             found = [row for row in found if row.kind == "changed" and row.word in state.begins.get(name, [])]
-        return layout.changes(found, state.outcomes if state else {}) or [layout.figures(found)]
+        return layout.changes(found, state.outcomes if state else {}) or ["no word changes first in " + name if name else layout.figures(found)]
