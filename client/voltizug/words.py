@@ -134,11 +134,11 @@ def no_name(line: str, bench: Stage) -> str:
     kind, there, begin = places.kind(name), places.of_kind(*kinds), "%s %s: " % (command, short(name))
     if name in there and command == "show":
         return "show takes one name."
+    if kind and command == "uses":
+        return '%sthis is a grouping, and has no among. Use "uses %s".' % (begin, short(name))
     if name in there and rest:
         first = ' Type only "%s %s" first.' % (command, short(name))
         return begin + "the text goes on the lines after it, and a line with a single point ends it." + first
-    if kind and command == "uses":
-        return '%sthis is a grouping, and has no among. Use "uses %s".' % (begin, short(name))
     if kind:
         return '%sthis is a %s. Use "%s %s".' % (begin, kind, kind, short(name))
     if any(row.kind == "integer" and row.name == name for row in bench.read("integers a")):

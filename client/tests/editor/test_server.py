@@ -349,6 +349,13 @@ class Words(OverServer):
         self.assertIn("no command", editor.run("nothing", uri)["message"])
         self.assertIn("not open", editor.run("why", "file:///none", "x")["message"])
 
+    def test_a_grouping_has_no_among(self):
+        text = "externals ( stem )\ngroupings ( v )\ndefine v 'a'\ndefine stem as v\n"
+        folder = self.room(my_sbl=text, my_words="walking\n")
+        editor, uri = self.editor(), uri_of(folder)
+        editor.open(uri, text)
+        self.assertEqual(editor.run("uses", uri, "v 1"), ['uses v: this is a grouping, and has no among. Use "uses v".'])
+
     def test_a_script_without_words(self):
         folder = self.room(my_sbl=SHORT)
         editor, uri = self.editor(), uri_of(folder)
