@@ -346,6 +346,12 @@ class Words(OverServer):
             self.assertEqual(editor.run("changes", uri, "stem"), ["no word changes first in stem"])
             self.assertEqual(editor.run("mark", uri), ["marked: my.sbl"])
             self.assertEqual(editor.run("changes", uri), ["no word and no class differs from the mark"])
+        for arguments in ([uri], [uri, None], [uri, ""]):
+            replied = editor.ask("workspace/executeCommand", {"command": "snowbench.changes", "arguments": arguments})
+            self.assertEqual(replied, ["no word and no class differs from the mark"])
+        place = {"start": {"line": 0, "character": 0}, "end": {"line": 0, "character": 0}}
+        actions = editor.about(uri, "codeAction", range=place, context={"diagnostics": []})
+        self.assertEqual({tuple(action["command"]["arguments"]) for action in actions}, {(uri, "")})
         self.assertIn("no command", editor.run("nothing", uri)["message"])
         self.assertIn("not open", editor.run("why", "file:///none", "x")["message"])
 

@@ -91,7 +91,7 @@ class Requests(Server):
         document = self.document(params)
         start, end = (document.text.offset(params["range"][side]) for side in ("start", "end"))
         here = [fault for fault in document.faults if fault.start <= end and start <= fault.end][:MOST]
-        calls = [{"title": title, "command": "snowbench." + name, "arguments": [document.uri]} for name, title in TITLES.items()]
+        calls = [{"title": title, "command": "snowbench." + name, "arguments": [document.uri, ""]} for name, title in TITLES.items()]
         commands = [{"title": call["title"], "kind": "source", "command": call} for call in calls]
         return [action for fault in here for action in self.fixes(document, fault)] + (commands if document.vocabulary else [])
 

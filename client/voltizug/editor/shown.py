@@ -119,7 +119,7 @@ class Shown(Requests):
 
     def on_executeCommand(self, params: Message) -> Any:
         """Does a command, whose first argument is the text: a script, or its words."""
-        name, (uri, argument, *_) = str(params["command"]).replace("snowbench.", "", 1), [*map(str, params.get("arguments") or []), "", ""]
+        name, (uri, argument, *_) = str(params["command"]).rpartition(".")[2], [*(str(one or "") for one in params.get("arguments") or ()), "", ""]
         script = self.script_of(self.documents.get(uri))
         if name not in COMMANDS or script is None or STRANGE.search(argument):
             raise Refused("the script is not open" if name in COMMANDS else "there is no command %s" % named(name))
