@@ -54,9 +54,10 @@ class Shown(Requests):
         return self.waited(document, "codeLens", lambda: self.lenses(document)) if document.kind == "script" else []
 
     def lenses(self, document: Document) -> List[Message]:
-        state, index, since = document.state, self.index(document), document.mark_name or "the mark"
-        if state is None:
+        state, index, words = document.state, self.index(document), document.vocabulary
+        if state is None or words is None:
             return []
+        since = document.mark_name * (words.mark.data == encoded(state.wish.marked)) or "the mark"
         at, size = index.starts[0] if index.starts else 0, state.figures["words"]
         changed = "%s changed since %s" % (counted(len(state.changed), "word"), named(since))
         found = [(at, layout.sizes(state.figures), "stats", ""), (at, changed, "changes", "")]

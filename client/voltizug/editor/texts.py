@@ -78,8 +78,7 @@ class Text:
 
     def at(self, line: int, column: int) -> int:
         """Returns the offset of a place of the program, which counts line feeds and characters, from 1."""
-        start = sum(len(row) + 1 for row in self.text.split("\n")[: line - 1])
-        return min(start + column - 1, len(self.text))
+        return min(sum(len(row) + 1 for row in self.text.split("\n")[: line - 1]) + column - 1, len(self.text))
 
     def changed(self, changes: Sequence[Dict[str, Any]]) -> "Text":
         """Returns the text after the changes of a client, or after edits for it."""
