@@ -205,6 +205,15 @@ class Words(OverServer):
         hover = editor.about(words, "hover", 2)["contents"]["value"]
         self.assertTrue("walking -> walk" in hover and "walk: walking" in hover, hover)
 
+    def test_a_client_without_versions(self):
+        folder = self.room(my_sbl=SHORT)
+        editor, uri = self.editor(), uri_of(folder)
+        editor.tell("textDocument/didOpen", {"textDocument": {"uri": uri, "languageId": "snowball", "text": SHORT}})
+        editor.tell("textDocument/didChange", {"textDocument": {"uri": uri, "version": None}, "contentChanges": [{"text": SHORT + "\n"}]})
+        editor.open(uri_of(folder, "other.sbl"), SHORT)
+        editor.tell("textDocument/didClose", {"textDocument": {"uri": uri_of(folder, "other.sbl")}})
+        self.assertEqual([one["name"] for one in editor.ask("textDocument/documentSymbol", {"textDocument": {"uri": uri}})], ["tail", "stem"])
+
     def test_words_alone(self):
         """If only the words are open, the script beside them is read from the disk."""
         folder = self.room(my_sbl=SHORT, my_words="walking\n")

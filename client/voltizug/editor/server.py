@@ -157,7 +157,7 @@ class Server:
         if item["uri"] in self.documents:
             self.on_didClose(params)
         kind = KINDS.get(item.get("languageId", "")) or KINDS.get(os.path.splitext(item["uri"])[1], "script")
-        document = self.documents[item["uri"]] = Document(item["uri"], kind, Text(item["text"], self.unit), item.get("version", 0))
+        document = self.documents[item["uri"]] = Document(item["uri"], kind, Text(item["text"], self.unit), item.get("version") or 0)
         if kind == "script":
             document.is_judged = True
             self.judge_script(document)  # (also if a newer text waits: this one is the mark)
@@ -167,7 +167,7 @@ class Server:
     def on_didChange(self, params: Message) -> None:
         self.came += 1
         document = self.document(params)
-        document.text, document.version = document.text.changed(params["contentChanges"]), params["textDocument"].get("version", 0)
+        document.text, document.version = document.text.changed(params["contentChanges"]), params["textDocument"].get("version") or 0
         document.is_judged, document.index = False, None
         if document.kind != "script":
             self.run_soon(document)
