@@ -113,6 +113,9 @@ class Names(OverServer):
         for name, why in (("among", "cannot be a name"), ("R1", "is declared already"), ("a b", "cannot be a name"), ("1", "cannot be a name")):
             self.assertIn(why, self.editor_.about(self.uri, "rename", self.at("Step_1a"), newName=name)["message"])
         self.assertIn("declares", self.editor_.about(self.uri, "rename", self.at("among"), newName="x")["message"])
+        self.editor_.change(self.uri, PORTER.replace("do Step_2", "do other") + "define other_fault as nothing\n")
+        said = self.editor_.about(self.uri, "rename", self.at("Step_1a"), newName="other")["message"]
+        self.assertEqual(said, "other is used already, and not declared")
 
     def test_outline(self):
         found = self.editor_.about(self.uri, "documentSymbol")

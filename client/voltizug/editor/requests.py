@@ -54,7 +54,7 @@ class Requests(Server):
         before = self.judge.faults(document.text, external)
         after = self.judge.faults(document.text.changed(edits[::-1]), new if name == external else external)
         if [fault.name for fault in after] != [fault.name for fault in before]:
-            raise Refused(after[0].sentence if after else "the text has a fault")
+            raise Refused(after[0].sentence if len(after) >= len(before) else "%s is used already, and not declared" % new)
         return {"changes": {document.uri: edits}}
 
     def on_documentSymbol(self, params: Message) -> List[Message]:
