@@ -95,7 +95,7 @@ def absent(line: str, bench: Stage) -> str:
     question = " Did you mean %s?" % in_words(found, "or") if found else ""
     if same and folded(same[0]) == form and same[0].casefold() != word.casefold():
         question = " It is there in another form of Unicode (NFC and NFD are different words)."
-    why = "" if found or command == "remove" or word != word.strip() else ' "why %s" shows how it would be stemmed.' % short(word)
+    why = "" if found or command in ("remove", "why") or word != word.strip() else ' "why %s" shows how it would be stemmed.' % short(word)
     return "%s is not in the vocabulary.%s%s" % (in_quotes(word), question, why)
 
 

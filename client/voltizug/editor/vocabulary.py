@@ -183,8 +183,8 @@ class Vocabulary:
         state.begins = begins
         self.report("")
 
-    def answer(self, name: str, argument: str) -> List[str]:
-        """Returns the lines of a command, most often of a report of the program."""
+    def answer(self, name: str, argument: str, asked: str = "") -> List[str]:
+        """Returns the lines of a command, most often of a report of the program. A refusal is of what was asked."""
         if name == "differ":
             return list(filter(None, [self.state.uneven, *self.state.differing.values()])) if self.state else []
         own = {"changes": self.changes, "why": self.why}.get(name)
@@ -192,15 +192,15 @@ class Vocabulary:
             return own(argument)
         line = name + " " * bool(argument) + argument
         reply = self.ask(line)[0]
-        return reports.laid_out(name, reply.lines, self.stage.places) if reply.is_done else [sentence(reply, [line], self.stage)]
+        return reports.laid_out(name, reply.lines, self.stage.places) if reply.is_done else [sentence(reply, [asked or line], self.stage)]
 
     def why(self, word: str) -> List[str]:
         """Why a word has its stem, and its class."""
         events, figures = self.ask("events " + word, "integers " + word)
         if not events.is_done:
             return [sentence(events, ["why " + word], self.stage)]
-        shown = reports.why(word, rows.read("events", events.lines), rows.read("integers", figures.lines), self.stage.places(), {})
-        return shown + self.answer("class", word)
+        shown = reports.why(word, rows.read("events", events.lines), rows.read("integers", figures.lines), self.stage.places(), {}, False)
+        return shown + self.answer("class", word, "why " + word)
 
     def changes(self, name: str) -> List[str]:
         """What differs from the mark; with the name of a routine the words that begin to differ there."""
