@@ -410,6 +410,8 @@ class Words(OverServer):
         editor.run("mark", uri, "HEAD")
         self.assertTrue(editor.wait(lambda: editor.titles(uri)[0][1] == "0 words changed since the mark"))
         self.assertTrue(any("tale is not declared" in note["params"].get("message", "") for note in editor.notes))
+        editor.open("untitled:1", SHORT)
+        self.assertEqual(editor.run("mark", "untitled:1", "HEAD")["message"], "git has no file of the revision HEAD")
         other = self.editor({"mark": "nowhere"})
         other.open(uri, SHORT)
         self.assertTrue(other.wait(lambda: any("git has no" in note["params"].get("message", "") for note in other.notes)))
@@ -530,6 +532,7 @@ class Trouble(OverServer):
         self.assertTrue(editor.wait(lambda: editor.titles(uri)[0][0] == "1 word, 1 class, 0 refused"))
         for child in editor.programs():
             os.kill(child, signal.SIGKILL)
+        self.assertEqual(editor.run("class", uri, "walking"), ["there is no answer yet: try again"])
         # (for a request there is a new one, too)
         self.assertTrue(editor.wait(lambda: editor.run("class", uri, "walking") == ["  walk: walking   (1 word)"]))
 

@@ -16,7 +16,7 @@ from .wire import Message
 
 # How many words a hover names, and how many lines of a definition it has; for how many seconds scripts are compared.
 FEW, LINES, PATIENCE = 5, 24, 60
-LATE = ["this takes long: try again"]
+LATE = ["there is no answer yet: try again"]
 # What no line to the program may have.
 STRANGE = re.compile("[\r\n\ud800-\udfff]|.{10000}")
 COMMANDS = "mark compare changes why differ families class uses unused counts stats".split()

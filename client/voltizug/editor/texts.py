@@ -38,7 +38,7 @@ def of_revision(path: str, revision: str) -> str:
         if path and not revision.startswith("-"):
             done = subprocess.run(call, stdin=subprocess.DEVNULL, capture_output=True, timeout=PATIENCE, check=True)
             return done.stdout.decode("utf-8", "surrogateescape")
-    raise Refused("git has no %s of the revision %s" % (name, named(revision)))
+    raise Refused("git has no %s of the revision %s" % (name or "file", named(revision)))
 
 
 class Text:
