@@ -140,9 +140,10 @@ class Call:
         self.acts = self.acts or row.kind in ("taken", "put")
 
 
-def why(word: str, events: Sequence[Any], figures: Sequence[Any], places: Places, tests_of: Tests) -> List[str]:
+def why(word: str, events: Sequence[Any], figures: Sequence[Any], places: Places, tests_of: Tests, has_more: bool = True) -> List[str]:
     """What took a string, what routines answered when they were asked, each change of the text, and the test that made a routine false which
-    had changed something. The events may have tests, which are told by the names of their routines and their numbers."""
+    had changed something. The events may have tests, which are told by the names of their routines and their numbers. `has_more` says that
+    somebody can ask for `events` and `tests`."""
     text, shown, calls = word, [], []  # type: str, List[Line], List[Call]
     for row in events:
         if row.kind == "return":
@@ -167,9 +168,10 @@ def why(word: str, events: Sequence[Any], figures: Sequence[Any], places: Places
     for (name, what, place), equal in groupby(shown):
         count = len(list(equal))
         lines.append((name, what, "   ".join(filter(None, [place, ".. {:,} times".format(count) if count > 1 else ""]))))
-    nothing = '  nothing took a string or changed the text: "events %s" shows the searches, "tests %s" the tests' % (short(word), short(word))
+    nothing = "  nothing took a string or changed the text"
+    nothing += ': "events {0}" shows the searches, "tests {0}" the tests'.format(short(word)) * has_more
     if len(lines) > FIRST + 1 + LAST:
-        left_out = '{:,} rows are left out: "events {}" shows the events'.format(len(lines) - FIRST - LAST, short(word))
+        left_out = "{:,} rows are left out".format(len(lines) - FIRST - LAST) + ': "events %s" shows the events' % short(word) * has_more
         lines[FIRST:-LAST] = [("..", left_out, "")]
     return [nothing] * (len(shown) == 1) + in_columns(lines)
 

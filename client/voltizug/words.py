@@ -95,7 +95,7 @@ def absent(line: str, bench: Stage) -> str:
     question = " Did you mean %s?" % in_words(found, "or") if found else ""
     if same and folded(same[0]) == form and same[0].casefold() != word.casefold():
         question = " It is there in another form of Unicode (NFC and NFD are different words)."
-    why = "" if found or command == "remove" or word != word.strip() else ' "why %s" shows how it would be stemmed.' % short(word)
+    why = "" if found or command in ("remove", "why") or word != word.strip() else ' "why %s" shows how it would be stemmed.' % short(word)
     return "%s is not in the vocabulary.%s%s" % (in_quotes(word), question, why)
 
 
@@ -134,11 +134,11 @@ def no_name(line: str, bench: Stage) -> str:
     kind, there, begin = places.kind(name), places.of_kind(*kinds), "%s %s: " % (command, short(name))
     if name in there and command == "show":
         return "show takes one name."
+    if kind and command == "uses":
+        return '%sthis is a grouping, and has no among. Use "uses %s".' % (begin, short(name))
     if name in there and rest:
         first = ' Type only "%s %s" first.' % (command, short(name))
         return begin + "the text goes on the lines after it, and a line with a single point ends it." + first
-    if kind and command == "uses":
-        return '%sthis is a grouping, and has no among. Use "uses %s".' % (begin, short(name))
     if kind:
         return '%sthis is a %s. Use "%s %s".' % (begin, kind, kind, short(name))
     if any(row.kind == "integer" and row.name == name for row in bench.read("integers a")):

@@ -114,6 +114,7 @@ class Names(Case):
         self.assertTrue({"among", "delete", "NAME", "true"} <= set(body))
         self.assertFalse({"define", "as", "cursor"} & set(body))
         self.assertIn("cursor", fitting("define r as $x = "))
+        self.assertEqual(fitting("define r as $x "), [])
         self.assertIn("NAME", fitting("stringescapes {} stringdef a' '\u00e9' define r as "))
 
     def test_what_is_sent_to_the_program_is_read_from_memory(self):

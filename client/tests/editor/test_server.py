@@ -113,6 +113,9 @@ class Names(OverServer):
         for name, why in (("among", "cannot be a name"), ("R1", "is declared already"), ("a b", "cannot be a name"), ("1", "cannot be a name")):
             self.assertIn(why, self.editor_.about(self.uri, "rename", self.at("Step_1a"), newName=name)["message"])
         self.assertIn("declares", self.editor_.about(self.uri, "rename", self.at("among"), newName="x")["message"])
+        self.editor_.change(self.uri, PORTER.replace("do Step_2", "do other") + "define other_fault as nothing\n")
+        said = self.editor_.about(self.uri, "rename", self.at("Step_1a"), newName="other")["message"]
+        self.assertEqual(said, "other is used already, and not declared")
 
     def test_outline(self):
         found = self.editor_.about(self.uri, "documentSymbol")
@@ -131,6 +134,10 @@ class Names(OverServer):
         self.assertEqual(labels(len(PORTER) + 8), set())
         self.editor_.change(self.uri, PORTER[: self.at("define Step_1a") + 7])
         self.assertEqual(labels(self.at("define Step_1a") + 7) & {"Step_1a", "Step_2", "R1", "p1"}, {"Step_1a", "Step_2"})
+        for part, wanted in (("$p1 ", set()), ("$( ", {"p1", "p2"}), ("$p1 = ( ", {"p1", "p2"}), ("hop ", {"p1", "p2"}), ("$p1 = lenof ", set())):
+            text = PORTER[: self.at("define Step_1a")] + "define Step_1a as ( " + part
+            self.editor_.change(self.uri, text)
+            self.assertEqual(labels(len(text)) & {"p1", "p2", "v", "R1", "Y_found", "Step_2"}, wanted, part)
 
     def test_quick_fixes(self):
         found = self.editor_.change(self.uri, PORTER.replace("Step_1c\n", "Step_1cc\n", 1).replace("do Step_1c", "do Step_1x"))
@@ -201,6 +208,15 @@ class Words(OverServer):
         hover = editor.about(words, "hover", 2)["contents"]["value"]
         self.assertTrue("walking -> walk" in hover and "walk: walking" in hover, hover)
 
+    def test_a_client_without_versions(self):
+        folder = self.room(my_sbl=SHORT)
+        editor, uri = self.editor(), uri_of(folder)
+        editor.tell("textDocument/didOpen", {"textDocument": {"uri": uri, "languageId": "snowball", "text": SHORT}})
+        editor.tell("textDocument/didChange", {"textDocument": {"uri": uri, "version": None}, "contentChanges": [{"text": SHORT + "\n"}]})
+        editor.open(uri_of(folder, "other.sbl"), SHORT)
+        editor.tell("textDocument/didClose", {"textDocument": {"uri": uri_of(folder, "other.sbl")}})
+        self.assertEqual([one["name"] for one in editor.ask("textDocument/documentSymbol", {"textDocument": {"uri": uri}})], ["tail", "stem"])
+
     def test_words_alone(self):
         """If only the words are open, the script beside them is read from the disk."""
         folder = self.room(my_sbl=SHORT, my_words="walking\n")
@@ -211,6 +227,53 @@ class Words(OverServer):
         self.assertIn("walk: walking", editor.run("class", words, "walking")[0])
         editor.tell("textDocument/didClose", {"textDocument": {"uri": words}})
         self.assertIn("not open", editor.run("class", uri_of(folder), "walking")["message"])
+
+    def test_a_script_under_two_names(self):
+        """Words that were opened before their script are those of the text that the client has, whatever name it gives to the script."""
+        folder = self.room(my_sbl=SHORT, my_words="walked\n")
+        plain, link = os.path.join(folder, "a (b)+c"), os.path.join(folder, "link")
+        os.mkdir(plain)
+        os.symlink(plain, link)
+        for name in ("my.sbl", "my.words"):
+            os.rename(os.path.join(folder, name), os.path.join(plain, name))
+        for room in (plain.replace(" ", "%20"), link, plain.replace(" ", "%20").replace("(", "%28").replace(")", "%29").replace("+", "%2B")):
+            editor, words = self.editor(), uri_of(room, "my.words")
+            editor.open(words, "walked\n", "snowball-words")
+            part = {"start": {"line": 0, "character": 0}, "end": {"line": 9, "character": 0}}
+            label = lambda: [hint["label"] for hint in editor.about(words, "inlayHint", range=part)]
+            self.assertTrue(editor.wait(lambda: label() == ["-> walk"]))
+            editor.open(uri_of(room), SHORT)
+            editor.titles(uri_of(room))
+            self.assertEqual(len(editor.programs()), 2)
+            editor.change(uri_of(room), SHORT.replace("'ed'", "'es'"))
+            self.assertTrue(editor.wait(lambda: label() == ["-> walked (was walk)"]), room)
+            editor.tell("textDocument/didClose", {"textDocument": {"uri": uri_of(room)}})
+            # (the script is that of the disk again)
+            self.assertTrue(editor.wait(lambda: label() == ["-> walk"]), room)
+
+    def test_a_text_that_is_opened_twice(self):
+        editor, uri = self.begin()
+        editor.titles(uri)
+        editor.open(uri, SHORT.replace("'ed'", "'es'"))
+        self.assertTrue(editor.wait(lambda: editor.titles(uri)[0][0] == "3 words, 3 classes, 0 refused"))
+        self.assertEqual(len(editor.programs()), 2)
+
+    def test_words_that_no_file_has(self):
+        """Words that were never saved count, and those of a file that is gone do while they are open."""
+        folder = self.room(my_sbl=SHORT)
+        editor, uri, words = self.editor(), uri_of(folder), uri_of(folder, "my.words")
+        editor.open(uri, SHORT)
+        editor.open(words, "walked\n", "snowball-words")
+        self.assertTrue(editor.wait(lambda: editor.titles(uri).get(0, [""])[0] == "1 word, 1 class, 0 refused"))
+        write(os.path.join(folder, "my.words"), "walked\nwalks\n")
+        editor.change(words, "walked\nwalks\n")
+        os.remove(os.path.join(folder, "my.words"))
+        self.assertTrue(editor.wait(lambda: editor.titles(uri).get(0, [""])[0] == "2 words, 2 classes, 0 refused"))
+        self.assertIn("walk: walked", editor.run("class", words, "walked")[0])
+        editor.tell("textDocument/didClose", {"textDocument": {"uri": words}})
+        editor.tell("textDocument/didSave", {"textDocument": {"uri": uri}})
+        self.assertTrue(editor.wait(lambda: editor.titles(uri) == {}))
+        self.assertIn("there are no words", editor.run("stats", uri)["message"])
 
     def test_expected_stems(self):
         editor, uri = self.begin(my_stems="walk\nwalk\nwalk\n")
@@ -231,6 +294,11 @@ class Words(OverServer):
         editor.change(stems, "walk\n")
         what = "1 expected stem, and the vocabulary has 3 words"
         self.assertTrue(editor.wait(lambda: [one["message"] for one in editor.diagnostics[stems]["diagnostics"]] == [what]))
+        self.assertEqual((editor.titles(uri)[0][2], editor.run("differ", uri)), (what, [what]))
+
+    def test_expected_stems_of_other_systems(self):
+        editor, uri = self.begin(my_stems="\ufeffwalk\r\nwalk\r\nwalks\r\n")
+        self.assertEqual(editor.titles(uri)[0][2], "0 words have not the expected stem")
 
     def test_settings(self):
         folder = self.room(my_sbl=SHORT, other_list="walking\n", families_txt="walking walks\n", expected_txt="x\n")
@@ -240,6 +308,7 @@ class Words(OverServer):
         self.assertEqual((titles[0], titles[2]), ("1 word, 1 class, 0 refused", "1 word has not the expected stem"))
         editor.tell("workspace/didChangeConfiguration", {"settings": {"snowbench": {"run": "never"}}})
         self.assertEqual(editor.titles(uri), {})
+        self.assertEqual(editor.run("stats", uri)["message"], 'the setting "run" is never')
 
     def test_words_that_run_after_a_save(self):
         editor, uri = self.begin({"run": "onSave"})
@@ -262,11 +331,17 @@ class Words(OverServer):
         editor, uri = self.begin(my_families="walking walked walks\n")
         self.assertTrue(any(title.startswith("families: understemmed 2 of 3 pairs") for title in editor.titles(uri)[0]))
         self.assertIn("understemmed  walking: walk, walks", "\n".join(editor.run("families", uri)))
+        os.remove(os.path.join(self.folder, "my.families"))
+        self.assertIn("my.families cannot be read: there is no such file", editor.run("families", uri)[0])
+        self.assertIn("walk: walked, walking", editor.run("class", uri, "walked")[0])
 
     def test_commands(self):
         editor, uri = self.begin()
         editor.titles(uri)
         self.assertIn("walking -> walk", "\n".join(editor.run("why", uri, "walking")))
+        # (no command is named that the server does not have)
+        alone, *_, last = editor.run("why", uri, "other")
+        self.assertEqual((alone, last), ("  nothing took a string or changed the text", "other is not in the vocabulary."))
         self.assertIn("walk: walked, walking", editor.run("class", uri, "walked")[0])
         self.assertEqual(len(editor.run("uses", uri, "tail 1 ed")), 1)
         self.assertEqual(editor.run("uses", uri, "tail 1 x"), ['tail has no string "x" in among 1. counts lists the strings.'])
@@ -283,10 +358,24 @@ class Words(OverServer):
             # (neither waits for a rest or for figures)
             editor.change(uri, SHORT.replace("'ed'", "'%s'" % string))
             self.assertTrue(any(word in line for line in editor.run("changes", uri, "tail" * (string == "es"))))
+            self.assertEqual(editor.run("changes", uri, "stem"), ["no word changes first in stem"])
             self.assertEqual(editor.run("mark", uri), ["marked: my.sbl"])
             self.assertEqual(editor.run("changes", uri), ["no word and no class differs from the mark"])
+        for arguments in ([uri], [uri, None], [uri, ""]):
+            replied = editor.ask("workspace/executeCommand", {"command": "snowbench.changes", "arguments": arguments})
+            self.assertEqual(replied, ["no word and no class differs from the mark"])
+        place = {"start": {"line": 0, "character": 0}, "end": {"line": 0, "character": 0}}
+        actions = editor.about(uri, "codeAction", range=place, context={"diagnostics": []})
+        self.assertEqual({tuple(action["command"]["arguments"]) for action in actions}, {(uri, "")})
         self.assertIn("no command", editor.run("nothing", uri)["message"])
         self.assertIn("not open", editor.run("why", "file:///none", "x")["message"])
+
+    def test_a_grouping_has_no_among(self):
+        text = "externals ( stem )\ngroupings ( v )\ndefine v 'a'\ndefine stem as v\n"
+        folder = self.room(my_sbl=text, my_words="walking\n")
+        editor, uri = self.editor(), uri_of(folder)
+        editor.open(uri, text)
+        self.assertEqual(editor.run("uses", uri, "v 1"), ['uses v: this is a grouping, and has no among. Use "uses v".'])
 
     def test_a_script_without_words(self):
         folder = self.room(my_sbl=SHORT)
@@ -294,6 +383,8 @@ class Words(OverServer):
         editor.open(uri, SHORT)
         self.assertEqual(editor.titles(uri), {})
         self.assertIn("no words", editor.run("why", uri, "x")["message"])
+        editor.open(uri_of(folder, "other.sbl"), "define")
+        self.assertEqual(editor.run("why", uri_of(folder, "other.sbl"), "x")["message"], "the script has a fault")
 
     def test_a_git_revision(self):
         git = lambda *words: subprocess.run(["git", "-C", folder, "-c", "user.name=x", "-c", "user.email=x@x", *words], check=True, stdout=subprocess.DEVNULL)
@@ -313,6 +404,14 @@ class Words(OverServer):
         self.assertIn("git has no my.sbl", editor.run("compare", uri, "nowhere")["message"])
         self.assertIn("git has no", editor.run("mark", uri, "--output=x")["message"])
         self.assertEqual(editor.titles(uri)[0][1], "1 word changed since HEAD")
+        write(os.path.join(folder, "my.sbl"), SHORT.replace("tail\n", "tale\n"))
+        git("commit", "-q", "-a", "-m", "y")
+        self.assertEqual(editor.run("compare", uri)[0][:56], "my.sbl of HEAD:4:26: tale is not declared. Did you mean ")
+        editor.run("mark", uri, "HEAD")
+        self.assertTrue(editor.wait(lambda: editor.titles(uri)[0][1] == "0 words changed since the mark"))
+        self.assertTrue(any("tale is not declared" in note["params"].get("message", "") for note in editor.notes))
+        editor.open("untitled:1", SHORT)
+        self.assertEqual(editor.run("mark", "untitled:1", "HEAD")["message"], "git has no file of the revision HEAD")
         other = self.editor({"mark": "nowhere"})
         other.open(uri, SHORT)
         self.assertTrue(other.wait(lambda: any("git has no" in note["params"].get("message", "") for note in other.notes)))
@@ -431,6 +530,11 @@ class Trouble(OverServer):
         self.assertTrue(editor.wait(lambda: editor.notes))
         editor.change(uri, SHORT.replace("'ed'", "'er'"))
         self.assertTrue(editor.wait(lambda: editor.titles(uri)[0][0] == "1 word, 1 class, 0 refused"))
+        for child in editor.programs():
+            os.kill(child, signal.SIGKILL)
+        self.assertEqual(editor.run("class", uri, "walking"), ["there is no answer yet: try again"])
+        # (for a request there is a new one, too)
+        self.assertTrue(editor.wait(lambda: editor.run("class", uri, "walking") == ["  walk: walking   (1 word)"]))
 
     def test_words_that_are_refused(self):
         folder = self.room(my_sbl=SHORT, my_words="x" * 300 + "\n")

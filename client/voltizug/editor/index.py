@@ -14,8 +14,6 @@ AFTER: Dict[str, Tuple[str, ...]] = {
 }
 AS_COMMAND = ("routine", "external", "grouping", "string", "boolean")
 AS_CONDITION = ("routine", "external")
-# After these a number comes.
-ARITHMETIC = "hop loop atleast atmark tomark = += -= *= /= == != < <= > >= + - * /".split()
 
 
 class Index(Names):
@@ -52,14 +50,14 @@ class Index(Names):
         return self.macros.get(token.text[begin + 1 : end]) if begin >= 0 and end + token.start >= offset else None
 
     def kinds_next(self) -> Tuple[str, ...]:
-        """Returns the kinds of a name that may come after the last token."""
+        """Returns the kinds of a name that may come after the last token, if no number has to."""
         last = self.tokens[-1] if self.tokens else Token("", 0, 0, "")
         is_inside = bool(self.order) and self.order[-1].last == len(self.tokens) - 1
         if last.text in AFTER:
             return AFTER[last.text]
         if is_inside and not self.order[-1].is_routine or [token.text for token in self.tokens[-2:]] == ["non", "-"]:
             return ("grouping",)
-        return AS_CONDITION if last in self.strings else ("integer",) if last.text in ARITHMETIC else AS_COMMAND
+        return AS_CONDITION if last in self.strings else AS_COMMAND
 
 
 def amongs_of(name: str, tokens: Sequence[Token]) -> List[Among]:

@@ -83,8 +83,8 @@ class Judge:
         return found
 
     def fitting(self, before: Index) -> List[str]:
-        """Returns the words that can follow tokens, and NAME if a name can: those that are no fault of syntax there. Only the tokens of the item
-        are sent, since what comes before an item does not matter to its grammar."""
+        """Returns the words that can follow tokens, and NAME if a name can: those that make no fault of syntax there, or of what is left out.
+        Only the tokens of the item are sent, since what comes before an item does not matter to its grammar."""
         tokens = before.tokens
         begin = max((number for number, token in enumerate(tokens) if token.kind == "word" and token.text in ITEMS), default=0)
         first = tokens[begin].text if tokens else ""
@@ -94,8 +94,8 @@ class Judge:
         rest = [] if is_done or first == "backwardmode" else tokens[begin:]
         shown = "backwardmode ( " * before.is_in_backwardmode + " ".join("'a'" if token.kind == "literal" else token.text for token in rest) + " "
         words = (*ITEMS, *CONTROL, *COMMANDS, *VALUES, *OTHERS, "NAME")
-        faults = {word: self.faults(Text(shown + word + " {}" * (word == "stringescapes")))[:1] for word in words}
-        return [word for word, found in faults.items() if not found or found[0].name != "Syntax" or found[0].start > len(shown)]
+        faults = lambda word: self.faults(Text(shown + word + " {}" * (word == "stringescapes")))[:1]
+        return [word for word in words if all(one.name not in ("Syntax", "OutOfProfile") or one.start > len(shown) for one in faults(word))]
 
 
 def placed(text: Text, name: str, length: int, place: Any) -> Fault:

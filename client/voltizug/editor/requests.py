@@ -54,7 +54,7 @@ class Requests(Server):
         before = self.judge.faults(document.text, external)
         after = self.judge.faults(document.text.changed(edits[::-1]), new if name == external else external)
         if [fault.name for fault in after] != [fault.name for fault in before]:
-            raise Refused(after[0].sentence if after else "the text has a fault")
+            raise Refused(after[0].sentence if len(after) >= len(before) else "%s is used already, and not declared" % new)
         return {"changes": {document.uri: edits}}
 
     def on_documentSymbol(self, params: Message) -> List[Message]:
@@ -80,7 +80,8 @@ class Requests(Server):
         if document.kind != "script" or is_skipped(text[:start], before):
             return []
         index, fitting = self.index(document), self.judge.fitting(before)
-        kinds, is_new = before.kinds_next(), bool(before.tokens) and before.tokens[-1].text == "define"
+        kinds = ("integer",) if "maxint" in fitting else before.kinds_next()  # (`maxint` is a number)
+        is_new = bool(before.tokens) and before.tokens[-1].text == "define"
         names = [name for name, kind in index.kinds.items() if kind in kinds] if "NAME" in fitting else []
         names = [name for name in names if not is_new or name not in index.items or index.items[name].name.start == start]
         found = [{"label": name, "kind": NUMBERS[index.kinds[name]][1], "detail": index.kinds[name]} for name in names]
@@ -90,7 +91,7 @@ class Requests(Server):
         document = self.document(params)
         start, end = (document.text.offset(params["range"][side]) for side in ("start", "end"))
         here = [fault for fault in document.faults if fault.start <= end and start <= fault.end][:MOST]
-        calls = [{"title": title, "command": "snowbench." + name, "arguments": [document.uri]} for name, title in TITLES.items()]
+        calls = [{"title": title, "command": "snowbench." + name, "arguments": [document.uri, ""]} for name, title in TITLES.items()]
         commands = [{"title": call["title"], "kind": "source", "command": call} for call in calls]
         return [action for fault in here for action in self.fixes(document, fault)] + (commands if document.vocabulary else [])
 

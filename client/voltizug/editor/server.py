@@ -11,7 +11,6 @@ from typing import Any, Callable, Dict, Iterable, List, Optional, Tuple
 from urllib.parse import quote, unquote, urlsplit
 
 from ..kept import read_file
-from ..layout import counted
 from ..program import ROWS
 from ..words import Refused
 from .index import Index
@@ -155,23 +154,20 @@ class Server:
 
     def on_didOpen(self, params: Message) -> None:
         item = params["textDocument"]
+        if item["uri"] in self.documents:
+            self.on_didClose(params)
         kind = KINDS.get(item.get("languageId", "")) or KINDS.get(os.path.splitext(item["uri"])[1], "script")
-        document = self.documents[item["uri"]] = Document(item["uri"], kind, Text(item["text"], self.unit), item.get("version"))
+        document = self.documents[item["uri"]] = Document(item["uri"], kind, Text(item["text"], self.unit), item.get("version") or 0)
         if kind == "script":
             document.is_judged = True
             self.judge_script(document)  # (also if a newer text waits: this one is the mark)
-        elif not self.scripts_of(document):
-            # (the script beside it, as it is on the disk, if no client has that open)
-            path = os.path.splitext(document.path)[0] + ".sbl"
-            data, uri = read_file(path), "file://" + quote(path)
-            if data is not None and all(other.path != path for other in self.documents.values()):
-                self.documents[uri] = Document(uri, "script", Text(data.decode("utf-8", "surrogateescape"), self.unit), None)
+        self.look_beside()
         self.run_soon(document)
 
     def on_didChange(self, params: Message) -> None:
         self.came += 1
         document = self.document(params)
-        document.text, document.version = document.text.changed(params["contentChanges"]), params["textDocument"].get("version")
+        document.text, document.version = document.text.changed(params["contentChanges"]), params["textDocument"].get("version") or 0
         document.is_judged, document.index = False, None
         if document.kind != "script":
             self.run_soon(document)
@@ -184,10 +180,17 @@ class Server:
         document.close_words()
         self.publish(document, [])
         self.run_soon(document)
-        if all(other.version is None for other in self.documents.values()):
-            # (the scripts that no client has open were there for it)
-            while self.documents:
-                self.documents.popitem()[1].close_words()
+        self.look_beside()
+
+    def look_beside(self) -> None:
+        """Has the script beside words or stems as it is on the disk, while no client has that open. (It has no version.)"""
+        for text in list(self.documents.values()):
+            path, others = os.path.splitext(text.path)[0] + ".sbl", [other for other in self.documents.values() if other is not text]
+            data, is_there, uri = read_file(path), path in [other.path for other in others], "file://" + quote(path)
+            if text.version is None and (is_there or all(other.kind == "script" for other in others)):
+                return self.on_didClose({"textDocument": {"uri": text.uri}})
+            if text.kind != "script" and data is not None and not is_there and not self.scripts_of(text):
+                self.documents[uri] = Document(uri, "script", Text(data.decode("utf-8", "surrogateescape"), self.unit), None)
 
     def run_soon(self, document: Document, rest: float = QUIET) -> None:
         """Has the scripts run after a rest whose words or stems a text has; a script itself. (A save needs no rest.)"""
@@ -237,9 +240,8 @@ class Server:
         """Shows the words whose stem is not the expected one: each at the word, or in the file of stems at its line."""
         found: List[Tuple[Message, str, int, str]] = []
         for state in filter(None, [script.state for script in self.scripts_of(document)]):
-            if state.lines and len(state.lines) != len(state.outcomes):
-                what = counted(len(state.lines), "expected stem"), counted(len(state.outcomes), "word")
-                found.append((document.text.line_range(0), "%s, and the vocabulary has %s" % what, WARNING, "stems"))
+            if state.uneven:
+                found.append((document.text.line_range(0), state.uneven, WARNING, "stems"))
             words = map(document.text.line, range(len(document.text.starts))) if document.kind == "words" else state.outcomes
             lines = [(line, word) for line, word in enumerate(words) if word in state.differing][:MOST] if state.differing else []
             found += [(document.text.line_range(line), state.differing[word], WARNING, "stem") for line, word in lines]
@@ -252,7 +254,8 @@ class Server:
         beside, wanted = os.path.splitext(document.path)[0] + "." + kind, self.settings.get(kind)
         if wanted:
             return os.path.join(os.path.dirname(document.path), os.path.expanduser(str(wanted)))
-        return beside if document.path and os.path.isfile(beside) else ""
+        is_open = os.path.realpath(beside) in [other.path for other in self.documents.values()]
+        return beside if document.path and (is_open or os.path.isfile(beside)) else ""
 
     def bytes_of(self, path: str) -> Optional[bytes]:
         """Returns what a file has, also if that is not saved yet."""
@@ -260,11 +263,11 @@ class Server:
         return encoded(open_ones[0].text.text) if open_ones else read_file(path)
 
     def run_words(self, document: Document) -> None:
-        """Has the words run under the text that was accepted last."""
+        """Has the words run under the text that was accepted last. There are no figures of words that are gone."""
         external, path = self.external(document), self.file_of(document, "words")
         words, stems = self.bytes_of(path), self.bytes_of(self.file_of(document, "stems")) or b""
         if words is None or document.accepted is None or self.settings.get("run") == "never":
-            return
+            return document.close_words()
         if document.vocabulary is None or document.vocabulary.external != external:
             document.close_words()
             document.vocabulary = Vocabulary(self.command, external, document.name, lambda said: self.queue.put(lambda: self.report(document, said)))

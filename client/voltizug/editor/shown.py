@@ -16,7 +16,7 @@ from .wire import Message
 
 # How many words a hover names, and how many lines of a definition it has; for how many seconds scripts are compared.
 FEW, LINES, PATIENCE = 5, 24, 60
-LATE = ["this takes long: try again"]
+LATE = ["there is no answer yet: try again"]
 # What no line to the program may have.
 STRANGE = re.compile("[\r\n\ud800-\udfff]|.{10000}")
 COMMANDS = "mark compare changes why differ families class uses unused counts stats".split()
@@ -37,7 +37,9 @@ class Shown(Requests):
         if script.vocabulary is None:
             self.run_words(script)
         if script.vocabulary is None:
-            raise Refused("there are no words: name a file of words in the settings, or put it beside the script as NAME.words")
+            why = "the script has a fault" if not script.accepted else 'the setting "run" is never' if self.settings.get("run") == "never" else ""
+            raise Refused(why or "there are no words: name a file of words in the settings, or put it beside the script as NAME.words")
+        script.vocabulary.order(script.vocabulary.run)
         result = script.vocabulary.order(make, script.vocabulary)
         result.add_done_callback(lambda _: self.queue.put(lambda: None))
 
@@ -52,16 +54,14 @@ class Shown(Requests):
         return self.waited(document, "codeLens", lambda: self.lenses(document)) if document.kind == "script" else []
 
     def lenses(self, document: Document) -> List[Message]:
-        state, index, since = document.state, self.index(document), document.mark_name or "the mark"
-        if state is None:
+        state, index, words = document.state, self.index(document), document.vocabulary
+        if state is None or words is None:
             return []
+        since = document.mark_name * (words.mark.data == encoded(state.wish.marked)) or "the mark"
         at, size = index.starts[0] if index.starts else 0, state.figures["words"]
         changed = "%s changed since %s" % (counted(len(state.changed), "word"), named(since))
         found = [(at, layout.sizes(state.figures), "stats", ""), (at, changed, "changes", "")]
-        if state.lines:
-            found.append((at, counted(len(state.differing), "word has not the expected stem", "words have not the expected stem"), "differ", ""))
-        if state.pairs:
-            found.append((at, state.pairs, "families", ""))
+        found += [(at, title, name, "") for title, name in ((state.expected, "differ"), (state.pairs, "families")) if title]
         for item in index.order:
             name, at = item.name.text, index.range_of(item)[0]
             if state.names.get(name, size) != size:
@@ -120,11 +120,12 @@ class Shown(Requests):
 
     def on_executeCommand(self, params: Message) -> Any:
         """Does a command, whose first argument is the text: a script, or its words."""
-        name, (uri, argument, *_) = str(params["command"]).replace("snowbench.", "", 1), [*map(str, params.get("arguments") or []), "", ""]
+        name, (uri, argument, *_) = str(params["command"]).rpartition(".")[2], [*(str(one or "") for one in params.get("arguments") or ()), "", ""]
         script = self.script_of(self.documents.get(uri))
         if name not in COMMANDS or script is None or STRANGE.search(argument):
             raise Refused("the script is not open" if name in COMMANDS else "there is no command %s" % named(name))
         self.look_at(script)
+        argument = argument or (self.file_of(script, "families") or script.path.rpartition(".")[0] + ".families") * (name == "families")
         own = {"mark": self.mark, "compare": self.compare}.get(name)
         return own(script, argument) if own else self.later(script, lambda words: words.answer(name, argument))
 
@@ -140,8 +141,9 @@ class Shown(Requests):
 
         def make(words: Vocabulary) -> List[str]:
             lines, said = comparison(self.command, ["--external", words.external, old.path, new.path, words.words.path], PATIENCE)
+            refused = [line.replace(old.path, "%s of %s" % (script.name, revision or "HEAD")) for line in said[1:2] or said]
             differs = ["  differs  " + " ".join(map(named, row.part)) for row in rows.read("compare", lines) if row.kind == "differs"]
-            return said[:1] or differs + layout.changes(rows.read("changes", lines), {}) or ["nothing differs"]
+            return refused or differs + layout.changes(rows.read("changes", lines), {}) or ["nothing differs"]
 
         return self.later(script, make)
 

@@ -38,7 +38,7 @@ def of_revision(path: str, revision: str) -> str:
         if path and not revision.startswith("-"):
             done = subprocess.run(call, stdin=subprocess.DEVNULL, capture_output=True, timeout=PATIENCE, check=True)
             return done.stdout.decode("utf-8", "surrogateescape")
-    raise Refused("git has no %s of the revision %s" % (name, named(revision)))
+    raise Refused("git has no %s of the revision %s" % (name or "file", named(revision)))
 
 
 class Text:
@@ -78,10 +78,7 @@ class Text:
 
     def at(self, line: int, column: int) -> int:
         """Returns the offset of a place of the program, which counts line feeds and characters, from 1."""
-        start = 0
-        for _ in range(line - 1):
-            start = self.text.find("\n", start) + 1
-        return min(start + column - 1, len(self.text))
+        return min(sum(len(row) + 1 for row in self.text.split("\n")[: line - 1]) + column - 1, len(self.text))
 
     def changed(self, changes: Sequence[Dict[str, Any]]) -> "Text":
         """Returns the text after the changes of a client, or after edits for it."""

@@ -35,13 +35,16 @@ class State:
         self.changed = {row.word: marked[row.word] for row in self.outcomes.values() if marked.get(row.word, row) != row}
         self.pairs = layout.families_line(2 * pairs_of(*replies[2:]))
         # The expected stems, and by word how its stem differs, if there is one for each word.
-        lines = wish.stems.decode("utf-8", "surrogateescape").split("\n")
-        self.lines = [line.removesuffix("\r") for line in (lines if lines[-1] else lines[:-1])]
-        expected = zip(self.outcomes.values(), self.lines) if len(self.lines) == len(self.outcomes) else ()
+        lines = wish.stems.decode("utf-8-sig", "surrogateescape").split("\n")
+        lines = [line.removesuffix("\r") for line in (lines if lines[-1] else lines[:-1])]
+        is_even, sizes = len(lines) == len(self.outcomes), (layout.counted(len(lines), "expected stem"), layout.counted(len(self.outcomes), "word"))
+        self.uneven = "" if is_even or not lines else "%s, and the vocabulary has %s" % sizes
         self.differing = {
             row.word: "%s: expected %s, got %s" % (layout.named(row.word), layout.outcome("stem", stem), layout.outcome(row.kind, row.stem))
-            for row, stem in expected if (row.kind, row.stem) != ("stem", stem)
+            for row, stem in zip(self.outcomes.values(), lines if is_even else ()) if (row.kind, row.stem) != ("stem", stem)
         }
+        lacking = layout.counted(len(self.differing), "word has not the expected stem", "words have not the expected stem")
+        self.expected = self.uneven or lacking * bool(lines)
         # How many words use each definition, and each string of each among; by routine the changed words whose run begins to differ there.
         self.names: Dict[str, int] = older.names if older else {}
         self.strings: Dict[Tuple[str, int], List[Tuple[str, int]]] = older.strings if older else {}
@@ -65,9 +68,8 @@ class Vocabulary:
     # In the main thread
 
     def want(self, wish: Wish) -> None:
-        if wish != self.wish:
-            self.wish = wish
-            self.order(self.run)
+        self.wish = wish
+        self.order(self.run)
 
     def order(self, do: Callable[..., Any], *about: Any) -> "Future[Any]":
         """Has the thread do something after what was wished for before."""
@@ -99,10 +101,10 @@ class Vocabulary:
     def close(self) -> None:
         for program in filter(None, (self.program, self.old)):
             program.stop()
-        self.program, self.old, self.has = None, None, NOTHING
+        self.program, self.old, self.has, self.done = None, None, NOTHING, None
 
     def ask(self, *requests: str, program: Optional[Program] = None) -> List[Reply]:
-        """Asks the program. If it is gone then, the next text starts another one."""
+        """Asks the program. If it is gone then, the next order starts another one."""
         asked = program or self.program
         if asked is None:
             raise ChildProcessError("the words are not there yet")
@@ -181,25 +183,24 @@ class Vocabulary:
         state.begins = begins
         self.report("")
 
-    def answer(self, name: str, argument: str) -> List[str]:
-        """Returns the lines of a command, most often of a report of the program."""
+    def answer(self, name: str, argument: str, asked: str = "") -> List[str]:
+        """Returns the lines of a command, most often of a report of the program. A refusal is of what was asked."""
         if name == "differ":
-            return list(self.state.differing.values()) if self.state else []
+            return list(filter(None, [self.state.uneven, *self.state.differing.values()])) if self.state else []
         own = {"changes": self.changes, "why": self.why}.get(name)
         if own:
             return own(argument)
-        argument = argument or self.has.families * (name == "families")
         line = name + " " * bool(argument) + argument
         reply = self.ask(line)[0]
-        return reports.laid_out(name, reply.lines, self.stage.places) if reply.is_done else [sentence(reply, [line], self.stage)]
+        return reports.laid_out(name, reply.lines, self.stage.places) if reply.is_done else [sentence(reply, [asked or line], self.stage)]
 
     def why(self, word: str) -> List[str]:
         """Why a word has its stem, and its class."""
         events, figures = self.ask("events " + word, "integers " + word)
         if not events.is_done:
             return [sentence(events, ["why " + word], self.stage)]
-        shown = reports.why(word, rows.read("events", events.lines), rows.read("integers", figures.lines), self.stage.places(), {})
-        return shown + self.answer("class", word)
+        shown = reports.why(word, rows.read("events", events.lines), rows.read("integers", figures.lines), self.stage.places(), {}, False)
+        return shown + self.answer("class", word, "why " + word)
 
     def changes(self, name: str) -> List[str]:
         """What differs from the mark; with the name of a routine the words that begin to differ there."""
@@ -207,4 +208,4 @@ class Vocabulary:
         if state and name:
             self.compare(state)
             found = [row for row in found if row.kind == "changed" and row.word in state.begins.get(name, [])]
-        return layout.changes(found, state.outcomes if state else {}) or [layout.figures(found)]
+        return layout.changes(found, state.outcomes if state else {}) or ["no word changes first in " + name if name else layout.figures(found)]
