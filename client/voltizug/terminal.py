@@ -39,7 +39,7 @@ class Terminal(Opening):
         line = line if line.partition(" ")[0] in WITH_TEXT else line.rstrip() if line.strip() else ""
         line = {"exit": "quit", "?": "help"}.get(line, line)
         command, _, argument = line.partition(" ")
-        if command in COMMANDS and COMMANDS[command].takes not in ("", "text"):
+        if command in COMMANDS and (command == "uses" or command not in WITH_TEXT):
             # (TAB writes a blank after the command, and one types another)
             argument = " ".join(argument.split()) if command == "among" else argument.lstrip()
             line = command + " " * bool(argument) + argument
@@ -178,8 +178,7 @@ class Terminal(Opening):
 
     def do_help(self, name: str) -> None:
         if name in COMMANDS:
-            usage, does, _, more = COMMANDS[name]
-            self.screen.say("%s: %s.%s" % (usage, does, " " + more if more else ""))
+            self.screen.say(("%s: %s. %s" % COMMANDS[name]).rstrip())
         elif name:
             self.screen.say(words.unknown(name, self.bench))
         else:
