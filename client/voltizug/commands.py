@@ -52,6 +52,7 @@ DECLARATIONS = ("externals", "routines", "groupings", "strings", "integers", "bo
 # By the beginning of a line that is no command what is said of it. {c} is its first word.
 IN_SHELL = {"check": "SCRIPT WORDS STEMS", "compare": "OLD NEW WORDS", "filter": "SCRIPT < WORDS", "run": "SCRIPT WORDS", "work": "SCRIPT WORDS"}
 STRANGE: Sequence[Tuple[str, str]] = (
+    (".*[\udc80-\udcff]", "The line is not UTF-8. Set the terminal to UTF-8 and type it again."),
     (r"\s*\.\s*\Z", "A line with a single point ends a block, and no block is open."),
     (r"(q|:q|:q!|:wq|bye|exit!)( |\Z)", "quit or Ctrl-D ends."),
     (r"clear( |\Z)", "Ctrl-L clears the screen. quit or Ctrl-D ends."),

@@ -124,7 +124,8 @@ class Desk:
             return False
         if is_reload:
             self.warn()
-        tail = [*(self.new_lines(lints(self.bench)) if is_reload else []), self.turning_since(edit), *words.notes(edit, self.bench.script)]
+        notes = [words.NOTES[note].format(script=short(self.bench.script)) for note in edit.notes]
+        tail = [*(self.new_lines(lints(self.bench)) if is_reload else []), self.turning_since(edit), *notes]
         last = self.screen.broken([line for line in [*tail, layout.families_line(edit.pairs), layout.summary(edit)] if line])
         size = self.screen.size()
         room = max(1, size.lines - len(last) - 1 - self.editor.rows_typed(size.columns))

@@ -9,8 +9,8 @@ from .bench import Edit
 
 KINDS = ("added", "removed", "changed", "split", "merged", "renamed")
 COLOURS, RED = {"split": "33", "merged": "35", "renamed": "36", "added": "32", "removed": "31"}, "31"
-# Marks that turn the direction of writing, and characters of no width that end or join lines.
-HIDDEN = set("\u061c\u200b\u200e\u200f\u2028\u2029\u2060\ufeff") | {chr(code) for code in (*range(0x202A, 0x202F), *range(0x2066, 0x206A))}
+# Controls but for tabs, bytes that are no text, marks that turn the direction of writing, and characters of no width that end or join lines.
+HIDDEN = re.compile("[\0-\x08\n-\x1f\x7f-\x9f\ud800-\udfff\u061c\u200b\u200e\u200f\u2028-\u202e\u2060\u2066-\u2069\ufeff]")
 # How many characters of a name or a literal a sentence has, and how many columns the words of a list have, at most.
 LONGEST, COLUMN = 60, 24
 # A label at the beginning of a line, as in help.
@@ -19,14 +19,7 @@ LABEL = re.compile(r"\S+( \S+)* {2,}")
 
 def named(text: str) -> str:
     """Returns the text with each character that a terminal obeys, or does not show, as its number. Tabs stay."""
-    if text.isprintable():
-        return text
-    return "".join(name_of(c) if c != "\t" and (c in HIDDEN or unicodedata.category(c) in ("Cc", "Cs")) else c for c in text)
-
-
-def name_of(character: str) -> str:
-    code = ord(character)
-    return "<%02X>" % (code - 0xDC00) if 0xDC80 <= code <= 0xDCFF else "<U+%04X>" % code
+    return HIDDEN.sub(lambda found: "<%02X>" % (ord(found[0]) - 0xDC00) if "\udc80" <= found[0] <= "\udcff" else "<U+%04X>" % ord(found[0]), text)
 
 
 def short(text: str) -> str:
@@ -38,8 +31,7 @@ def columns(text: str) -> int:
     """Returns how many columns of a terminal a text takes."""
     if text.isascii():
         return len(text) + 7 * text.count("\t")
-    wide = (8 if c == "\t" else 0 if unicodedata.category(c) in ("Mn", "Me") else 2 if unicodedata.east_asian_width(c) in "WF" else 1 for c in text)
-    return sum(wide)
+    return sum(8 if c == "\t" else 0 if unicodedata.category(c) in ("Mn", "Me") else 2 if unicodedata.east_asian_width(c) in "WF" else 1 for c in text)
 
 
 def padded(text: str, column: int) -> str:
@@ -102,16 +94,14 @@ def change(row: Any, column: int = 0, outcomes: Optional[Dict[str, rows.Outcome]
     if row.kind in ("added", "removed"):
         now = (outcomes or {}).get(row.word)
         return "  %-8s %s%s" % (row.kind, named(row.word), " -> " + outcome(now.kind, now.stem) if now else "")
-    old = (row.old,) if row.kind != "merged" else row.old
-    new = (row.new,) if row.kind != "split" else row.new
-    return "  %-8s %s -> %s" % (row.kind, listed(old), listed(new))
+    old, new = (listed((names,) if isinstance(names, str) else names) for names in (row.old, row.new))
+    return "  %-8s %s -> %s" % (row.kind, old, new)
 
 
 def shares(counts: Sequence[int], room: int) -> List[int]:
     """Returns how many of each kind are shown in so many lines: a kind with few shows all, the others have equal shares."""
     left, given = room, [0] * len(counts)
-    order = sorted(range(len(counts)), key=lambda i: counts[i])
-    for at, i in enumerate(order):
+    for at, i in enumerate(sorted(range(len(counts)), key=lambda i: counts[i])):
         given[i] = min(counts[i], left // (len(counts) - at))
         left -= given[i]
     return given
