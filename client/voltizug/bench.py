@@ -19,7 +19,7 @@ class Edit(NamedTuple):
     reply: Reply
     changes: List[Any] = []
     is_same: bool = False
-    step: str = ""
+    step: Any = None
     aside: Optional[Tuple[str, ...]] = None
     notes: Tuple[str, ...] = ()
     pairs: Tuple[Any, ...] = ()
@@ -191,7 +191,7 @@ class Bench:
         figures, self.pairs = (*(self.pairs or found), *found) if found else (), found or self.pairs
         return edit._replace(
             changes=self.changes, is_same=former == self.changes, pairs=figures,
-            step=" ".join((step.command, *step.rest)) if step and word in ("undo", "redo") else "",
+            step=step if word in ("undo", "redo") else None,
             notes=self.notes(word, before, had_fault, done == history), aside=self.note_text(word, before, history),
         )
 
@@ -279,8 +279,12 @@ def pairs_of(*replies: Reply) -> Tuple[Any, ...]:
     return tuple(row for reply in replies for row in rows.read("families", reply.lines) if row.kind == "pairs")
 
 
-def typed_names(history: Sequence[Any]) -> Tuple[str, ...]:
-    """Returns the names of the edits that are done since the script was read."""
-    done = [row for row in history if row.kind == "done"]
+def typed_edits(history: Sequence[Any]) -> List[Any]:
+    """Returns the edits of parts that are done since the script was read."""
+    done = [row for row in history if row.kind == "done" and row.command != "limit"]
     last = max((i for i, row in enumerate(done) if row.command == "script"), default=-1)
-    return tuple(dict.fromkeys(row.rest[0] for row in done[last + 1 :] if row.command != "limit" and row.rest))
+    return done[last + 1 :]
+
+
+def typed_names(history: Sequence[Any]) -> Tuple[str, ...]:
+    return tuple(dict.fromkeys(row.rest[0] for row in typed_edits(history)))

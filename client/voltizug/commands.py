@@ -72,10 +72,10 @@ STRANGE: Sequence[Tuple[str, str]] = (
 
 def overview() -> List[str]:
     """Returns the lines of help."""
-    listed = [(group, ", ".join(command.usage for command in part if command.name not in UNLISTED)) for group, part in GROUPS.items() if group != PROGRAMS]
+    listed = [(group, [command.usage for command in part if command.name not in UNLISTED]) for group, part in GROUPS.items() if group != PROGRAMS]
     return [
         "An empty line reads the script again and shows what changed since the mark.",
-        *("%-13s %s" % pair for pair in listed),
+        *("%-13s %s" % (group, ", ".join(usages)) for group, usages in listed),
         "Keys          TAB completes, Ctrl-R searches earlier lines; Ctrl-C drops the line or the block, or breaks off what runs; Ctrl-D ends",
         "To a file     a report and > FILE, as in: classes > my.classes",
         "help COMMAND describes one; docs/REFERENCE.md describes all.",

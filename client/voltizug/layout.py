@@ -31,7 +31,7 @@ def columns(text: str) -> int:
     """Returns how many columns of a terminal a text takes."""
     if text.isascii():
         return len(text) + 7 * text.count("\t")
-    return sum(8 if c == "\t" else 0 if unicodedata.category(c) in ("Mn", "Me") else 2 if unicodedata.east_asian_width(c) in "WF" else 1 for c in text)
+    return sum(8 if c == "\t" else 0 if unicodedata.category(c) in ("Mn", "Me") else 1 + (unicodedata.east_asian_width(c) in "WF") for c in text)
 
 
 def padded(text: str, column: int) -> str:
@@ -139,12 +139,16 @@ def summary(edit: Edit) -> str:
     if edit.changes and edit.is_same:
         text += " (this edit changed none)"
     if edit.command in ("undo", "redo"):
-        step = "the whole script" if edit.step == "script" else short(edit.step)
-        text = "%s%s; %s" % ("taken back" if edit.command == "undo" else "made again", ": " + step if step else "", text)
+        text = "%s%s; %s" % ("taken back" if edit.command == "undo" else "made again", ": " + short(step_of(edit.step)) if edit.step else "", text)
     if edit.aside is not None:
         names = ", ".join(map(short, edit.aside)) or "what you typed"
         text += "; put aside: %s (undo brings %s back)" % (names, "it" if len(edit.aside) < 2 else "them")
     return text
+
+
+def step_of(row: Any) -> str:
+    """Returns the command of an edit that `history` has."""
+    return " ".join((row.command, *row.rest)) if row.rest else "the whole script"
 
 
 def percent(part: int, whole: int) -> str:

@@ -7,7 +7,7 @@ import traceback
 from typing import Any, List, Sequence, Tuple
 
 from . import commands, layout, loops, reports, rows, words
-from .bench import Bench
+from .bench import Bench, typed_edits
 from .commands import BLOCKS, COMMANDS, LANGUAGE, OPEN_BLOCKS, REPORTING, WITH_TEXT
 from .copies import Found, with_tests
 from .keys import Broken, Dropped, Hangup
@@ -45,39 +45,33 @@ class Terminal(Opening):
             line = command + " " * bool(argument) + argument
         if command != self.doubted.partition(" ")[0]:
             self.doubted = ""
+        block = self.block_of(line)
         if line == "quit":
             return not self.may_end()
         if line.startswith("#"):
             return True
-        if self.bench.is_waiting:
-            self.answer_waiting(line)
+        if self.bench.is_waiting and line in ("", "reload"):
+            self.open()
+        elif self.bench.is_waiting:
+            then = " and save it" if self.options.is_watching else ", save it, and press Enter"
+            self.screen.say("A file has a fault, so no command runs yet. Correct it there%s. quit or Ctrl-D ends." % then)
         elif len(encoded(line)) > LONGEST:
             self.screen.say(words.SENTENCES[72])
         elif line in ("", "reload", "undo", "redo") or command in ("limit", "replace") and argument:
             if line in ("", "reload"):
                 self.note_words()
             self.edit([line or "reload"])
-        else:
-            self.answer_other(line, command, argument)
-        return True
-
-    def answer_waiting(self, line: str) -> None:
-        if line in ("", "reload"):
-            self.open()
-        else:
-            then = " and save it" if self.options.is_watching else ", save it, and press Enter"
-            self.screen.say("A file has a fault, so no command runs yet. Correct it there%s. quit or Ctrl-D ends." % then)
-
-    def answer_other(self, line: str, command: str, argument: str) -> None:
-        block = self.block_of(line)
-        if block:
+        elif block:
             self.read_block(block)
+        elif command in ("save", "approve"):
+            self.write(command, argument.strip())
         elif not hasattr(self, "do_" + command):
             self.ask(line)
         elif argument and not COMMANDS[command].takes:
             self.screen.say(words.unknown(line, self.bench))
         else:
             getattr(self, "do_" + command)(argument)
+        return True
 
     def ask(self, line: str) -> None:
         """Asks for a report, or for what is done without one."""
@@ -120,7 +114,7 @@ class Terminal(Opening):
         return ["%s is added: %s" % (words.in_quotes(word, " " in word), layout.outcome(*last[:2]))]
 
     def reply_remove(self, word: str, _: Sequence[str]) -> List[str]:
-        return ["%s is removed." % short(word)]
+        return [short(word) + " is removed."]
 
     def reply_mark(self, path: str, _: Sequence[str]) -> List[str]:
         return [layout.figures(self.bench.changes) if path else "Changes are told since now."]
@@ -140,11 +134,9 @@ class Terminal(Opening):
         if not places.is_typed(name):
             return [place for place in [places.of(name)] if place] + shown
         typed: List[str] = []
-        for row in self.bench.read("history"):
-            if row.kind == "done" and row.rest[:1] == (name,):
-                typed = [*(typed if row.command == "among" else []), " ".join((row.command, *row.rest))]
-            elif row.kind == "done" and row.command == "script":
-                typed = []
+        for row in typed_edits(self.bench.read("history")):
+            if row.rest[0] == name:
+                typed = [*(typed if row.command == "among" else []), layout.step_of(row)]
         by = "typed at the prompt (%s), " % ", ".join(dict.fromkeys(typed)) if typed else ""
         return ["%snot in %s:" % (by, self.bench.script)] + shown
 
@@ -202,12 +194,6 @@ class Terminal(Opening):
                 self.screen.say("" if reply in ("", "y", "yes") else "Nothing was added: %s is no answer to this." % words.in_quotes(reply, True))
                 return
         self.ask("add " + text)
-
-    def do_save(self, path: str) -> None:
-        self.write("save", path.strip())
-
-    def do_approve(self, path: str) -> None:
-        self.write("approve", path.strip())
 
     def write(self, command: str, path: str) -> None:
         """Has the script or the stems written to a file. What is only doubtful is done if it is typed again."""
