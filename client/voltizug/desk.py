@@ -90,7 +90,9 @@ class Desk:
         self.screen.say("The %s dropped." % lines if count else "")
 
     def show_fault(self, said: Sequence[str]) -> None:
-        self.screen.write_fault(faults.shown(said, self.bench.script, read_file(self.bench.script), self.screen.size().columns))
+        # (the line of the script and its carets, which are indented, are not broken)
+        for line in faults.shown(said, self.bench.script, read_file(self.bench.script), self.screen.size().columns):
+            self.screen.write([line], is_text=line.startswith(faults.INDENT))
 
     def show_more_faults(self) -> None:
         """After a fault of a text: the others, as many as there is room for."""

@@ -2,12 +2,12 @@
 import re
 import unicodedata
 from collections import Counter
+from itertools import groupby
 from typing import Any, Dict, List, Optional, Sequence, Tuple
 
 from . import rows
 from .bench import Edit
 
-KINDS = ("added", "removed", "changed", "split", "merged", "renamed")
 COLOURS, RED = {"split": "33", "merged": "35", "renamed": "36", "added": "32", "removed": "31"}, "31"
 # Controls but for tabs, bytes that are no text, marks that turn the direction of writing, and characters of no width that end or join lines.
 HIDDEN = re.compile("[\0-\x08\n-\x1f\x7f-\x9f\ud800-\udfff\u061c\u200b\u200e\u200f\u2028-\u202e\u2060\u2066-\u2069\ufeff]")
@@ -109,8 +109,7 @@ def shares(counts: Sequence[int], room: int) -> List[int]:
 
 def changes(found: Sequence[Any], outcomes: Dict[str, rows.Outcome], room: int = 0) -> List[str]:
     """Returns the lines of changes, no more than there is room for; all without a room."""
-    kinds = rows.by_kind(found)
-    present = [kinds[kind] for kind in KINDS if kind in kinds]
+    present = [list(part) for _, part in groupby(found, key=lambda row: row.kind)]
     counts = [len(part) for part in present]
     if room and sum(counts) > room:
         counts = shares(counts, max(0, room - 1))

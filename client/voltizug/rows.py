@@ -10,7 +10,6 @@ TABLE: Dict[str, Dict[str, str]] = {
         "added": "word", "removed": "word", "changed": "word old_kind old new_kind new",
         "split": "old *new", "merged": "new *old", "renamed": "old new",
     },
-    "figures": {kind: "count" for kind in "added removed changed split merged renamed".split()},
     "events": {
         "call": "depth name", "search": "depth name k", "taken": "depth name k string", "none": "depth name k", "test": "depth name n signal",
         "put": "depth name start end text after", "return": "depth name signal", "more": "count", "stem": "stem", "refused": "name",
@@ -66,10 +65,3 @@ def classes(lines: Iterable[str]) -> List[Class]:
 
 def tokens(lines: Iterable[str]) -> List[Token]:
     return [Token(row[0], int(row[1]), int(row[2]), row[3] if len(row) > 3 else "") for row in rows_of(lines)]
-
-
-def by_kind(found: Iterable[Any]) -> Dict[str, List[Any]]:
-    kinds: Dict[str, List[Any]] = {}
-    for row in found:
-        kinds.setdefault(row.kind, []).append(row)
-    return kinds

@@ -9,25 +9,17 @@ from typing import List, Sequence
 from . import layout
 from .keys import Broken, Editor, Hangup
 
-# A terminal that does not tell its size, and the least that is taken as one.
-USUAL, LEAST = (80, 24), (12, 4)
-# How many lines are written before it is looked whether Ctrl-C came.
-PART = 200
-
+# A terminal that does not tell its size, and the least that is taken as one; how many lines are written before it is looked whether Ctrl-C came.
+USUAL, LEAST, PART = (80, 24), (12, 4), 200
 # How less is run if its own variables say nothing else: it says how one goes on and back, and writes no file for a command that is typed there.
 LESS = {"LESS": "FRXPs?ethe end, q goes back:space shows more, q goes back.$", "LESSSECURE": "1"}
 
 
-def has_colour(wish: str) -> bool:
-    """Whether lines have colours: as --color wishes, by default if nothing speaks against them."""
-    if wish != "auto":
-        return wish == "always"
-    return not os.environ.get("NO_COLOR") and os.environ.get("TERM", "dumb") != "dumb"
-
-
 class Screen:
     def __init__(self, editor: Editor, color: str, has_pager: bool):
-        self.editor, self.has_colour, self.has_pager = editor, has_colour(color), has_pager
+        self.editor, self.is_dumb = editor, os.environ.get("TERM", "dumb") == "dumb"
+        self.has_colour = color == "always" or color == "auto" and not os.environ.get("NO_COLOR") and not self.is_dumb
+        self.has_pager = has_pager and not self.is_dumb and os.environ.get("PAGER") != "cat"
 
     def size(self) -> os.terminal_size:
         try:
@@ -61,19 +53,11 @@ class Screen:
     def say(self, *sentences: str) -> None:
         self.write([sentence for sentence in sentences if sentence])
 
-    def write_fault(self, lines: Sequence[str]) -> None:
-        """Writes the lines on a fault: that of the script and its carets, which are indented, are not broken."""
-        for line in lines:
-            self.write([line], is_text=line.startswith("    "))
-
     def page(self, lines: Sequence[str]) -> bool:
         """Has the pager show lines; returns whether there is one."""
-        pager = os.environ.get("PAGER") or "less"
-        if os.environ.get("TERM", "dumb") == "dumb" or pager == "cat":
-            return False
         with self.editor.lent():
             try:
-                process = subprocess.Popen(shlex.split(pager), stdin=subprocess.PIPE, env={**LESS, **os.environ})
+                process = subprocess.Popen(shlex.split(os.environ.get("PAGER") or "less"), stdin=subprocess.PIPE, env={**LESS, **os.environ})
             except (OSError, ValueError):
                 return False
             with contextlib.suppress(BrokenPipeError):

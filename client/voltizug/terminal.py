@@ -16,7 +16,7 @@ from .layout import in_words, short
 from .lints import lints
 from .opening import Opening
 from .options import Misuse, options_of
-from .places import BOM
+from .places import BOM, readable
 from .program import DONE, LONGEST, encoded
 from .screen import to_file
 from .warn import warnings_on
@@ -125,7 +125,7 @@ class Terminal(Opening):
         return layout.changes(found, self.outcomes(found)) + [all_of]
 
     def reply_script(self, *_: object) -> List[str]:
-        return self.bench.program.now.text.removeprefix(BOM).decode("utf-8", "surrogateescape").replace("\r\n", "\n").rstrip("\n").split("\n")
+        return readable(self.bench.program.now.text).rstrip("\n").split("\n")
 
     def reply_show(self, name: str, lines: List[str]) -> List[str]:
         """The lines of a definition as its author wrote it, and before them where it is."""

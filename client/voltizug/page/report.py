@@ -11,6 +11,7 @@ import shutil
 import subprocess
 import sys
 import tempfile
+from itertools import groupby
 from typing import Any, Dict, List, NamedTuple, Sequence, Tuple
 
 from .. import rows
@@ -76,7 +77,8 @@ def compared(program: str, external: Sequence[str], paths: Sequence[str], names:
         old.stop()
         new.stop()
     words, differing = map(int, found[-1][1:])
-    return Comparison(figures[0], figures[1], parts, rows.by_kind(rows.read("changes", lines)), words, differing)
+    changes = {kind: list(part) for kind, part in groupby(rows.read("changes", lines), key=lambda row: row.kind)}
+    return Comparison(figures[0], figures[1], parts, changes, words, differing)
 
 
 def with_names(line: str, paths: Sequence[str], names: Sequence[str]) -> str:
