@@ -7,7 +7,7 @@ from typing import Any, Callable, Dict, List, NamedTuple, Optional, Sequence, Se
 from . import rows
 from .kept import FileState, Kept, is_same, read_file, state_of
 from .places import LARGEST, Places
-from .program import BROKEN, DONE, ENDED, LONGEST, USUAL_LIMIT, Moment, Program, Reply, encoded
+from .program import BROKEN, DONE, ENDED, USUAL_LIMIT, Moment, Program, Reply
 
 
 
@@ -103,8 +103,6 @@ class Bench:
     # Asking
 
     def ask(self, line: str) -> Reply:
-        if len(encoded(line)) > LONGEST:
-            return Reply(DONE, ["no 72 LineTooLong"], [])
         reply = self.settled(self.program.ask([line]))
         if reply.state == ENDED:
             # (somebody killed the program, and it is there again)
@@ -119,11 +117,8 @@ class Bench:
         if word in ("add", "remove"):
             program.now = program.now._replace(words=(*program.now.words, line))
             self.added = [*self.added, argument] if word == "add" else [other for other in self.added if other != argument]
-        elif word == "words":
-            program.now = program.now._replace(words=())
-            self.look(self.words or "")
-            self.added = []
-        elif word == "append":
+        elif word in ("words", "append"):
+            program.now = program.now._replace(words=() if word == "words" else program.now.words)
             self.look(self.words or "")
             self.added = []
         elif word == "mark":
@@ -134,15 +129,14 @@ class Bench:
         if word in ("add", "remove", "words", "append"):
             self.kept.note("added", self.added)
 
-    def known(self, *lines: str) -> List[Optional[List[str]]]:
-        """Asks reports: returns the lines of each, or nothing if it is refused. If it is broken off meanwhile, the program begins again."""
-        replies = self.program.ask_each([[line] for line in lines])
-        self.settled(replies[-1])
-        return [reply.lines if reply.is_done else None for reply in replies]
+    def known(self, line: str) -> Optional[List[str]]:
+        """Asks for a report: returns its lines, or nothing if it is refused. If it is broken off meanwhile, the program begins again."""
+        reply = self.settled(self.program.ask([line]))
+        return reply.lines if reply.is_done else None
 
     def read(self, line: str) -> List[Any]:
         """Returns the rows of a report; none if it is refused."""
-        return rows.read(line.partition(" ")[0], self.known(line)[0] or [])
+        return rows.read(line.partition(" ")[0], self.known(line) or [])
 
     def settled(self, reply: Reply) -> Reply:
         """After a program that is gone: begins it again. The state of the reply stays; it is `lost` if that fails."""
@@ -156,8 +150,6 @@ class Bench:
     def edit(self, lines: Sequence[str]) -> Edit:
         """Makes an edit of the script or the limit, and asks what differs from the mark."""
         word, had_fault = lines[0].partition(" ")[0], self.refused_text is not None
-        if any(len(encoded(line)) > LONGEST for line in lines):
-            return Edit(word, Reply(DONE, ["no 72 LineTooLong"], []))
         if word == "reload":
             self.look(self.script)
             read, lines = read_file(self.script), [self.program.reload]
@@ -231,17 +223,13 @@ class Bench:
 
     def may_write(self, word: str, path: str) -> str:
         """Returns a key of words.MAY_NOT if `save` or `approve` should not write to a file, or only if it is asked for again (with a ?)."""
-        if self.words and is_same(path, self.words):
-            return "words"
-        if is_same(path, self.script):
-            if word == "approve":
-                return "script"
-            if self.refused_text is not None and self.refused_text == read_file(self.script):
-                return "refused?"
-            return "changed" if self.script in self.saved() else "undone?" if self.is_older else ""
-        if not os.path.isfile(path):
-            return ""
-        return "there" if os.path.realpath(path) not in self.written else "others" if state_of(path) != self.written[os.path.realpath(path)] else ""
+        is_script, name = is_same(path, self.script), os.path.realpath(path)
+        is_refused = self.refused_text is not None and self.refused_text == read_file(self.script)
+        return next((key for is_so, key in (
+            (is_same(path, self.words), "words"), (is_script and word == "approve", "script"), (is_script and is_refused, "refused?"),
+            (is_script and self.script in self.saved(), "changed"), (is_script and self.is_older, "undone?"), (is_script or not os.path.isfile(path), ""),
+            (name not in self.written, "there"), (self.written.get(name) != state_of(path), "others"),
+        ) if is_so), "")
 
     def write(self, word: str, path: str) -> Reply:
         """Has the program write the script (`save`) or the stems (`approve`) to a file."""
@@ -249,13 +237,12 @@ class Bench:
         reply = self.ask("%s %s" % (word, self.script if is_own else path))
         if reply.is_done:
             self.written[os.path.realpath(path)] = state_of(path)
-        if reply.is_done and is_own:
-            self.look(self.script)
-            self.refused_text = None
-            if word == "save" and self.file_text not in (None, self.program.now.text):
-                self.replaced[hash(self.program.now.text)] = self.file_text or b""
-            self.note_file()
-        if reply.is_done and word == "save":
+            if is_own:
+                self.look(self.script)
+                self.refused_text = None
+                if self.file_text not in (None, self.program.now.text):
+                    self.replaced[hash(self.program.now.text)] = self.file_text or b""
+                self.note_file()
             self.keep()
         return reply
 
@@ -265,13 +252,13 @@ class Bench:
         """Returns where everything is in the current text, and in SCRIPT."""
         text, known = self.program.now.text, self.known_places
         if known is None or known.text is not text or known.file_text != self.file_text:
-            tokens = self.known("tokens")[0] if len(text) <= LARGEST else None
+            tokens = self.known("tokens") if len(text) <= LARGEST else None
             known = self.known_places = Places(self.script, text, self.file_text, self.read("places"), rows.tokens(tokens or []))
         known.note = ", as it was read" if self.script in self.saved() else ""
         return known
 
     def outcomes(self) -> List[rows.Outcome]:
-        return rows.outcomes(self.known("stems")[0] or [])
+        return rows.outcomes(self.known("stems") or [])
 
 
 def pairs_of(*replies: Reply) -> Tuple[Any, ...]:

@@ -113,6 +113,8 @@ class Program:
         A deaf one is not broken off."""
         if self.process is None or self.is_busy or not requests:
             return [Reply(ENDED if self.process is None else LATE, [], [])] * len(requests)
+        if any(len(encoded(line)) > LONGEST for lines in requests for line in lines):
+            return [Reply(DONE, ["no 72 LineTooLong"], [])] * len(requests)
         sent, self.is_busy = "".join("%s\n" % line for lines in requests for line in [*lines, "echo " + self.mark]), True
         take(self.bell[0], bytearray())
         try:

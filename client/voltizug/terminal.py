@@ -14,7 +14,7 @@ from .keys import Broken, Dropped, Hangup
 from .kept import Kept, home, read_file
 from .layout import in_words, short
 from .lints import lints
-from .opening import Opening
+from .desk import Desk
 from .options import Misuse, options_of
 from .places import BOM, readable
 from .program import DONE, LONGEST, encoded
@@ -28,7 +28,7 @@ USAGE = "usage: ./snowbench work [--watch] [--rows | --text] [--color WHEN] [--n
 ASKED, TEXTS = {"largest": "largest 10"}, ("script", "show", "echo", "events")
 
 
-class Terminal(Opening):
+class Terminal(Desk):
     """The commands: do_NAME has what follows the command, if it is more than a request."""
 
     # A command that was doubted, and is done if it is typed again.
@@ -110,7 +110,7 @@ class Terminal(Opening):
         if word != word.strip():
             at = "beginning" if word != word.lstrip() else "end"
             return ['The word that was added is "%s", with a blank at its %s. "remove %s" takes it out.' % (short(word), at, short(word))]
-        last = rows.rows_of((self.bench.known("why " + word)[0] or ["stem,"])[-1:])[0]
+        last = rows.rows_of((self.bench.known("why " + word) or ["stem,"])[-1:])[0]
         return ["%s is added: %s" % (words.in_quotes(word, " " in word), layout.outcome(*last[:2]))]
 
     def reply_remove(self, word: str, _: Sequence[str]) -> List[str]:
@@ -214,7 +214,7 @@ class Terminal(Opening):
 
     def comments(self, path: str) -> int:
         """Returns how many comments a script has."""
-        lines = self.bench.known("tokens " + path)[0] if os.path.isfile(path) else None
+        lines = self.bench.known("tokens " + path) if os.path.isfile(path) else None
         return sum(token.kind == "comment" for token in rows.tokens(lines or []))
 
     def do_append(self, path: str) -> None:

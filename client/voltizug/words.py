@@ -109,7 +109,7 @@ def absent(line: str, bench: Bench) -> str:
 
 def misspelt(word: str, bench: Bench) -> str:
     """Returns the question on a word that is not in the vocabulary, but near one that is; otherwise nothing."""
-    is_there = not bench.size or bench.known("class " + word)[0] is not None
+    is_there = not bench.size or bench.known("class " + word) is not None
     question = "" if is_there else meant(word, [row.word for row in bench.outcomes()])
     return "%s is not in the vocabulary.%s" % (in_quotes(word), question) if question else ""
 
