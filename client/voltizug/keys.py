@@ -56,13 +56,6 @@ class Library:
         self.clear_line()
         self.libc.fflush(None)
 
-    def has_line(self) -> bool:
-        """Whether readline still waits for the end of a line: a signal may be heard only after Enter."""
-        return self.is_whole and bool(self.state.value & CALLBACK)
-
-    def is_vi(self) -> bool:
-        return self.is_whole and self.mode.value == 0
-
     def draw(self) -> None:
         """Draws the line again, below what is on the screen."""
         sys.stdout.flush()
@@ -70,20 +63,16 @@ class Library:
         self.redisplay()
 
 
-def set_keys(settings: List[Any]) -> bool:
-    """Has the terminal take these settings. Returns false if it is gone. (A signal may break the call off, and Python does not try it again.)"""
+def set_keys(settings: List[Any], is_needed: bool = False) -> None:
+    """Has the terminal take these settings, if it is there. (A signal may break the call off, and Python does not try it again.)"""
     while True:
         try:
-            termios.tcsetattr(0, termios.TCSANOW, settings)
-            return True
+            return termios.tcsetattr(0, termios.TCSANOW, settings)
         except termios.error as why:
             if why.args[0] != errno.EINTR:
-                return False
-
-
-def need_keys(settings: List[Any]) -> None:
-    if not set_keys(settings):
-        raise Hangup
+                if is_needed:
+                    raise Hangup from None
+                return None
 
 
 def with_interrupt(settings: List[Any], character: bytes) -> List[Any]:
@@ -121,7 +110,7 @@ class Editor:
         os.set_blocking(bell, False)
         signal.set_wakeup_fd(bell, warn_on_full_buffer=False)
         threading.Thread(target=self.ring, args=(heard,), daemon=True).start()
-        need_keys(self.quiet)
+        set_keys(self.quiet, is_needed=True)
         self.open_history()
 
     def end(self) -> None:
@@ -176,7 +165,9 @@ class Editor:
     def hear_ring(self, *_: object) -> None:
         if self.is_ended:
             raise Hangup
-        if not self.is_waiting or self.is_above or not self.library.has_line() or not (self.saved and self.saved()):
+        # (it may be heard only after Enter, and then readline has no line)
+        has_line = self.is_waiting and self.library.is_whole and self.library.state.value & CALLBACK
+        if not has_line or self.is_above or not (self.saved and self.saved()):
             return
         self.is_above, self.is_waiting = True, False
         now = termios.tcgetattr(0)
@@ -198,7 +189,7 @@ class Editor:
             print(prompt + self.pending[0], flush=True)
             return self.pending.popleft()
         sys.stdout.flush()
-        need_keys(self.typing)
+        set_keys(self.typing, is_needed=True)
         try:
             self.is_waiting = True
             text = input(prompt)
@@ -207,7 +198,7 @@ class Editor:
             raise why.__cause__ if isinstance(why.__cause__, Hangup) else why
         except EOFError:
             # (a terminal that is gone ends its input, too)
-            need_keys(self.typing)
+            set_keys(self.typing, is_needed=True)
             print(flush=True)
             return None
         finally:
@@ -254,8 +245,8 @@ class Editor:
 
     # History and TAB
 
-    def remember(self, line: str) -> None:
-        if line.strip() and "\n" not in line:
+    def remember(self, *lines: str) -> None:
+        for line in (line for line in lines if line.strip() and "\n" not in line):
             try:
                 readline.add_history(line)
             except UnicodeError:
@@ -279,7 +270,8 @@ class Editor:
             readline.parse_and_bind(binding)
         # Ctrl-C is a key that ends the line with a character of its own. (The last keymap is in force.)
         keymaps = [("vi-command", "A"), ("vi-insert", r"\eA"), ("emacs", r"\C-e")]
-        for keymap, to_end in keymaps if not self.library.is_vi() else [keymaps[0], keymaps[2], keymaps[1]]:
+        is_vi = self.library.is_whole and self.library.mode.value == 0
+        for keymap, to_end in [keymaps[0], keymaps[2], keymaps[1]] if is_vi else keymaps:
             readline.parse_and_bind("set keymap " + keymap)
             readline.parse_and_bind(r'"\C-c": "%s\C-v\C-c\C-m"' % to_end)
 

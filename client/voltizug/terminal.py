@@ -93,16 +93,13 @@ class Terminal(Desk):
             self.screen.write(shown, is_report=command in REPORTING, is_text=command in TEXTS)
 
     def laid_out(self, command: str, argument: str, lines: List[str]) -> List[str]:
-        own = getattr(self, "reply_" + command, None)
-        if own:
-            return own(argument, lines)
-        if lines == ["ok"]:
-            return []
+        if hasattr(self, "reply_" + command):
+            return getattr(self, "reply_" + command)(argument, lines)
         if not lines and command in reports.EMPTY:
             return [reports.EMPTY[command]]
         if command in reports.PLACED:
             return reports.PLACED[command](lines, self.bench.places())
-        return reports.REPORTS[command](lines) if command in reports.REPORTS else lines
+        return reports.REPORTS[command](lines) if command in reports.REPORTS else lines * (lines != ["ok"])
 
     # Replies that are shown with more than their rows
 
@@ -169,12 +166,8 @@ class Terminal(Desk):
     # Commands that are more than a request
 
     def do_help(self, name: str) -> None:
-        if name in COMMANDS:
-            self.screen.say(("%s: %s. %s" % COMMANDS[name]).rstrip())
-        elif name:
-            self.screen.say(words.unknown(name, self.bench))
-        else:
-            self.screen.write(commands.overview())
+        known = ("%s: %s. %s" % COMMANDS[name]).rstrip() if name in COMMANDS else ""
+        self.screen.say(*([known or words.unknown(name, self.bench)] if name else commands.overview()))
 
     def do_limit(self, _: str) -> None:
         self.screen.say("Each run may use {:,} steps. limit N sets another number.".format(int(self.bench.program.now.limit)))
@@ -276,7 +269,7 @@ class Terminal(Desk):
         try:
             is_whole = self.read_lines(block)
         except Dropped:
-            self.keep_lines(block)
+            self.editor.remember(*block[1:])
             self.screen.say("The block is dropped%s." % ("; the up arrow brings its lines back" if len(block) > 1 else ""))
             return
         finally:
@@ -288,7 +281,7 @@ class Terminal(Desk):
             if self.is_done(reply, "families"):
                 self.screen.write(reports.families(reply.lines), is_report=True)
         elif not self.edit([*block, "."]):
-            self.keep_lines([*block, "."])
+            self.editor.remember(*block[1:], ".")
 
     def read_lines(self, block: List[str]) -> bool:
         """Reads the lines of a block. Returns whether its point came."""
@@ -302,14 +295,9 @@ class Terminal(Desk):
 
     def is_command(self, line: str, block: str) -> bool:
         """Whether a line of a block is meant as a command, by its first word. (A family may have any word.)"""
-        word = line.split()[0] if line.strip() else ""
-        if line.strip() in ("quit", "exit", "help", "?"):
-            return True
-        return block != "families" and word in COMMANDS and word not in LANGUAGE and not self.bench.places().kind(word)
-
-    def keep_lines(self, block: Sequence[str]) -> None:
-        for line in block[1:]:
-            self.editor.remember(line)
+        word, is_family = [*line.split(), ""][0], block == "families"
+        is_meant = word in COMMANDS and word not in LANGUAGE and not is_family and not self.bench.places().kind(word)
+        return is_meant or line.strip() in ("quit", "exit", "help", "?")
 
     # Running
 
@@ -323,8 +311,8 @@ class Terminal(Desk):
             doubts.append("The edits that you typed are in no file: save FILE keeps them, quit again drops them.")
         elif aside:
             doubts.append("A reload has put aside what you typed (%s), and no file has it: undo goes back to it, quit again drops it." % aside)
-        there = set((read_file(bench.words) or b"").decode("utf-8", "surrogateescape").splitlines()) if bench.added else set()
-        added = [word for word in bench.added if word not in there]
+        there = set((read_file(bench.words) or b"").splitlines()) if bench.added else set()
+        added = [word for word in bench.added if encoded(word) not in there]
         if added:
             what, it = ("word that you added is", "it") if len(added) == 1 else ("words that you added are", "them")
             to = "append puts %s into %s" % (it, short(bench.words)) if bench.words else "append FILE writes %s" % it
