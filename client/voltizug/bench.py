@@ -10,7 +10,6 @@ from .places import LARGEST, Places
 from .program import BROKEN, DONE, ENDED, USUAL_LIMIT, Moment, Program, Reply
 
 
-
 class Edit(NamedTuple):
     """What an edit did. `step` is what undo took back or redo made again; `aside` are the names of the typed edits that a reload put aside, or
     nothing; `notes` are keys of words.NOTES; `pairs` are the figures of the families before and now."""
@@ -31,26 +30,18 @@ class Bench:
     def __init__(self, command: Sequence[str], script: str, words: Optional[str], kept: Kept):
         self.script, self.words, self.kept = script, words, kept
         self.program = Program(command, script, words, kept.room)
-        self.is_waiting = True
+        self.is_waiting, self.size = True, 0
         self.on_restart: Callable[[Reply], None] = lambda reply: None
         # (called after an edit was accepted, and before it is asked what that changed)
         self.on_accepted: Callable[[], None] = lambda: None
         # The states of the files when they were read, and of those that were written here.
-        self.seen: Dict[str, FileState] = {}
-        self.written: Dict[str, FileState] = {}
-        # The text that SCRIPT had when it was read or written; the bytes of one that was refused; the texts that were read, by their hashes;
-        # whether undo took back what SCRIPT has.
-        self.file_text: Optional[bytes] = None
-        self.refused_text: Optional[bytes] = None
-        self.read_texts: Set[int] = set()
-        self.is_older = False
-        # By the hash of a text that was saved to SCRIPT, what SCRIPT had before.
-        self.replaced: Dict[int, bytes] = {}
-        # The texts that reload put aside, with the names of their edits; the words that were added.
-        self.aside: List[Tuple[bytes, Tuple[str, ...]]] = []
-        self.added: List[str] = []
-        self.changes: List[Any] = []
-        self.size = 0
+        self.seen, self.written = {}, {}  # type: Dict[str, FileState], Dict[str, FileState]
+        # The text that SCRIPT had when it was read or written; the bytes of one that was refused; whether undo took back what SCRIPT has.
+        self.file_text, self.refused_text, self.is_older = None, None, False  # type: Optional[bytes], Optional[bytes], bool
+        # The texts that were read, by their hashes; by the hash of a text that was saved to SCRIPT, what SCRIPT had before.
+        self.read_texts, self.replaced = set(), {}  # type: Set[int], Dict[int, bytes]
+        # The texts that reload put aside, with the names of their edits; the words that were added; what differs from the mark.
+        self.aside, self.added, self.changes = [], [], []  # type: List[Tuple[bytes, Tuple[str, ...]]], List[str], List[Any]
         self.families, self.pairs = "", ()  # type: str, Tuple[Any, ...]
         self.known_places: Optional[Places] = None
 
@@ -170,11 +161,10 @@ class Bench:
         if text is None:
             return edit._replace(reply=self.settled(Reply(program.state if program.state != DONE else BROKEN, [], [])))
         done = rows.read("history", steps.lines)
-        kind = "undone" if word == "undo" else "done"
-        step = ([row for row in done if row.kind == kind] or [None])[0 if word == "undo" else -1]
-        limits = [row.rest[0] for row in done if row.kind == "done" and row.command == "limit"]
-        is_of_limit = step and step.command == "limit"
-        program.now = before._replace(text=text, limit=(limits or [USUAL_LIMIT])[-1] if is_of_limit else before.limit)
+        kind, at = ("undone", 0) if word == "undo" else ("done", -1)
+        step = ([row for row in done if row.kind == kind] or [None])[at]
+        limits = [USUAL_LIMIT, *(row.rest[0] for row in done if row.kind == "done" and row.command == "limit")]
+        program.now = before._replace(text=text, limit=limits[-1] if step and step.command == "limit" else before.limit)
         if word == "replace" and " " in command and not command.startswith("replace " + self.kept.folder):
             # (another file has this text)
             self.read_texts.add(hash(text))
@@ -227,8 +217,8 @@ class Bench:
         is_refused = self.refused_text is not None and self.refused_text == read_file(self.script)
         return next((key for is_so, key in (
             (is_same(path, self.words), "words"), (is_script and word == "approve", "script"), (is_script and is_refused, "refused?"),
-            (is_script and self.script in self.saved(), "changed"), (is_script and self.is_older, "undone?"), (is_script or not os.path.isfile(path), ""),
-            (name not in self.written, "there"), (self.written.get(name) != state_of(path), "others"),
+            (is_script and self.script in self.saved(), "changed"), (is_script and self.is_older, "undone?"),
+            (is_script or not os.path.isfile(path), ""), (name not in self.written, "there"), (self.written.get(name) != state_of(path), "others"),
         ) if is_so), "")
 
     def write(self, word: str, path: str) -> Reply:

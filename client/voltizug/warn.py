@@ -29,7 +29,10 @@ DECOMPOSED: Kind = (
 LONG_LINE: Kind = (is_overlong, "more than 65,536 bytes", ". run, check, filter and session refuse such a line (72 LineTooLong). Break it")
 LONG_WORD: Kind = (is_overlong, "more than 65,536 bytes, which no line may have", ". Write one word on each line")
 OF_WORDS: Sequence[Kind] = (
-    (has(r"^[^\S\n]|[^\S\n]$"), "a blank at an end of the word, which belongs to it", ". To take them away: sed -i 's/^[ \\t]*//; s/[ \\t]*$//' {file}"),
+    (
+        has(r"^[^\S\n]|[^\S\n]$"), "a blank at an end of the word, which belongs to it",
+        ". To take them away: sed -i 's/^[ \\t]*//; s/[ \\t]*$//' {file}",
+    ),
     (lambda text: " " in text.strip(), "a blank inside the word, which belongs to it", ". A line is one word"),
     (lambda text: "\t" in text.strip(), "a tab inside the word, which belongs to it", ". If this is a table: cut -f1 {file} > NEW"),
     (has(r"^\.$"), "a single point. In a session it ends the list; here it is a word", ""),
