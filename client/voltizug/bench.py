@@ -12,7 +12,7 @@ from .program import BROKEN, DONE, ENDED, USUAL_LIMIT, Moment, Program, Reply
 
 class Edit(NamedTuple):
     """What an edit did. `step` is what undo took back or redo made again; `aside` are the names of the typed edits that a reload put aside, or
-    nothing; `notes` are keys of words.NOTES; `pairs` are the figures of the families before and now."""
+    nothing; `note` is a key of words.NOTES; `pairs` are the figures of the families before and now."""
 
     command: str
     reply: Reply
@@ -20,7 +20,7 @@ class Edit(NamedTuple):
     is_same: bool = False
     step: Any = None
     aside: Optional[Tuple[str, ...]] = None
-    notes: Tuple[str, ...] = ()
+    note: str = ""
     pairs: Tuple[Any, ...] = ()
 
 
@@ -174,17 +174,17 @@ class Bench:
         return edit._replace(
             changes=self.changes, is_same=former == self.changes, pairs=figures,
             step=step if word in ("undo", "redo") else None,
-            notes=self.notes(word, before, had_fault, done == history), aside=self.note_text(word, before, history),
+            note=self.note_on(word, before, had_fault, done == history), aside=self.note_text(word, before, history),
         )
 
-    def notes(self, word: str, before: Moment, had_fault: bool, is_not_held: bool) -> Tuple[str, ...]:
-        """Returns keys of what is to be said of an accepted edit beside its changes. It is asked before the texts are noted."""
+    def note_on(self, word: str, before: Moment, had_fault: bool, is_not_held: bool) -> str:
+        """Returns the key of what is to be said of an accepted edit beside its changes. It is asked before the texts are noted."""
         now = self.program.now
         if word == "reload" and before.text == now.text:
-            return ("fault gone" if had_fault else "unchanged" if self.file_text == now.text else "same",)
+            return "fault gone" if had_fault else "unchanged" if self.file_text == now.text else "same"
         if word == "undo" and before.text == self.file_text != now.text:
-            return ("undone in file",)
-        return ("in force",) if word not in ("undo", "redo", "reload") and (is_not_held or before == now) else ()
+            return "undone in file"
+        return "in force" if word not in ("undo", "redo", "reload") and (is_not_held or before == now) else ""
 
     def note_text(self, word: str, before: Moment, history: Sequence[Any]) -> Optional[Tuple[str, ...]]:
         """Notes which texts files have. Returns the names of the typed edits that a reload put aside."""

@@ -39,6 +39,8 @@ LISTED = [command for group, part in GROUPS.items() if group != PROGRAMS for com
 COMMANDS: Dict[str, Command] = {command.name: command for command in sorted(reversed(LISTED), key=lambda command: command.name)}
 # A block follows one of these and its name; and one of these alone.
 BLOCKS, OPEN_BLOCKS = ("routine", "among", "grouping"), ("families", "replace")
+# By a command what it names of a script.
+NAMED = {"routine": ["routine"], "among": ["routine"], "grouping": ["grouping"], "show": ["routine", "grouping"], "uses": ["routine", "grouping"]}
 # Of the commands' words these are the language's, too.
 LANGUAGE = ("among", "integers", "limit")
 # A blank at the end of these may belong to a word.

@@ -5,10 +5,7 @@ from typing import Iterable, List
 
 from . import rows
 from .bench import Bench
-from .commands import COMMANDS
-
-# By the command what it names of a script.
-KINDS = {"routine": ("routine",), "among": ("routine",), "grouping": ("grouping",), "show": ("routine", "grouping"), "uses": ("routine", "grouping")}
+from .commands import COMMANDS, NAMED
 
 
 class Completion:
@@ -36,8 +33,8 @@ class Completion:
             return places.definitions
         if command in COMMANDS and COMMANDS[command].takes in ("WORD", "STEM") and command != "add":
             return self.words(rest, command == "stem")
-        if command in KINDS and len(words) == 1:
-            return [name + " " * (has_among and places.count(name) > 0) for name in places.of_kind(*KINDS[command])]
+        if command in NAMED and len(words) == 1:
+            return [name + " " * (has_among and places.count(name) > 0) for name in places.of_kind(*NAMED[command])]
         if has_among and len(words) == 2:
             return map(str, range(1, places.count(words[0]) + 1))
         is_string = command == "uses" and len(words) == 3

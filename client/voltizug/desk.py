@@ -4,17 +4,14 @@ the start, `work` waits until its author has corrected it.
 import os
 from typing import Any, Dict, List, Optional, Sequence
 
-from . import faults, layout, loops, rows, words
+from . import faults, kept, layout, lints, loops, rows, warn, words
 from .bench import Bench
 from .completion import Completion
 from .keys import Editor, Hangup
-from .kept import read_file
 from .layout import counted, in_words, short
-from .lints import lints
 from .options import Options
 from .program import BROKEN, DONE, ENDED, ROWS, Reply
 from .screen import Screen
-from .warn import warnings_on
 
 # After so many lines, one after another, that are no command and came faster than one types, the rest is dropped.
 NONSENSE = 5
@@ -54,7 +51,7 @@ class Desk:
     def open(self) -> bool:
         """Has the files read, and shows figures; if one has a fault, shows it. Returns whether `work` goes on: it is open, or waits."""
         bench, before = self.bench, self.files
-        self.files = [read_file(path) for path in self.paths]
+        self.files = [kept.read_file(path) for path in self.paths]
         is_warned = not self.looks_swapped() and self.warn(bench.words)
         reply = bench.open()
         if reply.is_done and bench.program.rows != ROWS:
@@ -95,7 +92,7 @@ class Desk:
     def show_figures(self, reply: Reply) -> None:
         """Shows figures, and what to do if there are no words or some are refused; also that typed edits were left behind."""
         bench, say, figures = self.bench, self.screen.say, {row.kind: int(row.count) for row in rows.read("stats", reply.lines)}
-        say(*self.new_lines(lints(bench)))
+        say(*self.new_lines(lints.lints(bench)))
         refused = [row for row in bench.outcomes() if row.kind == "refused"] if figures["refused"] else []
         for row in refused[:1]:
             first = "The first refused word is %s (%s)." % (words.in_quotes(row.word), row.stem)
@@ -198,7 +195,7 @@ class Desk:
 
     def show_fault(self, said: Sequence[str]) -> None:
         # (the line of the script and its carets, which are indented, are not broken)
-        for line in faults.shown(said, self.bench.script, read_file(self.bench.script), self.screen.size().columns):
+        for line in faults.shown(said, self.bench.script, kept.read_file(self.bench.script), self.screen.size().columns):
             self.screen.write([line], is_text=line.startswith(faults.INDENT))
 
     def new_lines(self, lines: Sequence[str]) -> List[str]:
@@ -209,7 +206,7 @@ class Desk:
 
     def warn(self, path: Optional[str] = None) -> bool:
         """Gives the warnings on the script, and on a list of words. Returns whether there is one."""
-        found = self.new_lines(warnings_on(self.bench.script, path))
+        found = self.new_lines(warn.warnings_on(self.bench.script, path))
         self.screen.write(found, is_text=True)
         return bool(found)
 
@@ -228,9 +225,9 @@ class Desk:
         if is_reload:
             self.warn()
         refused = [row.word for row in edit.changes if row.kind == "changed" and row.new_kind == "refused" and row.new in ("Steps", "Depth")]
-        tail = [*(self.new_lines(lints(self.bench)) if is_reload else []), self.turning(refused[0]) if refused and not edit.is_same else ""]
-        tail += [words.NOTES[note].format(script=short(self.bench.script)) for note in edit.notes]
-        last = self.screen.broken([line for line in [*tail, layout.families_line(edit.pairs), layout.summary(edit)] if line])
+        tail = [*(self.new_lines(lints.lints(self.bench)) if is_reload else []), self.turning(refused[0]) if refused and not edit.is_same else ""]
+        note = words.NOTES.get(edit.note, "").format(script=short(self.bench.script))
+        last = self.screen.broken([line for line in [*tail, note, layout.families_line(edit.pairs), layout.summary(edit)] if line])
         size = self.screen.size()
         room = max(1, size.lines - len(last) - 1 - self.editor.rows_typed(size.columns))
         found = layout.changes(edit.changes, self.outcomes(edit.changes), room)

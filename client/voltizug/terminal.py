@@ -6,20 +6,14 @@ import sys
 import traceback
 from typing import Any, List, Sequence, Tuple
 
-from . import commands, layout, loops, reports, rows, words
+from . import commands, copies, kept, layout, lints, loops, options, reports, rows, screen, warn, words
 from .bench import Bench, typed_edits
 from .commands import BLOCKS, COMMANDS, LANGUAGE, OPEN_BLOCKS, REPORTING, WITH_TEXT
-from .copies import Found, with_tests
 from .keys import Broken, Dropped, Hangup
-from .kept import Kept, home, read_file
 from .layout import in_words, short
-from .lints import lints
 from .desk import Desk
-from .options import Misuse, options_of
 from .places import BOM, readable
 from .program import DONE, LONGEST, encoded
-from .screen import to_file
-from .warn import warnings_on
 
 DEFINITION = re.compile(r"\s*define\s+([A-Za-z][A-Za-z0-9_]*)\s+(as(?=\s|$))?")
 TO_FILE = re.compile(r"(.*\S)\s+>\s*(\S+)\s*\Z")
@@ -88,7 +82,7 @@ class Terminal(Desk):
         self.nonsense = 0
         shown = self.laid_out(command, argument, reply.lines)
         if path:
-            self.screen.say(to_file(os.path.expanduser(path), shown))
+            self.screen.say(screen.to_file(os.path.expanduser(path), shown))
         else:
             self.screen.write(shown, is_report=command in REPORTING, is_text=command in TEXTS)
 
@@ -138,7 +132,7 @@ class Terminal(Desk):
         return ["%snot in %s:" % (by, self.bench.script)] + shown
 
     def reply_families(self, path: str, lines: Sequence[str]) -> List[str]:
-        mark = ["%s begins with a byte order mark, which is part of its first word." % short(path)] * (read_file(path) or b"").startswith(BOM)
+        mark = ["%s begins with a byte order mark, which is part of its first word." % short(path)] * (kept.read_file(path) or b"").startswith(BOM)
         return mark + reports.families(lines)
 
     def reply_why(self, word: str, lines: Sequence[str]) -> List[str]:
@@ -153,13 +147,13 @@ class Terminal(Desk):
         unknown = ["The tests of this run cannot be shown: it is too long, or near a limit."]
         return reports.tests(found, self.bench.places()) if found.is_known else unknown
 
-    def run_of(self, word: str, lines: Sequence[str]) -> Tuple[List[Any], Found]:
+    def run_of(self, word: str, lines: Sequence[str]) -> Tuple[List[Any], copies.Found]:
         """Returns the figures of the run of a word, and its events, from their lines, with its tests."""
         figures, places = self.bench.read("integers " + word), self.bench.places()
         # (the program is not asked meanwhile)
         self.editor.is_breakable = True
         try:
-            return figures, with_tests(self.bench.program, places, word, rows.read("events", lines), figures)
+            return figures, copies.with_tests(self.bench.program, places, word, rows.read("events", lines), figures)
         finally:
             self.editor.is_breakable = False
 
@@ -173,7 +167,7 @@ class Terminal(Desk):
         self.screen.say("Each run may use {:,} steps. limit N sets another number.".format(int(self.bench.program.now.limit)))
 
     def do_lint(self, _: str) -> None:
-        found = [*warnings_on(self.bench.script, self.bench.words), *lints(self.bench, has_all=True)]
+        found = [*warn.warnings_on(self.bench.script, self.bench.words), *lints.lints(self.bench, has_all=True)]
         self.screen.write(found or ["nothing was found"], is_report=True)
 
     def do_add(self, text: str) -> None:
@@ -197,7 +191,7 @@ class Terminal(Desk):
             self.screen.say(words.may_not(why, command, path, "" if self.options.is_watching else " and press Enter"))
             return
         before, reply = self.comments(path), self.bench.write(command, path)
-        if command == "save" and reply.state != DONE and read_file(path) == self.bench.program.now.text:
+        if command == "save" and reply.state != DONE and kept.read_file(path) == self.bench.program.now.text:
             self.screen.say("%s has the script now." % short(path))
         elif self.is_done(reply, line):
             lost = before - self.comments(path) if command == "save" else 0
@@ -212,9 +206,9 @@ class Terminal(Desk):
 
     def do_append(self, path: str) -> None:
         path = path.strip() or self.bench.words or ""
-        before = (read_file(path) or b"").count(b"\n")
+        before = (kept.read_file(path) or b"").count(b"\n")
         if self.is_done(self.bench.ask("append " + path if path != self.bench.words else "append"), "append " + path):
-            count = (read_file(path) or b"").count(b"\n") - before
+            count = (kept.read_file(path) or b"").count(b"\n") - before
             self.screen.say("%s now at the end of %s." % (layout.counted(count, "word is", "words are"), short(path)))
 
     def do_words(self, _: str) -> None:
@@ -311,7 +305,7 @@ class Terminal(Desk):
             doubts.append("The edits that you typed are in no file: save FILE keeps them, quit again drops them.")
         elif aside:
             doubts.append("A reload has put aside what you typed (%s), and no file has it: undo goes back to it, quit again drops it." % aside)
-        there = set((read_file(bench.words) or b"").splitlines()) if bench.added else set()
+        there = set((kept.read_file(bench.words) or b"").splitlines()) if bench.added else set()
         added = [word for word in bench.added if encoded(word) not in there]
         if added:
             what, it = ("word that you added is", "it") if len(added) == 1 else ("words that you added are", "them")
@@ -366,17 +360,18 @@ class Terminal(Desk):
 
 def main(given: Sequence[str]) -> int:
     try:
-        options = options_of(given)
-    except Misuse as why:
+        found = options.options_of(given)
+    except options.Misuse as why:
         print("snowbench: %s\n%s" % (layout.named(str(why)), USAGE), file=sys.stderr)
         return 2
-    if options.has_rows or not (os.isatty(0) and os.isatty(1)):
-        said = [] if options.has_rows else warnings_on(options.script, options.words)
+    files = [found.script, found.words] if found.words else [found.script]
+    if found.has_rows or not (os.isatty(0) and os.isatty(1)):
+        said = [] if found.has_rows else warn.warnings_on(*files)
         sys.stderr.buffer.write("".join(line + "\n" for line in said).encode("utf-8", "replace"))
         sys.stderr.flush()
-        os.execv(options.program, [options.program, "work", *options.passed, "--", options.script, *([options.words] if options.words else [])])
-    if "--from" in options.passed:
+        os.execv(found.program, [found.program, "work", *found.passed, "--", *files])
+    if "--from" in found.passed:
         print("snowbench: --from is for programs: at a terminal it needs --rows", file=sys.stderr)
         return 2
-    command = [options.program, "work", "--text", *(word for word in options.passed if word != "--text")]
-    return Terminal(Bench(command, options.script, options.words, Kept(home(), options.script)), options).run()
+    command = [found.program, "work", "--text", *(word for word in found.passed if word != "--text")]
+    return Terminal(Bench(command, found.script, found.words, kept.Kept(kept.home(), found.script)), found).run()

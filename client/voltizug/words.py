@@ -6,7 +6,7 @@ import shlex
 from typing import Callable, Dict, List, Sequence
 
 from .bench import Bench
-from .commands import COMMANDS, DECLARATIONS, OPEN_BLOCKS, STRANGE
+from .commands import COMMANDS, DECLARATIONS, NAMED, OPEN_BLOCKS, STRANGE
 from .kept import is_same
 from .layout import counted, in_words, named, short
 from .near import folded, meant, near
@@ -133,8 +133,7 @@ def no_stem(_: str, bench: Bench) -> str:
 def no_name(line: str, bench: Bench) -> str:
     """The sentence for a name that the script does not define so."""
     command, _, argument = line.partition(" ")
-    kinds = {"show": ("routine", "grouping"), "uses": ("routine", "grouping"), "grouping": ("grouping",)}.get(command, ("routine",))
-    places, (name, _, rest) = bench.places(), argument.partition(" ")
+    places, kinds, (name, _, rest) = bench.places(), NAMED[command], argument.partition(" ")
     kind, there, begin = places.kind(name), places.of_kind(*kinds), "%s %s: " % (command, short(name))
     if name in there:
         first = 'the text goes on the lines after it, and a line with a single point ends it. Type only "%s %s" first.' % (command, short(name))
