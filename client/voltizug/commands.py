@@ -50,7 +50,8 @@ REPORTING = (
     "changes class classes counts events families find history integers largest lint script show stats stem stems".split()
     + "tests trace unused uses why".split()
 )
-DECLARATIONS = ("externals", "routines", "groupings", "strings", "integers", "booleans", "stringescapes", "stringdef", "backwardmode")
+# How a comment and a declaration of a script begin.
+COMMENT, DECLARATION = r"\s*(//|/\*)", r"(externals|routines|groupings|strings|integers|booleans|stringescapes|stringdef|backwardmode)( |\Z)"
 # By the beginning of a line that is no command what is said of it. {c} is its first word.
 IN_SHELL = {"check": "SCRIPT WORDS STEMS", "compare": "OLD NEW WORDS", "filter": "SCRIPT < WORDS", "run": "SCRIPT WORDS", "work": "SCRIPT WORDS"}
 STRANGE: Sequence[Tuple[str, str]] = (
@@ -62,12 +63,9 @@ STRANGE: Sequence[Tuple[str, str]] = (
     (r"edit( |\Z)", "Change the script in your editor, and save it; or type routine NAME, among NAME K or grouping NAME, and the new text."),
     (r"warnings( |\Z)", "lint lists what may not be meant in the script and the words."),
     *((r"%s( |\Z)" % verb, "{c} is not a command here. In a shell: ./snowbench {c} %s." % files) for verb, files in IN_SHELL.items()),
-    (r"\s*(//|/\*)", "A comment begins with # at the beginning of the line."),
+    (COMMENT, "A comment begins with # at the beginning of the line."),
     (r"define( |\Z)", "A definition begins with define NAME as, or define NAME and the terms of a grouping, in one line."),
-    (
-        r"(%s)( |\Z)" % "|".join(DECLARATIONS),
-        "This looks like a script. replace takes a whole one, up to a line with a single point."
-    ),
+    (DECLARATION, "This looks like a script. replace takes a whole one, up to a line with a single point."),
     (r"\s+(%s)( |\Z)" % "|".join(COMMANDS), "A command begins at the beginning of the line."),
 )
 

@@ -2,10 +2,12 @@
 the start, `work` waits until its author has corrected it.
 """
 import os
+import re
 from typing import Any, Dict, List, Optional, Sequence
 
 from . import faults, kept, layout, lints, loops, rows, warn, words
 from .bench import Bench
+from .commands import COMMENT, DECLARATION
 from .completion import Completion
 from .keys import Editor, Hangup
 from .layout import counted, in_words, short
@@ -185,7 +187,7 @@ class Desk:
         self.screen.say(said, *others, "{:,} more faults".format(len(found) - most) if len(found) > most else "")
         self.nonsense = self.nonsense + 1 if code == 52 and self.editor.has_key() else 0
         # (of a script that was pasted one line is enough)
-        if self.editor.pending or len(lines) > 1 or self.nonsense >= (1 if words.is_of_script(lines[0]) else NONSENSE):
+        if self.editor.pending or len(lines) > 1 or self.nonsense >= (1 if re.match("%s|%s" % (COMMENT, DECLARATION), lines[0]) else NONSENSE):
             self.drop_pasted()
 
     def drop_pasted(self) -> None:

@@ -51,11 +51,6 @@ class Library:
         except (OSError, AttributeError, ValueError):
             self.is_whole = False
 
-    def clear(self) -> None:
-        """Takes the line that is being typed off the screen, also one that is several rows long."""
-        self.clear_line()
-        self.libc.fflush(None)
-
     def draw(self) -> None:
         """Draws the line again, below what is on the screen."""
         sys.stdout.flush()
@@ -173,7 +168,9 @@ class Editor:
         now = termios.tcgetattr(0)
         try:
             set_keys(with_interrupt(now, INTERRUPT))
-            self.library.clear()
+            # (also a line that is several rows long)
+            self.library.clear_line()
+            self.library.libc.fflush(None)
             self.show_saved()
             set_keys(now)
             self.is_interrupted = False

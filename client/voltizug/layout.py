@@ -81,12 +81,6 @@ def outcome(kind: str, text: str) -> str:
     return "refused " + text if kind == "refused" else named(text) or "(empty)"
 
 
-def has(row: Any, text: str) -> bool:
-    """Whether a row of `changes` has a text in a word or a stem."""
-    fields = (row.word, row.old, row.new) if row.kind == "changed" else row[1:]
-    return any(text in name for field in fields for name in ((field,) if isinstance(field, str) else field))
-
-
 def change(row: Any, column: int = 0, outcomes: Optional[Dict[str, rows.Outcome]] = None) -> str:
     """Returns the line of a row of `changes`. A word that was added has its stem, if that is known."""
     if row.kind == "changed":
@@ -94,7 +88,7 @@ def change(row: Any, column: int = 0, outcomes: Optional[Dict[str, rows.Outcome]
     if row.kind in ("added", "removed"):
         now = (outcomes or {}).get(row.word)
         return "  %-8s %s%s" % (row.kind, named(row.word), " -> " + outcome(now.kind, now.stem) if now else "")
-    old, new = (listed((names,) if isinstance(names, str) else names) for names in (row.old, row.new))
+    old, new = (listed([names] if isinstance(names, str) else names) for names in (row.old, row.new))
     return "  %-8s %s -> %s" % (row.kind, old, new)
 
 

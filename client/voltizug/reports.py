@@ -4,8 +4,7 @@ from itertools import groupby
 from typing import Any, Callable, Dict, List, Sequence, Tuple
 
 from . import rows
-from .conditions import Routine, Test, text_of
-from .copies import Found
+from .conditions import Found, Routine, Test, text_of
 from .layout import COLUMN, columns, counted, listed, named, outcome, padded, percent, short, step_of
 from .places import Places
 

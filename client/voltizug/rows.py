@@ -55,6 +55,12 @@ def with_tail(kind: Any) -> Callable[[List[str]], Any]:
     return lambda row: kind(*row[:last], tuple(row[last:]))
 
 
+def names_of(row: Any) -> List[str]:
+    """Returns the words and stems of a row of `changes`."""
+    fields = (row.word, row.old, row.new) if row.kind == "changed" else row[1:]
+    return [name for field in fields for name in ([field] if isinstance(field, str) else field)]
+
+
 def outcomes(lines: Iterable[str]) -> List[Outcome]:
     return [Outcome(*row) for row in rows_of(lines)]
 

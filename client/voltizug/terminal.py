@@ -6,7 +6,7 @@ import sys
 import traceback
 from typing import Any, List, Sequence, Tuple
 
-from . import commands, copies, kept, layout, lints, loops, options, reports, rows, screen, warn, words
+from . import commands, conditions, kept, layout, lints, loops, options, reports, rows, screen, warn, words
 from .bench import Bench, typed_edits
 from .commands import BLOCKS, COMMANDS, LANGUAGE, OPEN_BLOCKS, REPORTING, WITH_TEXT
 from .keys import Broken, Dropped, Hangup
@@ -111,7 +111,7 @@ class Terminal(Desk):
         return [layout.figures(self.bench.changes) if path else "Changes are told since now."]
 
     def reply_changes(self, text: str, lines: Sequence[str]) -> List[str]:
-        found = [row for row in rows.read("changes", lines) if layout.has(row, text)]
+        found = [row for row in rows.read("changes", lines) if any(text in name for name in rows.names_of(row))]
         all_of = "no change has %s" % short(text) if text and not found else layout.figures(found)
         return layout.changes(found, self.outcomes(found)) + [all_of]
 
@@ -147,13 +147,13 @@ class Terminal(Desk):
         unknown = ["The tests of this run cannot be shown: it is too long, or near a limit."]
         return reports.tests(found, self.bench.places()) if found.is_known else unknown
 
-    def run_of(self, word: str, lines: Sequence[str]) -> Tuple[List[Any], copies.Found]:
+    def run_of(self, word: str, lines: Sequence[str]) -> Tuple[List[Any], conditions.Found]:
         """Returns the figures of the run of a word, and its events, from their lines, with its tests."""
         figures, places = self.bench.read("integers " + word), self.bench.places()
         # (the program is not asked meanwhile)
         self.editor.is_breakable = True
         try:
-            return figures, copies.with_tests(self.bench.program, places, word, rows.read("events", lines), figures)
+            return figures, conditions.with_tests(self.bench.program, places, word, rows.read("events", lines), figures)
         finally:
             self.editor.is_breakable = False
 

@@ -6,7 +6,7 @@ import shlex
 from typing import Callable, Dict, List, Sequence
 
 from .bench import Bench
-from .commands import COMMANDS, DECLARATIONS, NAMED, OPEN_BLOCKS, STRANGE
+from .commands import COMMANDS, NAMED, OPEN_BLOCKS, STRANGE
 from .kept import is_same
 from .layout import counted, in_words, named, short
 from .near import folded, meant, near
@@ -155,11 +155,6 @@ def amongs_of(line: str, bench: Bench) -> str:
         return "%s has no among." % short(name)
     numbers = "1" if count == 1 else "1 or 2" if count == 2 else "1 to %d" % count
     return "%s has %s, so K is %s (those inside others count, too)." % (short(name), counted(count, "among"), numbers)
-
-
-def is_of_script(line: str) -> bool:
-    """Whether a line that is no command is a comment or a declaration of a script."""
-    return line.lstrip().startswith(("//", "/*")) or line.partition(" ")[0] in DECLARATIONS
 
 
 def unknown(line: str, bench: Bench) -> str:

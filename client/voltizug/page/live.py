@@ -9,7 +9,7 @@ from typing import Any, Callable, Dict, Iterator, List, Optional, Sequence
 
 from .. import loops, rows, words
 from ..bench import Bench, Edit
-from ..copies import with_tests
+from ..conditions import with_tests
 from ..kept import state_of
 from ..layout import named, short
 from ..lints import lints
