@@ -4,26 +4,19 @@ import re
 from typing import Dict, List, NamedTuple, Sequence, Tuple
 
 TABLE = os.path.join(os.path.dirname(os.path.realpath(__file__)), "..", "..", "tools", "commands.txt")
-ENTRY = re.compile(r"^(?:at|block) (.+?) - (.+?)(?: \(at a terminal\))?$(?:\nmore (.+))?", re.M)
+ENTRY = re.compile(r"^(?:at|block) ((\S+)(?: \[?(.*?)\]*)?) - (.+?)(?: \(at a terminal\))?$(?:\nmore (.+))?", re.M)
 # These are for those who read rows, and help does not list them.
 PROGRAMS, UNLISTED = "For programs", ("echo", "#")
 
 
 class Command(NamedTuple):
-    """`more` is for help COMMAND."""
+    """`takes` is what may follow the name, without brackets around it; `more` is for help COMMAND."""
 
     usage: str
+    name: str
+    takes: str
     does: str
     more: str
-
-    @property
-    def name(self) -> str:
-        return self.usage.partition(" ")[0]
-
-    @property
-    def takes(self) -> str:
-        """What may follow, as the table has it but for the brackets around it."""
-        return self.usage.partition(" ")[2].strip("[]")
 
 
 def groups_of(path: str) -> Dict[str, List[Command]]:

@@ -19,7 +19,7 @@ PARTS: Dict[str, Sequence[str]] = {
     **dict.fromkeys("[ ] substring tolimit delete true next atlimit false".split(), []),
 }
 COMPARISONS, OTHER_OPERATORS = "== != < <= > >=".split(), "+ - * / = += -= *= /=".split()
-TESTS, TURNERS = "hop atmark tomark next atlimit false non not fail".split(), ("not", "fail")
+TESTS = "hop atmark tomark next atlimit false non not fail".split()
 # How many letters of a row of commands are shown at most; the largest limit of steps.
 LONGEST, MOST_STEPS = 60, 10000000
 # A row of events: the test N of the routine NAME was true (t) or false (f). After one of the kind `unknown` there may be others.
@@ -28,21 +28,14 @@ UNKNOWN = Asked("unknown", "", "", "", "")
 
 
 class Test(NamedTuple):
-    """A test of a routine: its tokens; whether it is in a backward mode; and the largest and the smallest row of commands that it is a part of, as
-    far as the body of the routine or the command of an among."""
+    """A test of a routine: its tokens and their text; whether it is in a backward mode, and whether it is a `not` or `fail`, which is false if its
+    command signals t; and the largest and the smallest row of commands around it, as far as the body of the routine or the command of an among."""
 
     tokens: Sequence[Token]
+    text: str
     is_backward: bool
+    is_turned: bool
     rows: Sequence[Sequence[Token]]
-
-    @property
-    def is_turned(self) -> bool:
-        """Whether it is a `not` or `fail`, which is false if its command signals t."""
-        return self.tokens[0].text in TURNERS
-
-    @property
-    def text(self) -> str:
-        return text_of(self.tokens)
 
     @property
     def row(self) -> Sequence[Token]:
@@ -64,7 +57,10 @@ class Routine:
         self.found: List[Tuple[int, int, bool, List[List[int]]]] = []
         self.row()
         self.is_plain = self.pairs == sum(token.text == "substring" for token in tokens[begin : self.at])
-        self.tests = [Test(tokens[a:b], mode, [tokens[slice(*row)] for row in (rows[0], rows[-1])]) for a, b, mode, rows in self.found]
+        self.tests = [
+            Test(tokens[a:b], text_of(tokens[a:b]), mode, tokens[a].text in ("not", "fail"), [tokens[slice(*row)] for row in (rows[0], rows[-1])])
+            for a, b, mode, rows in self.found
+        ]
 
     def peek(self) -> str:
         return self.tokens[self.at].text if self.at < len(self.tokens) else ""

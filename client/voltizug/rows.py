@@ -1,7 +1,7 @@
 """The rows of replies as named tuples, by the tables of docs/REFERENCE.md."""
 import csv
 from collections import namedtuple
-from typing import Any, Callable, Dict, Iterable, List, NamedTuple, Tuple
+from typing import Any, Dict, Iterable, List, NamedTuple, Tuple
 
 PLACE = " start end line column"
 # By report the kinds of its rows with their fields; one that begins with a star takes all that is left.
@@ -46,13 +46,11 @@ def rows_of(lines: Iterable[str]) -> List[List[str]]:
 
 def read(report: str, lines: Iterable[str]) -> List[Any]:
     """Returns the rows of a report as tuples with the fields of its table. A row of a kind that is not in the table is left out."""
-    make = {kind: with_tail(row) if "*" in TABLE[report][kind] else row._make for kind, row in KINDS[report].items()}
-    return [make[row[0]](row) for row in rows_of(lines) if row and row[0] in make]
-
-
-def with_tail(kind: Any) -> Callable[[List[str]], Any]:
-    last = len(kind._fields) - 1
-    return lambda row: kind(*row[:last], tuple(row[last:]))
+    table, kinds = TABLE[report], KINDS[report]
+    # (the number of fields before one that takes all that is left)
+    heads = {kind: len(kinds[kind]._fields) - 1 for kind in kinds if "*" in table[kind]}
+    found = [row for row in rows_of(lines) if row and row[0] in table]
+    return [kinds[row[0]](*row[: heads[row[0]]], tuple(row[heads[row[0]] :])) if row[0] in heads else kinds[row[0]]._make(row) for row in found]
 
 
 def names_of(row: Any) -> List[str]:

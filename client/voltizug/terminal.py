@@ -160,7 +160,7 @@ class Terminal(Desk):
     # Commands that are more than a request
 
     def do_help(self, name: str) -> None:
-        known = ("%s: %s. %s" % COMMANDS[name]).rstrip() if name in COMMANDS else ""
+        known = "{0.usage}: {0.does}. {0.more}".format(COMMANDS[name]).rstrip() if name in COMMANDS else ""
         self.screen.say(*([known or words.unknown(name, self.bench)] if name else commands.overview()))
 
     def do_limit(self, _: str) -> None:
