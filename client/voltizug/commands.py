@@ -19,14 +19,8 @@ class Command(NamedTuple):
     more: str
 
 
-def groups_of(path: str) -> Dict[str, List[Command]]:
-    """Returns the commands of each group of the table."""
-    with open(path, encoding="utf-8") as file:
-        parts = file.read().split("\ngroup ")[1:]
-    return {re.split("[:\n]", part)[0]: [Command(*found) for found in ENTRY.findall(part)] for part in parts}
-
-
-GROUPS = groups_of(TABLE)
+with open(TABLE, encoding="utf-8") as table:
+    GROUPS = {re.split("[:\n]", part)[0]: [Command(*found) for found in ENTRY.findall(part)] for part in table.read().split("\ngroup ")[1:]}
 LISTED = [command for group, part in GROUPS.items() if group != PROGRAMS for command in part if command.name != "#"]
 # (of two entries the first one tells what a command does)
 COMMANDS: Dict[str, Command] = {command.name: command for command in sorted(reversed(LISTED), key=lambda command: command.name)}

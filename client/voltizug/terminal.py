@@ -221,25 +221,19 @@ class Terminal(Desk):
             self.screen.say("{:,} words".format(len(now)), "Gone, since the file lacks %s: %s." % (them, in_words(gone, "and", 5)) if gone else "")
 
     def do_rescue(self, what: str) -> None:
-        left = self.bench.kept.left()
+        left, there = self.bench.kept.left(), {row.word for row in self.bench.outcomes()}
         if what == "drop":
             for old in left:
                 self.bench.kept.forget(old.room)
             self.screen.say("They are forgotten.")
         elif not left:
             self.screen.say("No typed edits were left behind.")
-        elif self.add_again(left[-1].words) and (not left[-1].path or self.edit(["replace " + left[-1].path])):
-            self.bench.kept.forget(left[-1].room)
-
-    def add_again(self, added: Sequence[str]) -> bool:
-        """Adds words that were left behind; those that are there now are left out."""
-        for word in added:
-            reply = self.bench.ask("add " + word)
-            if reply.is_done:
-                self.screen.write(self.reply_add(word, []))
-            elif not self.settle(reply):
-                return False
-        return True
+        else:
+            for word in [word for word in left[-1].words if word not in there]:
+                self.ask("add " + word)
+            is_added = there.union(self.bench.added).issuperset(left[-1].words)
+            if is_added and (not left[-1].path or self.edit(["replace " + left[-1].path])):
+                self.bench.kept.forget(left[-1].room)
 
     # Blocks
 
