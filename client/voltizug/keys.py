@@ -2,7 +2,6 @@
 readline waits for a key, so a handler can clear the line that is being typed, show what changed, and have readline draw the line again.
 `readline.redisplay` does not suffice for this: readline believes that the line is still on the screen. What does is reached by ctypes.
 """
-import collections
 import contextlib
 import ctypes
 import errno
@@ -15,7 +14,7 @@ import sys
 import termios
 import threading
 import time
-from typing import Any, Callable, Deque, Iterator, List, Optional
+from typing import Any, Callable, Iterator, List, Optional
 
 HISTORY, INTERRUPT, PAUSE = 2000, b"\x03", 0.1
 # How often files are looked at, how soon again after a change (a file may still be being written), and for how long a signal is repeated.
@@ -89,8 +88,8 @@ class Editor:
         self.is_waiting = self.is_above = self.is_interrupted = self.is_breakable = False
         # Whether somebody ends this process: it is told so until it hears it.
         self.is_ended = False
-        self.pending: Deque[str] = collections.deque()
-        self.found: List[str] = []
+        # The lines that came with one that was pasted; what TAB can complete.
+        self.pending, self.found = [], []  # type: List[str], List[str]
         self.main = threading.main_thread().ident or 0
         self.on_interrupt: Callable[[], None] = lambda: None
 
@@ -184,7 +183,7 @@ class Editor:
         """Returns a line, or nothing at the end. Lines that were pasted together come one by one."""
         if self.pending:
             print(prompt + self.pending[0], flush=True)
-            return self.pending.popleft()
+            return self.pending.pop(0)
         sys.stdout.flush()
         set_keys(self.typing, is_needed=True)
         try:
@@ -204,8 +203,7 @@ class Editor:
         if text.endswith("\x03"):
             raise Dropped
         # (an empty line at the end of a paste is no wish to reload)
-        line, *others = (text.rstrip("\n") if "\n" in text else text).split("\n")
-        self.pending.extend(others)
+        line, *self.pending = text.rstrip("\n").split("\n")
         return line
 
     def drop_pasted(self) -> int:
