@@ -28,14 +28,17 @@ UNKNOWN = Asked("unknown", "", "", "", "")
 
 
 class Test(NamedTuple):
-    """A test of a routine: its tokens and their text; whether it is in a backward mode, and whether it is a `not` or `fail`, which is false if its
-    command signals t; and the largest and the smallest row of commands around it, as far as the body of the routine or the command of an among."""
+    """A test of a routine: its tokens; whether it is in a backward mode, and whether it is a `not` or `fail`, which is false if its command signals
+    t; and the largest and the smallest row of commands around it, as far as the body of the routine or the command of an among."""
 
     tokens: Sequence[Token]
-    text: str
     is_backward: bool
     is_turned: bool
     rows: Sequence[Sequence[Token]]
+
+    @property
+    def text(self) -> str:
+        return text_of(self.tokens)
 
     @property
     def row(self) -> Sequence[Token]:
@@ -57,8 +60,9 @@ class Routine:
         self.found: List[Tuple[int, int, bool, List[List[int]]]] = []
         self.row()
         self.is_plain = self.pairs == sum(token.text == "substring" for token in tokens[begin : self.at])
+        # (of a row that is too long to be shown the beginning is enough)
         self.tests = [
-            Test(tokens[a:b], text_of(tokens[a:b]), mode, tokens[a].text in ("not", "fail"), [tokens[slice(*row)] for row in (rows[0], rows[-1])])
+            Test(tokens[a:b], mode, tokens[a].text in ("not", "fail"), [tokens[c : min(d, c + LONGEST + 1)] for c, d in (rows[0], rows[-1])])
             for a, b, mode, rows in self.found
         ]
 
