@@ -74,7 +74,7 @@ def refused(code: int, line: str, bench: Bench) -> str:
     """Returns the sentence for a line, by the number of its refusal."""
     command, _, argument = line.partition(" ")
     if code in NEEDS and not argument:
-        return "%s needs %s: %s." % (command, NEEDS[code], usage(command))
+        return "%s needs %s: %s." % (command, NEEDS[code], COMMANDS[command].usage)
     if code in SPECIAL:
         return SPECIAL[code](line, bench)
     path, (name, k, string) = file_of(line, bench), [*argument.split(" ", 2), "", ""][:3]
@@ -85,10 +85,6 @@ def refused(code: int, line: str, bench: Bench) -> str:
 def file_of(line: str, bench: Bench) -> str:
     """Returns the file that a command reads."""
     return (bench.words if line == "words" else line.partition(" ")[2] or bench.script) or ""
-
-
-def usage(command: str) -> str:
-    return COMMANDS[command].usage if command in COMMANDS else command
 
 
 def in_quotes(word: str, is_sure: bool = False) -> str:
@@ -165,10 +161,10 @@ def unknown(line: str, bench: Bench) -> str:
         return strange.format(c=command)
     if command in ("among", "uses"):
         known = " " + amongs_of(line, bench) if bench.places().kind(argument.partition(" ")[0]) == "routine" else ""
-        what = ": %s." % usage(command) if command == "uses" else " and a number: among NAME K, then an among, then a line with a single point."
-        return "%s needs a name%s%s" % (command, what, known)
+        what = "and a number: among NAME K, then an among, then a line with a single point."
+        return "%s needs a name%s%s" % (command, ": %s." % COMMANDS["uses"].usage if command == "uses" else " " + what, known)
     if command in COMMANDS:
-        return "%s needs more: %s." % (command, usage(command)) if COMMANDS[command].takes else "%s takes nothing after it." % command
+        return "%s needs more: %s." % (command, COMMANDS[command].usage) if COMMANDS[command].takes else "%s takes nothing after it." % command
     longer = [name for name in COMMANDS if name.startswith(command.casefold())] if command else []
     question = meant(command, COMMANDS) or (" Did you mean %s?" % in_words(longer, "or") if 0 < len(longer) < 4 else "")
     return "%s is not a command.%s help lists the commands." % (short(command or line.strip()), question)
@@ -192,7 +188,7 @@ def not_written(command: str, path: str, bench: Bench) -> str:
         return "There is no file of words: append FILE writes a new one."
     path = path or (bench.words or "" if command == "append" else "")
     if not path:
-        return "%s needs a file: %s%s." % (command, usage(command), ", such as save " + short(bench.script) if command == "save" else "")
+        return "%s needs a file: %s%s." % (command, COMMANDS[command].usage, ", such as save " + short(bench.script) if command == "save" else "")
     folder, name, is_script = os.path.dirname(path) or ".", short(path), is_same(path, bench.script)
     cannot, other = name + " cannot be written: ", "Save to another file" if command == "save" else "Name another file"
     return next(said for is_so, said in (
