@@ -1,4 +1,4 @@
-"""Line editing by readline, and which keys are signals. A save rings by a signal to the main thread. CPython runs handlers of signals while
+"""Line editing by readline, and which keys are signals. Files are looked at by a signal of a timer. CPython runs handlers of signals while
 readline waits for a key, so a handler can clear the line that is being typed, show what changed, and have readline draw the line again.
 `readline.redisplay` does not suffice for this: readline believes that the line is still on the screen. What does is reached by ctypes.
 """
@@ -12,13 +12,11 @@ import select
 import signal
 import sys
 import termios
-import threading
-import time
 from typing import Any, Callable, Iterator, List, Optional
 
 HISTORY, INTERRUPT, PAUSE = 2000, b"\x03", 0.1
-# How often files are looked at, how soon again after a change (a file may still be being written), and for how long a signal is repeated.
-PERIOD, SOON, ECHO = 0.03, 0.005, 1.0
+# How often files are looked at, and how soon again after a change (a file may still be being written).
+PERIOD, SOON = 0.03, 0.005
 POINT = re.compile(rb"[\r\n][ \t]*\.[ \t]*[\r\n]")
 # Of readline's state: its callbacks are installed.
 CALLBACK = 0x80000
@@ -90,26 +88,25 @@ class Editor:
         self.is_ended = False
         # The lines that came with one that was pasted; what TAB can complete.
         self.pending, self.found = [], []  # type: List[str], List[str]
-        self.main = threading.main_thread().ident or 0
+        # The saved files at the last look.
+        self.looked: Any = None
         self.on_interrupt: Callable[[], None] = lambda: None
 
     def begin(self) -> None:
         """Takes the keys and the signals of the terminal."""
         for number, handler in (
             (signal.SIGINT, self.hear_interrupt), (signal.SIGTSTP, self.hear_stop), (signal.SIGCONT, self.hear_continue),
-            (signal.SIGHUP, self.hear_end), (signal.SIGTERM, self.hear_end), (signal.SIGUSR1, self.hear_ring), (signal.SIGQUIT, signal.SIG_IGN),
+            (signal.SIGHUP, self.hear_end), (signal.SIGTERM, self.hear_end), (signal.SIGALRM, self.hear_ring), (signal.SIGQUIT, signal.SIG_IGN),
         ):
             signal.signal(number, handler)
-        heard, bell = os.pipe()
-        os.set_blocking(bell, False)
-        signal.set_wakeup_fd(bell, warn_on_full_buffer=False)
-        threading.Thread(target=self.ring, args=(heard,), daemon=True).start()
+        # (it breaks off the wait for a key, but nothing that is being written)
+        signal.siginterrupt(signal.SIGALRM, False)
         set_keys(self.quiet, is_needed=True)
         self.open_history()
 
     def end(self) -> None:
         """Gives the keys back. A second signal does not break this off."""
-        for number in (signal.SIGHUP, signal.SIGTERM, signal.SIGUSR1):
+        for number in (signal.SIGHUP, signal.SIGTERM, signal.SIGALRM):
             signal.signal(number, signal.SIG_IGN)
         set_keys(self.base)
 
@@ -122,6 +119,7 @@ class Editor:
         self.on_interrupt()
 
     def hear_end(self, number: int, _: object) -> None:
+        self.is_ended = True
         raise Hangup(number)
 
     def hear_stop(self, *_: object) -> None:
@@ -140,28 +138,17 @@ class Editor:
             self.library.prepare(1)
             self.library.draw()
 
-    def ring(self, heard: int) -> None:
-        """In a thread: breaks off the wait for a key by a signal, for a while after each other one (CPython hears one that comes just before
-        readline waits for a key only when another one breaks that wait off), and as long as a file was saved that is not being written."""
-        before, now, until = None, None, 0.0  # type: Any, Any, float
-        while True:
-            is_idle = not (self.saved or self.is_ended or time.monotonic() < until)
-            pause = PAUSE if self.is_ended else PERIOD if now == before else SOON
-            if select.select([heard], [], [], None if is_idle else pause)[0]:
-                numbers = set(os.read(heard, 256)) - {signal.SIGUSR1}
-                self.is_ended = self.is_ended or bool(numbers & {signal.SIGHUP, signal.SIGTERM})
-                until = time.monotonic() + ECHO if numbers else until
-                continue
-            before, now = now, self.saved() if self.saved and self.is_waiting else None
-            if self.is_ended or self.is_waiting and (time.monotonic() < until or now and now == before):
-                signal.pthread_kill(self.main, signal.SIGUSR1)
-
     def hear_ring(self, *_: object) -> None:
+        """While a line is typed, every so often: shows what was saved and is not being written. CPython hears a signal that comes just before
+        readline waits for a key only when another one breaks that wait off: this one."""
         if self.is_ended:
             raise Hangup
         # (it may be heard only after Enter, and then readline has no line)
         has_line = self.is_waiting and self.library.is_whole and self.library.state.value & CALLBACK
-        if not has_line or self.is_above or not (self.saved and self.saved()):
+        before, self.looked = self.looked, self.saved() if self.saved and has_line and not self.is_above else None
+        if self.looked != before:
+            signal.setitimer(signal.ITIMER_REAL, SOON, PERIOD)
+        if not self.looked or self.looked != before:
             return
         self.is_above, self.is_waiting = True, False
         now = termios.tcgetattr(0)
@@ -188,6 +175,7 @@ class Editor:
         set_keys(self.typing, is_needed=True)
         try:
             self.is_waiting = True
+            signal.setitimer(signal.ITIMER_REAL, PERIOD if self.saved else PAUSE, PERIOD if self.saved else PAUSE)
             text = input(prompt)
         except SystemError as why:
             # (`timeout` sends SIGCONT after SIGTERM, and CPython calls the handler of the second while the exception of the first one is set)
@@ -198,6 +186,7 @@ class Editor:
             print(flush=True)
             return None
         finally:
+            signal.setitimer(signal.ITIMER_REAL, 0)
             self.is_waiting = self.is_interrupted = False
             set_keys(self.quiet)
         if text.endswith("\x03"):
