@@ -82,10 +82,9 @@ class Editor:
         self.base = termios.tcgetattr(0)
         self.typing = with_interrupt(self.base, b"\0")
         self.quiet = with_interrupt([*self.base[:3], self.base[3] & ~(termios.ECHO | termios.ICANON), *self.base[4:]], INTERRUPT)
-        # Whether readline waits for a key; whether a save is shown above a line; whether Ctrl-C came while a command ran, and raises Broken then.
-        self.is_waiting = self.is_above = self.is_interrupted = self.is_breakable = False
-        # Whether somebody ends this process: it is told so until it hears it.
-        self.is_ended = False
+        # Whether readline waits for a key; whether a save is shown above a line; whether Ctrl-C came while a command ran; whether somebody ends
+        # this process: it is told so until it hears it.
+        self.is_waiting = self.is_above = self.is_interrupted = self.is_ended = False
         # The lines that came with one that was pasted; what TAB can complete.
         self.pending, self.found = [], []  # type: List[str], List[str]
         # The saved files at the last look.
@@ -114,8 +113,6 @@ class Editor:
 
     def hear_interrupt(self, *_: object) -> None:
         self.is_interrupted = True
-        if self.is_breakable:
-            raise Broken
         self.on_interrupt()
 
     def hear_end(self, number: int, _: object) -> None:

@@ -58,8 +58,8 @@ class Program:
         # The number of the program's rows; the command that reads SCRIPT.
         self.rows, self.reload = "", "reload"
         self.on_long: Optional[Callable[[], None]] = None
-        # Whether a request is on its way; how the last one ended; Ctrl-C rings the bell, but not if WORDS could not be read again.
-        self.is_busy, self.state, self.bell, self.is_deaf = False, DONE, bell or os.pipe(), False
+        # How the last request ended; Ctrl-C rings the bell, but not if WORDS could not be read again.
+        self.state, self.bell, self.is_deaf = DONE, bell or os.pipe(), False
         for end in self.bell:
             os.set_blocking(end, False)
 
@@ -104,17 +104,14 @@ class Program:
     def ask_each(self, requests: Sequence[Sequence[str]], patience: Optional[float] = None, is_deaf: bool = False) -> List[Reply]:
         """Sends requests at once and returns the reply of each. If it has to end early, the program is gone, and the last replies say why.
         A deaf one is not broken off."""
-        if self.process is None or self.is_busy or not requests:
-            return [Reply(ENDED if self.process is None else LATE, [], [])] * len(requests)
+        if self.process is None or not requests:
+            return [Reply(ENDED, [], [])] * len(requests)
         if any(len(encoded(line)) > LONGEST for lines in requests for line in lines):
             return [Reply(DONE, ["no 72 LineTooLong"], [])] * len(requests)
-        sent, self.is_busy = "".join("%s\n" % line for lines in requests for line in [*lines, "echo " + self.mark]), True
+        sent = "".join("%s\n" % line for lines in requests for line in [*lines, "echo " + self.mark])
         with contextlib.suppress(BlockingIOError):
             os.read(self.bell[0], 1 << 16)
-        try:
-            self.state, out, said = self.exchange(encoded(sent), len(requests), patience, is_deaf or self.is_deaf)
-        finally:
-            self.is_busy = False
+        self.state, out, said = self.exchange(encoded(sent), len(requests), patience, is_deaf or self.is_deaf)
         if self.state in (BROKEN, LATE):
             self.stop()
         answers = out.split(encoded(self.mark + "\n"))[:-1]

@@ -149,13 +149,11 @@ class Terminal(Desk):
 
     def run_of(self, word: str, lines: Sequence[str]) -> Tuple[List[Any], conditions.Found]:
         """Returns the figures of the run of a word, and its events, from their lines, with its tests."""
-        figures, places = self.bench.read("integers " + word), self.bench.places()
-        # (the program is not asked meanwhile)
-        self.editor.is_breakable = True
-        try:
-            return figures, conditions.with_tests(self.bench.program, places, word, rows.read("events", lines), figures)
-        finally:
-            self.editor.is_breakable = False
+        figures = self.bench.read("integers " + word)
+        found = conditions.with_tests(self.bench.program, self.bench.places(), word, rows.read("events", lines), figures)
+        if self.editor.is_interrupted:
+            raise Broken
+        return figures, found
 
     # Commands that are more than a request
 
