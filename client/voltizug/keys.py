@@ -15,8 +15,8 @@ import termios
 from typing import Any, Callable, Iterator, List, Optional
 
 HISTORY, INTERRUPT, PAUSE = 2000, b"\x03", 0.1
-# How often files are looked at, and how soon again after a change (a file may still be being written).
-PERIOD, SOON = 0.03, 0.005
+# How often files are looked at, and how soon again after a change (a file may still be being written); how often signals are if no file is.
+PERIOD, SOON, REST = 0.03, 0.005, 0.5
 POINT = re.compile(rb"[\r\n][ \t]*\.[ \t]*[\r\n]")
 # Of readline's state: its callbacks are installed.
 CALLBACK = 0x80000
@@ -172,7 +172,7 @@ class Editor:
         set_keys(self.typing, is_needed=True)
         try:
             self.is_waiting = True
-            signal.setitimer(signal.ITIMER_REAL, PERIOD if self.saved else PAUSE, PERIOD if self.saved else PAUSE)
+            signal.setitimer(signal.ITIMER_REAL, *[PERIOD if self.saved else REST] * 2)
             text = input(prompt)
         except SystemError as why:
             # (`timeout` sends SIGCONT after SIGTERM, and CPython calls the handler of the second while the exception of the first one is set)
