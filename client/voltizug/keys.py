@@ -143,7 +143,7 @@ class Editor:
         # (it may be heard only after Enter, and then readline has no line)
         has_line = self.is_waiting and self.library.is_whole and self.library.state.value & CALLBACK
         before, self.looked = self.looked, self.saved() if self.saved and has_line and not self.is_above else None
-        if self.looked != before:
+        if has_line and self.looked != before:
             signal.setitimer(signal.ITIMER_REAL, SOON, PERIOD)
         if not self.looked or self.looked != before:
             return
@@ -183,8 +183,8 @@ class Editor:
             print(flush=True)
             return None
         finally:
-            signal.setitimer(signal.ITIMER_REAL, 0)
             self.is_waiting = self.is_interrupted = False
+            signal.setitimer(signal.ITIMER_REAL, 0)
             set_keys(self.quiet)
         if text.endswith("\x03"):
             raise Dropped

@@ -9,9 +9,9 @@ from typing import Any, List, Sequence, Tuple
 from . import commands, conditions, kept, layout, lints, loops, options, reports, rows, screen, warn, words
 from .bench import Bench, typed_edits
 from .commands import BLOCKS, COMMANDS, LANGUAGE, OPEN_BLOCKS, REPORTING, WITH_TEXT
+from .desk import Desk
 from .keys import Broken, Dropped, Hangup
 from .layout import in_words, short
-from .desk import Desk
 from .places import BOM, readable
 from .program import DONE, LONGEST, encoded
 

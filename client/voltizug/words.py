@@ -3,7 +3,7 @@ import errno
 import os
 import re
 import shlex
-from typing import Callable, Dict, List, Sequence
+from typing import Callable, Dict, Sequence
 
 from .bench import Bench
 from .commands import COMMANDS, NAMED, OPEN_BLOCKS, STRANGE
