@@ -142,7 +142,7 @@ class Editor:
             raise Hangup
         # (it may be heard only after Enter, and then readline has no line)
         has_line = self.is_waiting and self.library.is_whole and self.library.state.value & CALLBACK
-        before, self.looked = self.looked, self.saved() if self.saved and has_line and not self.is_above else None
+        before, self.looked = self.looked, self.saved() if self.saved and has_line else None
         if has_line and self.looked != before:
             signal.setitimer(signal.ITIMER_REAL, SOON, PERIOD)
         if not self.looked or self.looked != before:
