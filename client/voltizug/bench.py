@@ -157,7 +157,7 @@ class Bench:
         program, before, word = self.program, self.program.now, edit.command
         families = [["families " + self.families]] if self.families else []
         changes, steps, *pairs = program.ask_each([["changes"], ["history"], *families])
-        text = program.text() if program.state == DONE else None
+        text = program.text()
         if text is None:
             return edit._replace(reply=self.settled(Reply(program.state if program.state != DONE else BROKEN, [], [])))
         done = rows.read("history", steps.lines)

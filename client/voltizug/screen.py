@@ -22,10 +22,9 @@ class Screen:
         self.has_pager = has_pager and not self.is_dumb and os.environ.get("PAGER") != "cat"
 
     def size(self) -> os.terminal_size:
-        try:
+        size = USUAL
+        with contextlib.suppress(OSError):
             size = tuple(os.get_terminal_size(1))
-        except OSError:
-            size = USUAL
         return os.terminal_size(there if there >= least else usual for there, least, usual in zip(size, LEAST, USUAL))
 
     def broken(self, lines: Sequence[str]) -> List[str]:
@@ -71,8 +70,7 @@ def to_file(path: str, lines: Sequence[str]) -> str:
     try:
         with open(path, "x", encoding="utf-8", errors="surrogateescape") as file:
             file.write("".join(line + "\n" for line in lines))
-    except FileExistsError:
-        return "%s is there already, and is not overwritten. Nothing was written: name a new file." % layout.short(path)
     except OSError as why:
-        return "%s cannot be written: %s." % (layout.short(path), why.strerror)
+        there = "is there already, and is not overwritten. Nothing was written: name a new file."
+        return "%s %s" % (layout.short(path), there if isinstance(why, FileExistsError) else "cannot be written: %s." % why.strerror)
     return "%s in %s" % (layout.counted(len(lines), "line"), layout.short(path))
