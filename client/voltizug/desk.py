@@ -153,6 +153,8 @@ class Desk:
             self.screen.say("The program could not be started again. " + edits)
             raise Hangup
         if reply.state != DONE:
+            # (Ctrl-C may have come again, and this is to be seen)
+            self.editor.is_interrupted = False
             done = "The last command was not done: type it again." if reply.state == ENDED else "It was broken off. Nothing changed."
             self.screen.say(done + " undo goes back to the mark at most.")
         return reply.state == DONE
