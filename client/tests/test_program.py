@@ -52,6 +52,15 @@ class Real(OverProgram):
         self.assertTrue(program.ask([program.reload]).is_done)
         self.assertEqual(program.text(), LOOP.encode())
 
+    def test_begun_anew_over_other_words(self):
+        """A word that was added is in WORDS now, as after `append`, and one that was taken out is not."""
+        program = self.begin(example("author.sbl"), "cats\ndogs\n")
+        program.now = program.now._replace(words=("add apples", "remove dogs"))
+        with open(program.words, "w") as file:
+            file.write("cats\napples\n")
+        self.assertTrue(program.begin_anew())
+        self.assertEqual([row.word for row in rows.outcomes(program.ask(["stems"]).lines)], ["cats", "apples"])
+
     def test_begun_anew_after_a_kill(self):
         program = self.begin(example("author.sbl"), example("author.words"))
         self.assertTrue(program.ask(["routine plural", "true", "."]).is_done)

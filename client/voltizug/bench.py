@@ -7,20 +7,19 @@ from typing import Any, Callable, Dict, List, NamedTuple, Optional, Sequence, Se
 from . import rows
 from .kept import FileState, Kept, is_same, read_file, state_of
 from .places import LARGEST, Places
-from .program import BROKEN, DONE, ENDED, LONGEST, USUAL_LIMIT, Moment, Program, Reply, encoded
-
+from .program import BROKEN, DONE, ENDED, USUAL_LIMIT, Moment, Program, Reply
 
 class Edit(NamedTuple):
     """What an edit did. `step` is what undo took back or redo made again; `aside` are the names of the typed edits that a reload put aside, or
-    nothing; `notes` are keys of words.NOTES; `pairs` are the figures of the families before and now."""
+    nothing; `note` is a key of words.NOTES; `pairs` are the figures of the families before and now."""
 
     command: str
     reply: Reply
     changes: List[Any] = []
     is_same: bool = False
-    step: str = ""
+    step: Any = None
     aside: Optional[Tuple[str, ...]] = None
-    notes: Tuple[str, ...] = ()
+    note: str = ""
     pairs: Tuple[Any, ...] = ()
 
 
@@ -43,27 +42,26 @@ class Stage:
         """Returns the reply after what has to be done if the program is gone."""
         return reply
 
-    def known(self, *lines: str) -> List[Optional[List[str]]]:
-        """Asks reports: returns the lines of each, or nothing if it is refused. If it is broken off meanwhile, the program begins again."""
-        replies = self.program.ask_each([[line] for line in lines])
-        self.settled(replies[-1])
-        return [reply.lines if reply.is_done else None for reply in replies]
+    def known(self, line: str) -> Optional[List[str]]:
+        """Asks for a report: returns its lines, or nothing if it is refused. If it is broken off meanwhile, the program begins again."""
+        reply = self.settled(self.program.ask([line]))
+        return reply.lines if reply.is_done else None
 
     def read(self, line: str) -> List[Any]:
         """Returns the rows of a report; none if it is refused."""
-        return rows.read(line.partition(" ")[0], self.known(line)[0] or [])
+        return rows.read(line.partition(" ")[0], self.known(line) or [])
 
     def places(self) -> Places:
         """Returns where everything is in the current text, and in SCRIPT."""
         text, known = self.program.now.text, self.known_places
         if known is None or known.text is not text or known.file_text != self.file_text:
-            tokens = self.known("tokens")[0] if len(text) <= LARGEST else None
+            tokens = self.known("tokens") if len(text) <= LARGEST else None
             known = self.known_places = Places(self.script, text, self.file_text, self.read("places"), rows.tokens(tokens or []))
         known.note = ", as it was read" if self.script in self.saved() else ""
         return known
 
     def outcomes(self) -> List[rows.Outcome]:
-        return rows.outcomes(self.known("stems")[0] or [])
+        return rows.outcomes(self.known("stems") or [])
 
 
 class Bench(Stage):
@@ -71,23 +69,16 @@ class Bench(Stage):
 
     def __init__(self, command: Sequence[str], script: str, words: Optional[str], kept: Kept):
         super().__init__(Program(command, script, words, kept.room), script, words)
-        self.kept, self.is_waiting = kept, True
+        self.kept, self.is_waiting, self.size = kept, True, 0
         self.on_restart: Callable[[Reply], None] = lambda reply: None
         # (called after an edit was accepted, and before it is asked what that changed)
         self.on_accepted: Callable[[], None] = lambda: None
-        # The states of the files that were written here.
-        self.written: Dict[str, FileState] = {}
-        # The bytes of a text of SCRIPT that was refused; the texts that were read, by their hashes; whether undo took back what SCRIPT has.
-        self.refused_text: Optional[bytes] = None
-        self.read_texts: Set[int] = set()
-        self.is_older = False
-        # By the hash of a text that was saved to SCRIPT, what SCRIPT had before.
-        self.replaced: Dict[int, bytes] = {}
-        # The texts that reload put aside, with the names of their edits; the words that were added.
-        self.aside: List[Tuple[bytes, Tuple[str, ...]]] = []
-        self.added: List[str] = []
-        self.changes: List[Any] = []
-        self.size = 0
+        # The states of the files that were written here; the bytes of a text of SCRIPT that was refused; whether undo took back what SCRIPT has.
+        self.written, self.refused_text, self.is_older = {}, None, False  # type: Dict[str, FileState], Optional[bytes], bool
+        # The texts that were read, by their hashes; by the hash of a text that was saved to SCRIPT, what SCRIPT had before.
+        self.read_texts, self.replaced = set(), {}  # type: Set[int], Dict[int, bytes]
+        # The texts that reload put aside, with the names of their edits; the words that were added; what differs from the mark.
+        self.aside, self.added, self.changes = [], [], []  # type: List[Tuple[bytes, Tuple[str, ...]]], List[str], List[Any]
         self.families, self.pairs = "", ()  # type: str, Tuple[Any, ...]
 
     # Beginning and ending
@@ -134,8 +125,6 @@ class Bench(Stage):
     # Asking
 
     def ask(self, line: str) -> Reply:
-        if len(encoded(line)) > LONGEST:
-            return Reply(DONE, ["no 72 LineTooLong"], [])
         reply = self.settled(self.program.ask([line]))
         if reply.state == ENDED:
             # (somebody killed the program, and it is there again)
@@ -150,11 +139,8 @@ class Bench(Stage):
         if word in ("add", "remove"):
             program.now = program.now._replace(words=(*program.now.words, line))
             self.added = [*self.added, argument] if word == "add" else [other for other in self.added if other != argument]
-        elif word == "words":
-            program.now = program.now._replace(words=())
-            self.look(self.words or "")
-            self.added = []
-        elif word == "append":
+        elif word in ("words", "append"):
+            program.now = program.now._replace(words=() if word == "words" else program.now.words)
             self.look(self.words or "")
             self.added = []
         elif word == "mark":
@@ -177,8 +163,6 @@ class Bench(Stage):
     def edit(self, lines: Sequence[str]) -> Edit:
         """Makes an edit of the script or the limit, and asks what differs from the mark."""
         word, had_fault = lines[0].partition(" ")[0], self.refused_text is not None
-        if any(len(encoded(line)) > LONGEST for line in lines):
-            return Edit(word, Reply(DONE, ["no 72 LineTooLong"], []))
         if word == "reload":
             self.look(self.script)
             read, lines = read_file(self.script), [self.program.reload]
@@ -195,15 +179,14 @@ class Bench(Stage):
         program, before, word = self.program, self.program.now, edit.command
         families = [["families " + self.families]] if self.families else []
         changes, steps, *pairs = program.ask_each([["changes"], ["history"], *families])
-        text = program.text() if program.state == DONE else None
+        text = program.text()
         if text is None:
             return edit._replace(reply=self.settled(Reply(program.state if program.state != DONE else BROKEN, [], [])))
         done = rows.read("history", steps.lines)
-        kind = "undone" if word == "undo" else "done"
-        step = ([row for row in done if row.kind == kind] or [None])[0 if word == "undo" else -1]
-        limits = [row.rest[0] for row in done if row.kind == "done" and row.command == "limit"]
-        is_of_limit = step and step.command == "limit"
-        program.now = before._replace(text=text, limit=(limits or [USUAL_LIMIT])[-1] if is_of_limit else before.limit)
+        kind, at = ("undone", 0) if word == "undo" else ("done", -1)
+        step = ([row for row in done if row.kind == kind] or [None])[at]
+        limits = [USUAL_LIMIT, *(row.rest[0] for row in done if row.kind == "done" and row.command == "limit")]
+        program.now = before._replace(text=text, limit=limits[-1] if step and step.command == "limit" else before.limit)
         if word == "replace" and " " in command and not command.startswith("replace " + self.kept.folder):
             # (another file has this text)
             self.read_texts.add(hash(text))
@@ -212,18 +195,18 @@ class Bench(Stage):
         figures, self.pairs = (*(self.pairs or found), *found) if found else (), found or self.pairs
         return edit._replace(
             changes=self.changes, is_same=former == self.changes, pairs=figures,
-            step=" ".join((step.command, *step.rest)) if step and word in ("undo", "redo") else "",
-            notes=self.notes(word, before, had_fault, done == history), aside=self.note_text(word, before, history),
+            step=step if word in ("undo", "redo") else None,
+            note=self.note_on(word, before, had_fault, done == history), aside=self.note_text(word, before, history),
         )
 
-    def notes(self, word: str, before: Moment, had_fault: bool, is_not_held: bool) -> Tuple[str, ...]:
-        """Returns keys of what is to be said of an accepted edit beside its changes. It is asked before the texts are noted."""
+    def note_on(self, word: str, before: Moment, had_fault: bool, is_not_held: bool) -> str:
+        """Returns the key of what is to be said of an accepted edit beside its changes. It is asked before the texts are noted."""
         now = self.program.now
         if word == "reload" and before.text == now.text:
-            return ("fault gone" if had_fault else "unchanged" if self.file_text == now.text else "same",)
+            return "fault gone" if had_fault else "unchanged" if self.file_text == now.text else "same"
         if word == "undo" and before.text == self.file_text != now.text:
-            return ("undone in file",)
-        return ("in force",) if word not in ("undo", "redo", "reload") and (is_not_held or before == now) else ()
+            return "undone in file"
+        return "in force" if word not in ("undo", "redo", "reload") and (is_not_held or before == now) else ""
 
     def note_text(self, word: str, before: Moment, history: Sequence[Any]) -> Optional[Tuple[str, ...]]:
         """Notes which texts files have. Returns the names of the typed edits that a reload put aside."""
@@ -252,17 +235,13 @@ class Bench(Stage):
 
     def may_write(self, word: str, path: str) -> str:
         """Returns a key of words.MAY_NOT if `save` or `approve` should not write to a file, or only if it is asked for again (with a ?)."""
-        if self.words and is_same(path, self.words):
-            return "words"
-        if is_same(path, self.script):
-            if word == "approve":
-                return "script"
-            if self.refused_text is not None and self.refused_text == read_file(self.script):
-                return "refused?"
-            return "changed" if self.script in self.saved() else "undone?" if self.is_older else ""
-        if not os.path.isfile(path):
-            return ""
-        return "there" if os.path.realpath(path) not in self.written else "others" if state_of(path) != self.written[os.path.realpath(path)] else ""
+        is_script, name = is_same(path, self.script), os.path.realpath(path)
+        is_refused = self.refused_text is not None and self.refused_text == read_file(self.script)
+        return next((key for is_so, key in (
+            (is_same(path, self.words), "words"), (is_script and word == "approve", "script"), (is_script and is_refused, "refused?"),
+            (is_script and self.script in self.saved(), "changed"), (is_script and self.is_older, "undone?"),
+            (is_script or not os.path.isfile(path), ""), (name not in self.written, "there"), (self.written.get(name) != state_of(path), "others"),
+        ) if is_so), "")
 
     def write(self, word: str, path: str) -> Reply:
         """Has the program write the script (`save`) or the stems (`approve`) to a file."""
@@ -270,13 +249,12 @@ class Bench(Stage):
         reply = self.ask("%s %s" % (word, self.script if is_own else path))
         if reply.is_done:
             self.written[os.path.realpath(path)] = state_of(path)
-        if reply.is_done and is_own:
-            self.look(self.script)
-            self.refused_text = None
-            if word == "save" and self.file_text not in (None, self.program.now.text):
-                self.replaced[hash(self.program.now.text)] = self.file_text or b""
-            self.note_file()
-        if reply.is_done and word == "save":
+            if is_own:
+                self.look(self.script)
+                self.refused_text = None
+                if self.file_text not in (None, self.program.now.text):
+                    self.replaced[hash(self.program.now.text)] = self.file_text or b""
+                self.note_file()
             self.keep()
         return reply
 
@@ -286,8 +264,12 @@ def pairs_of(*replies: Reply) -> Tuple[Any, ...]:
     return tuple(row for reply in replies for row in rows.read("families", reply.lines) if row.kind == "pairs")
 
 
-def typed_names(history: Sequence[Any]) -> Tuple[str, ...]:
-    """Returns the names of the edits that are done since the script was read."""
-    done = [row for row in history if row.kind == "done"]
+def typed_edits(history: Sequence[Any]) -> List[Any]:
+    """Returns the edits of parts that are done since the script was read."""
+    done = [row for row in history if row.kind == "done" and row.command != "limit"]
     last = max((i for i, row in enumerate(done) if row.command == "script"), default=-1)
-    return tuple(dict.fromkeys(row.rest[0] for row in done[last + 1 :] if row.command != "limit" and row.rest))
+    return done[last + 1 :]
+
+
+def typed_names(history: Sequence[Any]) -> Tuple[str, ...]:
+    return tuple(dict.fromkeys(row.rest[0] for row in typed_edits(history)))

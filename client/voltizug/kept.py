@@ -38,24 +38,21 @@ class Kept:
     def note(self, name: str, lines: Sequence[str]) -> None:
         """Notes what no file has, in a file of the room: `about` has the name of another file of the room, whose text has them, and their names;
         `added` has the words that were added. Without lines that is forgotten."""
-        if lines:
-            self.keep(name, "\n".join([self.script, *lines]).encode("utf-8", "surrogateescape"))
-        else:
-            with contextlib.suppress(OSError):
-                os.remove(os.path.join(self.room, name))
+        self.keep(name, "\n".join([self.script, *lines]).encode("utf-8", "surrogateescape") if lines else b"")
 
     def keep(self, file: str, text: bytes) -> None:
         with contextlib.suppress(OSError), open(os.path.join(self.room, file), "wb") as kept:
             kept.write(text)
 
     def has(self, *names: str) -> bool:
-        return any(os.path.exists(os.path.join(self.room, name)) for name in names)
+        return any(read_file(os.path.join(self.room, name)) for name in names)
 
     def left(self) -> List[Left]:
         """Returns what was left behind over this script, the oldest first. Folders that have nothing are taken away."""
         found = []
         for entry in os.scandir(os.path.join(self.folder, "open")):
-            lock = locked(entry.path) if entry.path != self.room else None
+            # (this one's is locked, too)
+            lock = locked(entry.path)
             if lock is None:
                 continue
             with lock:
