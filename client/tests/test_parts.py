@@ -33,6 +33,10 @@ class Layouts(Case):
     def test_the_summary(self):
         found = rows.read("changes", ["changed,w,stem,a,refused,Steps", "changed,v,stem,a,stem,b", "split,a,b,c", "added,x"])
         self.assertEqual(layout.summary(Edit("routine", Reply("done", ["ok"], []), found)), "2 words, 1 of them refused, 1 split, 1 word added since the mark")
+        own = rows.read("changes", ["changed,w,stem,a,stem,b", "renamed,a,b"])
+        since = "2 words, 1 of them refused, 1 split, 1 word added since the mark"
+        self.assertEqual(layout.summary(Edit("routine", Reply("done", ["ok"], []), found, own)), "this edit: 1 word, 1 renamed; " + since)
+        self.assertEqual(layout.summary(Edit("routine", Reply("done", ["ok"], []), found, [])), since + " (this edit changed none)")
         aside = Edit("reload", Reply("done", ["ok"], []), [], aside=("long", "r"))
         self.assertEqual(layout.summary(aside), "no word and no class differs from the mark; put aside: long, r (undo brings them back)")
 

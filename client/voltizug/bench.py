@@ -10,13 +10,14 @@ from .places import LARGEST, Places
 from .program import BROKEN, DONE, ENDED, USUAL_LIMIT, Moment, Program, Reply
 
 class Edit(NamedTuple):
-    """What an edit did. `step` is what undo took back or redo made again; `aside` are the names of the typed edits that a reload put aside, or
-    nothing; `note` is a key of words.NOTES; `pairs` are the figures of the families before and now."""
+    """What an edit did: what differs from the mark now, and what it changed itself, if these may not be the same. `step` is what undo took back or
+    redo made again; `aside` are the names of the typed edits that a reload put aside, or nothing; `note` is a key of words.NOTES; `pairs` are the
+    figures of the families before and now."""
 
     command: str
     reply: Reply
     changes: List[Any] = []
-    is_same: bool = False
+    own: Optional[List[Any]] = None
     step: Any = None
     aside: Optional[Tuple[str, ...]] = None
     note: str = ""
@@ -166,19 +167,21 @@ class Bench(Stage):
         if word == "reload":
             self.look(self.script)
             read, lines = read_file(self.script), [self.program.reload]
-        history, reply = self.program.ask_each([["history"], lines])
+        # (what it changes is seen by the stems before and after it, but for an edit of what is the mark)
+        has_changed = self.changes or self.program.now.words != self.program.marked.words
+        history, *stems, reply = self.program.ask_each([["history"], *[["stems"]] * bool(has_changed), lines])
         if word == "reload" and reply.state == DONE:
             self.refused_text = read if reply.refusal() else None
         if not reply.is_done:
             return Edit(word, self.settled(reply), self.changes)
         self.on_accepted()
-        return self.edited(Edit(word, reply), lines[0], rows.read("history", history.lines), had_fault)
+        return self.edited(Edit(word, reply), lines[0], rows.read("history", history.lines), had_fault, [reply.lines for reply in stems])
 
-    def edited(self, edit: Edit, command: str, history: Sequence[Any], had_fault: bool) -> Edit:
-        """Completes an accepted edit: what it changed, and what became of the texts before it."""
+    def edited(self, edit: Edit, command: str, history: Sequence[Any], had_fault: bool, before_it: Sequence[List[str]]) -> Edit:
+        """Completes an accepted edit: what it changed, by the stems before it, if these are known; and what became of the texts before it."""
         program, before, word = self.program, self.program.now, edit.command
         families = [["families " + self.families]] if self.families else []
-        changes, steps, *pairs = program.ask_each([["changes"], ["history"], *families])
+        changes, steps, stems, *pairs = program.ask_each([["changes"], ["history"], ["stems" if before_it else "echo"], *families])
         text = program.text()
         if text is None:
             return edit._replace(reply=self.settled(Reply(program.state if program.state != DONE else BROKEN, [], [])))
@@ -190,12 +193,12 @@ class Bench(Stage):
         if word == "replace" and " " in command and not command.startswith("replace " + self.kept.folder):
             # (another file has this text)
             self.read_texts.add(hash(text))
-        former, self.changes = self.changes, rows.read("changes", changes.lines)
+        self.changes = rows.read("changes", changes.lines)
         found = pairs_of(*pairs)
         figures, self.pairs = (*(self.pairs or found), *found) if found else (), found or self.pairs
         return edit._replace(
-            changes=self.changes, is_same=former == self.changes, pairs=figures,
-            step=step if word in ("undo", "redo") else None,
+            changes=self.changes, own=rows.between(before_it[0], stems.lines) if before_it and self.changes else None,
+            pairs=figures, step=step if word in ("undo", "redo") else None,
             note=self.note_on(word, before, had_fault, done == history), aside=self.note_text(word, before, history),
         )
 

@@ -63,7 +63,7 @@ def overview() -> List[str]:
     """Returns the lines of help."""
     listed = [(group, [command.usage for command in part if command.name not in UNLISTED]) for group, part in GROUPS.items() if group != PROGRAMS]
     return [
-        "An empty line reads the script again and shows what changed since the mark.",
+        "An empty line reads the script again and shows what changed.",
         *("%-13s %s" % (group, ", ".join(usages)) for group, usages in listed),
         "Keys          TAB completes, Ctrl-R searches earlier lines; Ctrl-C drops the line or the block, or breaks off what runs; Ctrl-D ends",
         "To a file     a report and > FILE, as in: classes > my.classes",

@@ -227,13 +227,14 @@ class Desk:
             return False
         if is_reload:
             self.warn()
-        refused = [row.word for row in edit.changes if row.kind == "changed" and row.new_kind == "refused" and row.new in ("Steps", "Depth")]
-        tail = [*(self.new_lines(lints.lints(self.bench)) if is_reload else []), self.turning(refused[0]) if refused and not edit.is_same else ""]
+        own = edit.changes if edit.own is None else edit.own
+        refused = [row.word for row in own if row.kind == "changed" and row.new_kind == "refused" and row.new in ("Steps", "Depth")]
+        tail = [*(self.new_lines(lints.lints(self.bench)) if is_reload else []), self.turning(refused[0]) if refused else ""]
         note = words.NOTES.get(edit.note, "").format(script=short(self.bench.script))
         last = self.screen.broken([line for line in [*tail, note, layout.families_line(edit.pairs), layout.summary(edit)] if line])
         size = self.screen.size()
         room = max(1, size.lines - len(last) - 1 - self.editor.rows_typed(size.columns))
-        found = layout.changes(edit.changes, self.outcomes(edit.changes), room)
+        found = layout.changes(own, self.outcomes(own), room, '"changes" shows all' + " since the mark" * (own is not edit.changes))
         self.screen.write([layout.cut(layout.named(line), size.columns) for line in found] + last)
         return True
 

@@ -105,7 +105,7 @@ def shares(counts: Sequence[int], room: int) -> List[int]:
     return given
 
 
-def changes(found: Sequence[Any], outcomes: Dict[str, rows.Outcome], room: int = 0) -> List[str]:
+def changes(found: Sequence[Any], outcomes: Dict[str, rows.Outcome], room: int = 0, all_: str = '"changes" shows all') -> List[str]:
     """Returns the lines of changes, no more than there is room for; all without a room."""
     present = list(rows.by_kind(found).values())
     counts = [len(part) for part in present]
@@ -116,10 +116,10 @@ def changes(found: Sequence[Any], outcomes: Dict[str, rows.Outcome], room: int =
         column = min(COLUMN, max((columns(named(row.word)) for row in part[:count]), default=0)) if part[0].kind == "changed" else 0
         lines += [change(row, column, outcomes) for row in part[:count]]
     more = len(found) - sum(counts)
-    return lines + ['  .. and {:,} more: "changes" shows all'.format(more)] * bool(more)
+    return lines + ["  .. and {:,} more: {}".format(more, all_)] * bool(more)
 
 
-def figures(found: Sequence[Any]) -> str:
+def figures(found: Sequence[Any], since: str = " since the mark") -> str:
     """Returns what differs from the mark, in numbers."""
     kinds = Counter(row.kind for row in found)
     refused = sum(row.new_kind == "refused" for row in found if row.kind == "changed")
@@ -127,14 +127,16 @@ def figures(found: Sequence[Any]) -> str:
     parts += ["{:,} of them refused".format(refused)] if refused else []
     parts += ["{:,} {}".format(kinds[kind], kind) for kind in ("split", "merged", "renamed") if kinds[kind]]
     parts += [counted(kinds[kind], "word") + " " + kind for kind in ("added", "removed") if kinds[kind]]
-    return ", ".join(parts) + " since the mark" if parts else "no word and no class differs from the mark"
+    return ", ".join(parts) + since if parts else "no word and no class differs from the mark"
 
 
 def summary(edit: Edit) -> str:
     """Returns the line that stands last after an edit."""
     text = figures(edit.changes)
-    if edit.changes and edit.is_same:
+    if edit.own == []:
         text += " (this edit changed none)"
+    elif edit.own:
+        text = "this %s: %s; %s" % (edit.command if edit.step else "edit", figures(edit.own, ""), text)
     if edit.command in ("undo", "redo"):
         text = "%s%s; %s" % ("taken back" if edit.command == "undo" else "made again", ": " + short(step_of(edit.step)) if edit.step else "", text)
     if edit.aside is not None:

@@ -1,7 +1,7 @@
 """The rows of replies as named tuples, by the tables of docs/REFERENCE.md."""
 import csv
 from collections import namedtuple
-from itertools import groupby
+from itertools import compress, groupby
 from typing import Any, Dict, Iterable, List, NamedTuple, Tuple
 
 PLACE = " start end line column"
@@ -53,6 +53,27 @@ def read(report: str, lines: Iterable[str]) -> List[Any]:
     heads = {kind: len(kinds[kind]._fields) - 1 for kind in kinds if "*" in table[kind]}
     found = [row for row in rows_of(lines) if row and row[0] in table]
     return [kinds[row[0]](*row[: heads[row[0]]], tuple(row[heads[row[0]] :])) if row[0] in heads else kinds[row[0]]._make(row) for row in found]
+
+
+def between(before: List[str], after: List[str]) -> List[Any]:
+    """Returns the rows of `changes` from one reply to `stems` to another one over the same words."""
+    if '"' not in "".join(before) + "".join(after):
+        # (each row is a line: only those that differ, and those with a stem of these, are read)
+        ends = {line.rpartition(",")[2] for pair in zip(before, after) if pair[0] != pair[1] for line in pair}
+        is_read = [old != new or old.rpartition(",")[2] in ends for old, new in zip(before, after)]
+        before, after = list(compress(before, is_read)), list(compress(after, is_read))
+    make, pairs = KINDS["changes"], list(zip(rows_of(before), rows_of(after)))
+    changed = [make["changed"]("changed", *old, *new[1:]) for old, new in pairs if old != new]
+    touched = {stem for row in changed for stem in (row.old, row.new)}
+    # (a word whose run is refused is in no class)
+    ways = {(old[2], new[2]) for old, new in pairs if old[1] == new[1] == "stem" and not touched.isdisjoint((old[2], new[2]))}
+    to, of = (
+        {stem: [other for _, other in part] for stem, part in groupby(sorted(each), key=lambda way: way[0])} for each in (ways, (way[::-1] for way in ways))
+    )
+    split = [make["split"]("split", old, tuple(news)) for old, news in to.items() if len(news) > 1]
+    merged = [make["merged"]("merged", new, tuple(olds)) for new, olds in of.items() if len(olds) > 1]
+    renamed = [make["renamed"]("renamed", old, new) for old, (new, *more) in to.items() if old != new and not more and of[new] == [old]]
+    return changed + split + merged + renamed
 
 
 def names_of(row: Any) -> List[str]:
