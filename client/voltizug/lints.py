@@ -1,8 +1,9 @@
 """What is legal in a script and words, and may not be meant. By the tokens and the strings that the program tells: no script is read here."""
-from typing import Iterable, List, Sequence, Set, Tuple
+from typing import Dict, Iterable, List, Sequence, Set, Tuple
 
 from .bench import Bench
-from .layout import named, short
+from .layout import in_words, named, short
+from .names import Names
 from .places import LARGEST, Places, line_and_column
 from .rows import Outcome, Token
 
@@ -14,6 +15,8 @@ PUTTING = ("<-", "<+", "insert", "attach", "=", "+=", "=>")
 EMPTY = {"among": "[substring] is meant, perhaps", "<-": "it has no character to replace", "delete": "it has no character to delete"}
 # They signal t, whatever the command after them does; before those these make something else of it.
 SURE, NOT_SURE = ("do", "try", "repeat"), ("not", "fail", "for", "and")
+# They take the slice.
+TAKING = ("delete", "<-", "->")
 
 
 def lints(bench: Bench, has_all: bool = False) -> List[str]:
@@ -28,7 +31,7 @@ def lints(bench: Bench, has_all: bool = False) -> List[str]:
         (left.start, "the slice is empty here: " + EMPTY[after.text]) for left, right, after in zip(tokens, tokens[1:], tokens[2:])
         if left.text == "[" and right.text == "]" and after.text in EMPTY
     ]
-    found += sure_alternatives(tokens)
+    found += [*sure_alternatives(tokens), *unset_slices(Names(places.tokens))]
     found += strange_strings(places, outcomes, tokens) if has_all or bench.size >= FEW else []
     found += [(token.start, beyond % short(token.text)) for token in tokens if has_all and token.kind == "literal" and not token.text.isascii()]
     shown = ["%s:%d:%d: %s" % (named(bench.script), *line_and_column(places.text, start), what) for start, what in sorted(found)]
@@ -43,6 +46,28 @@ def sure_alternatives(tokens: Sequence[Token]) -> Iterable[Tuple[int, str]]:
         is_sure = token.kind == "word" and token.text in SURE and not (at and tokens[at - 1].text in NOT_SURE)
         if is_sure and [other.text for other in tokens[end_of(tokens, at + 1) :][:1]] == ["or"]:
             yield token.start, what.format(token.text)
+
+
+def unset_slices(names: Names) -> Iterable[Tuple[int, str]]:
+    """The first command of a routine that takes the slice, if there is no [ or no ] in the routine, in what it calls, and in what calls it."""
+    parts = {item.name.text: names.part(item)[1:] for item in names.order if item.is_routine}
+    texts = {name: {token.text for token in part} for name, part in parts.items()}
+    calls = {name: texts[name].intersection(parts) for name in parts}
+    callers = {name: {other for other in parts if name in calls[other]} for name in parts}
+    for name, part in parts.items():
+        there = set().union(*(texts[other] for ways in (calls, callers) for other in reached(name, ways)))
+        lacking = [sign for sign in "[]" if sign not in there]
+        for token in [token for token in part if token.text in TAKING and lacking][:1]:
+            what = "{}, what it calls and what calls it have no {}: this {} takes an earlier slice, or an empty one"
+            yield token.start, what.format(name, in_words(lacking, "and no"), token.text)
+
+
+def reached(name: str, ways: Dict[str, Set[str]]) -> List[str]:
+    """Returns a name and all to which ways lead from it."""
+    found = [name]
+    for each in found:
+        found += sorted(ways[each].difference(found))
+    return found
 
 
 def end_of(tokens: Sequence[Token], at: int) -> int:
