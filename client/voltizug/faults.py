@@ -41,6 +41,8 @@ def place_of(said: Sequence[str], *names: str) -> Place:
 def shown(said: Sequence[str], script: str, text: Optional[bytes], width: int) -> List[str]:
     """Returns the lines on a fault, and the line of the script with carets cut to the window."""
     lines = [with_file(line, script) for line in said if not CODE.match(line)]
+    if text and b"stringescapes" not in text:
+        lines = [line + ". A literal with {..} needs stringescapes {} above it" * (": } can only be" in line) for line in lines]
     if (text or b"").startswith(BOM):
         lines = without_mark(lines, script)
     lines = [line if line.startswith(INDENT) else re.sub(r"\w{61,}", lambda name: short(name[0]), line) for line in map(named, lines)]

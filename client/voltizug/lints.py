@@ -1,4 +1,6 @@
 """What is legal in a script and words, and may not be meant. By the tokens and the strings that the program tells: no script is read here."""
+import re
+from itertools import takewhile
 from typing import Dict, Iterable, List, Sequence, Set, Tuple
 
 from .bench import Bench
@@ -31,7 +33,7 @@ def lints(bench: Bench, has_all: bool = False) -> List[str]:
         (left.start, "the slice is empty here: " + EMPTY[after.text]) for left, right, after in zip(tokens, tokens[1:], tokens[2:])
         if left.text == "[" and right.text == "]" and after.text in EMPTY
     ]
-    found += [*sure_alternatives(tokens), *unset_slices(Names(places.tokens))]
+    found += [*sure_alternatives(tokens), *unset_slices(Names(places.tokens)), *plain_braces(tokens)]
     found += strange_strings(places, outcomes, tokens) if has_all or bench.size >= FEW else []
     found += [(token.start, beyond % short(token.text)) for token in tokens if has_all and token.kind == "literal" and not token.text.isascii()]
     shown = ["%s:%d:%d: %s" % (named(bench.script), *line_and_column(places.text, start), what) for start, what in sorted(found)]
@@ -46,6 +48,13 @@ def sure_alternatives(tokens: Sequence[Token]) -> Iterable[Tuple[int, str]]:
         is_sure = token.kind == "word" and token.text in SURE and not (at and tokens[at - 1].text in NOT_SURE)
         if is_sure and [other.text for other in tokens[end_of(tokens, at + 1) :][:1]] == ["or"]:
             yield token.start, what.format(token.text)
+
+
+def plain_braces(tokens: Sequence[Token]) -> Iterable[Tuple[int, str]]:
+    """The first literal with {..} above which there are no insert characters."""
+    above = takewhile(lambda token: token.text != "stringescapes", tokens)
+    for token in [token for token in above if token.kind == "literal" and re.search("{.*}", token.text)][:1]:
+        yield token.start, "%s has { and } as letters: no stringescapes {} is above it" % short(token.text)
 
 
 def unset_slices(names: Names) -> Iterable[Tuple[int, str]]:
