@@ -228,7 +228,7 @@ class Desk:
         if is_reload:
             self.warn()
         own = edit.changes if edit.own is None else edit.own
-        refused = [row.word for row in own if row.kind == "changed" and row.new_kind == "refused" and row.new in ("Steps", "Depth")]
+        refused = [row.word for row in own if row.kind == "changed" and row.new_kind == "refused" and row.new in loops.NAMES]
         tail = [*(self.new_lines(lints.lints(self.bench)) if is_reload else []), self.turning(refused[0]) if refused else ""]
         note = words.NOTES.get(edit.note, "").format(script=short(self.bench.script))
         last = self.screen.broken([line for line in [*tail, note, layout.families_line(edit.pairs), layout.summary(edit)] if line])

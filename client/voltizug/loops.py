@@ -1,10 +1,13 @@
-"""What goes round in a run that was refused for its steps or its depth, by its events."""
+"""What goes round in a run that was refused for its steps, its depth or the length of its text, by its events."""
 from typing import Any, List, NamedTuple, Optional, Sequence, Tuple
 
 from .bench import Bench
 from .layout import in_words
+from .places import GROWING, TURNING
 from .words import in_quotes
 
+# The refusals of which a place may be known.
+NAMES = ("Steps", "Depth", "TooLong")
 # The longest turn that is looked for, in events. So many turns, one like another, are a loop.
 LONGEST, SURE = 400, 100
 
@@ -54,7 +57,11 @@ def period(keys: Sequence[Any], times: int) -> Tuple[int, int]:
 
 
 def turning(word: str, events: Sequence[Any], bench: Bench) -> str:
-    """Returns the sentence on what goes round in the run of a word; nothing if that is not known."""
+    """Returns the sentence on what goes round in the run of a word, or makes its text too long; nothing if that is not known."""
+    if events and events[-1][:2] == ("refused", "TooLong"):
+        spots = bench.places().spots(next((row.name for row in reversed(events) if row.kind == "put"), ""), GROWING)
+        grows = "In the run of %s %s makes the text longer and longer. It may have 1,024 characters."
+        return grows % (in_quotes(word), in_words(spots, "or")) if spots else ""
     turn = turn_of(events)
     if turn is None or not turn.names[0]:
         return ""
@@ -63,7 +70,7 @@ def turning(word: str, events: Sequence[Any], bench: Bench) -> str:
         at, deep = places.of(name), ", {:,} deep".format(turn.count) if turn.count > 1 else ""
         who = "%s calls itself" % name if len(turn.names) == 1 else "%s call each other" % in_words(turn.names, "and")
         return "In the run of %s %s%s%s." % (word, who, " (%s)" % at if at else "", deep)
-    spots = ["the %s of %s" % spot for spot in places.turning(name)[:4]]
+    spots = places.spots(name, TURNING)
     if turn.count < SURE:
         may_be = " It may be %s." % in_words(spots, "or") if spots else ""
         limit = int(bench.program.now.limit)

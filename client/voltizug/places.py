@@ -6,8 +6,8 @@ from .rows import Token
 BOM = b"\xef\xbb\xbf"
 # Of a larger script tokens are not asked: that takes seconds.
 LARGEST = 200000
-# The words of commands that can go round.
-TURNING = ("repeat", "goto", "gopast", "loop", "atleast")
+# The words of commands that can go round, and of those that can make the text longer.
+TURNING, GROWING = ("repeat", "goto", "gopast", "loop", "atleast"), ("<-", "<+", "insert", "attach")
 
 
 class Places:
@@ -65,11 +65,11 @@ class Places:
             end = comment.end
         return readable(before * (not before.strip()) + self.text[start:end]).split("\n")
 
-    def turning(self, name: str) -> List[Tuple[str, str]]:
-        """Returns the words in a definition that can go round, with their places."""
+    def spots(self, name: str, words: Sequence[str]) -> List[str]:
+        """Returns where a definition has these words, at most four of them."""
         home = self.definitions.get(name)
-        found = [token for token in self.tokens if home and token.text in TURNING and int(home.start) <= token.start < int(home.end)]
-        return [(token.text, self.at(name, token.start)) for token in found]
+        found = [token for token in self.tokens if home and token.text in words and int(home.start) <= token.start < int(home.end)]
+        return ["the %s of %s" % (token.text, self.at(name, token.start)) for token in found[:4]]
 
 
 def readable(text: bytes) -> str:
