@@ -283,6 +283,21 @@ class Traps(Case):
         self.assertEqual(third.ended(), 0)
         self.assertIn("10 words", self.terminal(self.folder).got())
 
+    def test_the_lines_of_an_open_block_survive_a_closed_terminal(self):
+        for how in (signal.SIGHUP, signal.SIGKILL):
+            terminal = self.begin()
+            terminal.enter("among ending 1", "among (", "'al' (delete)")
+            os.kill(terminal.child, how)
+            self.assertIsNotNone(terminal.ended())
+            again = self.terminal(self.folder)
+            shown = again.got()
+            self.assertIn("A block was open when the terminal was closed (among ending 1, 2 lines): the up arrow brings its lines.", shown)
+            self.assertNotIn("rescue", shown)
+            self.assertIn("| 'al' (delete)", again.type("\x1b[A" * 3 + "\r") + again.type("\x1b[A" * 3 + "\r") + again.type("\x1b[A" * 3 + "\r"))
+            again.enter(")", ".", "quit", "quit")
+            self.assertEqual(again.ended(), 0)
+            self.assertNotIn("block", self.terminal(self.folder).got())
+
     def test_nothing_is_left_behind_if_nothing_was_typed(self):
         # (`timeout` sends both)
         for signals in ([signal.SIGTERM], [signal.SIGTERM, signal.SIGCONT]):

@@ -105,7 +105,7 @@ class Bench(Stage):
     def close(self, is_kept: bool) -> None:
         """Ends the program. The room may be kept if it has typed edits."""
         self.program.stop()
-        if not (is_kept and self.kept.has("about", "added")):
+        if not (is_kept and self.kept.has("about", "added", "block")):
             self.kept.forget(self.kept.room)
 
     def is_unsaved(self, text: bytes) -> bool:

@@ -100,6 +100,12 @@ class Desk:
             first = "The first refused word is %s (%s)." % (words.in_quotes(row.word), row.stem)
             say(('%s "why %s" shows where its run ends. %s' % (first, short(row.word), self.turning(row.word))).rstrip())
         all_left = bench.kept.left()
+        for left in [left for left in all_left if left.block]:
+            self.editor.remember(*left.block)
+            bench.kept.forget(left.room, "block")
+            lines = counted(len(left.block) - 1, "line")
+            say("A block was open when the terminal was closed (%s, %s): the up arrow brings its lines." % (short(left.block[0]), lines))
+        all_left = [left for left in all_left if left.path or left.words]
         for left in all_left[-1:]:
             names = left.edits + [counted(len(left.words), "added word")] * bool(left.words)
             edits = "Edits that you typed before were left behind when the terminal was closed (%s)" % in_words(names, "and", 5)

@@ -17,12 +17,14 @@ FileState = Optional[Tuple[int, int, int]]
 
 
 class Left(NamedTuple):
-    """What was left behind: the folder, the file in it that has the text with typed edits, their names, and the words that were added."""
+    """What was left behind: the folder, the file in it that has the text with typed edits, their names, the words that were added, and the lines of
+    a block that was open."""
 
     room: str
     path: str
     edits: List[str]
     words: List[str] = []
+    block: List[str] = []
 
 
 class Kept:
@@ -37,7 +39,7 @@ class Kept:
 
     def note(self, name: str, lines: Sequence[str]) -> None:
         """Notes what no file has, in a file of the room: `about` has the name of another file of the room, whose text has them, and their names;
-        `added` has the words that were added. Without lines that is forgotten."""
+        `added` has the words that were added, `block` the lines of a block that is open. Without lines that is forgotten."""
         self.keep(name, "\n".join([self.script, *lines]).encode("utf-8", "surrogateescape") if lines else b"")
 
     def keep(self, file: str, text: bytes) -> None:
@@ -56,17 +58,22 @@ class Kept:
             if lock is None:
                 continue
             with lock:
-                texts = [read_file(os.path.join(entry.path, name)) or b"" for name in ("about", "added")]
-                edits, added = (text.decode("utf-8", "surrogateescape").split("\n") for text in texts)
-                if self.script in (edits[0], added[0]):
+                texts = [read_file(os.path.join(entry.path, name)) or b"" for name in ("about", "added", "block")]
+                edits, added, block = (text.decode("utf-8", "surrogateescape").split("\n") for text in texts)
+                if self.script in (edits[0], added[0], block[0]):
                     path = os.path.join(entry.path, edits[1]) if edits[1:] else ""
-                    found.append((entry.stat().st_mtime, Left(entry.path, path, edits[2:], added[1:])))
+                    found.append((entry.stat().st_mtime, Left(entry.path, path, edits[2:], added[1:], block[1:])))
                 elif not any(texts) and entry.stat().st_mtime < time.time() - YOUNG:
                     self.forget(entry.path)
         return [left for _, left in sorted(found)]
 
-    def forget(self, room: str) -> None:
-        shutil.rmtree(room, ignore_errors=True)
+    def forget(self, room: str, *names: str) -> None:
+        """Takes a room away, or files of it."""
+        for name in names:
+            with contextlib.suppress(OSError):
+                os.remove(os.path.join(room, name))
+        if not names:
+            shutil.rmtree(room, ignore_errors=True)
 
 
 def locked(room: str) -> Optional[IO[bytes]]:

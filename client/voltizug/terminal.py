@@ -254,9 +254,11 @@ class Terminal(Desk):
         except Dropped:
             self.editor.remember(*block[1:])
             self.screen.say("The block is dropped%s." % ("; the up arrow brings its lines back" if len(block) > 1 else ""))
+            self.bench.kept.note("block", [])
             return
         finally:
             self.completion.is_in_block = False
+        self.bench.kept.note("block", [])
         if not is_whole:
             self.screen.say("Nothing was done: the block has no line with only a point at its end.")
         elif block[0] == "families":
@@ -275,6 +277,7 @@ class Terminal(Desk):
             if self.is_command(line, block[0]):
                 self.screen.say("This line is a part of the block. A line with a single point ends the block, Ctrl-C drops it.")
             block.append(line)
+            self.bench.kept.note("block", block)
 
     def is_command(self, line: str, block: str) -> bool:
         """Whether a line of a block is meant as a command, by its first word. (A family may have any word.)"""
