@@ -38,6 +38,8 @@ class Desk:
         self.screen = Screen(self.editor, options.color, options.has_pager)
         # Warnings that were given; lines in a row that are no command.
         self.warned, self.nonsense = [], 0  # type: List[str], int
+        # Whether WORDS was saved since it was read.
+        self.has_old_words = False
         # The files and what they had; whether `work` has waited for one without its fault; the status with which it ends.
         self.paths = [path for path in (bench.script, bench.words) if path]
         self.files: Sequence[Optional[bytes]] = ()
@@ -133,12 +135,15 @@ class Desk:
         elif self.bench.script in self.bench.saved():
             self.edit(["reload"])
         else:
-            self.note_words()
+            self.screen.say(self.note_words())
 
-    def note_words(self) -> None:
-        if self.bench.words and self.bench.words in self.bench.saved():
-            self.bench.look(self.bench.words)
-            self.screen.say("%s has changed: words reads it again." % short(self.bench.words))
+    def note_words(self) -> str:
+        """Returns the sentence on words that were saved since they were read; nothing if they were not."""
+        path = self.bench.words or ""
+        if path in self.bench.saved():
+            self.bench.look(path)
+            self.has_old_words = True
+        return "%s has changed: words reads it again." % short(path) if self.has_old_words else ""
 
     # What becomes of a request
 
@@ -230,6 +235,7 @@ class Desk:
         elif edit.reply.refusal():
             self.refuse(edit.reply, lines)
         if not edit.reply.is_done:
+            self.screen.say(self.note_words())
             return False
         if is_reload:
             self.warn()
@@ -237,7 +243,7 @@ class Desk:
         refused = [row.word for row in own if row.kind == "changed" and row.new_kind == "refused" and row.new in loops.NAMES]
         tail = [*(self.new_lines(lints.lints(self.bench)) if is_reload else []), self.turning(refused[0]) if refused else ""]
         note = words.NOTES.get(edit.note, "").format(script=short(self.bench.script))
-        last = self.screen.broken([line for line in [*tail, note, layout.families_line(edit.pairs), layout.summary(edit)] if line])
+        last = self.screen.broken([line for line in [*tail, note, self.note_words(), layout.families_line(edit.pairs), layout.summary(edit)] if line])
         size = self.screen.size()
         room = max(1, size.lines - len(last) - 1 - self.editor.rows_typed(size.columns))
         found = layout.changes(own, self.outcomes(own), room, '"changes" shows all' + " since the mark" * (own is not edit.changes))

@@ -52,8 +52,6 @@ class Terminal(Desk):
         elif len(encoded(line)) > LONGEST:
             self.screen.say(words.SENTENCES[72])
         elif line in ("", "reload", "undo", "redo") or command in ("limit", "replace") and argument:
-            if line in ("", "reload"):
-                self.note_words()
             self.edit([line or "reload"])
         elif block:
             self.read_block(block)
@@ -209,6 +207,7 @@ class Terminal(Desk):
     def do_words(self, _: str) -> None:
         added = self.bench.added
         if self.is_done(self.bench.ask("words"), "words"):
+            self.has_old_words = False
             self.warn(self.bench.words)
             now = {row.word for row in self.bench.outcomes()}
             gone = [word for word in added if word not in now]
