@@ -4,6 +4,7 @@ import os
 import re
 import sys
 import traceback
+from operator import ne
 from typing import Any, List, Sequence, Tuple
 
 from . import commands, conditions, kept, layout, lints, loops, options, reports, rows, screen, warn, words
@@ -183,12 +184,17 @@ class Terminal(Desk):
             self.doubted = line
             self.screen.say(words.may_not(why, command, path, "" if self.options.is_watching else " and press Enter"))
             return
-        before, reply = self.comments(path), self.bench.write(command, path)
+        stems, before, reply = (kept.read_file(path) or b"").splitlines(), self.comments(path), self.bench.write(command, path)
         if command == "save" and reply.state != DONE and kept.read_file(path) == self.bench.program.now.text:
             self.screen.say("%s has the script now." % short(path))
         elif self.is_done(reply, line):
-            lost = before - self.comments(path) if command == "save" else 0
-            self.screen.say(("saved in %s" if command == "save" else "The stems are in %s.") % short(path))
+            lost = before - self.comments(path)
+            if command == "approve":
+                now = (kept.read_file(path) or b"").splitlines()
+                others = layout.counted(sum(map(ne, stems, now)), "stem is", "stems are")
+                self.screen.say("The stems are in %s." % short(path) + " %s other than before." % others * (0 < len(stems) == len(now)), self.unkept_words())
+                return
+            self.screen.say("saved in %s" % short(path))
             # (of the parts that were typed, or of a change of SCRIPT that undo took back)
             self.screen.say("%s no longer in %s." % (layout.counted(lost, "comment is", "comments are"), short(path)) if lost > 0 else "")
 
@@ -296,15 +302,19 @@ class Terminal(Desk):
             doubts.append("The edits that you typed are in no file: save FILE keeps them, quit again drops them.")
         elif aside:
             doubts.append("A reload has put aside what you typed (%s), and no file has it: undo goes back to it, quit again drops it." % aside)
-        there = set((kept.read_file(bench.words) or b"").splitlines()) if bench.added else set()
-        added = [word for word in bench.added if encoded(word) not in there]
-        if added:
-            what, it = ("word that you added is", "it") if len(added) == 1 else ("words that you added are", "them")
-            to = "append puts %s into %s" % (it, short(bench.words)) if bench.words else "append FILE writes %s" % it
-            doubts.append("The %s in no file (%s): %s, quit again drops %s." % (what, in_words(added, "and", 5), to, it))
+        doubts += filter(None, [self.unkept_words(", quit again drops {}")])
         self.doubted = "quit" if doubts else ""
         self.screen.say(*doubts)
         return not doubts
+
+    def unkept_words(self, then: str = "") -> str:
+        """Returns the sentence on words that were added and that no file has; nothing if there are none."""
+        bench = self.bench
+        there = set((kept.read_file(bench.words) or b"").splitlines()) if bench.added else set()
+        added = [word for word in bench.added if encoded(word) not in there]
+        what, it = ("word that you added is", "it") if len(added) == 1 else ("words that you added are", "them")
+        to = "append puts %s into %s" % (it, short(bench.words)) if bench.words else "append FILE writes %s" % it
+        return "The %s in no file (%s): %s%s." % (what, in_words(added, "and", 5), to, then.format(it)) if added else ""
 
     def turn(self) -> bool:
         """Reads what was saved and answers a line; returns whether `work` goes on. A fault of this client ends no work."""

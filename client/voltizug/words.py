@@ -7,7 +7,7 @@ from typing import Callable, Dict, Sequence
 
 from .bench import Bench, Stage
 from .commands import COMMANDS, NAMED, OPEN_BLOCKS, STRANGE
-from .kept import is_same
+from .kept import is_same, read_file
 from .layout import counted, in_words, named, short
 from .near import folded, meant, near
 from .program import Reply
@@ -31,7 +31,6 @@ SENTENCES: Dict[int, str] = {
     68: "It was broken off. Nothing changed.",
     69: "There are no added words that no file has.",
     72: "A line may have 65,536 bytes at most. Nothing was done.",
-    74: "{path} has another number of lines than the vocabulary has words: it needs a line for each word. The mark stays.",
     75: "{path} is not UTF-8. If it is Latin-1: {latin1}",
 }
 # Why `save`, `approve` or `append` does not write to a file. {other} is what to do.
@@ -119,6 +118,12 @@ def no_class(line: str, bench: Stage) -> str:
     is_word = any(row.word == stem for row in bench.outcomes())
     how = "It is a word: why %s shows its stem." if is_word else "find %s shows the words and stems that have it in them."
     return ("No word has the stem %s. " + how) % (in_quotes(stem), short(stem)) if stem else "No word has the empty stem."
+
+
+def other_lines(line: str, bench: Stage) -> str:
+    path, size = file_of(line, bench), next(int(row.count) for row in bench.read("stats") if row.kind == "words")
+    has = counted(len((read_file(path) or b"").splitlines()), "line")
+    return "%s has %s, and there are %s: it needs a line for each word. The mark stays." % (short(path), has, counted(size, "word"))
 
 
 def no_stem(_: str, bench: Stage) -> str:
@@ -259,5 +264,5 @@ def may_not(why: str, command: str, path: str, then: str = "") -> str:
 
 # By the number of a refusal what makes its sentence of the line and the bench.
 SPECIAL: Dict[int, Callable[[str, Stage], str]] = {
-    41: absent, 45: no_name, 46: amongs_of, 52: unknown, 53: no_name, 57: bad_file, 59: no_class, 67: no_stem,
+    41: absent, 45: no_name, 46: amongs_of, 52: unknown, 53: no_name, 57: bad_file, 59: no_class, 67: no_stem, 74: other_lines,
 }

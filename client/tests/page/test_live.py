@@ -169,7 +169,7 @@ class Edits(Page):
 
     def test_stems_of_another_length(self):
         live = self.page(stems="my.stems", my_stems="walk\n")
-        self.assertIn("another number of lines", live.part("notice"))
+        self.assertIn("it needs a line for each word", live.part("notice"))
         self.assertEqual((changes(live), live.part("markName")), ([], ""))
 
     def test_families(self):
