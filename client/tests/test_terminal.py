@@ -76,8 +76,15 @@ class Sessions(Case):
     def test_words_that_are_read_again_are_warned_of(self):
         terminal = self.begin()
         terminal.save(WORDS + "a b\n", "my.words")
-        self.assertEqual(terminal.enter("words").split("\n"), ["my.words:9: a blank inside the word, which belongs to it. A line is one word", "9 words"])
+        self.assertEqual(terminal.enter("words").split("\n"), ["my.words:9: a blank inside the word, which belongs to it. A line is one word", "9 words; 1 added: a b"])
         self.assertEqual(terminal.enter("words"), "9 words")
+
+    def test_what_is_typed_as_it_is_shown(self):
+        terminal = self.begin()
+        self.assertEqual(terminal.enter("uses ending 1 'ity'"), "  university  univers")
+        self.assertEqual(terminal.enter("uses ending 1 ity"), "  university  univers")
+        said = '  "news glass" is not in the vocabulary. It was run as one word, with a blank in it.'
+        self.assertEqual(terminal.enter("why news glass").split("\n")[-1], said)
 
     def test_a_script_that_is_gone(self):
         terminal = self.begin()

@@ -148,7 +148,8 @@ class Bench(Stage):
             program.marked = program.now._replace(stems=os.path.realpath(argument) if argument else "")
             self.changes = self.read("changes") if argument else []
         elif word == "families" and argument:
-            self.families, self.pairs = argument, pairs_of(reply)
+            found = pairs_of(reply)
+            self.families, self.pairs = (argument, found) if found and found[0].within != "0" else ("", ())
         if word in ("add", "remove", "words", "append"):
             self.kept.note("added", self.added)
 

@@ -195,7 +195,7 @@ class Desk:
             # (a fault of the whole script has no line)
             said = "%s. %s" % (name, said)
         found, most = self.bench.read("faults")[1:], max(1, self.screen.size().lines // 3)
-        others = ["also %s:%s: %s" % (row.line, row.column, short(row.sentence)) for row in found[:most]]
+        others = [layout.cut(layout.named("also %s:%s: %s" % row[5:8]), self.screen.size().columns) for row in found[:most]]
         self.screen.say(said, *others, "{:,} more faults".format(len(found) - most) if len(found) > most else "")
         self.nonsense = self.nonsense + 1 if code == 52 and self.editor.has_key() else 0
         # (of a script that was pasted one line is enough)

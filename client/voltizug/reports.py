@@ -48,9 +48,10 @@ def families(lines: Sequence[str]) -> List[str]:
     within, apart, across, joined = (int(number) for row in found if row.kind == "pairs" for number in row[1:])
     if within == across == 0:
         return ["the vocabulary has no two words of these families with a stem"] + unknown
+    if within == 0:
+        return ["No line has two words of the vocabulary: a family is a line of words that belong together. Edits are not compared with it."] + unknown
     shown = ["  %-13s %s: %s" % (FIGURES[row.kind], named(row[1]) or "(empty)", listed(row[2])) for row in found if row.kind in ("under", "over")]
-    alone = ["No line has two words of the vocabulary: a family is a line of words that belong together."] * (within == 0)
-    return shown + unknown + alone + [
+    return shown + unknown + [
         "different stems: {:,} of {}{} within a family".format(apart, counted(within, "pair"), percent(apart, within)),
         "the same stem:   {:,} of {}{} across families".format(joined, counted(across, "pair"), percent(joined, across)),
     ]

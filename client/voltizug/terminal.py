@@ -75,6 +75,8 @@ class Terminal(Desk):
         if is_piped and command in REPORTING and command != "uses":
             self.screen.say("A report goes into a file by > FILE, as in: classes > my.classes. There are no pipes here.")
             return
+        # (a string may be typed as it is shown)
+        line = re.sub(r"\A(uses \S+ [0-9]+) '(.*)'\Z", r"\1 \2", line)
         reply = self.bench.ask({"changes": "changes", "tests": "events " + argument}.get(command, ASKED.get(line, line)))
         if not self.is_done(reply, line):
             return
@@ -211,14 +213,16 @@ class Terminal(Desk):
             self.screen.say("%s now at the end of %s." % (layout.counted(count, "word is", "words are"), short(path)))
 
     def do_words(self, _: str) -> None:
-        added = self.bench.added
+        added, there = self.bench.added, {row.word: None for row in self.bench.outcomes()}
         if self.is_done(self.bench.ask("words"), "words"):
             self.has_old_words = False
             self.warn(self.bench.words)
-            now = {row.word for row in self.bench.outcomes()}
+            now = {row.word: None for row in self.bench.outcomes()}
             gone = [word for word in added if word not in now]
             them = "it" if len(gone) == 1 else "them"
-            self.screen.say("{:,} words".format(len(now)), "Gone, since the file lacks %s: %s." % (them, in_words(gone, "and", 5)) if gone else "")
+            others = (("added", [word for word in now if word not in there]), ("removed", [word for word in there if word not in {**now, **dict.fromkeys(added)}]))
+            size = "{:,} words".format(len(now)) + "".join("; {:,} {}: {}".format(len(part), what, in_words(part, "and", 5)) for what, part in others if part)
+            self.screen.say(size, "Gone, since the file lacks %s: %s." % (them, in_words(gone, "and", 5)) if gone else "")
 
     def do_rescue(self, what: str) -> None:
         left, there = self.bench.kept.left(), {row.word for row in self.bench.outcomes()}

@@ -109,8 +109,9 @@ def absent(line: str, bench: Stage) -> str:
 def misspelt(word: str, bench: Bench) -> str:
     """Returns the question on a word that is not in the vocabulary, but near one that is; otherwise nothing."""
     is_there = not bench.size or bench.known("class " + word) is not None
-    question = "" if is_there else meant(word, [row.word for row in bench.outcomes()])
-    return "%s is not in the vocabulary.%s" % (in_quotes(word), question) if question else ""
+    is_many = " It was run as one word, with a blank in it." * (" " in word.strip())
+    question = "" if is_there else is_many or meant(word, [row.word for row in bench.outcomes()])
+    return "%s is not in the vocabulary.%s" % (in_quotes(word, " " in word), question) if question else ""
 
 
 def no_class(line: str, bench: Stage) -> str:
