@@ -2,7 +2,7 @@
 import os
 import time
 
-from voltizug import faults, layout, loops, near, options, reports, rows, warn
+from voltizug import faults, layout, loops, near, options, reports, rows, warn, words
 from voltizug.bench import Edit
 from voltizug.conditions import Routine
 from voltizug.kept import Kept
@@ -125,6 +125,10 @@ class Others(Case):
         self.assertEqual([line.partition(os.sep + "my.")[2][:46] for line in said], [
             "sbl:1: a byte order mark, which is left out. T", "words:1: a blank at an end of the word, which ", "words:2: a blank inside the word, which belong",
         ])
+
+    def test_why_no_file_can_be_written(self):
+        self.assertIn(words.no_room("/proc"), ("No such file or directory", "Permission denied"))
+        self.assertEqual(words.no_room(self.room()), "perhaps the disk is full")
 
     def test_options(self):
         found = options.options_of(["--watch", "--external=porter", "--color", "never", "--", "-s", "w"])

@@ -132,6 +132,8 @@ class Sessions(Case):
         terminal.type("\x03")
         self.assertIn("routine plural", terminal.type("routine pl\t", rb"plural ?$", 3))
         terminal.type("\x03")
+        self.assertIn("define ending", terminal.type("define end\t", rb"ending ?$", 3))
+        terminal.type("\x03")
         self.assertIn("ity", terminal.type("uses ending 1 it\t", rb"ity ?$", 3))
         terminal.type("\x03")
         self.assertIn("class glass", terminal.type("class gl\t", rb"class glass$", 3))

@@ -29,7 +29,7 @@ COMMANDS: Dict[str, Command] = {command.name: command for command in sorted(reve
 # A block follows one of these and its name; and one of these alone.
 BLOCKS, OPEN_BLOCKS = ("routine", "among", "grouping"), ("families", "replace")
 # By a command what it names of a script.
-NAMED = {"routine": ["routine"], "among": ["routine"], "grouping": ["grouping"], "show": ["routine", "grouping"], "uses": ["routine", "grouping"]}
+NAMED = {"routine": ["routine"], "among": ["routine"], "grouping": ["grouping"], **dict.fromkeys(("define", "show", "uses"), ["routine", "grouping"])}
 # Of the commands' words these are the language's, too.
 LANGUAGE = [name for name in COMMANDS if name in RESERVED]
 # A blank at the end of these may belong to a word.

@@ -104,14 +104,13 @@ class Desk:
         all_left = bench.kept.left()
         for left in [left for left in all_left if left.block]:
             self.editor.remember(*left.block)
-            bench.kept.forget(left.room, "block")
-            lines = counted(len(left.block) - 1, "line")
-            say("A block was open when the terminal was closed (%s, %s): the up arrow brings its lines." % (short(left.block[0]), lines))
-        all_left = [left for left in all_left if left.path or left.words]
-        for left in all_left[-1:]:
+            bench.kept.keep(os.path.join(left.room, "block"), b"")
+            block = short(left.block[0]), counted(len(left.block) - 1, "line")
+            say("A block was open when the terminal was closed (%s, %s): the up arrow brings its lines." % block)
+        for left in [left for left in all_left if left.path or left.words][-1:]:
             names = left.edits + [counted(len(left.words), "added word")] * bool(left.words)
             edits = "Edits that you typed before were left behind when the terminal was closed (%s)" % in_words(names, "and", 5)
-            older = " Older ones are there, too: rescue brings them back when it is typed again." if len(all_left) > 1 else ""
+            older = " Older ones are there, too: rescue brings them back when it is typed again." if len(bench.kept.left()) > 1 else ""
             say(edits + ": rescue brings them back, rescue drop forgets them." + older)
         if not figures["words"] and not bench.words:
             say("To see stems: add WORD, or start with a file of words: ./snowbench work SCRIPT WORDS")

@@ -17,8 +17,7 @@ FileState = Optional[Tuple[int, int, int]]
 
 
 class Left(NamedTuple):
-    """What was left behind: the folder, the file in it that has the text with typed edits, their names, the words that were added, and the lines of
-    a block that was open."""
+    """What was left behind: the folder, the file in it that has the text with typed edits, their names, added words, and lines of an open block."""
 
     room: str
     path: str
@@ -67,13 +66,8 @@ class Kept:
                     self.forget(entry.path)
         return [left for _, left in sorted(found)]
 
-    def forget(self, room: str, *names: str) -> None:
-        """Takes a room away, or files of it."""
-        for name in names:
-            with contextlib.suppress(OSError):
-                os.remove(os.path.join(room, name))
-        if not names:
-            shutil.rmtree(room, ignore_errors=True)
+    def forget(self, room: str) -> None:
+        shutil.rmtree(room, ignore_errors=True)
 
 
 def locked(room: str) -> Optional[IO[bytes]]:

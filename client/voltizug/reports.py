@@ -49,7 +49,8 @@ def families(lines: Sequence[str]) -> List[str]:
     if within == across == 0:
         return ["the vocabulary has no two words of these families with a stem"] + unknown
     if within == 0:
-        return ["No line has two words of the vocabulary: a family is a line of words that belong together. Edits are not compared with it."] + unknown
+        alone = "No line has two words of the vocabulary: a family is a line of words that belong together. Edits are not compared with it."
+        return [alone, *unknown]
     shown = ["  %-13s %s: %s" % (FIGURES[row.kind], named(row[1]) or "(empty)", listed(row[2])) for row in found if row.kind in ("under", "over")]
     return shown + unknown + [
         "different stems: {:,} of {}{} within a family".format(apart, counted(within, "pair"), percent(apart, within)),

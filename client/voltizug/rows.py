@@ -67,9 +67,8 @@ def between(before: List[str], after: List[str]) -> List[Any]:
     touched = {stem for row in changed for stem in (row.old, row.new)}
     # (a word whose run is refused is in no class)
     ways = {(old[2], new[2]) for old, new in pairs if old[1] == new[1] == "stem" and not touched.isdisjoint((old[2], new[2]))}
-    to, of = (
-        {stem: [other for _, other in part] for stem, part in groupby(sorted(each), key=lambda way: way[0])} for each in (ways, (way[::-1] for way in ways))
-    )
+    both = (groupby(sorted(each), key=lambda way: way[0]) for each in (ways, {way[::-1] for way in ways}))
+    to, of = ({stem: [other for _, other in part] for stem, part in groups} for groups in both)
     split = [make["split"]("split", old, tuple(news)) for old, news in to.items() if len(news) > 1]
     merged = [make["merged"]("merged", new, tuple(olds)) for new, olds in of.items() if len(olds) > 1]
     renamed = [make["renamed"]("renamed", old, new) for old, (new, *more) in to.items() if old != new and not more and of[new] == [old]]

@@ -193,8 +193,8 @@ class Terminal(Desk):
             lost = before - self.comments(path)
             if command == "approve":
                 now = (kept.read_file(path) or b"").splitlines()
-                others = layout.counted(sum(map(ne, stems, now)), "stem is", "stems are")
-                self.screen.say("The stems are in %s." % short(path) + " %s other than before." % others * (0 < len(stems) == len(now)), self.unkept_words())
+                others = " %s other than before." % layout.counted(sum(map(ne, stems, now)), "stem is", "stems are")
+                self.screen.say("The stems are in %s." % short(path) + others * (0 < len(stems) == len(now)), self.unkept_words())
                 return
             self.screen.say("saved in %s" % short(path))
             # (of the parts that were typed, or of a change of SCRIPT that undo took back)
@@ -213,16 +213,18 @@ class Terminal(Desk):
             self.screen.say("%s now at the end of %s." % (layout.counted(count, "word is", "words are"), short(path)))
 
     def do_words(self, _: str) -> None:
-        added, there = self.bench.added, {row.word: None for row in self.bench.outcomes()}
+        added, there = self.bench.added, [row.word for row in self.bench.outcomes()]
         if self.is_done(self.bench.ask("words"), "words"):
             self.has_old_words = False
             self.warn(self.bench.words)
-            now = {row.word: None for row in self.bench.outcomes()}
+            now = [row.word for row in self.bench.outcomes()]
+            came, went = set(now).difference(there), set(there).difference(now, added)
             gone = [word for word in added if word not in now]
             them = "it" if len(gone) == 1 else "them"
-            others = (("added", [word for word in now if word not in there]), ("removed", [word for word in there if word not in {**now, **dict.fromkeys(added)}]))
-            size = "{:,} words".format(len(now)) + "".join("; {:,} {}: {}".format(len(part), what, in_words(part, "and", 5)) for what, part in others if part)
-            self.screen.say(size, "Gone, since the file lacks %s: %s." % (them, in_words(gone, "and", 5)) if gone else "")
+            others = [("added", [word for word in now if word in came]), ("removed", [word for word in there if word in went])]
+            parts = ["; {:,} {}: {}".format(len(part), what, in_words(part, "and", 5)) for what, part in others if part]
+            parts.insert(0, "{:,} words".format(len(now)))
+            self.screen.say("".join(parts), "Gone, since the file lacks %s: %s." % (them, in_words(gone, "and", 5)) if gone else "")
 
     def do_rescue(self, what: str) -> None:
         left, there = self.bench.kept.left(), {row.word for row in self.bench.outcomes()}

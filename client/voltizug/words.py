@@ -3,6 +3,7 @@ import errno
 import os
 import re
 import shlex
+import tempfile
 from typing import Callable, Dict, Sequence
 
 from .bench import Bench, Stage
@@ -215,8 +216,18 @@ def not_written(command: str, path: str, bench: Stage) -> str:
         (os.path.isdir(path), cannot + "it is a folder. Name a file in it."),
         (not os.access(path if os.path.exists(path) else folder, os.W_OK), cannot + "you may not write there. %s." % other),
         (path in bench.saved() or is_script, may_not("changed", command, path)),
-        (True, cannot + "perhaps the disk is full." + " It has its former text." * os.path.exists(path)),
+        (True, cannot + no_room(folder) + "." + " It has its former text." * os.path.exists(path)),
     ) if is_so)
+
+
+def no_room(folder: str) -> str:
+    """Returns why no file can be written in a folder, as far as that is known."""
+    try:
+        with tempfile.TemporaryFile(dir=folder, buffering=0) as file:
+            file.write(bytes(1 << 16))
+        return "perhaps the disk is full"
+    except OSError as why:
+        return why.strerror
 
 
 def unreadable(path: str) -> str:
