@@ -51,7 +51,7 @@ STRANGE: Sequence[Tuple[str, str]] = (
     (r"(ls|cd|cat|vi|vim|nano|emacs|grep|less|git|man|tail|head|wc)( |\Z)", "{c} is a command of a shell: use another window."),
     (r"edit( |\Z)", "Change the script in your editor, and save it; or type routine NAME, among NAME K or grouping NAME, and the new text."),
     (r"warnings( |\Z)", "lint lists what may not be meant in the script and the words."),
-    *((r"%s( |\Z)" % verb, "{c} is not a command here. In a shell: ./snowbench {c} %s." % files) for verb, files in IN_SHELL.items()),
+    *((r"%s( |\Z)" % verb, "{c} is not a command here. In a shell: {called} {c} %s." % files) for verb, files in IN_SHELL.items()),
     (COMMENT, "A comment begins with # at the beginning of the line."),
     (r"define( |\Z)", "A definition begins with define NAME as, or define NAME and the terms of a grouping, in one line."),
     (DECLARATION, "This looks like a script. replace takes a whole one, up to a line with a single point."),

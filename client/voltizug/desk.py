@@ -11,7 +11,7 @@ from .commands import COMMENT, DECLARATION
 from .completion import Completion
 from .keys import Editor, Hangup
 from .layout import counted, in_words, short, sizes
-from .options import Options
+from .options import CALLED, Options
 from .program import BROKEN, DONE, ENDED, ROWS, Reply
 from .screen import Screen
 
@@ -82,7 +82,7 @@ class Desk:
             status = bench.program.stop()
             say("The program ended at the start, with status %s." % status if reply.state != DONE else words.SENTENCES[49])
         swapped = self.swapped() if 0 < code < LEAST else ""
-        say("%s. The script comes first: ./snowbench work SCRIPT WORDS" % swapped if swapped else "")
+        say("%s. The script comes first: %s work SCRIPT WORDS" % (swapped, CALLED) if swapped else "")
         can_wait = (0 < code < LEAST or code in OF_WORDS) and not swapped and all(map(os.path.isfile, self.paths))
         if not can_wait and not self.has_waited:
             return False
@@ -113,7 +113,7 @@ class Desk:
             older = " Older ones are there, too: rescue brings them back when it is typed again." if len(bench.kept.left()) > 1 else ""
             say(edits + ": rescue brings them back, rescue drop forgets them." + older)
         if not figures["words"] and not bench.words:
-            say("To see stems: add WORD, or start with a file of words: ./snowbench work SCRIPT WORDS")
+            say("To see stems: add WORD, or start with a file of words: %s work SCRIPT WORDS" % CALLED)
         say(sizes(figures))
 
     def looks_swapped(self) -> bool:

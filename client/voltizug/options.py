@@ -7,6 +7,8 @@ from typing import NamedTuple, Optional, Sequence
 HAS = "It has --watch, --rows, --text, --color WHEN, --no-pager, --external NAME and --from TEXT"
 FLAGS, VALUES = ("--watch", "--no-pager", "--rows", "--text"), ("--program", "--color", "--external", "--from")
 COMMANDS_COME = "Its standard input has the commands"
+# How the reader calls the launcher.
+CALLED = os.environ.get("SNOWBENCH_CALLED") or "./snowbench"
 
 
 class Misuse(Exception):

@@ -18,7 +18,7 @@ from .program import DONE, LONGEST, encoded
 
 DEFINITION = re.compile(r"\s*define\s+([A-Za-z][A-Za-z0-9_]*)\s+(as(?=\s|$))?")
 TO_FILE = re.compile(r"(.*\S)\s+>\s*(\S+)\s*\Z")
-USAGE = "usage: ./snowbench work [--watch] [--rows | --text] [--color WHEN] [--no-pager] [--external NAME] [--from TEXT] SCRIPT [WORDS]"
+USAGE = "usage: %s work [--watch] [--rows | --text] [--color WHEN] [--no-pager] [--external NAME] [--from TEXT] SCRIPT [WORDS]" % options.CALLED
 # What the program is asked in the place of a line; what is not broken, since an author wrote it.
 ASKED, TEXTS = {"largest": "largest 10"}, ("script", "show", "echo", "events")
 

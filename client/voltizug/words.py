@@ -11,6 +11,7 @@ from .commands import COMMANDS, NAMED, OPEN_BLOCKS, STRANGE
 from .kept import is_same, read_file
 from .layout import counted, in_words, named, short
 from .near import folded, meant, near
+from .options import CALLED
 from .program import Reply
 
 # By the number of a refusal what a command needs that has nothing after it.
@@ -169,7 +170,7 @@ def unknown(line: str, bench: Stage) -> str:
     command, _, argument = line.partition(" ")
     strange = next((said for begins, said in STRANGE if re.match(begins, line)), "")
     if strange:
-        return strange.format(c=command)
+        return strange.format(c=command, called=named(CALLED))
     if command in ("among", "uses"):
         known = " " + amongs_of(line, bench) if bench.places().kind(argument.partition(" ")[0]) == "routine" else ""
         what = "and a number: among NAME K, then an among, then a line with a single point."
