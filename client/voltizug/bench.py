@@ -162,15 +162,15 @@ class Bench(Stage):
 
     # Editing
 
-    def edit(self, lines: Sequence[str]) -> Edit:
-        """Makes an edit of the script or the limit, and asks what differs from the mark."""
+    def edit(self, lines: Sequence[str], has_own: bool = False) -> Edit:
+        """Makes an edit of the script or the limit, and asks what differs from the mark, and what it changed itself."""
         word, had_fault = lines[0].partition(" ")[0], self.refused_text is not None
         if word == "reload":
             self.look(self.script)
             read, lines = read_file(self.script), [self.program.reload]
         # (what it changes is seen by the stems before and after it, but for an edit of what is the mark)
-        has_changed = self.changes or self.program.now.words != self.program.marked.words
-        history, *stems, reply = self.program.ask_each([["history"], *[["stems"]] * bool(has_changed), lines])
+        is_asked = has_own and bool(self.changes or self.program.now.words != self.program.marked.words)
+        history, *stems, reply = self.program.ask_each([["history"], *[["stems"]] * is_asked, lines])
         if word == "reload" and reply.state == DONE:
             self.refused_text = read if reply.refusal() else None
         if not reply.is_done:

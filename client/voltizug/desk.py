@@ -227,7 +227,7 @@ class Desk:
 
     def edit(self, lines: Sequence[str]) -> bool:
         """Makes an edit, and shows what it changed, as much as the window has room for, and last the summary. Returns whether it was accepted."""
-        edit = self.bench.edit(lines)
+        edit = self.bench.edit(lines, has_own=True)
         is_reload = edit.command == "reload"
         if not self.settle(edit.reply):
             self.screen.say(self.correction(self.bench.script) if is_reload else "")
