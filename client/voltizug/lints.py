@@ -60,22 +60,27 @@ def plain_braces(tokens: Sequence[Token]) -> Iterable[Tuple[int, str]]:
 def unset_slices(names: Names) -> Iterable[Tuple[int, str]]:
     """The first command of a routine that takes the slice, if there is no [ or no ] in the routine, in what it calls, and in what calls it."""
     parts = {item.name.text: names.part(item)[1:] for item in names.order if item.is_routine}
-    texts = {name: {token.text for token in part} for name, part in parts.items()}
-    calls = {name: texts[name].intersection(parts) for name in parts}
-    callers = {name: {other for other in parts if name in calls[other]} for name in parts}
+    calls = {name: {token.text for token in part}.intersection(parts) for name, part in parts.items()}
+    callers: Dict[str, Set[str]] = {name: set() for name in parts}
+    for name, others in calls.items():
+        for other in others:
+            callers[other].add(name)
+    having = {sign: [name for name, part in parts.items() if any(token.text == sign for token in part)] for sign in "[]"}
+    there = {sign: reached(having[sign], calls) | reached(having[sign], callers) for sign in "[]"}
     for name, part in parts.items():
-        there = set().union(*(texts[other] for ways in (calls, callers) for other in reached(name, ways)))
-        lacking = [sign for sign in "[]" if sign not in there]
+        lacking = [sign for sign in "[]" if name not in there[sign]]
         for token in [token for token in part if token.text in TAKING and lacking][:1]:
             what = "{}, what it calls and what calls it have no {}: this {} takes an earlier slice, or an empty one"
             yield token.start, what.format(name, in_words(lacking, "and no"), token.text)
 
 
-def reached(name: str, ways: Dict[str, Set[str]]) -> List[str]:
-    """Returns a name and all to which ways lead from it."""
-    found = [name]
-    for each in found:
-        found += sorted(ways[each].difference(found))
+def reached(names: Sequence[str], ways: Dict[str, Set[str]]) -> Set[str]:
+    """Returns names and all to which ways lead from them."""
+    found, queue = set(names), list(names)
+    for each in queue:
+        new = ways[each] - found
+        found |= new
+        queue += new
     return found
 
 
