@@ -25,6 +25,9 @@ class Sessions(Case):
         shown = terminal.enter("routine plural", "true", ".").split("\n")
         self.assertEqual((self.start.split("\n")[0], shown[-1], len(shown)), ("8 words, 3 classes, 0 refused", "3 words, 3 split since the mark", 7))
         self.assertRegex(terminal.enter("undo"), "^taken back(: routine plural)?; no word and no class differs from the mark$")
+        shown = terminal.enter("redo", "limit 1").split("\n")
+        self.assertEqual((len(shown), shown[-3]), (7, '  .. and 4 more: "changes" shows all since the mark'))
+        self.assertEqual(shown[-1], "this edit: 8 words, 8 of them refused; 8 words, 8 of them refused since the mark")
         self.assertIn("help COMMAND describes one", terminal.enter("help"))
         self.assertEqual(terminal.enter("help why"), "why WORD: why WORD has its stem. WORD need not be in the vocabulary.")
 

@@ -190,12 +190,12 @@ class Terminal(Desk):
         if command == "save" and reply.state != DONE and kept.read_file(path) == self.bench.program.now.text:
             self.screen.say("%s has the script now." % short(path))
         elif self.is_done(reply, line):
-            lost = before - self.comments(path)
             if command == "approve":
                 now = (kept.read_file(path) or b"").splitlines()
                 others = " %s other than before." % layout.counted(sum(map(ne, stems, now)), "stem is", "stems are")
                 self.screen.say("The stems are in %s." % short(path) + others * (0 < len(stems) == len(now)), self.unkept_words())
                 return
+            lost = before - self.comments(path)
             self.screen.say("saved in %s" % short(path))
             # (of the parts that were typed, or of a change of SCRIPT that undo took back)
             self.screen.say("%s no longer in %s." % (layout.counted(lost, "comment is", "comments are"), short(path)) if lost > 0 else "")
@@ -213,18 +213,17 @@ class Terminal(Desk):
             self.screen.say("%s now at the end of %s." % (layout.counted(count, "word is", "words are"), short(path)))
 
     def do_words(self, _: str) -> None:
-        added, there = self.bench.added, [row.word for row in self.bench.outcomes()]
+        added, there = self.bench.added, dict.fromkeys(row.word for row in self.bench.outcomes())
         if self.is_done(self.bench.ask("words"), "words"):
             self.has_old_words = False
             self.warn(self.bench.words)
-            now = [row.word for row in self.bench.outcomes()]
-            came, went = set(now).difference(there), set(there).difference(now, added)
+            now = dict.fromkeys(row.word for row in self.bench.outcomes())
             gone = [word for word in added if word not in now]
-            them = "it" if len(gone) == 1 else "them"
-            others = [("added", [word for word in now if word in came]), ("removed", [word for word in there if word in went])]
-            parts = ["; {:,} {}: {}".format(len(part), what, in_words(part, "and", 5)) for what, part in others if part]
-            parts.insert(0, "{:,} words".format(len(now)))
-            self.screen.say("".join(parts), "Gone, since the file lacks %s: %s." % (them, in_words(gone, "and", 5)) if gone else "")
+            them, size = "it" if len(gone) == 1 else "them", "{:,} words".format(len(now))
+            for what, part in (("added", now.keys() - there.keys()), ("removed", there.keys() - now.keys() - set(added))):
+                found = [word for word in (*there, *now) if word in part]
+                size += "; {:,} {}: {}".format(len(found), what, in_words(found, "and", 5)) if found else ""
+            self.screen.say(size, "Gone, since the file lacks %s: %s." % (them, in_words(gone, "and", 5)) if gone else "")
 
     def do_rescue(self, what: str) -> None:
         left, there = self.bench.kept.left(), {row.word for row in self.bench.outcomes()}
