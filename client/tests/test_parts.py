@@ -2,7 +2,7 @@
 import os
 import time
 
-from voltizug import faults, layout, loops, near, options, reports, rows, warn
+from voltizug import faults, layout, loops, near, options, reports, rows, warn, words
 from voltizug.bench import Edit
 from voltizug.conditions import Routine
 from voltizug.kept import Kept
@@ -33,6 +33,10 @@ class Layouts(Case):
     def test_the_summary(self):
         found = rows.read("changes", ["changed,w,stem,a,refused,Steps", "changed,v,stem,a,stem,b", "split,a,b,c", "added,x"])
         self.assertEqual(layout.summary(Edit("routine", Reply("done", ["ok"], []), found)), "2 words, 1 of them refused, 1 split, 1 word added since the mark")
+        own = rows.read("changes", ["changed,w,stem,a,stem,b", "renamed,a,b"])
+        since = "2 words, 1 of them refused, 1 split, 1 word added since the mark"
+        self.assertEqual(layout.summary(Edit("routine", Reply("done", ["ok"], []), found, own)), "this edit: 1 word, 1 renamed; " + since)
+        self.assertEqual(layout.summary(Edit("routine", Reply("done", ["ok"], []), found, [])), since + " (this edit changed none)")
         aside = Edit("reload", Reply("done", ["ok"], []), [], aside=("long", "r"))
         self.assertEqual(layout.summary(aside), "no word and no class differs from the mark; put aside: long, r (undo brings them back)")
 
@@ -121,6 +125,10 @@ class Others(Case):
         self.assertEqual([line.partition(os.sep + "my.")[2][:46] for line in said], [
             "sbl:1: a byte order mark, which is left out. T", "words:1: a blank at an end of the word, which ", "words:2: a blank inside the word, which belong",
         ])
+
+    def test_why_no_file_can_be_written(self):
+        self.assertIn(words.no_room("/proc"), ("No such file or directory", "Permission denied"))
+        self.assertEqual(words.no_room(self.room()), "perhaps the disk is full")
 
     def test_options(self):
         found = options.options_of(["--watch", "--external=porter", "--color", "never", "--", "-s", "w"])

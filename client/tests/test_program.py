@@ -52,6 +52,28 @@ class Real(OverProgram):
         self.assertTrue(program.ask([program.reload]).is_done)
         self.assertEqual(program.text(), LOOP.encode())
 
+    def test_begun_anew_over_other_words(self):
+        """A word that was added is in WORDS now, as after `append`, and one that was taken out is not."""
+        program = self.begin(example("author.sbl"), "cats\ndogs\n")
+        program.now = program.now._replace(words=("add apples", "remove dogs"))
+        with open(program.words, "w") as file:
+            file.write("cats\napples\n")
+        self.assertTrue(program.begin_anew())
+        self.assertEqual([row.word for row in rows.outcomes(program.ask(["stems"]).lines)], ["cats", "apples"])
+
+    def test_what_an_edit_changed_is_as_the_program_says_it(self):
+        """Over classes that are split, merged and renamed, also in part, refused runs, and stems with a comma, a quote or a line feed."""
+        text = "externals ( stem ) integers ( p ) define stem as ( %s )"
+        program = self.begin(text % "true", "a\nb\nab\nba\naa\nbb\nabc\nb,c\nc\"d\ncba\n")
+        bodies = ["true", "[ hop 1 ] <- 'b'", "do ( [ 'a' ] delete )", "'b' $ p = 1 / 0", "[ 'a' ] <- 'b,'", "goto 'b' [ hop 1 ] delete", "tolimit <+ 'x'",
+                  "[ hop 1 ] <- '{U+A}'", "'a' ] delete", "[ tolimit ] <- 'a' or true", "do ( [ 'a' ] <- 'b' 'c' ) do ( [ 'b' ] <- 'a' 'a' )"]
+        for i, body in enumerate(bodies * 3):
+            before = program.ask(["stems"]).lines
+            self.assertTrue(program.ask(["mark"]).is_done)
+            self.assertEqual(program.ask(["replace", "stringescapes {}", text % bodies[i * 4 % len(bodies)], "."]).lines, ["ok"])
+            changes, stems = program.ask_each([["changes"], ["stems"]])
+            self.assertEqual(rows.between(before, stems.lines), rows.read("changes", changes.lines), (i, body))
+
     def test_begun_anew_after_a_kill(self):
         program = self.begin(example("author.sbl"), example("author.words"))
         self.assertTrue(program.ask(["routine plural", "true", "."]).is_done)

@@ -25,6 +25,9 @@ class Sessions(Case):
         shown = terminal.enter("routine plural", "true", ".").split("\n")
         self.assertEqual((self.start.split("\n")[0], shown[-1], len(shown)), ("8 words, 3 classes, 0 refused", "3 words, 3 split since the mark", 7))
         self.assertRegex(terminal.enter("undo"), "^taken back(: routine plural)?; no word and no class differs from the mark$")
+        shown = terminal.enter("redo", "limit 1").split("\n")
+        self.assertEqual((len(shown), shown[-3]), (7, '  .. and 4 more: "changes" shows all since the mark'))
+        self.assertEqual(shown[-1], "this edit: 8 words, 8 of them refused; 8 words, 8 of them refused since the mark")
         self.assertIn("help COMMAND describes one", terminal.enter("help"))
         self.assertEqual(terminal.enter("help why"), "why WORD: why WORD has its stem. WORD need not be in the vocabulary.")
 
@@ -76,8 +79,15 @@ class Sessions(Case):
     def test_words_that_are_read_again_are_warned_of(self):
         terminal = self.begin()
         terminal.save(WORDS + "a b\n", "my.words")
-        self.assertEqual(terminal.enter("words").split("\n"), ["my.words:9: a blank inside the word, which belongs to it. A line is one word", "9 words"])
+        self.assertEqual(terminal.enter("words").split("\n"), ["my.words:9: a blank inside the word, which belongs to it. A line is one word", "9 words; 1 added: a b"])
         self.assertEqual(terminal.enter("words"), "9 words")
+
+    def test_what_is_typed_as_it_is_shown(self):
+        terminal = self.begin()
+        self.assertEqual(terminal.enter("uses ending 1 'ity'"), "  university  univers")
+        self.assertEqual(terminal.enter("uses ending 1 ity"), "  university  univers")
+        said = '  "news glass" is not in the vocabulary. It was run as one word, with a blank in it.'
+        self.assertEqual(terminal.enter("why news glass").split("\n")[-1], said)
 
     def test_a_script_that_is_gone(self):
         terminal = self.begin()
@@ -124,6 +134,8 @@ class Sessions(Case):
         self.assertIn("my.words", terminal.type("my.w\t", rb"my\.words ?$", 3))
         terminal.type("\x03")
         self.assertIn("routine plural", terminal.type("routine pl\t", rb"plural ?$", 3))
+        terminal.type("\x03")
+        self.assertIn("define ending", terminal.type("define end\t", rb"ending ?$", 3))
         terminal.type("\x03")
         self.assertIn("ity", terminal.type("uses ending 1 it\t", rb"ity ?$", 3))
         terminal.type("\x03")
@@ -282,6 +294,21 @@ class Traps(Case):
         third.enter("append", "save my.sbl", "quit")
         self.assertEqual(third.ended(), 0)
         self.assertIn("10 words", self.terminal(self.folder).got())
+
+    def test_the_lines_of_an_open_block_survive_a_closed_terminal(self):
+        for how in (signal.SIGHUP, signal.SIGKILL):
+            terminal = self.begin()
+            terminal.enter("among ending 1", "among (", "'al' (delete)")
+            os.kill(terminal.child, how)
+            self.assertIsNotNone(terminal.ended())
+            again = self.terminal(self.folder)
+            shown = again.got()
+            self.assertIn("A block was open when the terminal was closed (among ending 1, 2 lines): the up arrow brings its lines.", shown)
+            self.assertNotIn("rescue", shown)
+            self.assertIn("| 'al' (delete)", again.type("\x1b[A" * 3 + "\r") + again.type("\x1b[A" * 3 + "\r") + again.type("\x1b[A" * 3 + "\r"))
+            again.enter(")", ".", "quit", "quit")
+            self.assertEqual(again.ended(), 0)
+            self.assertNotIn("block", self.terminal(self.folder).got())
 
     def test_nothing_is_left_behind_if_nothing_was_typed(self):
         # (`timeout` sends both)

@@ -7,20 +7,20 @@ from typing import Any, Callable, Dict, List, NamedTuple, Optional, Sequence, Se
 from . import rows
 from .kept import FileState, Kept, is_same, read_file, state_of
 from .places import LARGEST, Places
-from .program import BROKEN, DONE, ENDED, LONGEST, USUAL_LIMIT, Moment, Program, Reply, encoded
-
+from .program import BROKEN, DONE, ENDED, USUAL_LIMIT, Moment, Program, Reply
 
 class Edit(NamedTuple):
-    """What an edit did. `step` is what undo took back or redo made again; `aside` are the names of the typed edits that a reload put aside, or
-    nothing; `notes` are keys of words.NOTES; `pairs` are the figures of the families before and now."""
+    """What an edit did: what differs from the mark now, and what it changed itself, if these may not be the same. `step` is what undo took back or
+    redo made again; `aside` are the names of the typed edits that a reload put aside, or nothing; `note` is a key of words.NOTES; `pairs` are the
+    figures of the families before and now."""
 
     command: str
     reply: Reply
     changes: List[Any] = []
-    is_same: bool = False
-    step: str = ""
+    own: Optional[List[Any]] = None
+    step: Any = None
     aside: Optional[Tuple[str, ...]] = None
-    notes: Tuple[str, ...] = ()
+    note: str = ""
     pairs: Tuple[Any, ...] = ()
 
 
@@ -43,27 +43,26 @@ class Stage:
         """Returns the reply after what has to be done if the program is gone."""
         return reply
 
-    def known(self, *lines: str) -> List[Optional[List[str]]]:
-        """Asks reports: returns the lines of each, or nothing if it is refused. If it is broken off meanwhile, the program begins again."""
-        replies = self.program.ask_each([[line] for line in lines])
-        self.settled(replies[-1])
-        return [reply.lines if reply.is_done else None for reply in replies]
+    def known(self, line: str) -> Optional[List[str]]:
+        """Asks for a report: returns its lines, or nothing if it is refused. If it is broken off meanwhile, the program begins again."""
+        reply = self.settled(self.program.ask([line]))
+        return reply.lines if reply.is_done else None
 
     def read(self, line: str) -> List[Any]:
         """Returns the rows of a report; none if it is refused."""
-        return rows.read(line.partition(" ")[0], self.known(line)[0] or [])
+        return rows.read(line.partition(" ")[0], self.known(line) or [])
 
     def places(self) -> Places:
         """Returns where everything is in the current text, and in SCRIPT."""
         text, known = self.program.now.text, self.known_places
         if known is None or known.text is not text or known.file_text != self.file_text:
-            tokens = self.known("tokens")[0] if len(text) <= LARGEST else None
+            tokens = self.known("tokens") if len(text) <= LARGEST else None
             known = self.known_places = Places(self.script, text, self.file_text, self.read("places"), rows.tokens(tokens or []))
         known.note = ", as it was read" if self.script in self.saved() else ""
         return known
 
     def outcomes(self) -> List[rows.Outcome]:
-        return rows.outcomes(self.known("stems")[0] or [])
+        return rows.outcomes(self.known("stems") or [])
 
 
 class Bench(Stage):
@@ -71,23 +70,16 @@ class Bench(Stage):
 
     def __init__(self, command: Sequence[str], script: str, words: Optional[str], kept: Kept):
         super().__init__(Program(command, script, words, kept.room), script, words)
-        self.kept, self.is_waiting = kept, True
+        self.kept, self.is_waiting, self.size = kept, True, 0
         self.on_restart: Callable[[Reply], None] = lambda reply: None
         # (called after an edit was accepted, and before it is asked what that changed)
         self.on_accepted: Callable[[], None] = lambda: None
-        # The states of the files that were written here.
-        self.written: Dict[str, FileState] = {}
-        # The bytes of a text of SCRIPT that was refused; the texts that were read, by their hashes; whether undo took back what SCRIPT has.
-        self.refused_text: Optional[bytes] = None
-        self.read_texts: Set[int] = set()
-        self.is_older = False
-        # By the hash of a text that was saved to SCRIPT, what SCRIPT had before.
-        self.replaced: Dict[int, bytes] = {}
-        # The texts that reload put aside, with the names of their edits; the words that were added.
-        self.aside: List[Tuple[bytes, Tuple[str, ...]]] = []
-        self.added: List[str] = []
-        self.changes: List[Any] = []
-        self.size = 0
+        # The states of the files that were written here; the bytes of a text of SCRIPT that was refused; whether undo took back what SCRIPT has.
+        self.written, self.refused_text, self.is_older = {}, None, False  # type: Dict[str, FileState], Optional[bytes], bool
+        # The texts that were read, by their hashes; by the hash of a text that was saved to SCRIPT, what SCRIPT had before.
+        self.read_texts, self.replaced = set(), {}  # type: Set[int], Dict[int, bytes]
+        # The texts that reload put aside, with the names of their edits; the words that were added; what differs from the mark.
+        self.aside, self.added, self.changes = [], [], []  # type: List[Tuple[bytes, Tuple[str, ...]]], List[str], List[Any]
         self.families, self.pairs = "", ()  # type: str, Tuple[Any, ...]
 
     # Beginning and ending
@@ -113,7 +105,7 @@ class Bench(Stage):
     def close(self, is_kept: bool) -> None:
         """Ends the program. The room may be kept if it has typed edits."""
         self.program.stop()
-        if not (is_kept and self.kept.has("about", "added")):
+        if not (is_kept and self.kept.has("about", "added", "block")):
             self.kept.forget(self.kept.room)
 
     def is_unsaved(self, text: bytes) -> bool:
@@ -134,8 +126,6 @@ class Bench(Stage):
     # Asking
 
     def ask(self, line: str) -> Reply:
-        if len(encoded(line)) > LONGEST:
-            return Reply(DONE, ["no 72 LineTooLong"], [])
         reply = self.settled(self.program.ask([line]))
         if reply.state == ENDED:
             # (somebody killed the program, and it is there again)
@@ -150,18 +140,16 @@ class Bench(Stage):
         if word in ("add", "remove"):
             program.now = program.now._replace(words=(*program.now.words, line))
             self.added = [*self.added, argument] if word == "add" else [other for other in self.added if other != argument]
-        elif word == "words":
-            program.now = program.now._replace(words=())
-            self.look(self.words or "")
-            self.added = []
-        elif word == "append":
+        elif word in ("words", "append"):
+            program.now = program.now._replace(words=() if word == "words" else program.now.words)
             self.look(self.words or "")
             self.added = []
         elif word == "mark":
             program.marked = program.now._replace(stems=os.path.realpath(argument) if argument else "")
             self.changes = self.read("changes") if argument else []
         elif word == "families" and argument:
-            self.families, self.pairs = argument, pairs_of(reply)
+            found = pairs_of(reply)
+            self.families, self.pairs = (argument, found) if found and found[0].within != "0" else ("", ())
         if word in ("add", "remove", "words", "append"):
             self.kept.note("added", self.added)
 
@@ -174,56 +162,55 @@ class Bench(Stage):
 
     # Editing
 
-    def edit(self, lines: Sequence[str]) -> Edit:
-        """Makes an edit of the script or the limit, and asks what differs from the mark."""
+    def edit(self, lines: Sequence[str], has_own: bool = False) -> Edit:
+        """Makes an edit of the script or the limit, and asks what differs from the mark, and what it changed itself."""
         word, had_fault = lines[0].partition(" ")[0], self.refused_text is not None
-        if any(len(encoded(line)) > LONGEST for line in lines):
-            return Edit(word, Reply(DONE, ["no 72 LineTooLong"], []))
         if word == "reload":
             self.look(self.script)
             read, lines = read_file(self.script), [self.program.reload]
-        history, reply = self.program.ask_each([["history"], lines])
+        # (what it changes is seen by the stems before and after it, but for an edit of what is the mark)
+        is_asked = has_own and bool(self.changes or self.program.now.words != self.program.marked.words)
+        history, *stems, reply = self.program.ask_each([["history"], *[["stems"]] * is_asked, lines])
         if word == "reload" and reply.state == DONE:
             self.refused_text = read if reply.refusal() else None
         if not reply.is_done:
             return Edit(word, self.settled(reply), self.changes)
         self.on_accepted()
-        return self.edited(Edit(word, reply), lines[0], rows.read("history", history.lines), had_fault)
+        return self.edited(Edit(word, reply), lines[0], rows.read("history", history.lines), had_fault, [reply.lines for reply in stems])
 
-    def edited(self, edit: Edit, command: str, history: Sequence[Any], had_fault: bool) -> Edit:
-        """Completes an accepted edit: what it changed, and what became of the texts before it."""
+    def edited(self, edit: Edit, command: str, history: Sequence[Any], had_fault: bool, before_it: Sequence[List[str]]) -> Edit:
+        """Completes an accepted edit: what it changed, by the stems before it, if these are known; and what became of the texts before it."""
         program, before, word = self.program, self.program.now, edit.command
         families = [["families " + self.families]] if self.families else []
-        changes, steps, *pairs = program.ask_each([["changes"], ["history"], *families])
-        text = program.text() if program.state == DONE else None
+        changes, steps, stems, *pairs = program.ask_each([["changes"], ["history"], ["stems" if before_it else "echo"], *families])
+        text = program.text()
         if text is None:
             return edit._replace(reply=self.settled(Reply(program.state if program.state != DONE else BROKEN, [], [])))
         done = rows.read("history", steps.lines)
-        kind = "undone" if word == "undo" else "done"
-        step = ([row for row in done if row.kind == kind] or [None])[0 if word == "undo" else -1]
-        limits = [row.rest[0] for row in done if row.kind == "done" and row.command == "limit"]
-        is_of_limit = step and step.command == "limit"
-        program.now = before._replace(text=text, limit=(limits or [USUAL_LIMIT])[-1] if is_of_limit else before.limit)
+        kind, at = ("undone", 0) if word == "undo" else ("done", -1)
+        step = ([row for row in done if row.kind == kind] or [None])[at]
+        limits = [USUAL_LIMIT, *(row.rest[0] for row in done if row.kind == "done" and row.command == "limit")]
+        program.now = before._replace(text=text, limit=limits[-1] if step and step.command == "limit" else before.limit)
         if word == "replace" and " " in command and not command.startswith("replace " + self.kept.folder):
             # (another file has this text)
             self.read_texts.add(hash(text))
-        former, self.changes = self.changes, rows.read("changes", changes.lines)
+        self.changes = rows.read("changes", changes.lines)
         found = pairs_of(*pairs)
         figures, self.pairs = (*(self.pairs or found), *found) if found else (), found or self.pairs
         return edit._replace(
-            changes=self.changes, is_same=former == self.changes, pairs=figures,
-            step=" ".join((step.command, *step.rest)) if step and word in ("undo", "redo") else "",
-            notes=self.notes(word, before, had_fault, done == history), aside=self.note_text(word, before, history),
+            changes=self.changes, own=rows.between(before_it[0], stems.lines) if before_it and self.changes else None,
+            pairs=figures, step=step if word in ("undo", "redo") else None,
+            note=self.note_on(word, before, had_fault, done == history), aside=self.note_text(word, before, history),
         )
 
-    def notes(self, word: str, before: Moment, had_fault: bool, is_not_held: bool) -> Tuple[str, ...]:
-        """Returns keys of what is to be said of an accepted edit beside its changes. It is asked before the texts are noted."""
+    def note_on(self, word: str, before: Moment, had_fault: bool, is_not_held: bool) -> str:
+        """Returns the key of what is to be said of an accepted edit beside its changes. It is asked before the texts are noted."""
         now = self.program.now
         if word == "reload" and before.text == now.text:
-            return ("fault gone" if had_fault else "unchanged" if self.file_text == now.text else "same",)
+            return "fault gone" if had_fault else "unchanged" if self.file_text == now.text else "same"
         if word == "undo" and before.text == self.file_text != now.text:
-            return ("undone in file",)
-        return ("in force",) if word not in ("undo", "redo", "reload") and (is_not_held or before == now) else ()
+            return "undone in file"
+        return "in force" if word not in ("undo", "redo", "reload") and (is_not_held or before == now) else ""
 
     def note_text(self, word: str, before: Moment, history: Sequence[Any]) -> Optional[Tuple[str, ...]]:
         """Notes which texts files have. Returns the names of the typed edits that a reload put aside."""
@@ -252,17 +239,13 @@ class Bench(Stage):
 
     def may_write(self, word: str, path: str) -> str:
         """Returns a key of words.MAY_NOT if `save` or `approve` should not write to a file, or only if it is asked for again (with a ?)."""
-        if self.words and is_same(path, self.words):
-            return "words"
-        if is_same(path, self.script):
-            if word == "approve":
-                return "script"
-            if self.refused_text is not None and self.refused_text == read_file(self.script):
-                return "refused?"
-            return "changed" if self.script in self.saved() else "undone?" if self.is_older else ""
-        if not os.path.isfile(path):
-            return ""
-        return "there" if os.path.realpath(path) not in self.written else "others" if state_of(path) != self.written[os.path.realpath(path)] else ""
+        is_script, name = is_same(path, self.script), os.path.realpath(path)
+        is_refused = self.refused_text is not None and self.refused_text == read_file(self.script)
+        return next((key for is_so, key in (
+            (is_same(path, self.words), "words"), (is_script and word == "approve", "script"), (is_script and is_refused, "refused?"),
+            (is_script and self.script in self.saved(), "changed"), (is_script and self.is_older, "undone?"),
+            (is_script or not os.path.isfile(path), ""), (name not in self.written, "there"), (self.written.get(name) != state_of(path), "others"),
+        ) if is_so), "")
 
     def write(self, word: str, path: str) -> Reply:
         """Has the program write the script (`save`) or the stems (`approve`) to a file."""
@@ -270,13 +253,12 @@ class Bench(Stage):
         reply = self.ask("%s %s" % (word, self.script if is_own else path))
         if reply.is_done:
             self.written[os.path.realpath(path)] = state_of(path)
-        if reply.is_done and is_own:
-            self.look(self.script)
-            self.refused_text = None
-            if word == "save" and self.file_text not in (None, self.program.now.text):
-                self.replaced[hash(self.program.now.text)] = self.file_text or b""
-            self.note_file()
-        if reply.is_done and word == "save":
+            if is_own:
+                self.look(self.script)
+                self.refused_text = None
+                if self.file_text not in (None, self.program.now.text):
+                    self.replaced[hash(self.program.now.text)] = self.file_text or b""
+                self.note_file()
             self.keep()
         return reply
 
@@ -286,8 +268,12 @@ def pairs_of(*replies: Reply) -> Tuple[Any, ...]:
     return tuple(row for reply in replies for row in rows.read("families", reply.lines) if row.kind == "pairs")
 
 
-def typed_names(history: Sequence[Any]) -> Tuple[str, ...]:
-    """Returns the names of the edits that are done since the script was read."""
-    done = [row for row in history if row.kind == "done"]
+def typed_edits(history: Sequence[Any]) -> List[Any]:
+    """Returns the edits of parts that are done since the script was read."""
+    done = [row for row in history if row.kind == "done" and row.command != "limit"]
     last = max((i for i, row in enumerate(done) if row.command == "script"), default=-1)
-    return tuple(dict.fromkeys(row.rest[0] for row in done[last + 1 :] if row.command != "limit" and row.rest))
+    return done[last + 1 :]
+
+
+def typed_names(history: Sequence[Any]) -> Tuple[str, ...]:
+    return tuple(dict.fromkeys(row.rest[0] for row in typed_edits(history)))

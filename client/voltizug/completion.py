@@ -5,11 +5,7 @@ from typing import Iterable, List
 
 from . import rows
 from .bench import Bench
-from .commands import COMMANDS
-
-KINDS = {"routine": ("routine",), "among": ("routine",), "grouping": ("grouping",), "name": ("routine", "grouping"), "part": ("routine", "grouping")}
-# These take a word of the vocabulary.
-WITH_WORD = ("class", "remove", "why", "tests", "trace", "events", "integers")
+from .commands import COMMANDS, NAMED
 
 
 class Completion:
@@ -23,30 +19,30 @@ class Completion:
         if self.is_in_block and not text:
             return ["\t"]
         command, has_more, rest = line.partition(" ")
-        takes = COMMANDS[command].takes if command in COMMANDS else ""
-        if not self.is_in_block and (takes == "file" or line.endswith("> " + text)):
-            return files(rest if takes == "file" else text, text)
-        return sorted(name for name in self.candidates(command, has_more, rest, takes) if name.startswith(text))
+        is_file = command in COMMANDS and COMMANDS[command].takes == "FILE"
+        if not self.is_in_block and (is_file or line.endswith("> " + text)):
+            return files(rest if is_file else text, text)
+        return sorted(name for name in self.candidates(command, has_more, rest) if name.startswith(text))
 
-    def candidates(self, command: str, has_more: str, rest: str, takes: str) -> Iterable[str]:
+    def candidates(self, command: str, has_more: str, rest: str) -> Iterable[str]:
         """Returns what can come: names of the script, a command, the number of an among, or one of its strings."""
         if not self.is_in_block and (not has_more or command == "help"):
             return [name + " " * bool(COMMANDS[name].takes and not has_more) for name in COMMANDS]
-        places, words = self.bench.places(), rest.split(" ")
+        places, words, has_among = self.bench.places(), rest.split(" "), command in ("among", "uses")
         if self.is_in_block:
             return places.definitions
-        if command in WITH_WORD or command == "stem":
+        if command in COMMANDS and COMMANDS[command].takes in ("WORD", "STEM") and command != "add":
             return self.words(rest, command == "stem")
-        if takes in KINDS and len(words) == 1:
-            return [name + " " * (takes in ("among", "part") and places.count(name) > 0) for name in places.of_kind(*KINDS[takes])]
-        if takes in ("among", "part") and len(words) == 2:
+        if command in NAMED and len(words) == 1:
+            return [name + " " * (has_among and places.count(name) > 0) for name in places.of_kind(*NAMED[command])]
+        if has_among and len(words) == 2:
             return map(str, range(1, places.count(words[0]) + 1))
-        is_string = takes == "part" and len(words) == 3
+        is_string = command == "uses" and len(words) == 3
         return [string for *among, string in places.entries if is_string and among == words[:2] and " " not in string]
 
     def words(self, text: str, is_stem: bool) -> Iterable[str]:
         """Returns the words or stems without blanks that have a text in them."""
-        lines = self.bench.known("find " + text)[0] if text and " " not in text else None
+        lines = self.bench.known("find " + text) if text and " " not in text else None
         found = {row.stem if is_stem else row.word for row in rows.outcomes(lines or []) if row.kind == "stem" or not is_stem}
         return [name for name in found if " " not in name]
 

@@ -1,24 +1,35 @@
-"""The bench at a terminal: what is shown of replies, refusals and edits, and what is said if the program is gone."""
-from typing import Any, Dict, List, Sequence
+"""The bench at a terminal: the start, what is shown of replies, refusals and edits, and what is said if the program is gone. If a file has a fault at
+the start, `work` waits until its author has corrected it.
+"""
+import os
+import re
+from typing import Any, Dict, List, Optional, Sequence
 
-from . import faults, layout, loops, rows, words
-from .bench import Bench, Edit
+from . import faults, kept, layout, lints, loops, rows, warn, words
+from .bench import Bench
+from .commands import COMMENT, DECLARATION
 from .completion import Completion
 from .keys import Editor, Hangup
-from .kept import read_file
-from .layout import short
-from .lints import lints
-from .options import Options
-from .program import DONE, ENDED, Reply
+from .layout import counted, in_words, short, sizes
+from .options import CALLED, Options
+from .program import BROKEN, DONE, ENDED, ROWS, Reply
 from .screen import Screen
-from .warn import warnings_on
 
 # After so many lines, one after another, that are no command and came faster than one types, the rest is dropped.
 NONSENSE = 5
+# Faults of the script have smaller numbers; the status after Ctrl-C at the start.
+LEAST, INTERRUPTED = 25, 130
+# Faults of the words, and what is said of them.
+OF_WORDS: Dict[int, str] = {
+    43: "{name} has a word of more than 255 characters.",
+    44: "{name} has more than 100,000 words. To take some of them: shuf -n 100000 {quoted} > NEW",
+    72: "{name} has a line of more than 65,536 bytes.",
+    75: "{name} is not UTF-8.",
+}
 
 
 class Desk:
-    """The bench at a terminal: what is shown of replies, refusals and edits."""
+    """The bench at a terminal."""
 
     def __init__(self, bench: Bench, options: Options):
         self.bench, self.options = bench, options
@@ -27,30 +38,135 @@ class Desk:
         self.screen = Screen(self.editor, options.color, options.has_pager)
         # Warnings that were given; lines in a row that are no command.
         self.warned, self.nonsense = [], 0  # type: List[str], int
+        # Whether WORDS was saved since it was read.
+        self.has_old_words = False
+        # The files and what they had; whether `work` has waited for one without its fault; the status with which it ends.
+        self.paths = [path for path in (bench.script, bench.words) if path]
+        self.files: Sequence[Optional[bytes]] = ()
+        self.has_waited, self.status = False, 1
         bench.program.on_long, self.editor.on_interrupt, bench.on_restart = self.tell_long, bench.program.break_off, self.tell_restart
 
     def correction(self, path: str) -> str:
         """Returns what an author does about a fault in a file."""
         return "Correct it in %s%s." % (short(path), " and save it there" if self.options.is_watching else ", save it there, and press Enter")
 
+    # The start, and files that were saved
+
+    def open(self) -> bool:
+        """Has the files read, and shows figures; if one has a fault, shows it. Returns whether `work` goes on: it is open, or waits."""
+        bench, before = self.bench, self.files
+        self.files = [kept.read_file(path) for path in self.paths]
+        is_warned = not self.looks_swapped() and self.warn(bench.words)
+        reply = bench.open()
+        if reply.is_done and bench.program.rows != ROWS:
+            self.screen.say("The program writes rows %s, and this client knows rows %s: they are not of one version." % (bench.program.rows, ROWS))
+            return False
+        if reply.is_done:
+            self.status = 0
+            self.show_figures(reply)
+            return True
+        if reply.state == BROKEN:
+            self.status = self.status if self.has_waited else INTERRUPTED
+            self.screen.say("It was broken off. %s quit or Ctrl-D ends." % self.correction(bench.script) if self.has_waited else "")
+            return self.has_waited
+        return self.wait(reply, before == self.files, is_warned)
+
+    def wait(self, reply: Reply, is_same: bool, is_warned: bool) -> bool:
+        """Shows why the program has ended, if no warning does. Returns whether `work` waits: a file has a fault that its author can correct."""
+        bench, say, code = self.bench, self.screen.say, faults.code_of(reply.said)
+        name = (bench.words if code in OF_WORDS else bench.script) or ""
+        self.show_fault(reply.said)
+        if code == 44 or code in OF_WORDS and not is_warned:
+            say(OF_WORDS[code].format(name=short(name), quoted=words.in_shell(name)))
+        if not reply.said:
+            status = bench.program.stop()
+            say("The program ended at the start, with status %s." % status if reply.state != DONE else words.SENTENCES[49])
+        swapped = self.swapped() if 0 < code < LEAST else ""
+        say("%s. The script comes first: %s work SCRIPT WORDS" % (swapped, CALLED) if swapped else "")
+        can_wait = (0 < code < LEAST or code in OF_WORDS) and not swapped and all(map(os.path.isfile, self.paths))
+        if not can_wait and not self.has_waited:
+            return False
+        self.has_waited = True
+        verbs = ("has", "it was") if len(self.paths) == 1 else ("have", "they were")
+        say("%s %s not changed since %s read." % (in_words(self.paths, "and"), *verbs) if is_same else "")
+        ends = "quit or Ctrl-D ends%s." % (", for a start with --external" if any("use --external" in line for line in reply.said) else "")
+        say("%s %s" % (self.correction(name) if code else "Enter reads the files again.", ends))
+        return True
+
+    def show_figures(self, reply: Reply) -> None:
+        """Shows figures, and what to do if there are no words or some are refused; also that typed edits were left behind."""
+        bench, say, figures = self.bench, self.screen.say, {row.kind: int(row.count) for row in rows.read("stats", reply.lines)}
+        say(*self.new_lines(lints.lints(bench)))
+        refused = [row for row in bench.outcomes() if row.kind == "refused"] if figures["refused"] else []
+        for row in refused[:1]:
+            first = "The first refused word is %s (%s)." % (words.in_quotes(row.word), row.stem)
+            say(('%s "why %s" shows where its run ends. %s' % (first, short(row.word), self.turning(row.word))).rstrip())
+        all_left = bench.kept.left()
+        for left in [left for left in all_left if left.block]:
+            self.editor.remember(*left.block)
+            bench.kept.keep(os.path.join(left.room, "block"), b"")
+            block = short(left.block[0]), counted(len(left.block) - 1, "line")
+            say("A block was open when the terminal was closed (%s, %s): the up arrow brings its lines." % block)
+        for left in [left for left in all_left if left.path or left.words][-1:]:
+            names = left.edits + [counted(len(left.words), "added word")] * bool(left.words)
+            edits = "Edits that you typed before were left behind when the terminal was closed (%s)" % in_words(names, "and", 5)
+            older = " Older ones are there, too: rescue brings them back when it is typed again." if len(bench.kept.left()) > 1 else ""
+            say(edits + ": rescue brings them back, rescue drop forgets them." + older)
+        if not figures["words"] and not bench.words:
+            say("To see stems: add WORD, or start with a file of words: %s work SCRIPT WORDS" % CALLED)
+        say(sizes(figures))
+
+    def looks_swapped(self) -> bool:
+        return [b"externals" in (text or b"")[:1048576] for text in self.files] == [False, True]
+
+    def swapped(self) -> str:
+        """Returns the sentence on a list of words in the place of the script, if it looks so."""
+        if self.looks_swapped():
+            return "%s looks like a script" % short(self.bench.words or "")
+        text = (self.files[0] or b"")[:65536]
+        has_words = text.count(b"\n") > 2 and all(len(line.split()) <= 1 for line in text.split(b"\n")) and b"(" not in text
+        return "%s looks like a list of words" % short(self.bench.script) if has_words else ""
+
+    def show_saved(self) -> None:
+        """Reads again what was saved."""
+        if self.bench.is_waiting:
+            self.open()
+        elif self.bench.script in self.bench.saved():
+            self.edit(["reload"])
+        else:
+            self.screen.say(self.note_words())
+
+    def note_words(self) -> str:
+        """Returns the sentence on words that were saved since they were read; nothing if they were not."""
+        path = self.bench.words or ""
+        if path in self.bench.saved():
+            self.bench.look(path)
+            self.has_old_words = True
+        return "%s has changed: words reads it again." % short(path) if self.has_old_words else ""
+
     # What becomes of a request
 
     def tell_long(self) -> None:
-        breaks = "" if self.bench.program.is_deaf else "Ctrl-C breaks it off. "
-        self.screen.say('This takes long. %sIf the script loops, "limit 1000" lets each run end sooner.' % breaks)
+        if self.bench.is_waiting:
+            ends = "breaks it off" if self.has_waited else "ends it"
+            self.screen.say("This takes long. Ctrl-C %s. It may be that the script loops." % ends)
+        else:
+            breaks = "" if self.bench.program.is_deaf else "Ctrl-C breaks it off. "
+            self.screen.say('This takes long. %sIf the script loops, "limit 1000" lets each run end sooner.' % breaks)
 
     def settle(self, reply: Reply) -> bool:
         """Says what became of a reply that is no answer; returns whether it is one."""
-        if reply.state == DONE:
-            return True
         if reply.state == "lost":
             is_kept = self.bench.kept.has("about", "added")
             edits = "What you typed is kept: the next start over the same script offers it." if is_kept else "No edit is lost."
             self.screen.say("The program could not be started again. " + edits)
             raise Hangup
-        done = "The last command was not done: type it again." if reply.state == ENDED else "It was broken off. Nothing changed."
-        self.screen.say(done + " undo goes back to the mark at most.")
-        return False
+        if reply.state != DONE:
+            # (Ctrl-C may have come again, and this is to be seen)
+            self.editor.is_interrupted = False
+            done = "The last command was not done: type it again." if reply.state == ENDED else "It was broken off. Nothing changed."
+            self.screen.say(done + " undo goes back to the mark at most.")
+        return reply.state == DONE
 
     def tell_restart(self, reply: Reply) -> None:
         self.editor.is_interrupted = False
@@ -66,7 +182,7 @@ class Desk:
         return reply.is_done
 
     def refuse(self, reply: Reply, lines: Sequence[str]) -> None:
-        """Shows a refusal, and what to do."""
+        """Shows a refusal, the other faults of a text as far as there is room, and what to do."""
         code, name = reply.refusal() or (0, "")
         self.show_fault(reply.said)
         said = words.sentence(reply, lines, self.bench)
@@ -77,11 +193,12 @@ class Desk:
         elif code == 48 and not reply.said:
             # (a fault of the whole script has no line)
             said = "%s. %s" % (name, said)
-        self.screen.say(said)
-        self.show_more_faults()
+        found, most = self.bench.read("faults")[1:], max(1, self.screen.size().lines // 3)
+        others = [layout.cut(layout.named("also %s:%s: %s" % row[5:8]), self.screen.size().columns) for row in found[:most]]
+        self.screen.say(said, *others, "{:,} more faults".format(len(found) - most) if len(found) > most else "")
         self.nonsense = self.nonsense + 1 if code == 52 and self.editor.has_key() else 0
         # (of a script that was pasted one line is enough)
-        if self.editor.pending or len(lines) > 1 or self.nonsense >= (1 if words.is_of_script(lines[0]) else NONSENSE):
+        if self.editor.pending or len(lines) > 1 or self.nonsense >= (1 if re.match("%s|%s" % (COMMENT, DECLARATION), lines[0]) else NONSENSE):
             self.drop_pasted()
 
     def drop_pasted(self) -> None:
@@ -90,13 +207,9 @@ class Desk:
         self.screen.say("The %s dropped." % lines if count else "")
 
     def show_fault(self, said: Sequence[str]) -> None:
-        self.screen.write_fault(faults.shown(said, self.bench.script, read_file(self.bench.script), self.screen.size().columns))
-
-    def show_more_faults(self) -> None:
-        """After a fault of a text: the others, as many as there is room for."""
-        found, most = self.bench.read("faults")[1:], max(1, self.screen.size().lines // 3)
-        self.screen.say(*("also %s:%s: %s" % (row.line, row.column, short(row.sentence)) for row in found[:most]))
-        self.screen.say("{:,} more faults".format(len(found) - most) if len(found) > most else "")
+        # (the line of the script and its carets, which are indented, are not broken)
+        for line in faults.shown(said, self.bench.script, kept.read_file(self.bench.script), self.screen.size().columns):
+            self.screen.write([line], is_text=line.startswith(faults.INDENT))
 
     def new_lines(self, lines: Sequence[str]) -> List[str]:
         """Returns the warnings that were not given before, and notes them."""
@@ -104,9 +217,9 @@ class Desk:
         self.warned += found
         return found
 
-    def warn(self, *paths: str) -> bool:
+    def warn(self, path: Optional[str] = None) -> bool:
         """Gives the warnings on the script, and on a list of words. Returns whether there is one."""
-        found = self.new_lines(warnings_on(self.bench.script, *paths))
+        found = self.new_lines(warn.warnings_on(self.bench.script, path))
         self.screen.write(found, is_text=True)
         return bool(found)
 
@@ -114,21 +227,25 @@ class Desk:
 
     def edit(self, lines: Sequence[str]) -> bool:
         """Makes an edit, and shows what it changed, as much as the window has room for, and last the summary. Returns whether it was accepted."""
-        edit = self.bench.edit(lines)
+        edit = self.bench.edit(lines, has_own=True)
         is_reload = edit.command == "reload"
         if not self.settle(edit.reply):
             self.screen.say(self.correction(self.bench.script) if is_reload else "")
-            return False
-        if edit.reply.refusal():
+        elif edit.reply.refusal():
             self.refuse(edit.reply, lines)
+        if not edit.reply.is_done:
+            self.screen.say(self.note_words())
             return False
         if is_reload:
             self.warn()
-        tail = [*(self.new_lines(lints(self.bench)) if is_reload else []), self.turning_since(edit), *words.notes(edit, self.bench.script)]
-        last = self.screen.broken([line for line in [*tail, layout.families_line(edit.pairs), layout.summary(edit)] if line])
+        own = edit.changes if edit.own is None else edit.own
+        refused = [row.word for row in own if row.kind == "changed" and row.new_kind == "refused" and row.new in loops.NAMES]
+        tail = [*(self.new_lines(lints.lints(self.bench)) if is_reload else []), self.turning(refused[0]) if refused else ""]
+        note = words.NOTES.get(edit.note, "").format(script=short(self.bench.script))
+        last = self.screen.broken([line for line in [*tail, note, self.note_words(), layout.families_line(edit.pairs), layout.summary(edit)] if line])
         size = self.screen.size()
         room = max(1, size.lines - len(last) - 1 - self.editor.rows_typed(size.columns))
-        found = layout.changes(edit.changes, self.outcomes(edit.changes), room)
+        found = layout.changes(own, self.outcomes(own), room, '"changes" shows all' + " since the mark" * (own is not edit.changes))
         self.screen.write([layout.cut(layout.named(line), size.columns) for line in found] + last)
         return True
 
@@ -136,14 +253,6 @@ class Desk:
         """Returns the outcomes of the words if some were added, by the words."""
         return {row.word: row for row in self.bench.outcomes()} if any(row.kind == "added" for row in changes) else {}
 
-    def turning_since(self, edit: Edit) -> str:
-        """Returns the sentence on what goes round in the first run that is refused since the mark for its steps or its depth."""
-        refused = [row.word for row in edit.changes if row.kind == "changed" and row.new_kind == "refused" and row.new in ("Steps", "Depth")]
-        return self.turning(refused[0]) if refused and not edit.is_same else ""
-
     def turning(self, word: str) -> str:
+        """Returns the sentence on what goes round in the run of a word."""
         return loops.turning(word, self.bench.read("events " + word), self.bench)
-
-    def show_saved(self) -> None:
-        """Reads again what was saved."""
-        raise NotImplementedError

@@ -4,7 +4,9 @@ editor does not. It does not name the file that has to be converted, nor say in 
 import re
 from typing import List, NamedTuple, Optional, Sequence
 
+from .language import ITEMS
 from .layout import named, short
+from .near import meant
 from .places import BOM
 from .words import in_shell, unreadable
 
@@ -41,6 +43,12 @@ def place_of(said: Sequence[str], *names: str) -> Place:
 def shown(said: Sequence[str], script: str, text: Optional[bytes], width: int) -> List[str]:
     """Returns the lines on a fault, and the line of the script with carets cut to the window."""
     lines = [with_file(line, script) for line in said if not CODE.match(line)]
+    for i, line in enumerate(lines[:-1]):
+        word = [*lines[i + 1].split(), ""][0]
+        if text and b"stringescapes" not in text and ": } can only be" in line:
+            lines[i] += ". A literal with {..} needs stringescapes {} above it"
+        elif " can only be in a literal" in line and word not in ITEMS and meant(word, ITEMS):
+            lines[i] += "." + meant(word, ITEMS)
     if (text or b"").startswith(BOM):
         lines = without_mark(lines, script)
     lines = [line if line.startswith(INDENT) else re.sub(r"\w{61,}", lambda name: short(name[0]), line) for line in map(named, lines)]

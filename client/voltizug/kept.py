@@ -17,12 +17,13 @@ FileState = Optional[Tuple[int, int, int]]
 
 
 class Left(NamedTuple):
-    """What was left behind: the folder, the file in it that has the text with typed edits, their names, and the words that were added."""
+    """What was left behind: the folder, the file in it that has the text with typed edits, their names, added words, and lines of an open block."""
 
     room: str
     path: str
     edits: List[str]
     words: List[str] = []
+    block: List[str] = []
 
 
 class Kept:
@@ -37,33 +38,30 @@ class Kept:
 
     def note(self, name: str, lines: Sequence[str]) -> None:
         """Notes what no file has, in a file of the room: `about` has the name of another file of the room, whose text has them, and their names;
-        `added` has the words that were added. Without lines that is forgotten."""
-        if lines:
-            self.keep(name, "\n".join([self.script, *lines]).encode("utf-8", "surrogateescape"))
-        else:
-            with contextlib.suppress(OSError):
-                os.remove(os.path.join(self.room, name))
+        `added` has the words that were added, `block` the lines of a block that is open. Without lines that is forgotten."""
+        self.keep(name, "\n".join([self.script, *lines]).encode("utf-8", "surrogateescape") if lines else b"")
 
     def keep(self, file: str, text: bytes) -> None:
         with contextlib.suppress(OSError), open(os.path.join(self.room, file), "wb") as kept:
             kept.write(text)
 
     def has(self, *names: str) -> bool:
-        return any(os.path.exists(os.path.join(self.room, name)) for name in names)
+        return any(read_file(os.path.join(self.room, name)) for name in names)
 
     def left(self) -> List[Left]:
         """Returns what was left behind over this script, the oldest first. Folders that have nothing are taken away."""
         found = []
         for entry in os.scandir(os.path.join(self.folder, "open")):
-            lock = locked(entry.path) if entry.path != self.room else None
+            # (this one's is locked, too)
+            lock = locked(entry.path)
             if lock is None:
                 continue
             with lock:
-                texts = [read_file(os.path.join(entry.path, name)) or b"" for name in ("about", "added")]
-                edits, added = (text.decode("utf-8", "surrogateescape").split("\n") for text in texts)
-                if self.script in (edits[0], added[0]):
+                texts = [read_file(os.path.join(entry.path, name)) or b"" for name in ("about", "added", "block")]
+                edits, added, block = (text.decode("utf-8", "surrogateescape").split("\n") for text in texts)
+                if self.script in (edits[0], added[0], block[0]):
                     path = os.path.join(entry.path, edits[1]) if edits[1:] else ""
-                    found.append((entry.stat().st_mtime, Left(entry.path, path, edits[2:], added[1:])))
+                    found.append((entry.stat().st_mtime, Left(entry.path, path, edits[2:], added[1:], block[1:])))
                 elif not any(texts) and entry.stat().st_mtime < time.time() - YOUNG:
                     self.forget(entry.path)
         return [left for _, left in sorted(found)]

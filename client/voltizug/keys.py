@@ -1,8 +1,7 @@
-"""Line editing by readline, and which keys are signals. A save rings by a signal to the main thread. CPython runs handlers of signals while
+"""Line editing by readline, and which keys are signals. Files are looked at by a signal of a timer. CPython runs handlers of signals while
 readline waits for a key, so a handler can clear the line that is being typed, show what changed, and have readline draw the line again.
 `readline.redisplay` does not suffice for this: readline believes that the line is still on the screen. What does is reached by ctypes.
 """
-import collections
 import contextlib
 import ctypes
 import errno
@@ -13,13 +12,11 @@ import select
 import signal
 import sys
 import termios
-import threading
-import time
-from typing import Any, Callable, Deque, Iterator, List, Optional
+from typing import Any, Callable, Iterator, List, Optional
 
 HISTORY, INTERRUPT, PAUSE = 2000, b"\x03", 0.1
-# How often files are looked at, how soon again after a change (a file may still be being written), and for how long a signal is repeated.
-PERIOD, SOON, ECHO = 0.03, 0.005, 1.0
+# How often files are looked at, and how soon again after a change (a file may still be being written); how often signals are if no file is.
+PERIOD, SOON, REST = 0.03, 0.005, 0.5
 POINT = re.compile(rb"[\r\n][ \t]*\.[ \t]*[\r\n]")
 # Of readline's state: its callbacks are installed.
 CALLBACK = 0x80000
@@ -51,18 +48,6 @@ class Library:
         except (OSError, AttributeError, ValueError):
             self.is_whole = False
 
-    def clear(self) -> None:
-        """Takes the line that is being typed off the screen, also one that is several rows long."""
-        self.clear_line()
-        self.libc.fflush(None)
-
-    def has_line(self) -> bool:
-        """Whether readline still waits for the end of a line: a signal may be heard only after Enter."""
-        return self.is_whole and bool(self.state.value & CALLBACK)
-
-    def is_vi(self) -> bool:
-        return self.is_whole and self.mode.value == 0
-
     def draw(self) -> None:
         """Draws the line again, below what is on the screen."""
         sys.stdout.flush()
@@ -70,20 +55,16 @@ class Library:
         self.redisplay()
 
 
-def set_keys(settings: List[Any]) -> bool:
-    """Has the terminal take these settings. Returns false if it is gone. (A signal may break the call off, and Python does not try it again.)"""
+def set_keys(settings: List[Any], is_needed: bool = False) -> None:
+    """Has the terminal take these settings, if it is there. (A signal may break the call off, and Python does not try it again.)"""
     while True:
         try:
-            termios.tcsetattr(0, termios.TCSANOW, settings)
-            return True
+            return termios.tcsetattr(0, termios.TCSANOW, settings)
         except termios.error as why:
             if why.args[0] != errno.EINTR:
-                return False
-
-
-def need_keys(settings: List[Any]) -> None:
-    if not set_keys(settings):
-        raise Hangup
+                if is_needed:
+                    raise Hangup from None
+                return None
 
 
 def with_interrupt(settings: List[Any], character: bytes) -> List[Any]:
@@ -101,32 +82,30 @@ class Editor:
         self.base = termios.tcgetattr(0)
         self.typing = with_interrupt(self.base, b"\0")
         self.quiet = with_interrupt([*self.base[:3], self.base[3] & ~(termios.ECHO | termios.ICANON), *self.base[4:]], INTERRUPT)
-        # Whether readline waits for a key; whether a save is shown above a line; whether Ctrl-C came while a command ran, and raises Broken then.
-        self.is_waiting = self.is_above = self.is_interrupted = self.is_breakable = False
-        # Whether somebody ends this process: it is told so until it hears it.
-        self.is_ended = False
-        self.pending: Deque[str] = collections.deque()
-        self.found: List[str] = []
-        self.main = threading.main_thread().ident or 0
+        # Whether readline waits for a key; whether a save is shown above a line; whether Ctrl-C came while a command ran; whether somebody ends
+        # this process: it is told so until it hears it.
+        self.is_waiting = self.is_above = self.is_interrupted = self.is_ended = False
+        # The lines that came with one that was pasted; what TAB can complete.
+        self.pending, self.found = [], []  # type: List[str], List[str]
+        # The saved files at the last look.
+        self.looked: Any = None
         self.on_interrupt: Callable[[], None] = lambda: None
 
     def begin(self) -> None:
         """Takes the keys and the signals of the terminal."""
         for number, handler in (
             (signal.SIGINT, self.hear_interrupt), (signal.SIGTSTP, self.hear_stop), (signal.SIGCONT, self.hear_continue),
-            (signal.SIGHUP, self.hear_end), (signal.SIGTERM, self.hear_end), (signal.SIGUSR1, self.hear_ring), (signal.SIGQUIT, signal.SIG_IGN),
+            (signal.SIGHUP, self.hear_end), (signal.SIGTERM, self.hear_end), (signal.SIGALRM, self.hear_ring), (signal.SIGQUIT, signal.SIG_IGN),
         ):
             signal.signal(number, handler)
-        heard, bell = os.pipe()
-        os.set_blocking(bell, False)
-        signal.set_wakeup_fd(bell, warn_on_full_buffer=False)
-        threading.Thread(target=self.ring, args=(heard,), daemon=True).start()
-        need_keys(self.quiet)
+        # (it breaks off the wait for a key, but nothing that is being written)
+        signal.siginterrupt(signal.SIGALRM, False)
+        set_keys(self.quiet, is_needed=True)
         self.open_history()
 
     def end(self) -> None:
         """Gives the keys back. A second signal does not break this off."""
-        for number in (signal.SIGHUP, signal.SIGTERM, signal.SIGUSR1):
+        for number in (signal.SIGHUP, signal.SIGTERM, signal.SIGALRM):
             signal.signal(number, signal.SIG_IGN)
         set_keys(self.base)
 
@@ -134,11 +113,10 @@ class Editor:
 
     def hear_interrupt(self, *_: object) -> None:
         self.is_interrupted = True
-        if self.is_breakable:
-            raise Broken
         self.on_interrupt()
 
     def hear_end(self, number: int, _: object) -> None:
+        self.is_ended = True
         raise Hangup(number)
 
     def hear_stop(self, *_: object) -> None:
@@ -157,32 +135,25 @@ class Editor:
             self.library.prepare(1)
             self.library.draw()
 
-    def ring(self, heard: int) -> None:
-        """In a thread: breaks off the wait for a key by a signal, for a while after each other one (CPython hears one that comes just before
-        readline waits for a key only when another one breaks that wait off), and as long as a file was saved that is not being written."""
-        before, now, until = None, None, 0.0  # type: Any, Any, float
-        while True:
-            is_idle = not (self.saved or self.is_ended or time.monotonic() < until)
-            pause = PAUSE if self.is_ended else PERIOD if now == before else SOON
-            if select.select([heard], [], [], None if is_idle else pause)[0]:
-                numbers = set(os.read(heard, 256)) - {signal.SIGUSR1}
-                self.is_ended = self.is_ended or bool(numbers & {signal.SIGHUP, signal.SIGTERM})
-                until = time.monotonic() + ECHO if numbers else until
-                continue
-            before, now = now, self.saved() if self.saved and self.is_waiting else None
-            if self.is_ended or self.is_waiting and (time.monotonic() < until or now and now == before):
-                signal.pthread_kill(self.main, signal.SIGUSR1)
-
     def hear_ring(self, *_: object) -> None:
+        """While a line is typed, every so often: shows what was saved and is not being written. CPython hears a signal that comes just before
+        readline waits for a key only when another one breaks that wait off: this one."""
         if self.is_ended:
             raise Hangup
-        if not self.is_waiting or self.is_above or not self.library.has_line() or not (self.saved and self.saved()):
+        # (it may be heard only after Enter, and then readline has no line)
+        has_line = self.is_waiting and self.library.is_whole and self.library.state.value & CALLBACK
+        before, self.looked = self.looked, self.saved() if self.saved and has_line else None
+        if has_line and self.looked != before:
+            signal.setitimer(signal.ITIMER_REAL, SOON, PERIOD)
+        if not self.looked or self.looked != before:
             return
         self.is_above, self.is_waiting = True, False
         now = termios.tcgetattr(0)
         try:
             set_keys(with_interrupt(now, INTERRUPT))
-            self.library.clear()
+            # (also a line that is several rows long)
+            self.library.clear_line()
+            self.library.libc.fflush(None)
             self.show_saved()
             set_keys(now)
             self.is_interrupted = False
@@ -196,28 +167,29 @@ class Editor:
         """Returns a line, or nothing at the end. Lines that were pasted together come one by one."""
         if self.pending:
             print(prompt + self.pending[0], flush=True)
-            return self.pending.popleft()
+            return self.pending.pop(0)
         sys.stdout.flush()
-        need_keys(self.typing)
+        set_keys(self.typing, is_needed=True)
         try:
             self.is_waiting = True
+            signal.setitimer(signal.ITIMER_REAL, *[PERIOD if self.saved else REST] * 2)
             text = input(prompt)
         except SystemError as why:
             # (`timeout` sends SIGCONT after SIGTERM, and CPython calls the handler of the second while the exception of the first one is set)
             raise why.__cause__ if isinstance(why.__cause__, Hangup) else why
         except EOFError:
             # (a terminal that is gone ends its input, too)
-            need_keys(self.typing)
+            set_keys(self.typing, is_needed=True)
             print(flush=True)
             return None
         finally:
             self.is_waiting = self.is_interrupted = False
+            signal.setitimer(signal.ITIMER_REAL, 0)
             set_keys(self.quiet)
         if text.endswith("\x03"):
             raise Dropped
         # (an empty line at the end of a paste is no wish to reload)
-        line, *others = (text.rstrip("\n") if "\n" in text else text).split("\n")
-        self.pending.extend(others)
+        line, *self.pending = text.rstrip("\n").split("\n")
         return line
 
     def drop_pasted(self) -> int:
@@ -254,8 +226,8 @@ class Editor:
 
     # History and TAB
 
-    def remember(self, line: str) -> None:
-        if line.strip() and "\n" not in line:
+    def remember(self, *lines: str) -> None:
+        for line in (line for line in lines if line.strip() and "\n" not in line):
             try:
                 readline.add_history(line)
             except UnicodeError:
@@ -279,7 +251,8 @@ class Editor:
             readline.parse_and_bind(binding)
         # Ctrl-C is a key that ends the line with a character of its own. (The last keymap is in force.)
         keymaps = [("vi-command", "A"), ("vi-insert", r"\eA"), ("emacs", r"\C-e")]
-        for keymap, to_end in keymaps if not self.library.is_vi() else [keymaps[0], keymaps[2], keymaps[1]]:
+        is_vi = self.library.is_whole and self.library.mode.value == 0
+        for keymap, to_end in [keymaps[0], keymaps[2], keymaps[1]] if is_vi else keymaps:
             readline.parse_and_bind("set keymap " + keymap)
             readline.parse_and_bind(r'"\C-c": "%s\C-v\C-c\C-m"' % to_end)
 

@@ -7,10 +7,9 @@ from typing import Any, Dict, List, Optional, Sequence, Tuple
 from . import rows
 from .bench import Edit
 
-KINDS = ("added", "removed", "changed", "split", "merged", "renamed")
 COLOURS, RED = {"split": "33", "merged": "35", "renamed": "36", "added": "32", "removed": "31"}, "31"
-# Marks that turn the direction of writing, and characters of no width that end or join lines.
-HIDDEN = set("\u061c\u200b\u200e\u200f\u2028\u2029\u2060\ufeff") | {chr(code) for code in (*range(0x202A, 0x202F), *range(0x2066, 0x206A))}
+# Controls but for tabs, bytes that are no text, marks that turn the direction of writing, and characters of no width that end or join lines.
+HIDDEN = re.compile("[\0-\x08\n-\x1f\x7f-\x9f\ud800-\udfff\u061c\u200b\u200e\u200f\u2028-\u202e\u2060\u2066-\u2069\ufeff]")
 # How many characters of a name or a literal a sentence has, and how many columns the words of a list have, at most.
 LONGEST, COLUMN = 60, 24
 # A label at the beginning of a line, as in help.
@@ -19,14 +18,7 @@ LABEL = re.compile(r"\S+( \S+)* {2,}")
 
 def named(text: str) -> str:
     """Returns the text with each character that a terminal obeys, or does not show, as its number. Tabs stay."""
-    if text.isprintable():
-        return text
-    return "".join(name_of(c) if c != "\t" and (c in HIDDEN or unicodedata.category(c) in ("Cc", "Cs")) else c for c in text)
-
-
-def name_of(character: str) -> str:
-    code = ord(character)
-    return "<%02X>" % (code - 0xDC00) if 0xDC80 <= code <= 0xDCFF else "<U+%04X>" % code
+    return HIDDEN.sub(lambda found: "<%02X>" % (ord(found[0]) - 0xDC00) if "\udc80" <= found[0] <= "\udcff" else "<U+%04X>" % ord(found[0]), text)
 
 
 def short(text: str) -> str:
@@ -38,8 +30,7 @@ def columns(text: str) -> int:
     """Returns how many columns of a terminal a text takes."""
     if text.isascii():
         return len(text) + 7 * text.count("\t")
-    wide = (8 if c == "\t" else 0 if unicodedata.category(c) in ("Mn", "Me") else 2 if unicodedata.east_asian_width(c) in "WF" else 1 for c in text)
-    return sum(wide)
+    return sum(8 if c == "\t" else 0 if unicodedata.category(c) in ("Mn", "Me") else 1 + (unicodedata.east_asian_width(c) in "WF") for c in text)
 
 
 def padded(text: str, column: int) -> str:
@@ -94,12 +85,6 @@ def outcome(kind: str, text: str) -> str:
     return "refused " + text if kind == "refused" else named(text) or "(empty)"
 
 
-def has(row: Any, text: str) -> bool:
-    """Whether a row of `changes` has a text in a word or a stem."""
-    fields = (row.word, row.old, row.new) if row.kind == "changed" else row[1:]
-    return any(text in name for field in fields for name in ((field,) if isinstance(field, str) else field))
-
-
 def change(row: Any, column: int = 0, outcomes: Optional[Dict[str, rows.Outcome]] = None) -> str:
     """Returns the line of a row of `changes`. A word that was added has its stem, if that is known."""
     if row.kind == "changed":
@@ -107,25 +92,22 @@ def change(row: Any, column: int = 0, outcomes: Optional[Dict[str, rows.Outcome]
     if row.kind in ("added", "removed"):
         now = (outcomes or {}).get(row.word)
         return "  %-8s %s%s" % (row.kind, named(row.word), " -> " + outcome(now.kind, now.stem) if now else "")
-    old = (row.old,) if row.kind != "merged" else row.old
-    new = (row.new,) if row.kind != "split" else row.new
-    return "  %-8s %s -> %s" % (row.kind, listed(old), listed(new))
+    old, new = (listed([names] if isinstance(names, str) else names) for names in (row.old, row.new))
+    return "  %-8s %s -> %s" % (row.kind, old, new)
 
 
 def shares(counts: Sequence[int], room: int) -> List[int]:
     """Returns how many of each kind are shown in so many lines: a kind with few shows all, the others have equal shares."""
     left, given = room, [0] * len(counts)
-    order = sorted(range(len(counts)), key=lambda i: counts[i])
-    for at, i in enumerate(order):
+    for at, i in enumerate(sorted(range(len(counts)), key=lambda i: counts[i])):
         given[i] = min(counts[i], left // (len(counts) - at))
         left -= given[i]
     return given
 
 
-def changes(found: Sequence[Any], outcomes: Dict[str, rows.Outcome], room: int = 0) -> List[str]:
+def changes(found: Sequence[Any], outcomes: Dict[str, rows.Outcome], room: int = 0, all_: str = '"changes" shows all') -> List[str]:
     """Returns the lines of changes, no more than there is room for; all without a room."""
-    kinds = rows.by_kind(found)
-    present = [kinds[kind] for kind in KINDS if kind in kinds]
+    present = list(rows.by_kind(found).values())
     counts = [len(part) for part in present]
     if room and sum(counts) > room:
         counts = shares(counts, max(0, room - 1))
@@ -134,10 +116,10 @@ def changes(found: Sequence[Any], outcomes: Dict[str, rows.Outcome], room: int =
         column = min(COLUMN, max((columns(named(row.word)) for row in part[:count]), default=0)) if part[0].kind == "changed" else 0
         lines += [change(row, column, outcomes) for row in part[:count]]
     more = len(found) - sum(counts)
-    return lines + ['  .. and {:,} more: "changes" shows all'.format(more)] * bool(more)
+    return lines + ["  .. and {:,} more: {}".format(more, all_)] * bool(more)
 
 
-def figures(found: Sequence[Any]) -> str:
+def figures(found: Sequence[Any], since: str = " since the mark") -> str:
     """Returns what differs from the mark, in numbers."""
     kinds = Counter(row.kind for row in found)
     refused = sum(row.new_kind == "refused" for row in found if row.kind == "changed")
@@ -145,21 +127,27 @@ def figures(found: Sequence[Any]) -> str:
     parts += ["{:,} of them refused".format(refused)] if refused else []
     parts += ["{:,} {}".format(kinds[kind], kind) for kind in ("split", "merged", "renamed") if kinds[kind]]
     parts += [counted(kinds[kind], "word") + " " + kind for kind in ("added", "removed") if kinds[kind]]
-    return ", ".join(parts) + " since the mark" if parts else "no word and no class differs from the mark"
+    return ", ".join(parts) + since if parts else "no word and no class differs from the mark"
 
 
 def summary(edit: Edit) -> str:
     """Returns the line that stands last after an edit."""
     text = figures(edit.changes)
-    if edit.changes and edit.is_same:
+    if edit.own == []:
         text += " (this edit changed none)"
+    elif edit.own:
+        text = "this %s: %s; %s" % (edit.command if edit.step else "edit", figures(edit.own, ""), text)
     if edit.command in ("undo", "redo"):
-        step = "the whole script" if edit.step == "script" else short(edit.step)
-        text = "%s%s; %s" % ("taken back" if edit.command == "undo" else "made again", ": " + step if step else "", text)
+        text = "%s%s; %s" % ("taken back" if edit.command == "undo" else "made again", ": " + short(step_of(edit.step)) if edit.step else "", text)
     if edit.aside is not None:
         names = ", ".join(map(short, edit.aside)) or "what you typed"
         text += "; put aside: %s (undo brings %s back)" % (names, "it" if len(edit.aside) < 2 else "them")
     return text
+
+
+def step_of(row: Any) -> str:
+    """Returns the command of an edit that `history` has."""
+    return " ".join((row.command, *row.rest)) if row.rest else "the whole script"
 
 
 def percent(part: int, whole: int) -> str:

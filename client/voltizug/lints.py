@@ -1,8 +1,11 @@
 """What is legal in a script and words, and may not be meant. By the tokens and the strings that the program tells: no script is read here."""
-from typing import Iterable, List, Sequence, Set, Tuple
+import re
+from itertools import takewhile
+from typing import Dict, Iterable, List, Sequence, Set, Tuple
 
 from .bench import Bench
-from .layout import named, short
+from .layout import in_words, named, short
+from .names import Names
 from .places import LARGEST, Places, line_and_column
 from .rows import Outcome, Token
 
@@ -11,14 +14,11 @@ MOST, FEW, MANY = 5, 50, 5000
 # A literal after one of these is put into the text.
 PUTTING = ("<-", "<+", "insert", "attach", "=", "+=", "=>")
 # What the token after an empty slice says.
-EMPTY = {
-    "among": "[substring] is meant, perhaps", "<-": "it has no character to replace", "delete": "it has no character to delete",
-}
-
-# They signal t, whatever the command after them does.
-SURE = ("do", "try", "repeat")
-# Before those these make something else of it.
-NOT_SURE = ("not", "fail", "for", "and")
+EMPTY = {"among": "[substring] is meant, perhaps", "<-": "it has no character to replace", "delete": "it has no character to delete"}
+# They signal t, whatever the command after them does; before those these make something else of it.
+SURE, NOT_SURE = ("do", "try", "repeat"), ("not", "fail", "for", "and")
+# They take the slice.
+TAKING = ("delete", "<-", "->")
 
 
 def lints(bench: Bench, has_all: bool = False) -> List[str]:
@@ -28,50 +28,79 @@ def lints(bench: Bench, has_all: bool = False) -> List[str]:
         return ["%s has more than {:,} bytes, and is not looked at".format(LARGEST) % named(bench.script)] if has_all else []
     places, outcomes = bench.places(), bench.outcomes() if has_all or bench.size <= MANY else []
     tokens = [token for token in places.tokens if token.kind != "comment"]
+    beyond = "%s has a letter beyond ASCII: other compilers ask for a stringdef"
     found = [
         (left.start, "the slice is empty here: " + EMPTY[after.text]) for left, right, after in zip(tokens, tokens[1:], tokens[2:])
         if left.text == "[" and right.text == "]" and after.text in EMPTY
     ]
-    found += sure_alternatives(tokens)
+    found += [*sure_alternatives(tokens), *unset_slices(Names(places.tokens)), *plain_braces(tokens)]
     found += strange_strings(places, outcomes, tokens) if has_all or bench.size >= FEW else []
-    beyond = "%s has a letter beyond ASCII: other compilers ask for a stringdef"
     found += [(token.start, beyond % short(token.text)) for token in tokens if has_all and token.kind == "literal" and not token.text.isascii()]
     shown = ["%s:%d:%d: %s" % (named(bench.script), *line_and_column(places.text, start), what) for start, what in sorted(found)]
-    most = len(shown) if has_all else MOST
-    more = ['.. and {:,} more: "lint" shows all'.format(len(shown) - most)] if len(shown) > most else []
-    return shown[:most] + more + capitals(places, outcomes)
+    more = len(shown) - MOST if not has_all else 0
+    return shown[: len(shown) - max(0, more)] + ['.. and {:,} more: "lint" shows all'.format(more)] * (more > 0) + capitals(places, outcomes)
 
 
 def sure_alternatives(tokens: Sequence[Token]) -> Iterable[Tuple[int, str]]:
     """What is after `or` never runs if `do X` is before it. X is a name, a literal or a bracket."""
+    what = "{0} never fails, so what is after this or never runs: {0} ( .. or .. ) is meant, perhaps"
     for at, token in enumerate(tokens[:-1]):
-        if token.kind == "word" and token.text in SURE and not (at and tokens[at - 1].text in NOT_SURE):
-            after = end_of(tokens, at + 1)
-            if after and [other.text for other in tokens[after : after + 1]] == ["or"]:
-                what = "{0} never fails, so what is after this or never runs: {0} ( .. or .. ) is meant, perhaps"
-                yield token.start, what.format(token.text)
+        is_sure = token.kind == "word" and token.text in SURE and not (at and tokens[at - 1].text in NOT_SURE)
+        if is_sure and [other.text for other in tokens[end_of(tokens, at + 1) :][:1]] == ["or"]:
+            yield token.start, what.format(token.text)
+
+
+def plain_braces(tokens: Sequence[Token]) -> Iterable[Tuple[int, str]]:
+    """The first literal with {..} above which there are no insert characters."""
+    above = takewhile(lambda token: token.text != "stringescapes", tokens)
+    for token in [token for token in above if token.kind == "literal" and re.search("{.*}", token.text)][:1]:
+        yield token.start, "%s has { and } as letters: no stringescapes {} is above it" % short(token.text)
+
+
+def unset_slices(names: Names) -> Iterable[Tuple[int, str]]:
+    """The first command of a routine that takes the slice, if there is no [ or no ] in the routine, in what it calls, and in what calls it."""
+    parts = {item.name.text: names.part(item)[1:] for item in names.order if item.is_routine}
+    calls = {name: {token.text for token in part}.intersection(parts) for name, part in parts.items()}
+    callers: Dict[str, Set[str]] = {name: set() for name in parts}
+    for name, others in calls.items():
+        for other in others:
+            callers[other].add(name)
+    having = {sign: [name for name, part in parts.items() if any(token.text == sign for token in part)] for sign in "[]"}
+    there = {sign: reached(having[sign], calls) | reached(having[sign], callers) for sign in "[]"}
+    for name, part in parts.items():
+        lacking = [sign for sign in "[]" if name not in there[sign]]
+        for token in [token for token in part if token.text in TAKING and lacking][:1]:
+            what = "{}, what it calls and what calls it have no {}: this {} takes an earlier slice, or an empty one"
+            yield token.start, what.format(name, in_words(lacking, "and no"), token.text)
+
+
+def reached(names: Sequence[str], ways: Dict[str, Set[str]]) -> Set[str]:
+    """Returns names and all to which ways lead from them."""
+    found, queue = set(names), list(names)
+    for each in queue:
+        new = ways[each] - found
+        found |= new
+        queue += new
+    return found
 
 
 def end_of(tokens: Sequence[Token], at: int) -> int:
-    """Returns the number of the token after a name, a literal or a bracket; 0 if another command begins there."""
-    if tokens[at].kind in ("name", "literal"):
-        return at + 1
+    """Returns the number of the token after a name, a literal or a bracket; that of all tokens if another command begins there."""
     depth = 0
-    for i in range(at, len(tokens) if tokens[at].text == "(" else 0):
+    for i in range(at, len(tokens) if tokens[at].text == "(" or tokens[at].kind in ("name", "literal") else 0):
         depth += (tokens[i].text == "(") - (tokens[i].text == ")")
         if not depth:
             return i + 1
-    return 0
+    return len(tokens)
 
 
 def strange_strings(places: Places, outcomes: Sequence[Outcome], tokens: Sequence[Token]) -> Iterable[Tuple[int, str]]:
     """The strings of amongs that have a letter which no word has and no command puts in. (Macros hide what is put in: if a literal that is put
     in may have one, no string is looked at.)"""
-    put = [token.text for before, token in zip(tokens, tokens[1:]) if token.kind == "literal" and before.text in PUTTING]
-    signs = set("".join(token.text for token in tokens if token.kind == "inserts"))
-    if not outcomes or any(signs & set(text) for text in put):
+    put = "".join(token.text for before, token in zip(tokens, tokens[1:]) if token.kind == "literal" and before.text in PUTTING)
+    if not outcomes or set(put) & set("".join(token.text for token in tokens if token.kind == "inserts")):
         return
-    there: Set[str] = set("".join([row.word + row.stem * (row.kind == "stem") for row in outcomes] + put))
+    there: Set[str] = set(put).union(*(row.word + row.stem * (row.kind == "stem") for row in outcomes))
     for (_, _, string), row in places.entries.items():
         strange = " ".join(sorted(set(string) - there))
         if strange:

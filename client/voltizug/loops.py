@@ -1,10 +1,13 @@
-"""What goes round in a run that was refused for its steps or its depth, by its events."""
+"""What goes round in a run that was refused for its steps, its depth or the length of its text, by its events."""
 from typing import Any, List, NamedTuple, Optional, Sequence, Tuple
 
 from .bench import Bench
 from .layout import in_words
+from .places import GROWING, TURNING
 from .words import in_quotes
 
+# The refusals of which a place may be known.
+NAMES = ("Steps", "Depth", "TooLong")
 # The longest turn that is looked for, in events. So many turns, one like another, are a loop.
 LONGEST, SURE = 400, 100
 
@@ -21,11 +24,13 @@ class Turn(NamedTuple):
 
 def turn_of(events: Sequence[Any]) -> Optional[Turn]:
     """Returns what goes round in a refused run; nothing if the run is not refused so."""
-    if not events or events[-1].kind != "refused" or events[-1].name not in ("Steps", "Depth"):
+    if not events or events[-1][:2] not in (("refused", "Steps"), ("refused", "Depth")):
         return None
     more = sum(int(row.count) for row in events if row.kind == "more")
-    rows = [row for row in events[:-1] if row.kind != "more"]
-    calls = open_calls(rows)
+    rows, calls = [row for row in events[:-1] if row.kind != "more"], []  # type: List[Any], List[str]
+    # (those that are still running, the outermost first)
+    for row in rows:
+        calls = [*calls, row.name] if row.kind == "call" else calls[:-1] if row.kind == "return" else calls
     if events[-1].name == "Depth":
         length, count = period(calls, 2)
         return Turn(tuple(dict.fromkeys(calls[-(length or 1) :])), True, (), count) if calls else None
@@ -33,24 +38,13 @@ def turn_of(events: Sequence[Any]) -> Optional[Turn]:
     if not length:
         # (nothing of the turn has an event)
         return Turn((calls[-1],), False, (), 0) if calls and not more else None
-    part = rows[-length:]
     # (a call, and the end of one, are commands of the routine that is one level higher)
-    depth = min(int(row.depth) - (row.kind in ("call", "return")) for row in part)
-    names = [row.name for row in part if int(row.depth) == depth and row.kind not in ("call", "return")]
-    does = ["calls " + row.name for row in part if row.kind == "call" and int(row.depth) == depth + 1]
-    does += ["searches among " + row.k for row in part if row.kind == "search" and int(row.depth) == depth]
+    part = [(int(row.depth) - (row.kind in ("call", "return")), row) for row in rows[-length:]]
+    depth = min(level for level, _ in part)
+    names = [row.name for level, row in part if level == depth and row.kind not in ("call", "return")]
+    does = ["calls " + row.name for level, row in part if row.kind == "call" and level == depth]
+    does += ["searches among " + row.k for level, row in part if row.kind == "search" and level == depth]
     return Turn(((names or [*calls, ""][depth:])[0],), False, tuple(dict.fromkeys(does)), count + more // length)
-
-
-def open_calls(rows: Sequence[Any]) -> List[str]:
-    """Returns the routines that are still running, the outermost first."""
-    calls: List[str] = []
-    for row in rows:
-        if row.kind == "call":
-            calls.append(row.name)
-        elif row.kind == "return":
-            calls.pop()
-    return calls
 
 
 def period(keys: Sequence[Any], times: int) -> Tuple[int, int]:
@@ -63,22 +57,25 @@ def period(keys: Sequence[Any], times: int) -> Tuple[int, int]:
 
 
 def turning(word: str, events: Sequence[Any], bench: Bench) -> str:
-    """Returns the sentence on what goes round in the run of a word; nothing if that is not known."""
+    """Returns the sentence on what goes round in the run of a word, or makes its text too long; nothing if that is not known."""
+    if events and events[-1][:2] == ("refused", "TooLong"):
+        spots = bench.places().spots(next((row.name for row in reversed(events) if row.kind == "put"), ""), GROWING)
+        grows = "In the run of %s %s makes the text longer and longer. It may have 1,024 characters."
+        return grows % (in_quotes(word), in_words(spots, "or")) if spots else ""
     turn = turn_of(events)
     if turn is None or not turn.names[0]:
         return ""
-    name, places = turn.names[0], bench.places()
+    name, places, word = turn.names[0], bench.places(), in_quotes(word)
     if turn.is_call:
         at, deep = places.of(name), ", {:,} deep".format(turn.count) if turn.count > 1 else ""
         who = "%s calls itself" % name if len(turn.names) == 1 else "%s call each other" % in_words(turn.names, "and")
-        return "In the run of %s %s%s%s." % (in_quotes(word), who, " (%s)" % at if at else "", deep)
-    spots = ["the %s of %s" % spot for spot in places.turning(name)[:4]]
+        return "In the run of %s %s%s%s." % (word, who, " (%s)" % at if at else "", deep)
+    spots = places.spots(name, TURNING)
     if turn.count < SURE:
         may_be = " It may be %s." % in_words(spots, "or") if spots else ""
         limit = int(bench.program.now.limit)
-        return "The run of {} ends in {}, which goes round, or it needs more than {:,} steps.{}".format(in_quotes(word), name, limit, may_be)
+        return "The run of {} ends in {}, which goes round, or it needs more than {:,} steps.{}".format(word, name, limit, may_be)
     does = ": it %s again and again, %s" % (in_words(turn.does, "and", 3), "{:,} times and more".format(turn.count)) if turn.does else ""
     if len(spots) == 1:
-        note = "," if places.note else ""
-        return "In the run of %s %s%s in %s goes round%s." % (in_quotes(word), spots[0], note, name, does)
-    return "In the run of %s %s goes round%s.%s" % (in_quotes(word), name, does, " It is %s." % in_words(spots, "or") if spots else "")
+        return "In the run of %s %s%s in %s goes round%s." % (word, spots[0], "," * bool(places.note), name, does)
+    return "In the run of %s %s goes round%s.%s" % (word, name, does, " It is %s." % in_words(spots, "or") if spots else "")

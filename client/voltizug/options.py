@@ -1,11 +1,14 @@
 """The command line of `work` at a terminal."""
+import getopt
 import os
 import re
-from typing import Dict, List, NamedTuple, Optional, Sequence
+from typing import NamedTuple, Optional, Sequence
 
 HAS = "It has --watch, --rows, --text, --color WHEN, --no-pager, --external NAME and --from TEXT"
 FLAGS, VALUES = ("--watch", "--no-pager", "--rows", "--text"), ("--program", "--color", "--external", "--from")
 COMMANDS_COME = "Its standard input has the commands"
+# How the reader calls the launcher.
+CALLED = os.environ.get("SNOWBENCH_CALLED") or "./snowbench"
 
 
 class Misuse(Exception):
@@ -32,22 +35,14 @@ def usual_program() -> str:
 
 def options_of(given: Sequence[str]) -> Options:
     """Returns the options of a command line, or raises Misuse."""
-    left, files, found = list(given), [], {}  # type: List[str], List[str], Dict[str, str]
-    while left:
-        word = left.pop(0)
-        name, is_joined, value = word.partition("=")
-        if word == "--":
-            files, left = files + left, []
-        elif name in VALUES and not is_joined and not left:
-            raise Misuse("%s needs a word after it" % name)
-        elif name in VALUES:
-            found[name] = value if is_joined else left.pop(0)
-        elif word in FLAGS:
-            found[word] = ""
-        elif word.startswith("-") and word != "-":
-            raise Misuse("work has no option %s. %s" % (word, HAS))
-        else:
-            files.append(word)
+    try:
+        pairs, files = getopt.gnu_getopt(list(given), "", [*(name[2:] for name in FLAGS), *(name[2:] + "=" for name in VALUES)])
+    except getopt.GetoptError as why:
+        if why.msg.endswith("requires argument"):
+            raise Misuse("--%s needs a word after it" % why.opt) from None
+        wrong = next(word for word in given if re.match("--?" + re.escape(why.opt), word))
+        raise Misuse("work has no option %s. %s" % (wrong, HAS)) from None
+    found = dict(pairs)
     external, color = found.get("--external", "stem"), found.get("--color", "auto")
     for is_wrong, why in (
         (not re.fullmatch(r"[A-Za-z][A-Za-z0-9_]*", external), "--external takes the name of an external, and %s is not a name" % external),

@@ -1,20 +1,13 @@
 """Where things are in the text in force, by the rows of `places` and `tokens`, and where that is in SCRIPT. No script is read here."""
-from typing import Any, Dict, List, NamedTuple, Optional, Sequence, Tuple
+from typing import Any, Dict, List, Optional, Sequence, Tuple
 
 from .rows import Token
 
 BOM = b"\xef\xbb\xbf"
 # Of a larger script tokens are not asked: that takes seconds.
 LARGEST = 200000
-# The words of commands that can go round.
-TURNING = ("repeat", "goto", "gopast", "loop", "atleast")
-
-
-class Spot(NamedTuple):
-    """A word of a script and its place."""
-
-    text: str
-    place: str
+# The words of commands that can go round, and of those that can make the text longer.
+TURNING, GROWING = ("repeat", "goto", "gopast", "loop", "atleast"), ("<-", "<+", "insert", "attach")
 
 
 class Places:
@@ -47,46 +40,41 @@ class Places:
 
     def at(self, name: str, start: int) -> str:
         """Returns the place of a byte of the text in force that is in the definition of a name."""
-        home = self.definitions[name]
-        if self.text == self.file_text:
-            return "%s:%d:%d%s" % (self.script, *line_and_column(self.text, start), self.note)
-        first = self.in_file(home)
-        if first is not None and self.file_text is not None:
-            return "%s:%d:%d%s" % (self.script, *line_and_column(self.file_text, first + start - int(home.start)), self.note)
+        home, first = self.definitions[name], self.in_file(name)
+        if first is not None:
+            return "%s:%d:%d%s" % (self.script, *line_and_column(self.file_text or b"", first + start - int(home.start)), self.note)
         return "not in %s: line %d of %s" % (self.script, self.text.count(b"\n", int(home.start), start) + 1, name)
 
-    def in_file(self, home: Any) -> Optional[int]:
+    def in_file(self, name: str) -> Optional[int]:
         """Returns where SCRIPT has a definition with the same bytes, once; otherwise nothing."""
-        part, file_text = self.text[int(home.start) : int(home.end)], self.file_text or b""
-        return file_text.find(part) if file_text.count(part) == 1 else None
+        start, end, file_text = int(self.definitions[name].start), int(self.definitions[name].end), self.file_text or b""
+        part = self.text[start:end]
+        return start if self.text == file_text else file_text.find(part) if file_text.count(part) == 1 else None
 
     def is_typed(self, name: str) -> bool:
-        home = self.definitions.get(name)
-        return home is not None and self.text != self.file_text and self.in_file(home) is None
+        return name in self.definitions and self.in_file(name) is None
 
     def definition(self, name: str) -> List[str]:
         """Returns the lines of a definition as its author wrote them, with a comment at its end; none if that is not known."""
-        home = self.definitions.get(name)
-        if home is None:
+        if name not in self.definitions:
             return []
-        start = self.text.rfind(b"\n", 0, int(home.start)) + 1
-        indent, end = self.text[start : int(home.start)] if not self.text[start : int(home.start)].strip() else b"", int(home.end)
-        comments = [token for token in self.tokens if token.kind == "comment" and token.start > end]
-        if comments and not self.text[end : comments[0].start].strip(b" \t"):
-            end = comments[0].end
-        return (indent + self.text[int(home.start) : end]).decode("utf-8", "surrogateescape").replace("\r\n", "\n").split("\n")
+        start, end = int(self.definitions[name].start), int(self.definitions[name].end)
+        before = self.text[:start].rpartition(b"\n")[2]
+        comment = next((token for token in self.tokens if token.kind == "comment" and token.start > end), None)
+        if comment and not self.text[end : comment.start].strip(b" \t"):
+            end = comment.end
+        return readable(before * (not before.strip()) + self.text[start:end]).split("\n")
 
-    def slice(self, row: Any) -> str:
-        """Returns the text of a row, on one line."""
-        return " ".join(self.text[int(row.start) : int(row.end)].decode("utf-8", "surrogateescape").split())
-
-    def turning(self, name: str) -> List[Spot]:
-        """Returns the words in a definition that can go round, with their places."""
+    def spots(self, name: str, words: Sequence[str]) -> List[str]:
+        """Returns where a definition has these words, at most four of them."""
         home = self.definitions.get(name)
-        if home is None:
-            return []
-        found = [token for token in self.tokens if token.text in TURNING and int(home.start) <= token.start < int(home.end)]
-        return [Spot(token.text, self.at(name, token.start)) for token in found]
+        found = [token for token in self.tokens if home and token.text in words and int(home.start) <= token.start < int(home.end)]
+        return ["the %s of %s" % (token.text, self.at(name, token.start)) for token in found[:4]]
+
+
+def readable(text: bytes) -> str:
+    """Returns a text without its byte order mark, and with line feeds alone."""
+    return text.removeprefix(BOM).decode("utf-8", "surrogateescape").replace("\r\n", "\n")
 
 
 def line_and_column(text: bytes, at: int) -> Tuple[int, int]:

@@ -7,7 +7,7 @@ import re
 import selectors
 import subprocess
 import time
-from typing import Callable, List, NamedTuple, Optional, Sequence, Tuple
+from typing import IO, Callable, List, NamedTuple, Optional, Sequence, Tuple
 
 # After how many seconds a request is said to take long; how often it is looked at the time meanwhile; the most bytes of a line.
 LONG, LOOK, LONGEST = 2.0, 0.2, 65536
@@ -77,8 +77,8 @@ class Program:
         self.rows, self.reload = "", "reload"
         # (called once, or again and again while it returns False)
         self.on_long: Optional[Callable[[], Optional[bool]]] = None
-        # Whether a request is on its way; how the last one ended; Ctrl-C rings the bell, but not if WORDS could not be read again.
-        self.is_busy, self.state, self.bell, self.is_deaf = False, DONE, bell or os.pipe(), False
+        # How the last request ended; Ctrl-C rings the bell, but not if WORDS could not be read again.
+        self.state, self.bell, self.is_deaf = DONE, bell or os.pipe(), False
         for end in self.bell:
             os.set_blocking(end, False)
 
@@ -99,24 +99,17 @@ class Program:
         self.process = subprocess.Popen(
             words, stdin=pipe, stdout=pipe, stderr=pipe, bufsize=0, start_new_session=True, restore_signals=False, pass_fds=in_memory(words)
         )
-        for number in self.pipes():
-            os.set_blocking(number, False)
-
-    def pipes(self) -> List[int]:
-        return [stream.fileno() for stream in (self.process.stdin, self.process.stdout, self.process.stderr)]
+        for stream in (self.process.stdin, self.process.stdout, self.process.stderr):
+            os.set_blocking(stream.fileno(), False)
 
     def stop(self) -> Optional[int]:
         """Ends the program, by its number. Returns its status."""
         if self.process is None:
             return None
         process, self.process = self.process, None
-        with contextlib.suppress(ProcessLookupError):
+        with process:
             process.kill()
-        status = process.wait()
-        for stream in (process.stdin, process.stdout, process.stderr):
-            with contextlib.suppress(OSError):
-                stream.close()
-        return status
+        return process.returncode
 
     def break_off(self) -> None:
         """Breaks off the request that runs; a handler of signals may call it."""
@@ -129,14 +122,14 @@ class Program:
     def ask_each(self, requests: Sequence[Sequence[str]], patience: Optional[float] = None, is_deaf: bool = False) -> List[Reply]:
         """Sends requests at once and returns the reply of each. If it has to end early, the program is gone, and the last replies say why.
         A deaf one is not broken off."""
-        if self.process is None or self.is_busy or not requests:
-            return [Reply(ENDED if self.process is None else LATE, [], [])] * len(requests)
-        sent, self.is_busy = "".join("%s\n" % line for lines in requests for line in [*lines, "echo " + self.mark]), True
-        take(self.bell[0], bytearray())
-        try:
-            self.state, out, said = self.exchange(encoded(sent), len(requests), patience, is_deaf or self.is_deaf)
-        finally:
-            self.is_busy = False
+        if self.process is None or not requests:
+            return [Reply(ENDED, [], [])] * len(requests)
+        if any(len(encoded(line)) > LONGEST for lines in requests for line in lines):
+            return [Reply(DONE, ["no 72 LineTooLong"], [])] * len(requests)
+        sent = "".join("%s\n" % line for lines in requests for line in [*lines, "echo " + self.mark])
+        with contextlib.suppress(BlockingIOError):
+            os.read(self.bell[0], 1 << 16)
+        self.state, out, said = self.exchange(encoded(sent), len(requests), patience, is_deaf or self.is_deaf)
         if self.state in (BROKEN, LATE):
             self.stop()
         answers = out.split(encoded(self.mark + "\n"))[:-1]
@@ -145,34 +138,37 @@ class Program:
 
     def exchange(self, sent: bytes, wanted: int, patience: Optional[float], is_deaf: bool) -> Tuple[str, bytearray, bytearray]:
         """Sends bytes and takes what comes, up to so many marks. Returns how that ended, and what came from both pipes."""
-        (to, from_, errors), mark, begin = self.pipes(), b"%s\n" % self.mark.encode(), time.monotonic()
-        left, out, said, state, is_long = memoryview(sent), bytearray(), bytearray(), "", self.on_long is None
+        process, mark, begin = self.process, b"%s\n" % self.mark.encode(), time.monotonic()
+        left, out, said, state, on_long = memoryview(sent), bytearray(), bytearray(), "", self.on_long
         with selectors.DefaultSelector() as selector:
-            for number in (from_, errors, *([] if is_deaf else [self.bell[0]])):
-                selector.register(number, selectors.EVENT_READ)
-            selector.register(to, selectors.EVENT_WRITE)
+            for stream in (process.stdout, process.stderr, *([] if is_deaf else [self.bell[0]])):
+                selector.register(stream, selectors.EVENT_READ)
+            selector.register(process.stdin, selectors.EVENT_WRITE)
             while not state:
                 passed = time.monotonic() - begin
-                if not is_long and passed >= LONG:
-                    is_long = self.on_long() is not False
-                ready = {key.fd for key, _ in selector.select(LOOK)}
-                if to in ready:
-                    left = left[write_some(to, left) :]
+                if on_long and passed >= LONG and on_long() is not False:
+                    on_long = None
+                ready = [key.fileobj for key, _ in selector.select(LOOK)]
+                if process.stdin in ready:
+                    try:
+                        left = left[process.stdin.write(left) or 0 :]
+                    except BrokenPipeError:
+                        left = left[:0]
                     if not left:
-                        selector.unregister(to)
-                if errors in ready and take(errors, said) == b"":
-                    selector.unregister(errors)
+                        selector.unregister(process.stdin)
+                if process.stderr in ready and take(process.stderr, said) == b"":
+                    selector.unregister(process.stderr)
                 if self.bell[0] in ready or patience is not None and passed >= patience:
                     state = BROKEN if self.bell[0] in ready else LATE
-                if from_ in ready:
+                if process.stdout in ready:
                     searched = max(0, len(out) - len(mark) + 1)
-                    data = take(from_, out)
+                    data = take(process.stdout, out)
                     wanted -= out.count(mark, searched)
                     state = DONE if wanted <= 0 else ENDED if data == b"" else state
         # (what the program said before the mark is in the pipe now)
         if state == ENDED:
-            self.process.wait()
-        while take(errors, said):
+            process.wait()
+        while take(process.stderr, said):
             pass
         return state, out, said
 
@@ -201,7 +197,9 @@ class Program:
             self.begin(["--from", paths[0]], script)
         except OSError:
             return False
-        return all(reply.is_done for reply in self.ask_each([[line] for line in requests], is_deaf=True))
+        # (WORDS may have changed: a word that was added is there already, or one that was taken out is not)
+        replies = self.ask_each([[line] for line in requests], is_deaf=True)
+        return all(reply.is_done or reply.lines in (["no 40 Present"], ["no 41 Absent"]) for reply in replies)
 
 
 def comparison(program: str, words: Sequence[str], seconds: Optional[float] = None) -> Tuple[List[str], List[str]]:
@@ -219,24 +217,11 @@ def in_memory(words: Sequence[str]) -> List[int]:
     return [int(name[8:]) for name in words if re.fullmatch("/dev/fd/[0-9]+", name) and os.path.exists(name)]
 
 
-def take(number: int, into: bytearray) -> Optional[bytes]:
+def take(stream: IO[bytes], into: bytearray) -> Optional[bytes]:
     """Adds what can be read at once. Returns it: nothing if that is none, no bytes at the end."""
-    try:
-        data = os.read(number, 1 << 18)
-    except BlockingIOError:
-        return None
-    into += data
+    data = stream.read(1 << 18)
+    into += data or b""
     return data
-
-
-def write_some(number: int, data: memoryview) -> int:
-    """Returns how many bytes were written; all if nobody reads them any more."""
-    try:
-        return os.write(number, data[:LONGEST])
-    except BlockingIOError:
-        return 0
-    except BrokenPipeError:
-        return len(data)
 
 
 def encoded(text: str) -> bytes:

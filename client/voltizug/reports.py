@@ -4,16 +4,16 @@ from itertools import groupby
 from typing import Any, Callable, Dict, List, Sequence, Tuple
 
 from . import rows
-from .conditions import Routine, Test, text_of
-from .copies import Found
-from .layout import COLUMN, columns, counted, listed, named, outcome, padded, percent, short
+from .conditions import Found, Routine, Test, text_of
+from .layout import COLUMN, columns, counted, listed, named, outcome, padded, percent, short, step_of
 from .places import Places
 
 # How many lines of `why` are shown at most, before those that are left out and after them; how many tests.
 FIRST, LAST, MOST_TESTS = 40, 19, 200
 FIGURES = {
     "refused": "refused", "alone": "classes of one word", "largest": "words in the largest class",
-    "unchanged": "words that are their own stem", "runs": "runs so far",
+    "unchanged": "words that are their own stem", "runs": "runs so far", "under": "understemmed", "over": "overstemmed",
+    "done": "made", "undone": "taken back",
 }
 # A line in two or three parts: what it is about, what is said, and a place.
 Line = Tuple[str, str, str]
@@ -41,10 +41,6 @@ def largest(lines: Sequence[str]) -> List[str]:
     return ["  %*s%s" % (max(map(len, sizes)), size, line) for size, line in zip(sizes, classes(lines))]
 
 
-def stats(lines: Sequence[str]) -> List[str]:
-    return ["{:>9,} {}".format(int(row.count), FIGURES.get(row.kind, row.kind)) for row in rows.read("stats", lines)]
-
-
 def families(lines: Sequence[str]) -> List[str]:
     found = rows.read("families", lines)
     lacking = [int(row.count) for row in found if row.kind == "unknown" and row.count != "0"]
@@ -52,33 +48,19 @@ def families(lines: Sequence[str]) -> List[str]:
     within, apart, across, joined = (int(number) for row in found if row.kind == "pairs" for number in row[1:])
     if within == across == 0:
         return ["the vocabulary has no two words of these families with a stem"] + unknown
-    shown = ["  understemmed  %s: %s" % (named(row.word), listed(row.stems)) for row in found if row.kind == "under"]
-    shown += ["  overstemmed   %s: %s" % (named(row.stem) or "(empty)", listed(row.words)) for row in found if row.kind == "over"]
-    alone = ["No line has two words of the vocabulary: a family is a line of words that belong together."] * (within == 0)
-    return shown + unknown + alone + [
+    if within == 0:
+        alone = "No line has two words of the vocabulary: a family is a line of words that belong together. Edits are not compared with it."
+        return [alone, *unknown]
+    shown = ["  %-13s %s: %s" % (FIGURES[row.kind], named(row[1]) or "(empty)", listed(row[2])) for row in found if row.kind in ("under", "over")]
+    return shown + unknown + [
         "different stems: {:,} of {}{} within a family".format(apart, counted(within, "pair"), percent(apart, within)),
         "the same stem:   {:,} of {}{} across families".format(joined, counted(across, "pair"), percent(joined, across)),
     ]
 
 
-def history(lines: Sequence[str]) -> List[str]:
-    steps = [("made" if row.kind == "done" else "taken back", " ".join((row.command, *row.rest))) for row in rows.read("history", lines)]
-    return ["  %-10s  %s" % (what, "the whole script" if step == "script" else named(step)) for what, step in steps]
-
-
-def integers(lines: Sequence[str]) -> List[str]:
-    return ["  " + values(rows.read("integers", lines))]
-
-
 def values(figures: Sequence[Any]) -> str:
     """Returns the steps of a run, and the integer variables at its end."""
     return ", ".join([counted(int(figures[0].count), "step"), *["%s=%s" % (row.name, row.value) for row in figures[1:]]]) if figures else ""
-
-
-def trace(lines: Sequence[str]) -> List[str]:
-    """The parts that a run uses, those of one kind on a line."""
-    parts = groupby(rows.rows_of(lines), key=lambda row: row[0])
-    return ["  %-10s %s" % (kind + "s", ", ".join(" ".join(map(named, row[1:])) for row in part)) for kind, part in parts]
 
 
 def unused(lines: Sequence[str], places: Places) -> List[str]:
@@ -191,8 +173,15 @@ def returned(calls: List[Call], is_true: bool, places: Places, tests_of: Tests) 
 
 # By command, the layout of its rows.
 REPORTS: Dict[str, Callable[[Sequence[str]], List[str]]] = {
-    "stems": stems, "find": stems, "uses": stems, "classes": classes, "class": class_of, "stem": class_of, "largest": largest, "stats": stats,
-    "families": families, "history": history, "integers": integers, "trace": trace,
+    "stems": stems, "find": stems, "uses": stems, "classes": classes, "class": class_of, "stem": class_of, "largest": largest, "families": families,
+    "stats": lambda lines: ["{:>9,} {}".format(int(row.count), FIGURES.get(row.kind, row.kind)) for row in rows.read("stats", lines)],
+    "history": lambda lines: ["  %-10s  %s" % (FIGURES[row.kind], named(step_of(row))) for row in rows.read("history", lines)],
+    "integers": lambda lines: ["  " + values(rows.read("integers", lines))],
+    # (the parts of one kind on a line)
+    "trace": lambda lines: [
+        "  %-10s %s" % (kind + "s", ", ".join(" ".join(map(named, row[1:])) for row in part))
+        for kind, part in groupby(rows.rows_of(lines), key=lambda row: row[0])
+    ],
 }
 PLACED: Dict[str, Callable[[Sequence[str], Places], List[str]]] = {"unused": unused, "counts": counts}
 # What is shown for replies without a row.

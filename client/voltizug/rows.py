@@ -1,7 +1,8 @@
 """The rows of replies as named tuples, by the tables of docs/REFERENCE.md."""
 import csv
 from collections import namedtuple
-from typing import Any, Callable, Dict, Iterable, List, NamedTuple, Tuple
+from itertools import compress, groupby
+from typing import Any, Dict, Iterable, List, NamedTuple, Tuple
 
 PLACE = " start end line column"
 # By report the kinds of its rows with their fields; one that begins with a star takes all that is left.
@@ -11,7 +12,6 @@ TABLE: Dict[str, Dict[str, str]] = {
         "split": "old *new", "merged": "new *old", "renamed": "old new",
     },
     "compare": {"differs": "*part", "words": "count differing"},
-    "figures": {kind: "count" for kind in "added removed changed split merged renamed".split()},
     "events": {
         "call": "depth name", "search": "depth name k", "taken": "depth name k string", "none": "depth name k", "test": "depth name n signal",
         "put": "depth name start end text after", "return": "depth name signal", "more": "count", "stem": "stem", "refused": "name",
@@ -48,13 +48,42 @@ def rows_of(lines: Iterable[str]) -> List[List[str]]:
 
 def read(report: str, lines: Iterable[str]) -> List[Any]:
     """Returns the rows of a report as tuples with the fields of its table. A row of a kind that is not in the table is left out."""
-    make = {kind: with_tail(row) if "*" in TABLE[report][kind] else row._make for kind, row in KINDS[report].items()}
-    return [make[row[0]](row) for row in rows_of(lines) if row and row[0] in make]
+    table, kinds = TABLE[report], KINDS[report]
+    # (the number of fields before one that takes all that is left)
+    heads = {kind: len(kinds[kind]._fields) - 1 for kind in kinds if "*" in table[kind]}
+    found = [row for row in rows_of(lines) if row and row[0] in table]
+    return [kinds[row[0]](*row[: heads[row[0]]], tuple(row[heads[row[0]] :])) if row[0] in heads else kinds[row[0]]._make(row) for row in found]
 
 
-def with_tail(kind: Any) -> Callable[[List[str]], Any]:
-    last = len(kind._fields) - 1
-    return lambda row: kind(*row[:last], tuple(row[last:]))
+def between(before: List[str], after: List[str]) -> List[Any]:
+    """Returns the rows of `changes` from one reply to `stems` to another one over the same words."""
+    if '"' not in "".join(before) + "".join(after):
+        # (each row is a line: only those that differ, and those with a stem of these, are read)
+        ends = {line.rpartition(",")[2] for pair in zip(before, after) if pair[0] != pair[1] for line in pair}
+        is_read = [old != new or old.rpartition(",")[2] in ends for old, new in zip(before, after)]
+        before, after = list(compress(before, is_read)), list(compress(after, is_read))
+    make, pairs = KINDS["changes"], list(zip(rows_of(before), rows_of(after)))
+    changed = [make["changed"]("changed", *old, *new[1:]) for old, new in pairs if old != new]
+    touched = {stem for row in changed for stem in (row.old, row.new)}
+    # (a word whose run is refused is in no class)
+    ways = {(old[2], new[2]) for old, new in pairs if old[1] == new[1] == "stem" and not touched.isdisjoint((old[2], new[2]))}
+    both = (groupby(sorted(each), key=lambda way: way[0]) for each in (ways, {way[::-1] for way in ways}))
+    to, of = ({stem: [other for _, other in part] for stem, part in groups} for groups in both)
+    split = [make["split"]("split", old, tuple(news)) for old, news in to.items() if len(news) > 1]
+    merged = [make["merged"]("merged", new, tuple(olds)) for new, olds in of.items() if len(olds) > 1]
+    renamed = [make["renamed"]("renamed", old, new) for old, (new, *more) in to.items() if old != new and not more and of[new] == [old]]
+    return changed + split + merged + renamed
+
+
+def names_of(row: Any) -> List[str]:
+    """Returns the words and stems of a row of `changes`."""
+    fields = (row.word, row.old, row.new) if row.kind == "changed" else row[1:]
+    return [name for field in fields for name in ([field] if isinstance(field, str) else field)]
+
+
+def by_kind(found: Iterable[Any]) -> Dict[str, List[Any]]:
+    """Returns the rows of a report by their kinds, which come one after another."""
+    return {kind: list(part) for kind, part in groupby(found, key=lambda row: row.kind)}
 
 
 def outcomes(lines: Iterable[str]) -> List[Outcome]:
@@ -67,10 +96,3 @@ def classes(lines: Iterable[str]) -> List[Class]:
 
 def tokens(lines: Iterable[str]) -> List[Token]:
     return [Token(row[0], int(row[1]), int(row[2]), row[3] if len(row) > 3 else "") for row in rows_of(lines)]
-
-
-def by_kind(found: Iterable[Any]) -> Dict[str, List[Any]]:
-    kinds: Dict[str, List[Any]] = {}
-    for row in found:
-        kinds.setdefault(row.kind, []).append(row)
-    return kinds

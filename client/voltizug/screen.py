@@ -9,31 +9,22 @@ from typing import List, Sequence
 from . import layout
 from .keys import Broken, Editor, Hangup
 
-# A terminal that does not tell its size, and the least that is taken as one.
-USUAL, LEAST = (80, 24), (12, 4)
-# How many lines are written before it is looked whether Ctrl-C came.
-PART = 200
-
+# A terminal that does not tell its size, and the least that is taken as one; how many lines are written before it is looked whether Ctrl-C came.
+USUAL, LEAST, PART = (80, 24), (12, 4), 200
 # How less is run if its own variables say nothing else: it says how one goes on and back, and writes no file for a command that is typed there.
 LESS = {"LESS": "FRXPs?ethe end, q goes back:space shows more, q goes back.$", "LESSSECURE": "1"}
 
 
-def has_colour(wish: str) -> bool:
-    """Whether lines have colours: as --color wishes, by default if nothing speaks against them."""
-    if wish != "auto":
-        return wish == "always"
-    return not os.environ.get("NO_COLOR") and os.environ.get("TERM", "dumb") != "dumb"
-
-
 class Screen:
     def __init__(self, editor: Editor, color: str, has_pager: bool):
-        self.editor, self.has_colour, self.has_pager = editor, has_colour(color), has_pager
+        self.editor, self.is_dumb = editor, os.environ.get("TERM", "dumb") == "dumb"
+        self.has_colour = color == "always" or color == "auto" and not os.environ.get("NO_COLOR") and not self.is_dumb
+        self.has_pager = has_pager and not self.is_dumb and os.environ.get("PAGER") != "cat"
 
     def size(self) -> os.terminal_size:
-        try:
+        size = USUAL
+        with contextlib.suppress(OSError):
             size = tuple(os.get_terminal_size(1))
-        except OSError:
-            size = USUAL
         return os.terminal_size(there if there >= least else usual for there, least, usual in zip(size, LEAST, USUAL))
 
     def broken(self, lines: Sequence[str]) -> List[str]:
@@ -61,19 +52,11 @@ class Screen:
     def say(self, *sentences: str) -> None:
         self.write([sentence for sentence in sentences if sentence])
 
-    def write_fault(self, lines: Sequence[str]) -> None:
-        """Writes the lines on a fault: that of the script and its carets, which are indented, are not broken."""
-        for line in lines:
-            self.write([line], is_text=line.startswith("    "))
-
     def page(self, lines: Sequence[str]) -> bool:
         """Has the pager show lines; returns whether there is one."""
-        pager = os.environ.get("PAGER") or "less"
-        if os.environ.get("TERM", "dumb") == "dumb" or pager == "cat":
-            return False
         with self.editor.lent():
             try:
-                process = subprocess.Popen(shlex.split(pager), stdin=subprocess.PIPE, env={**LESS, **os.environ})
+                process = subprocess.Popen(shlex.split(os.environ.get("PAGER") or "less"), stdin=subprocess.PIPE, env={**LESS, **os.environ})
             except (OSError, ValueError):
                 return False
             with contextlib.suppress(BrokenPipeError):
@@ -87,8 +70,7 @@ def to_file(path: str, lines: Sequence[str]) -> str:
     try:
         with open(path, "x", encoding="utf-8", errors="surrogateescape") as file:
             file.write("".join(line + "\n" for line in lines))
-    except FileExistsError:
-        return "%s is there already, and is not overwritten. Nothing was written: name a new file." % layout.short(path)
     except OSError as why:
-        return "%s cannot be written: %s." % (layout.short(path), why.strerror)
+        there = "is there already, and is not overwritten. Nothing was written: name a new file."
+        return "%s %s" % (layout.short(path), there if isinstance(why, FileExistsError) else "cannot be written: %s." % why.strerror)
     return "%s in %s" % (layout.counted(len(lines), "line"), layout.short(path))

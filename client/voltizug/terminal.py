@@ -4,31 +4,26 @@ import os
 import re
 import sys
 import traceback
+from operator import ne
 from typing import Any, List, Sequence, Tuple
 
-from . import commands, layout, loops, reports, rows, words
-from .bench import Bench
+from . import commands, conditions, kept, layout, lints, loops, options, reports, rows, screen, warn, words
+from .bench import Bench, typed_edits
 from .commands import BLOCKS, COMMANDS, LANGUAGE, OPEN_BLOCKS, REPORTING, WITH_TEXT
-from .copies import Found, with_tests
+from .desk import Desk
 from .keys import Broken, Dropped, Hangup
-from .kept import Kept, home, read_file
 from .layout import in_words, short
-from .lints import lints
-from .opening import Opening
-from .options import Misuse, options_of
-from .places import BOM
+from .places import BOM, readable
 from .program import DONE, LONGEST, encoded
-from .screen import to_file
-from .warn import warnings_on
 
 DEFINITION = re.compile(r"\s*define\s+([A-Za-z][A-Za-z0-9_]*)\s+(as(?=\s|$))?")
 TO_FILE = re.compile(r"(.*\S)\s+>\s*(\S+)\s*\Z")
-USAGE = "usage: ./snowbench work [--watch] [--rows | --text] [--color WHEN] [--no-pager] [--external NAME] [--from TEXT] SCRIPT [WORDS]"
+USAGE = "usage: %s work [--watch] [--rows | --text] [--color WHEN] [--no-pager] [--external NAME] [--from TEXT] SCRIPT [WORDS]" % options.CALLED
 # What the program is asked in the place of a line; what is not broken, since an author wrote it.
 ASKED, TEXTS = {"largest": "largest 10"}, ("script", "show", "echo", "events")
 
 
-class Terminal(Opening):
+class Terminal(Desk):
     """The commands: do_NAME has what follows the command, if it is more than a request."""
 
     # A command that was doubted, and is done if it is typed again.
@@ -39,45 +34,37 @@ class Terminal(Opening):
         line = line if line.partition(" ")[0] in WITH_TEXT else line.rstrip() if line.strip() else ""
         line = {"exit": "quit", "?": "help"}.get(line, line)
         command, _, argument = line.partition(" ")
-        if command in COMMANDS and COMMANDS[command].takes not in ("", "text"):
+        if command in COMMANDS and (command == "uses" or command not in WITH_TEXT):
             # (TAB writes a blank after the command, and one types another)
             argument = " ".join(argument.split()) if command == "among" else argument.lstrip()
             line = command + " " * bool(argument) + argument
         if command != self.doubted.partition(" ")[0]:
             self.doubted = ""
+        block = self.block_of(line)
         if line == "quit":
             return not self.may_end()
         if line.startswith("#"):
             return True
-        if self.bench.is_waiting:
-            self.answer_waiting(line)
+        if self.bench.is_waiting and line in ("", "reload"):
+            self.open()
+        elif self.bench.is_waiting:
+            then = " and save it" if self.options.is_watching else ", save it, and press Enter"
+            self.screen.say("A file has a fault, so no command runs yet. Correct it there%s. quit or Ctrl-D ends." % then)
         elif len(encoded(line)) > LONGEST:
             self.screen.say(words.SENTENCES[72])
         elif line in ("", "reload", "undo", "redo") or command in ("limit", "replace") and argument:
-            if line in ("", "reload"):
-                self.note_words()
             self.edit([line or "reload"])
-        else:
-            self.answer_other(line, command, argument)
-        return True
-
-    def answer_waiting(self, line: str) -> None:
-        if line in ("", "reload"):
-            self.open()
-        else:
-            then = " and save it" if self.options.is_watching else ", save it, and press Enter"
-            self.screen.say("A file has a fault, so no command runs yet. Correct it there%s. quit or Ctrl-D ends." % then)
-
-    def answer_other(self, line: str, command: str, argument: str) -> None:
-        block = self.block_of(line)
-        if block:
+        elif block:
             self.read_block(block)
+        elif command in ("save", "approve"):
+            self.write(command, argument.strip())
         elif not hasattr(self, "do_" + command):
             self.ask(line)
         elif argument and not COMMANDS[command].takes:
             self.screen.say(words.unknown(line, self.bench))
         else:
             getattr(self, "do_" + command)(argument)
+        return True
 
     def ask(self, line: str) -> None:
         """Asks for a report, or for what is done without one."""
@@ -88,13 +75,15 @@ class Terminal(Opening):
         if is_piped and command in REPORTING and command != "uses":
             self.screen.say("A report goes into a file by > FILE, as in: classes > my.classes. There are no pipes here.")
             return
+        # (a string may be typed as it is shown)
+        line = re.sub(r"\A(uses \S+ [0-9]+) '(.*)'\Z", r"\1 \2", line)
         reply = self.bench.ask({"changes": "changes", "tests": "events " + argument}.get(command, ASKED.get(line, line)))
         if not self.is_done(reply, line):
             return
         self.nonsense = 0
         shown = self.laid_out(command, argument, reply.lines)
         if path:
-            self.screen.say(to_file(os.path.expanduser(path), shown))
+            self.screen.say(screen.to_file(os.path.expanduser(path), shown))
         else:
             self.screen.write(shown, is_report=command in REPORTING, is_text=command in TEXTS)
 
@@ -110,22 +99,22 @@ class Terminal(Opening):
         if word != word.strip():
             at = "beginning" if word != word.lstrip() else "end"
             return ['The word that was added is "%s", with a blank at its %s. "remove %s" takes it out.' % (short(word), at, short(word))]
-        last = rows.rows_of((self.bench.known("why " + word)[0] or ["stem,"])[-1:])[0]
+        last = rows.rows_of((self.bench.known("why " + word) or ["stem,"])[-1:])[0]
         return ["%s is added: %s" % (words.in_quotes(word, " " in word), layout.outcome(*last[:2]))]
 
     def reply_remove(self, word: str, _: Sequence[str]) -> List[str]:
-        return ["%s is removed." % short(word)]
+        return [short(word) + " is removed."]
 
     def reply_mark(self, path: str, _: Sequence[str]) -> List[str]:
         return [layout.figures(self.bench.changes) if path else "Changes are told since now."]
 
     def reply_changes(self, text: str, lines: Sequence[str]) -> List[str]:
-        found = [row for row in rows.read("changes", lines) if layout.has(row, text)]
+        found = [row for row in rows.read("changes", lines) if any(text in name for name in rows.names_of(row))]
         all_of = "no change has %s" % short(text) if text and not found else layout.figures(found)
         return layout.changes(found, self.outcomes(found)) + [all_of]
 
     def reply_script(self, *_: object) -> List[str]:
-        return self.bench.program.now.text.removeprefix(BOM).decode("utf-8", "surrogateescape").replace("\r\n", "\n").rstrip("\n").split("\n")
+        return readable(self.bench.program.now.text).rstrip("\n").split("\n")
 
     def reply_show(self, name: str, lines: List[str]) -> List[str]:
         """The lines of a definition as its author wrote it, and before them where it is."""
@@ -134,16 +123,14 @@ class Terminal(Opening):
         if not places.is_typed(name):
             return [place for place in [places.of(name)] if place] + shown
         typed: List[str] = []
-        for row in self.bench.read("history"):
-            if row.kind == "done" and row.rest[:1] == (name,):
-                typed = [*(typed if row.command == "among" else []), " ".join((row.command, *row.rest))]
-            elif row.kind == "done" and row.command == "script":
-                typed = []
+        for row in typed_edits(self.bench.read("history")):
+            if row.rest[0] == name:
+                typed = [*(typed if row.command == "among" else []), layout.step_of(row)]
         by = "typed at the prompt (%s), " % ", ".join(dict.fromkeys(typed)) if typed else ""
         return ["%snot in %s:" % (by, self.bench.script)] + shown
 
     def reply_families(self, path: str, lines: Sequence[str]) -> List[str]:
-        mark = ["%s begins with a byte order mark, which is part of its first word." % short(path)] * (read_file(path) or b"").startswith(BOM)
+        mark = ["%s begins with a byte order mark, which is part of its first word." % short(path)] * (kept.read_file(path) or b"").startswith(BOM)
         return mark + reports.families(lines)
 
     def reply_why(self, word: str, lines: Sequence[str]) -> List[str]:
@@ -158,32 +145,25 @@ class Terminal(Opening):
         unknown = ["The tests of this run cannot be shown: it is too long, or near a limit."]
         return reports.tests(found, self.bench.places()) if found.is_known else unknown
 
-    def run_of(self, word: str, lines: Sequence[str]) -> Tuple[List[Any], Found]:
+    def run_of(self, word: str, lines: Sequence[str]) -> Tuple[List[Any], conditions.Found]:
         """Returns the figures of the run of a word, and its events, from their lines, with its tests."""
-        figures, places = self.bench.read("integers " + word), self.bench.places()
-        # (the program is not asked meanwhile)
-        self.editor.is_breakable = True
-        try:
-            return figures, with_tests(self.bench.program, places, word, rows.read("events", lines), figures)
-        finally:
-            self.editor.is_breakable = False
+        figures = self.bench.read("integers " + word)
+        found = conditions.with_tests(self.bench.program, self.bench.places(), word, rows.read("events", lines), figures)
+        if self.editor.is_interrupted:
+            raise Broken
+        return figures, found
 
     # Commands that are more than a request
 
     def do_help(self, name: str) -> None:
-        if name in COMMANDS:
-            usage, does, _, more = COMMANDS[name]
-            self.screen.say("%s: %s.%s" % (usage, does, " " + more if more else ""))
-        elif name:
-            self.screen.say(words.unknown(name, self.bench))
-        else:
-            self.screen.write(commands.overview())
+        known = "{0.usage}: {0.does}. {0.more}".format(COMMANDS[name]).rstrip() if name in COMMANDS else ""
+        self.screen.say(*([known or words.unknown(name, self.bench)] if name else commands.overview()))
 
     def do_limit(self, _: str) -> None:
         self.screen.say("Each run may use {:,} steps. limit N sets another number.".format(int(self.bench.program.now.limit)))
 
     def do_lint(self, _: str) -> None:
-        found = [*warnings_on(self.bench.script, self.bench.words), *lints(self.bench, has_all=True)]
+        found = [*warn.warnings_on(self.bench.script, self.bench.words), *lints.lints(self.bench, has_all=True)]
         self.screen.write(found or ["nothing was found"], is_report=True)
 
     def do_add(self, text: str) -> None:
@@ -198,12 +178,6 @@ class Terminal(Opening):
                 return
         self.ask("add " + text)
 
-    def do_save(self, path: str) -> None:
-        self.write("save", path.strip())
-
-    def do_approve(self, path: str) -> None:
-        self.write("approve", path.strip())
-
     def write(self, command: str, path: str) -> None:
         """Has the script or the stems written to a file. What is only doubtful is done if it is typed again."""
         line = "%s %s" % (command, path)
@@ -212,56 +186,59 @@ class Terminal(Opening):
             self.doubted = line
             self.screen.say(words.may_not(why, command, path, "" if self.options.is_watching else " and press Enter"))
             return
-        before, reply = self.comments(path), self.bench.write(command, path)
-        if command == "save" and reply.state != DONE and read_file(path) == self.bench.program.now.text:
+        stems, before, reply = (kept.read_file(path) or b"").splitlines(), self.comments(path), self.bench.write(command, path)
+        if command == "save" and reply.state != DONE and kept.read_file(path) == self.bench.program.now.text:
             self.screen.say("%s has the script now." % short(path))
         elif self.is_done(reply, line):
-            lost = before - self.comments(path) if command == "save" else 0
-            self.screen.say(("saved in %s" if command == "save" else "The stems are in %s.") % short(path))
+            if command == "approve":
+                now = (kept.read_file(path) or b"").splitlines()
+                others = " %s other than before." % layout.counted(sum(map(ne, stems, now)), "stem is", "stems are")
+                self.screen.say("The stems are in %s." % short(path) + others * (0 < len(stems) == len(now)), self.unkept_words())
+                return
+            lost = before - self.comments(path)
+            self.screen.say("saved in %s" % short(path))
             # (of the parts that were typed, or of a change of SCRIPT that undo took back)
             self.screen.say("%s no longer in %s." % (layout.counted(lost, "comment is", "comments are"), short(path)) if lost > 0 else "")
 
     def comments(self, path: str) -> int:
         """Returns how many comments a script has."""
-        lines = self.bench.known("tokens " + path)[0] if os.path.isfile(path) else None
+        lines = self.bench.known("tokens " + path) if os.path.isfile(path) else None
         return sum(token.kind == "comment" for token in rows.tokens(lines or []))
 
     def do_append(self, path: str) -> None:
         path = path.strip() or self.bench.words or ""
-        before = (read_file(path) or b"").count(b"\n")
+        before = (kept.read_file(path) or b"").count(b"\n")
         if self.is_done(self.bench.ask("append " + path if path != self.bench.words else "append"), "append " + path):
-            count = (read_file(path) or b"").count(b"\n") - before
+            count = (kept.read_file(path) or b"").count(b"\n") - before
             self.screen.say("%s now at the end of %s." % (layout.counted(count, "word is", "words are"), short(path)))
 
     def do_words(self, _: str) -> None:
-        added = self.bench.added
+        added, there = self.bench.added, dict.fromkeys(row.word for row in self.bench.outcomes())
         if self.is_done(self.bench.ask("words"), "words"):
+            self.has_old_words = False
             self.warn(self.bench.words)
-            now = {row.word for row in self.bench.outcomes()}
+            now = dict.fromkeys(row.word for row in self.bench.outcomes())
             gone = [word for word in added if word not in now]
-            them = "it" if len(gone) == 1 else "them"
-            self.screen.say("{:,} words".format(len(now)), "Gone, since the file lacks %s: %s." % (them, in_words(gone, "and", 5)) if gone else "")
+            them, size = "it" if len(gone) == 1 else "them", "{:,} words".format(len(now))
+            for what, part in (("added", now.keys() - there.keys()), ("removed", there.keys() - now.keys() - set(added))):
+                found = [word for word in (*there, *now) if word in part]
+                size += "; {:,} {}: {}".format(len(found), what, in_words(found, "and", 5)) if found else ""
+            self.screen.say(size, "Gone, since the file lacks %s: %s." % (them, in_words(gone, "and", 5)) if gone else "")
 
     def do_rescue(self, what: str) -> None:
-        left = self.bench.kept.left()
+        left, there = self.bench.kept.left(), {row.word for row in self.bench.outcomes()}
         if what == "drop":
             for old in left:
                 self.bench.kept.forget(old.room)
             self.screen.say("They are forgotten.")
         elif not left:
             self.screen.say("No typed edits were left behind.")
-        elif self.add_again(left[-1].words) and (not left[-1].path or self.edit(["replace " + left[-1].path])):
-            self.bench.kept.forget(left[-1].room)
-
-    def add_again(self, added: Sequence[str]) -> bool:
-        """Adds words that were left behind; those that are there now are left out."""
-        for word in added:
-            reply = self.bench.ask("add " + word)
-            if reply.is_done:
-                self.screen.write(self.reply_add(word, []))
-            elif not self.settle(reply):
-                return False
-        return True
+        else:
+            for word in [word for word in left[-1].words if word not in there]:
+                self.ask("add " + word)
+            is_added = there.union(self.bench.added).issuperset(left[-1].words)
+            if is_added and (not left[-1].path or self.edit(["replace " + left[-1].path])):
+                self.bench.kept.forget(left[-1].room)
 
     # Blocks
 
@@ -285,11 +262,13 @@ class Terminal(Opening):
         try:
             is_whole = self.read_lines(block)
         except Dropped:
-            self.keep_lines(block)
+            self.editor.remember(*block[1:])
             self.screen.say("The block is dropped%s." % ("; the up arrow brings its lines back" if len(block) > 1 else ""))
+            self.bench.kept.note("block", [])
             return
         finally:
             self.completion.is_in_block = False
+        self.bench.kept.note("block", [])
         if not is_whole:
             self.screen.say("Nothing was done: the block has no line with only a point at its end.")
         elif block[0] == "families":
@@ -297,7 +276,7 @@ class Terminal(Opening):
             if self.is_done(reply, "families"):
                 self.screen.write(reports.families(reply.lines), is_report=True)
         elif not self.edit([*block, "."]):
-            self.keep_lines([*block, "."])
+            self.editor.remember(*block[1:], ".")
 
     def read_lines(self, block: List[str]) -> bool:
         """Reads the lines of a block. Returns whether its point came."""
@@ -308,17 +287,13 @@ class Terminal(Opening):
             if self.is_command(line, block[0]):
                 self.screen.say("This line is a part of the block. A line with a single point ends the block, Ctrl-C drops it.")
             block.append(line)
+            self.bench.kept.note("block", block)
 
     def is_command(self, line: str, block: str) -> bool:
         """Whether a line of a block is meant as a command, by its first word. (A family may have any word.)"""
-        word = line.split()[0] if line.strip() else ""
-        if line.strip() in ("quit", "exit", "help", "?"):
-            return True
-        return block != "families" and word in COMMANDS and word not in LANGUAGE and not self.bench.places().kind(word)
-
-    def keep_lines(self, block: Sequence[str]) -> None:
-        for line in block[1:]:
-            self.editor.remember(line)
+        word, is_family = [*line.split(), ""][0], block == "families"
+        is_meant = word in COMMANDS and word not in LANGUAGE and not is_family and not self.bench.places().kind(word)
+        return is_meant or line.strip() in ("quit", "exit", "help", "?")
 
     # Running
 
@@ -332,15 +307,19 @@ class Terminal(Opening):
             doubts.append("The edits that you typed are in no file: save FILE keeps them, quit again drops them.")
         elif aside:
             doubts.append("A reload has put aside what you typed (%s), and no file has it: undo goes back to it, quit again drops it." % aside)
-        there = set((read_file(bench.words) or b"").decode("utf-8", "surrogateescape").splitlines()) if bench.added else set()
-        added = [word for word in bench.added if word not in there]
-        if added:
-            what, it = ("word that you added is", "it") if len(added) == 1 else ("words that you added are", "them")
-            to = "append puts %s into %s" % (it, short(bench.words)) if bench.words else "append FILE writes %s" % it
-            doubts.append("The %s in no file (%s): %s, quit again drops %s." % (what, in_words(added, "and", 5), to, it))
+        doubts += filter(None, [self.unkept_words(", quit again drops {}")])
         self.doubted = "quit" if doubts else ""
         self.screen.say(*doubts)
         return not doubts
+
+    def unkept_words(self, then: str = "") -> str:
+        """Returns the sentence on words that were added and that no file has; nothing if there are none."""
+        bench = self.bench
+        there = set((kept.read_file(bench.words) or b"").splitlines()) if bench.added else set()
+        added = [word for word in bench.added if encoded(word) not in there]
+        what, it = ("word that you added is", "it") if len(added) == 1 else ("words that you added are", "them")
+        to = "append puts %s into %s" % (it, short(bench.words)) if bench.words else "append FILE writes %s" % it
+        return "The %s in no file (%s): %s%s." % (what, in_words(added, "and", 5), to, then.format(it)) if added else ""
 
     def turn(self) -> bool:
         """Reads what was saved and answers a line; returns whether `work` goes on. A fault of this client ends no work."""
@@ -387,17 +366,18 @@ class Terminal(Opening):
 
 def main(given: Sequence[str]) -> int:
     try:
-        options = options_of(given)
-    except Misuse as why:
+        found = options.options_of(given)
+    except options.Misuse as why:
         print("snowbench: %s\n%s" % (layout.named(str(why)), USAGE), file=sys.stderr)
         return 2
-    if options.has_rows or not (os.isatty(0) and os.isatty(1)):
-        said = [] if options.has_rows else warnings_on(options.script, options.words)
+    files = [found.script, found.words] if found.words else [found.script]
+    if found.has_rows or not (os.isatty(0) and os.isatty(1)):
+        said = [] if found.has_rows else warn.warnings_on(*files)
         sys.stderr.buffer.write("".join(line + "\n" for line in said).encode("utf-8", "replace"))
         sys.stderr.flush()
-        os.execv(options.program, [options.program, "work", *options.passed, "--", options.script, *([options.words] if options.words else [])])
-    if "--from" in options.passed:
+        os.execv(found.program, [found.program, "work", *found.passed, "--", *files])
+    if "--from" in found.passed:
         print("snowbench: --from is for programs: at a terminal it needs --rows", file=sys.stderr)
         return 2
-    command = [options.program, "work", "--text", *(word for word in options.passed if word != "--text")]
-    return Terminal(Bench(command, options.script, options.words, Kept(home(), options.script)), options).run()
+    command = [found.program, "work", "--text", *(word for word in found.passed if word != "--text")]
+    return Terminal(Bench(command, found.script, found.words, kept.Kept(kept.home(), found.script)), found).run()

@@ -6,27 +6,24 @@ from typing import Any, Callable, List, Optional, Sequence, Tuple
 from .kept import read_file
 from .layout import named
 from .places import BOM
-from .program import LONGEST
+from .program import LONGEST, encoded
 from .words import converting, in_shell
 
-
-def is_decomposed(text: str) -> bool:
-    return not text.isascii() and len(unicodedata.normalize("NFC", text)) < len(text)
+# What a line may have, and what is said of it. {file} is the file's name as a shell has it, {latin1} a command that converts it.
+Kind = Tuple[Callable[[str], Any], str, str]
 
 
 def is_overlong(text: str) -> bool:
-    return len(text.encode("utf-8", "surrogateescape")) > LONGEST
+    return len(encoded(text)) > LONGEST
 
 
 def has(pattern: str) -> Callable[[str], Any]:
     return re.compile(pattern, re.M).search
 
 
-# What a line may have, and what is said of it. {file} is the file's name as a shell has it, {latin1} a command that converts it.
-Kind = Tuple[Callable[[str], Any], str, str]
 NOT_UTF8: Kind = (has("[\udc80-\udcff]"), "not UTF-8", ". If it is Latin-1: {latin1}")
 DECOMPOSED: Kind = (
-    is_decomposed, "a letter and its accent are two characters (NFD)",
+    lambda text: not text.isascii() and len(unicodedata.normalize("NFC", text)) < len(text), "a letter and its accent are two characters (NFD)",
     ", and one character (NFC) does not match them. To compose them: uconv -x any-nfc {file} > NEW",
 )
 LONG_LINE: Kind = (is_overlong, "more than 65,536 bytes", ". run, check, filter and session refuse such a line (72 LineTooLong). Break it")
@@ -52,35 +49,33 @@ def on_lines(name: str, path: str, text: str, kind: Kind) -> List[str]:
     return ["%s:%d: %s%s%s" % (name, found[0], what, others, then)] if found else []
 
 
-def on_whole(path: str, data: bytes) -> str:
+def on_whole(path: str, data: bytes) -> List[str]:
     """Returns the warning on a file that has no lines of UTF-8 at all."""
     name, quoted = named(path), in_shell(path)
     if data.startswith(b"\x1f\x8b"):
-        return "%s: compressed by gzip. To unpack it: gzip -d < %s > NEW" % (name, quoted)
+        return ["%s: compressed by gzip. To unpack it: gzip -d < %s > NEW" % (name, quoted)]
     if data.startswith((b"\xff\xfe", b"\xfe\xff")):
-        return "%s: UTF-16. To make it UTF-8: %s" % (name, converting("utf-16", path))
-    if b"\r" in data[:-1] and b"\n" not in data:
-        return "%s: no line feed, so all of it is one line. To make each carriage return one: tr '\\r' '\\n' < %s > NEW" % (name, quoted)
-    return ""
+        return ["%s: UTF-16. To make it UTF-8: %s" % (name, converting("utf-16", path))]
+    is_one = b"\r" in data[:-1] and b"\n" not in data
+    return ["%s: no line feed, so all of it is one line. To make each carriage return one: tr '\\r' '\\n' < %s > NEW" % (name, quoted)] * is_one
 
 
 def on_file(path: str, is_list: bool) -> List[str]:
     """Returns the warnings on a script, or on a list of words."""
     data, name = read_file(path), named(path)
-    if data is None or on_whole(path, data):
-        return [on_whole(path, data)] if data else []
+    said = on_whole(path, data or b"")
+    if data is None or said:
+        return said
     mark = "%s:1: a byte order mark, which is left out. To take it away: sed -i '1s/^\\xEF\\xBB\\xBF//' %s" % (name, in_shell(path))
-    said = [mark] if data.startswith(BOM) else []
-    text = data.removeprefix(BOM).decode("utf-8", "surrogateescape")
-    text = re.sub(r"\r(?=\n|\Z)", "", text).removesuffix("\n")
+    text = re.sub(r"\r(?=\n|\Z)", "", data.removeprefix(BOM).decode("utf-8", "surrogateescape")).removesuffix("\n")
     kinds = [NOT_UTF8 if NOT_UTF8[0](text) else DECOMPOSED, LONG_WORD if is_list else LONG_LINE]
-    said += [line for kind in kinds for line in on_lines(name, path, text, kind)]
+    said = [mark] * data.startswith(BOM) + [line for kind in kinds for line in on_lines(name, path, text, kind)]
     if not is_list or any(line.endswith(LONG_WORD[2]) for line in said):
         return said
     if re.search(r"\bexternals\s*\(", text):
         return [*said, name + ": this looks like a script, and each of its lines is a word here"]
     said += [line for kind in OF_WORDS for line in on_lines(name, path, text, kind)]
-    return said if text.strip("\n") else [*said, name + ": no words. Write one word on each line; add WORD adds one"]
+    return said + [name + ": no words. Write one word on each line; add WORD adds one"] * (not text.strip("\n"))
 
 
 def warnings_on(script: str, words: Optional[str] = None) -> List[str]:

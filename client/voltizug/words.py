@@ -3,19 +3,22 @@ import errno
 import os
 import re
 import shlex
-from typing import Callable, Dict, List, Sequence
+import tempfile
+from typing import Callable, Dict, Sequence
 
-from .bench import Bench, Edit, Stage
-from .commands import COMMANDS, DECLARATIONS, OPEN_BLOCKS, STRANGE
-from .kept import is_same
+from .bench import Bench, Stage
+from .commands import COMMANDS, NAMED, OPEN_BLOCKS, STRANGE
+from .kept import is_same, read_file
 from .layout import counted, in_words, named, short
 from .near import folded, meant, near
+from .options import CALLED
 from .program import Reply
 
-# By the number of a refusal its sentence. {c} is the command, {a} what follows it, {usage} what it takes.
+# By the number of a refusal what a command needs that has nothing after it.
+NEEDS: Dict[int, str] = {41: "a word", 42: "a word", 45: "a name", 53: "a name"}
+# By the number of a refusal its sentence. {c} is the command, {a} what follows it, {path} its file.
 SENTENCES: Dict[int, str] = {
     40: "{a} is in the vocabulary already.",
-    42: "{c} needs a word: {usage}.",
     43: "A word may have 255 characters at most.",
     44: "The vocabulary has 100,000 words, and takes no more. remove WORD makes room.",
     47: "Nothing changed.",
@@ -30,7 +33,7 @@ SENTENCES: Dict[int, str] = {
     68: "It was broken off. Nothing changed.",
     69: "There are no added words that no file has.",
     72: "A line may have 65,536 bytes at most. Nothing was done.",
-    74: "{a} has another number of lines than the vocabulary has words: it needs a line for each word. The mark stays.",
+    75: "{path} is not UTF-8. If it is Latin-1: {latin1}",
 }
 # Why `save`, `approve` or `append` does not write to a file. {other} is what to do.
 MAY_NOT: Dict[str, str] = {
@@ -66,19 +69,27 @@ class Refused(Exception):
 
 def sentence(reply: Reply, lines: Sequence[str], bench: Stage) -> str:
     """Returns the sentence after a refused command."""
-    code, line = (reply.refusal() or (0, ""))[0], lines[0]
-    if code in SPECIAL:
-        return SPECIAL[code](line, bench)
+    code = (reply.refusal() or (0, ""))[0]
     if code in (47, 48) and len(lines) > 2:
         return "Nothing changed. The up arrow brings the lines of the block back."
+    return refused(code, lines[0], bench)
+
+
+def refused(code: int, line: str, bench: Stage) -> str:
+    """Returns the sentence for a line, by the number of its refusal."""
     command, _, argument = line.partition(" ")
-    name, k, string = [*argument.split(" ", 2), "", ""][:3]
+    if code in NEEDS and not argument:
+        return "%s needs %s: %s." % (command, NEEDS[code], COMMANDS[command].usage)
+    if code in SPECIAL:
+        return SPECIAL[code](line, bench)
+    path, (name, k, string) = file_of(line, bench), [*argument.split(" ", 2), "", ""][:3]
     said = SENTENCES.get(code, "Nothing changed.")
-    return said.format(c=command, a=short(argument), k=k, string=short(string), name=short(name), usage=usage(command))
+    return said.format(c=command, a=short(argument), k=k, string=short(string), name=short(name), path=short(path), latin1=converting("latin1", path))
 
 
-def usage(command: str) -> str:
-    return COMMANDS[command].usage if command in COMMANDS else command
+def file_of(line: str, bench: Stage) -> str:
+    """Returns the file that a command reads."""
+    return (bench.words if line == "words" else line.partition(" ")[2] or bench.script) or ""
 
 
 def in_quotes(word: str, is_sure: bool = False) -> str:
@@ -87,8 +98,6 @@ def in_quotes(word: str, is_sure: bool = False) -> str:
 
 def absent(line: str, bench: Stage) -> str:
     command, _, word = line.partition(" ")
-    if not word:
-        return "%s needs a word: %s." % (command, usage(command))
     words, form = [row.word for row in bench.outcomes()], folded(word)
     same = [other for other in words if folded(other).strip() == form.strip()]
     found = list(map(in_quotes, same[:4])) if same else near(word, words)
@@ -101,18 +110,23 @@ def absent(line: str, bench: Stage) -> str:
 
 def misspelt(word: str, bench: Bench) -> str:
     """Returns the question on a word that is not in the vocabulary, but near one that is; otherwise nothing."""
-    is_there = not bench.size or bench.known("class " + word)[0] is not None
-    question = "" if is_there else meant(word, [row.word for row in bench.outcomes()])
-    return "%s is not in the vocabulary.%s" % (in_quotes(word), question) if question else ""
+    is_there = not bench.size or bench.known("class " + word) is not None
+    is_many = " It was run as one word, with a blank in it." * (" " in word.strip())
+    question = "" if is_there else is_many or meant(word, [row.word for row in bench.outcomes()])
+    return "%s is not in the vocabulary.%s" % (in_quotes(word, " " in word), question) if question else ""
 
 
 def no_class(line: str, bench: Stage) -> str:
     stem = line.partition(" ")[2]
-    if not stem:
-        return "No word has the empty stem."
-    if any(row.word == stem for row in bench.outcomes()):
-        return "No word has the stem %s. It is a word: why %s shows its stem." % (in_quotes(stem), short(stem))
-    return "No word has the stem %s. find %s shows the words and stems that have it in them." % (in_quotes(stem), short(stem))
+    is_word = any(row.word == stem for row in bench.outcomes())
+    how = "It is a word: why %s shows its stem." if is_word else "find %s shows the words and stems that have it in them."
+    return ("No word has the stem %s. " + how) % (in_quotes(stem), short(stem)) if stem else "No word has the empty stem."
+
+
+def other_lines(line: str, bench: Stage) -> str:
+    path, size = file_of(line, bench), next(int(row.count) for row in bench.read("stats") if row.kind == "words")
+    has = counted(len((read_file(path) or b"").splitlines()), "line")
+    return "%s has %s, and there are %s: it needs a line for each word. The mark stays." % (short(path), has, counted(size, "word"))
 
 
 def no_stem(_: str, bench: Stage) -> str:
@@ -127,20 +141,14 @@ def no_stem(_: str, bench: Stage) -> str:
 def no_name(line: str, bench: Stage) -> str:
     """The sentence for a name that the script does not define so."""
     command, _, argument = line.partition(" ")
-    kinds = {"show": ("routine", "grouping"), "uses": ("routine", "grouping"), "grouping": ("grouping",)}.get(command, ("routine",))
-    places, (name, _, rest) = bench.places(), argument.partition(" ")
-    if not name:
-        return "%s needs a name: %s." % (command, usage(command))
+    places, kinds, name = bench.places(), NAMED[command], argument.partition(" ")[0]
     kind, there, begin = places.kind(name), places.of_kind(*kinds), "%s %s: " % (command, short(name))
-    if name in there and command == "show":
-        return "show takes one name."
-    if kind and command == "uses":
-        return '%sthis is a grouping, and has no among. Use "uses %s".' % (begin, short(name))
-    if name in there and rest:
-        first = ' Type only "%s %s" first.' % (command, short(name))
-        return begin + "the text goes on the lines after it, and a line with a single point ends it." + first
+    if name in there and command != "uses":
+        first = 'the text goes on the lines after it, and a line with a single point ends it. Type only "%s %s" first.' % (command, short(name))
+        return "show takes one name." if command == "show" else begin + first
     if kind:
-        return '%sthis is a %s. Use "%s %s".' % (begin, kind, kind, short(name))
+        use = 'grouping, and has no among. Use "uses %s".' if command == "uses" else kind + '. Use "' + kind + ' %s".'
+        return begin + "this is a " + use % short(name)
     if any(row.kind == "integer" and row.name == name for row in bench.read("integers a")):
         return "%sthis is an integer variable, and no %s. integers WORD shows its value at the end of a run." % (begin, kinds[0])
     others = " The script has %s." % (in_words(there, "and") if there else "none")
@@ -157,25 +165,18 @@ def amongs_of(line: str, bench: Stage) -> str:
     return "%s has %s, so K is %s (those inside others count, too)." % (short(name), counted(count, "among"), numbers)
 
 
-def is_of_script(line: str) -> bool:
-    """Whether a line that is no command is a comment or a declaration of a script."""
-    return line.lstrip().startswith(("//", "/*")) or line.partition(" ")[0] in DECLARATIONS
-
-
 def unknown(line: str, bench: Stage) -> str:
     """The sentence for what is no command, or one that lacks something or has too much."""
     command, _, argument = line.partition(" ")
-    if any("\udc80" <= character <= "\udcff" for character in line):
-        return "The line is not UTF-8. Set the terminal to UTF-8 and type it again."
+    strange = next((said for begins, said in STRANGE if re.match(begins, line)), "")
+    if strange:
+        return strange.format(c=command, called=named(CALLED))
     if command in ("among", "uses"):
         known = " " + amongs_of(line, bench) if bench.places().kind(argument.partition(" ")[0]) == "routine" else ""
-        what = ": %s." % usage(command) if command == "uses" else " and a number: among NAME K, then an among, then a line with a single point."
-        return "%s needs a name%s%s" % (command, what, known)
+        what = "and a number: among NAME K, then an among, then a line with a single point."
+        return "%s needs a name%s%s" % (command, ": %s." % COMMANDS["uses"].usage if command == "uses" else " " + what, known)
     if command in COMMANDS:
-        return "%s needs more: %s." % (command, usage(command)) if COMMANDS[command].takes else "%s takes nothing after it." % command
-    for begins, said in STRANGE:
-        if re.match(begins, line):
-            return said.format(c=command)
+        return "%s needs more: %s." % (command, COMMANDS[command].usage) if COMMANDS[command].takes else "%s takes nothing after it." % command
     longer = [name for name in COMMANDS if name.startswith(command.casefold())] if command else []
     question = meant(command, COMMANDS) or (" Did you mean %s?" % in_words(longer, "or") if 0 < len(longer) < 4 else "")
     return "%s is not a command.%s help lists the commands." % (short(command or line.strip()), question)
@@ -187,16 +188,10 @@ def bad_file(line: str, bench: Stage) -> str:
         return not_written(command, argument, bench)
     if command == "words" and not bench.words:
         return "There is no file of words: add WORD adds a word."
-    path = (bench.words if command == "words" else argument or bench.script) or ""
-    if command == "reload":
-        # (another file is no question: SCRIPT stays the file)
-        return "%s cannot be read: %s. The script that was read stays: save FILE keeps it." % (short(path), unreadable(path).partition(".")[0])
-    return "%s cannot be read: %s" % (short(path), unreadable(path))
-
-
-def not_text(line: str, bench: Stage) -> str:
-    path = bench.words or "" if line == "words" else line.partition(" ")[2] or bench.script
-    return "%s is not UTF-8. If it is Latin-1: %s" % (short(path), converting("latin1", path))
+    path = file_of(line, bench)
+    # (after `reload` another file is no question: SCRIPT stays the file)
+    why = unreadable(path) if command != "reload" else unreadable(path).partition(".")[0] + ". The script that was read stays: save FILE keeps it."
+    return "%s cannot be read: %s" % (short(path), why)
 
 
 def not_written(command: str, path: str, bench: Stage) -> str:
@@ -205,24 +200,35 @@ def not_written(command: str, path: str, bench: Stage) -> str:
         return "There is no file of words: append FILE writes a new one."
     path = path or (bench.words or "" if command == "append" else "")
     if not path:
-        return "%s needs a file: %s%s." % (command, usage(command), ", such as save " + short(bench.script) if command == "save" else "")
-    folder, name = os.path.dirname(path) or ".", short(path)
-    if command != "save" and is_same(path, bench.script):
-        return may_not("script", command, path)
-    if command == "append" and os.path.exists(path) and not is_same(path, bench.words):
-        return "%s is there already, and append puts words only into the file of words or a new file." % name
-    if os.path.realpath(path) == os.path.realpath(bench.script) and not os.path.lexists(path):
-        return "%s is not there any more, and was not written: save to another file." % name
-    if not os.path.isdir(folder):
-        return "%s cannot be written: there is no folder %s." % (name, short(folder))
-    if os.path.isdir(path):
-        return "%s cannot be written: it is a folder. Name a file in it." % name
-    if not os.access(path if os.path.exists(path) else folder, os.W_OK):
-        other = "Save to another file" if command == "save" else "Name another file"
-        return "%s cannot be written: you may not write there. %s." % (name, other)
-    if path in bench.saved() or is_same(path, bench.script):
-        return may_not("changed", command, path)
-    return "%s cannot be written: perhaps the disk is full.%s" % (name, " It has its former text." if os.path.exists(path) else "")
+        return "%s needs a file: %s%s." % (command, COMMANDS[command].usage, ", such as save " + short(bench.script) if command == "save" else "")
+    folder, name, is_script = os.path.dirname(path) or ".", short(path), is_same(path, bench.script)
+    cannot, other = name + " cannot be written: ", "Save to another file" if command == "save" else "Name another file"
+    return next(said for is_so, said in (
+        (command != "save" and is_script, may_not("script", command, path)),
+        (
+            command == "append" and os.path.exists(path) and not is_same(path, bench.words),
+            name + " is there already, and append puts words only into the file of words or a new file.",
+        ),
+        (
+            os.path.realpath(path) == os.path.realpath(bench.script) and not os.path.lexists(path),
+            name + " is not there any more, and was not written: save to another file.",
+        ),
+        (not os.path.isdir(folder), cannot + "there is no folder %s." % short(folder)),
+        (os.path.isdir(path), cannot + "it is a folder. Name a file in it."),
+        (not os.access(path if os.path.exists(path) else folder, os.W_OK), cannot + "you may not write there. %s." % other),
+        (path in bench.saved() or is_script, may_not("changed", command, path)),
+        (True, cannot + no_room(folder) + "." + " It has its former text." * os.path.exists(path)),
+    ) if is_so)
+
+
+def no_room(folder: str) -> str:
+    """Returns why no file can be written in a folder, as far as that is known."""
+    try:
+        with tempfile.TemporaryFile(dir=folder, buffering=0) as file:
+            file.write(bytes(1 << 16))
+        return "perhaps the disk is full"
+    except OSError as why:
+        return why.strerror
 
 
 def unreadable(path: str) -> str:
@@ -233,13 +239,11 @@ def unreadable(path: str) -> str:
         with os.fdopen(os.open(path, os.O_RDONLY | os.O_NONBLOCK), "rb") as file:
             file.read(1)
         return "but now it can be. Try again."
-    except OSError as why:
-        folder, name = os.path.split(path)
-        others = os.listdir(folder or ".") if why.errno == errno.ENOENT and os.path.isdir(folder or ".") else []
+    except (OSError, ValueError) as why:
+        code, (folder, name) = getattr(why, "errno", errno.ENOENT), os.path.split(path)
+        others = os.listdir(folder or ".") if code == errno.ENOENT and os.path.isdir(folder or ".") else []
         question = meant(name, others)
-        return (reasons.get(why.errno or 0) or str(why.strerror)) + ("." + question if question else "")
-    except ValueError:
-        return "there is no such file"
+        return reasons.get(code, os.strerror(code)) + ("." + question if question else "")
 
 
 def in_shell(path: str) -> str:
@@ -254,16 +258,15 @@ def converting(code: str, path: str) -> str:
 
 def early(line: str, bench: Stage) -> str:
     """Returns what is wrong with the line before a block, so that it opens none."""
-    command, _, argument = line.partition(" ")
-    name, _, k = argument.partition(" ")
+    command, name, k = [*line.split(" ", 2), "", ""][:3]
     if command in OPEN_BLOCKS:
         return ""
-    places = bench.places()
-    if places.kind(name) != ("grouping" if command == "grouping" else "routine") or k and command != "among":
-        return no_name(line, bench) if name or command != "among" else unknown(line, bench)
-    if command == "among" and not re.match(r"[0-9]{1,9}\Z", k):
-        return unknown(line, bench)
-    return amongs_of(line, bench) if command == "among" and not 1 <= int(k) <= places.count(name) else ""
+    places, is_among = bench.places(), command == "among"
+    if is_among and (not name or places.kind(name) == "routine" and not re.match(r"[0-9]{1,9}\Z", k)):
+        return refused(52, line, bench)
+    if places.kind(name) != ("grouping" if command == "grouping" else "routine") or k and not is_among:
+        return refused(45, line, bench)
+    return amongs_of(line, bench) if is_among and not 1 <= int(k) <= places.count(name) else ""
 
 
 def may_not(why: str, command: str, path: str, then: str = "") -> str:
@@ -272,11 +275,7 @@ def may_not(why: str, command: str, path: str, then: str = "") -> str:
     return MAY_NOT[why].format(path=short(path), c=command, other="%s %s file" % ("save to" if command == "save" else "name", which), then=then)
 
 
-def notes(edit: Edit, script: str) -> List[str]:
-    return [NOTES[note].format(script=short(script)) for note in edit.notes]
-
-
 # By the number of a refusal what makes its sentence of the line and the bench.
 SPECIAL: Dict[int, Callable[[str, Stage], str]] = {
-    41: absent, 45: no_name, 46: amongs_of, 52: unknown, 53: no_name, 57: bad_file, 59: no_class, 67: no_stem, 75: not_text,
+    41: absent, 45: no_name, 46: amongs_of, 52: unknown, 53: no_name, 57: bad_file, 59: no_class, 67: no_stem, 74: other_lines,
 }

@@ -98,6 +98,9 @@ def read(path: str) -> Definition:
         elif key in ("at", "block"):
             use, _, meaning = text.partition(" - ")
             definition.groups[-1].commands.append((use, meaning))
+        elif key == "more":
+            use, meaning = definition.groups[-1].commands.pop()
+            definition.groups[-1].commands.append((use, "%s. %s" % (meaning, text)))
         else:
             add_line(definition.commands[-1], key, text)
     return definition

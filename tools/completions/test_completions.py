@@ -32,6 +32,7 @@ use
 
 group Words
 at add WORD - adds - a word
+more It is put last.
 block replace - the lines
 """
 
@@ -54,7 +55,7 @@ class Completions(unittest.TestCase):
         self.assertEqual((trim.kind, trim.hidden, trim.added, trim.page), ("program", ["--deep"], ["--again"], "TRIM.md"))
         self.assertEqual(trim.options[0].text, "how much - in letters")
         self.assertEqual(prove.synopses(), ["--prove"])
-        self.assertEqual(self.definition.groups[0].commands, [("add WORD", "adds - a word"), ("replace", "the lines")])
+        self.assertEqual(self.definition.groups[0].commands, [("add WORD", "adds - a word. It is put last."), ("replace", "the lines")])
         self.assertEqual(self.definition.words_of_work(), ["add", "replace"])
 
     def test_an_unknown_key_is_refused(self) -> None:

@@ -47,7 +47,7 @@ class Page(Case):
 
     def need(self, live: Live, *commands: str) -> None:
         """Skips a test if the program lacks rows."""
-        lacking = [line for line, reply in zip(commands, live.bench.known(*commands)) if reply is None]
+        lacking = [line for line in commands if live.bench.known(line) is None]
         if lacking:
             self.skipTest("the program does not know %s" % ", ".join(lacking))
 

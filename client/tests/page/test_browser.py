@@ -146,7 +146,7 @@ class InBrowser(Page):
         text = SCRIPT.replace("do r", "do rr").replace("'ed' 's'", "'s' 's'")
         known, first, last = self.live.bench.known, text.index("'s' 's'") + 4, text.index("rr )")
         lines = ["fault,17,s,%d,%d,4,40,The string is there already." % (first, first + 3), "fault,13,rr,%d,%d,6,31,rr is not declared." % (last, last + 2)]
-        self.live.bench.known = lambda *asked: [lines] if asked == ("faults",) else known(*asked)
+        self.live.bench.known = lambda asked: lines if asked == "faults" else known(asked)
         self.save(text)
         tab.wait("document.querySelectorAll('.oops').length === 2")
         self.assertEqual(tab.run("[...document.querySelectorAll('.oops')].map(node => [node.textContent, node.title])"), [["'s'", "The string is there already."], ["rr", "rr is not declared."]])

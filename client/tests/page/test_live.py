@@ -66,13 +66,13 @@ class Edits(Page):
         text = "\ufeff" + SCRIPT.replace("do r", "do rr").replace("(delete)", "/* \u00e9 */ (delete)").replace("\n", "\r\n")
         first = text.encode().index(b"rr )")
         known = live.bench.known
-        live.bench.known = lambda *asked: [["fault,13,rr,%d,%d,6,31,rr is not declared." % (first, first + 2)]] if asked == ("faults",) else known(*asked)
+        live.bench.known = lambda asked: ["fault,13,rr,%d,%d,6,31,rr is not declared." % (first, first + 2)] if asked == "faults" else known(asked)
         self.save(live, text.encode())
         (line, begin, end, sentence), = live.part("fault")["all"]
         self.assertEqual((line, live.part("fault")["text"][begin:end], sentence), (6, "rr", "rr is not declared."))
         live.take_trial(SCRIPT.replace("do r", "do rr"))
         # (a place that the text does not have is not shown)
-        live.bench.known = lambda *asked: [["fault,13,rr,99999,99999,6,31,x"]] if asked == ("faults",) else known(*asked)
+        live.bench.known = lambda asked: ["fault,13,rr,99999,99999,6,31,x"] if asked == "faults" else known(asked)
         live.take_trial(SCRIPT.replace("do r", "do rrr"))
         self.assertEqual(live.part("fault")["all"], [])
 
@@ -169,7 +169,7 @@ class Edits(Page):
 
     def test_stems_of_another_length(self):
         live = self.page(stems="my.stems", my_stems="walk\n")
-        self.assertIn("another number of lines", live.part("notice"))
+        self.assertIn("it needs a line for each word", live.part("notice"))
         self.assertEqual((changes(live), live.part("markName")), ([], ""))
 
     def test_families(self):
@@ -269,7 +269,7 @@ class Rules(Page):
         steps = [(step["kind"], step["routine"], step.get("string") or step.get("what") or step.get("after")) for step in found["steps"] if not step["minor"]]
         self.assertEqual((steps, found["outcome"]), ([("taken", "r", "ed"), ("put", "r", "walk")], "=walk"))
         self.assertEqual((found["steps"][-2]["start"], found["steps"][-2]["end"], found["steps"][-2]["put"]), (4, 6, ""))
-        if live.bench.known("places")[0] is not None:
+        if live.bench.known("places") is not None:
             self.assertEqual([step["line"] for step in found["steps"] if not step["minor"]], [4, 4])
         self.assertEqual(live.word("never seen")["outcome"], "=never seen")
 
@@ -319,7 +319,7 @@ class States(Page):
         settle(live)
         figures = {key: value for key, value in live.part("figures").items() if key != "runs"}
         self.assertEqual(figures, figures_of(list(zip(live.outcomes.words, live.outcomes.now))))
-        rows = read("changes", live.bench.known("changes")[0])
+        rows = read("changes", live.bench.known("changes"))
         self.assertEqual([list(row) for row in rows if row.kind == "changed"], [row for row in changes(live) if row[0] == "changed"])
 
     def test_hostile_words(self):

@@ -9,7 +9,7 @@ from typing import Any, Callable, Dict, Iterator, List, Optional, Sequence
 
 from .. import loops, rows, words
 from ..bench import Bench, Edit
-from ..copies import with_tests
+from ..conditions import with_tests
 from ..kept import state_of
 from ..layout import named, short
 from ..lints import lints
@@ -195,7 +195,7 @@ class Live:
         """Shows other words than before."""
         self.begun, self.origin = time.monotonic(), "words"
         self.show_outcomes()
-        self.show_edit(rows.read("changes", self.bench.known("changes")[0] or []))
+        self.show_edit(self.bench.read("changes"))
 
     # What takes longer
 
@@ -209,8 +209,7 @@ class Live:
                 self.owed.pop(0)()
 
     def show_figures(self) -> None:
-        lines = (self.bench.known("stats")[0]) or []
-        self.publish(figures={row.kind: int(row.count) for row in rows.read("stats", lines)})
+        self.publish(figures={row.kind: int(row.count) for row in self.bench.read("stats")})
 
     def show_ink(self) -> None:
         """Shows colours and rules, as far as the program tells them; and names the edit by the definitions that differ."""
@@ -224,7 +223,7 @@ class Live:
         self.quiet_until = time.monotonic() + QUIET
 
     def show_counts(self) -> None:
-        lines = self.bench.known("counts")[0]
+        lines = self.bench.known("counts")
         counts = ink.counts_of(rows.read("counts", lines)) if lines is not None else None
         self.publish(counts={"script": self.script, "of": counts})
 
@@ -292,7 +291,7 @@ class Live:
     # The history by name
 
     def history_rows(self) -> Optional[List[Any]]:
-        lines = self.bench.known("history")[0]
+        lines = self.bench.known("history")
         return rows.read("history", lines) if lines is not None else None
 
     def note_step(self, command: str, before: Optional[List[Any]], text: bytes) -> None:
@@ -436,7 +435,7 @@ class Live:
             path = self.bench.program.copy_path + ".typed"
             with contextlib.suppress(OSError), open(path, "wb") as file:
                 file.write(data)
-            lines = self.bench.known("tokens " + path)[0]
+            lines = self.bench.known("tokens " + path)
             return ink.spans_of(data, rows.tokens(lines or []))
 
 

@@ -1,11 +1,11 @@
 """What the page shows of a text that the program refused: the places and sentences of its faults, the first of them as standard error has it."""
 from typing import Any, Dict, List, Optional, Sequence
 
-from .. import faults, rows, words
+from .. import faults, words
 from ..bench import Bench
 from ..kept import read_file
 from ..layout import named
-from ..opening import OF_WORDS
+from ..desk import OF_WORDS
 from . import ink
 
 # So many faults are shown.
@@ -33,6 +33,6 @@ def all_faults(bench: Bench, text: bytes) -> List[List[Any]]:
     """Returns the faults of the text that was refused last, if the program tells them: line, begin and end in the text that is shown, sentence."""
     if bench.is_waiting:
         return []
-    found = [row for row in rows.read("faults", bench.known("faults")[0] or []) if row.end and int(row.end) <= len(text)][:MOST]
+    found = [row for row in bench.read("faults") if row.end and int(row.end) <= len(text)][:MOST]
     at = ink.units(text, (int(place) for row in found for place in (row.start, row.end)))
     return [[int(row.line), at[int(row.start)], at[int(row.end)], row.sentence] for row in found]
