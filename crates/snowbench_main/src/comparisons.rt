@@ -12,7 +12,7 @@ use sbl_batch::{
 };
 use sbl_diagnostics::{plain_text, script_fault_text};
 use sbl_io::write_all;
-use snowbench::{Device, Face, LoadFault, ScriptFault, Verb, Wanted, WordKeys};
+use snowbench::{Device, Face, LoadFault, Progress, ScriptFault, Verb, Wanted, WordKeys};
 use std::alloc::{AllocError, Global};
 use std::io::IsTerminal;
 
@@ -80,7 +80,9 @@ fn compare_in_rows(
 ) -> u8 {
     let mut writer = Device::new(Output::new(rt.stdout()));
     let mut progress = ProgressLine::new(rt, Verb::Compare);
-    match write_comparison(rt.alloc(), keys, input, &mut writer, &mut progress) {
+    let written = write_comparison(rt.alloc(), keys, input, &mut writer, &mut progress);
+    progress.see_end();
+    match written {
         Ok(changed) => compare_status(changed),
         Err(fault) => {
             let is_closed = writer.into_inner().is_closed();
@@ -97,7 +99,9 @@ fn compare_in_words(
     input: &CompareInput<'_>,
 ) -> u8 {
     let mut progress = ProgressLine::new(rt, Verb::Compare);
-    let pair = match open_pair(rt.alloc(), keys, input, &mut progress) {
+    let opened = open_pair(rt.alloc(), keys, input, &mut progress);
+    progress.see_end();
+    let pair = match opened {
         Ok(pair) => pair,
         Err(fault) => return fail_compare(rt, files, input, fault, false),
     };

@@ -12,7 +12,8 @@ use crate::reading::{open_named, read_file, read_files};
 use crate::standard_input::run_input;
 use crate::streams::Output;
 use snowbench::{
-    Device, FilesFault, Lines, Wanted, WordKeys, check_files, filter_file, run_files, stem_files,
+    Device, FilesFault, Lines, Progress, Wanted, WordKeys, check_files, filter_file, run_files,
+    stem_files,
 };
 use std::alloc::{AllocError, Global};
 use std::io::{Read, Stdout};
@@ -42,7 +43,8 @@ pub(crate) fn run_session(rt: &HostRuntime, wanted: &Wanted, names: FileNames<'_
         return fail_memory(rt);
     };
     match result {
-        Ok(()) if wanted.options.is_strict && output.has_refusal() => FAILED,
+        Ok(()) if names.rest.is_some() && wanted.options.is_strict && output.has_refusal() =>
+            FAILED,
         Ok(()) => 0,
         Err(fault) => fail_files(rt, wanted, &files, fault, output.is_closed()),
     }
@@ -64,10 +66,14 @@ fn answer_files<'x>(
     let result = if has_commands {
         let mut commands = Lines::new(rt.alloc(), Device::new(files.rest.bytes.as_slice()))?;
         let mut watch = PlaceWatch::new(rt, wanted, files.rest.name, None);
-        run_files(keys, &input, &mut commands, &mut writer, &mut watch)
+        let result = run_files(keys, &input, &mut commands, &mut writer, &mut watch);
+        watch.see_end();
+        result
     } else {
         let mut progress = ProgressLine::new(rt, wanted.verb);
-        stem_files(rt.alloc(), keys, &input, &mut writer, &mut progress)
+        let result = stem_files(rt.alloc(), keys, &input, &mut writer, &mut progress);
+        progress.see_end();
+        result
     };
     Ok((result, writer.into_inner()))
 }
@@ -95,6 +101,7 @@ pub(crate) fn run_check(rt: &HostRuntime, wanted: &Wanted, names: FileNames<'_>)
         &mut writer,
         &mut progress,
     );
+    progress.see_end();
     match checked {
         Ok(differences) => {
             let status = if differences == 0 { 0 } else { FAILED };

@@ -68,18 +68,33 @@ impl<'a> PlaceWatch<'a> {
     }
 }
 
+/// Returns the number of lines before the commands, if each line of the words is a word and no other.
+fn lines_at_least(bytes: &[u8], bench: &Bench) -> usize {
+    let script = match split_at_point(bytes) {
+        Some((number, _)) => usize::try_from(number).unwrap_or(usize::MAX),
+        None => 0,
+    };
+    script.saturating_add(bench.len()).saturating_add(1)
+}
+
+/// Returns the number of lines before the commands, if the line `.` after the words is among these bytes.
+fn lines_before_commands(bytes: &[u8]) -> Option<u64> {
+    let (script, rest) = split_at_point(bytes)?;
+    let (words, _) = split_at_point(rest)?;
+    Some(script.saturating_add(words))
+}
+
 impl Watch for PlaceWatch<'_> {
     fn begin(&mut self, bench: &Bench) {
         let Some(kept) = self.kept else {
             return;
         };
         if let Ok(kept) = kept.try_borrow() {
-            let script = match split_at_point(kept.bytes()) {
-                Some((line, _)) => line as usize,
-                None => 0,
+            let lines = match lines_before_commands(kept.bytes()) {
+                Some(lines) => usize::try_from(lines).unwrap_or(usize::MAX),
+                None => lines_at_least(kept.bytes(), bench),
             };
-            // The words are one on a line, and a line `.` ends them.
-            self.lines_before = script.saturating_add(bench.len()).saturating_add(1);
+            self.lines_before = lines;
         }
     }
 

@@ -5,7 +5,7 @@ use crate::file_names::STANDARD_INPUT;
 use crate::messages::{FAILED, fail_memory, print_fault, word_keys};
 use crate::place_watch::PlaceWatch;
 use crate::streams::{FirstBytes, FirstBytesReader, Output};
-use snowbench::{Device, Lines, LoadFault, NoWatch, Wanted, WordKeys, answer};
+use snowbench::{Device, Lines, LoadFault, NoWatch, Progress, Wanted, WordKeys, answer};
 use std::alloc::AllocError;
 use std::cell::RefCell;
 use std::io::Stdout;
@@ -25,7 +25,9 @@ fn answer_input(
     let mut writer = Device::new(Output::new(rt.stdout()));
     let result = if wanted.options.shows_places {
         let mut watch = PlaceWatch::new(rt, wanted, STANDARD_INPUT, Some(kept));
-        answer(wanted, keys, &mut lines, &mut writer, &mut watch)
+        let result = answer(wanted, keys, &mut lines, &mut writer, &mut watch);
+        watch.see_end();
+        result
     } else {
         answer(wanted, keys, &mut lines, &mut writer, &mut NoWatch {})
     };
