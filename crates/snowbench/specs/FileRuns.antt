@@ -16,7 +16,7 @@ use Rattle.snowbench.specs.ScriptFiles.{HasFileScript, IsFileScript, IsFilesBenc
 use Rattle.snowbench.specs.declared.script_files.FilesInput.{FilesInput}
 use Rattle.snowbench.specs.declared.script_files.FilesFault.{FilesFault}
 use Rattle.snowbench.specs.declared.script_files.FilesFault.TheVariants.{Run, Script, Stems, Words}
-use Rattle.snowbench.specs.declared.script_files.PlacedFault.{PlacedFault}
+use Rattle.snowbench.specs.declared.script_files.FileFault.{FileFault}
 
 -- ---- a session
 
@@ -48,7 +48,7 @@ WritesFilesRows input held new_held (Err f) = LacksBench input f × Appends held
 -- ---- a check
 
 -- the fault of the first line that is too long
-abbrev pub overlong_fault : List ℕ → Option PlacedFault
+abbrev pub overlong_fault : List ℕ → Option FileFault
 overlong_fault bytes = option_map (λ n. placed_at n fault.LineTooLong) (overlong_line bytes)
 
 -- The script of the file is checked on the two lists, whose lines all fit. Otherwise nothing is written.

@@ -25,7 +25,7 @@ use Rattle.sbl_text.specs.declared.fault.ScriptFault.{ScriptFault}
 use Rattle.snowbench.specs.declared.script_files.FilesInput.{FilesInput}
 use Rattle.snowbench.specs.declared.script_files.FilesFault.{FilesFault}
 use Rattle.snowbench.specs.declared.script_files.FilesFault.TheVariants as files
-use Rattle.snowbench.specs.declared.script_files.PlacedFault.{PlacedFault}
+use Rattle.snowbench.specs.declared.script_files.FileFault.{FileFault}
 
 -- ---- lines
 
@@ -50,11 +50,11 @@ abbrev pub long_line : List ℕ → Option ℕ
 long_line bytes = long_after 0 (lines_of bytes)
 
 -- the fault of a reader or of memory at this line
-abbrev pub placed_at : ℕ → ServeFault → PlacedFault
+abbrev pub placed_at : ℕ → ServeFault → FileFault
 placed_at n f = record { line = Some n; fault = Input f }
 
 -- an allocation failed
-abbrev pub no_memory : PlacedFault
+abbrev pub no_memory : FileFault
 no_memory = record { line = None; fault = Input fault.OutOfMemory }
 
 -- ---- the script
@@ -72,13 +72,13 @@ abbrev pub HasFileScript : List ℕ → List ℕ → Type 0
 HasFileScript bytes external = (s : Source) × IsFileScript bytes external s
 
 -- Why they are none: a line is too long, or else the text has a fault; or an allocation failed.
-abbrev pub LacksFileScript : List ℕ → List ℕ → PlacedFault → Type 0
+abbrev pub LacksFileScript : List ℕ → List ℕ → FileFault → Type 0
 LacksFileScript bytes external f =
     (f ≡ no_memory)
     ⊎ ((n : ℕ) × (overlong_line bytes ≡ Some n) × (f ≡ placed_at n fault.LineTooLong))
     ⊎ ((overlong_line bytes ≡ None) × (g : ScriptFault) × (f ≡ record { line = None; fault = load.Script g }) × HasScriptFault (script_text bytes) external g)
 
-abbrev pub ParsesFile : List ℕ → List ℕ → Result Script PlacedFault → Type 0
+abbrev pub ParsesFile : List ℕ → List ℕ → Result Script FileFault → Type 0
 ParsesFile bytes external (Ok script) = IsFileScript bytes external (source_of script)
 ParsesFile bytes external (Err f) = LacksFileScript bytes external f
 
@@ -89,28 +89,28 @@ abbrev pub line_words : List ℕ → List (List ℕ)
 line_words bytes = map chars (lines_of bytes)
 
 -- the first line that is too long or not UTF-8, if so many lines are before these
-abbrev pub text_fault_after : ℕ → List (List ℕ) → Option PlacedFault
+abbrev pub text_fault_after : ℕ → List (List ℕ) → Option FileFault
 text_fault_after n [] = None
 text_fault_after n (line ∷ lines) = option_or (option_map (placed_at (n + 1)) (line_fault line)) (text_fault_after (n + 1) lines)
 
-abbrev pub text_fault : List ℕ → Option PlacedFault
+abbrev pub text_fault : List ℕ → Option FileFault
 text_fault bytes = text_fault_after 0 (lines_of bytes)
 
 -- a line is no text, or an allocation failed
-abbrev pub LacksText : List ℕ → PlacedFault → Type 0
+abbrev pub LacksText : List ℕ → FileFault → Type 0
 LacksText bytes f = (f ≡ no_memory) ⊎ (text_fault bytes ≡ Some f)
 
 -- a fault of the vocabulary; a word that is too long has its line
-abbrev pub opening_place : List ℕ → EditFault → PlacedFault
+abbrev pub opening_place : List ℕ → EditFault → FileFault
 opening_place bytes edit.WordTooLong = record { line = long_line bytes; fault = Open edit.WordTooLong }
 opening_place bytes f = record { line = None; fault = Open f }
 
 -- why no vocabulary has the words: the fault of the first line that is no text, or else that of the first word
-abbrev pub words_fault : List ℕ → Option PlacedFault
+abbrev pub words_fault : List ℕ → Option FileFault
 words_fault bytes = option_or (text_fault bytes) (option_map (opening_place bytes) (opening_fault [] (line_words bytes)))
 
 -- the words have this fault, or an allocation failed
-abbrev pub LacksWords : List ℕ → PlacedFault → Type 0
+abbrev pub LacksWords : List ℕ → FileFault → Type 0
 LacksWords bytes f = (f ≡ no_memory) ⊎ (f ≡ record { line = None; fault = Open edit.OutOfMemory }) ⊎ (words_fault bytes ≡ Some f)
 
 -- ---- the bench

@@ -6,7 +6,7 @@ ghost use Rattle.snowbench.specs.Program.{HasReasons};
 ghost use Rattle.snowbench.specs.ScriptFiles.{cause_of};
 ghost use Rattle.snowbench.specs.WholeFilter.{FiltersFile};
 
-use crate::script_files::{FilesFault, PlacedFault, parse_file};
+use crate::script_files::{FilesFault, FileFault, parse_file};
 use sbl_batch::filter_to_end;
 use sbl_io::{Lines, Sink, Source};
 
@@ -38,7 +38,7 @@ pub fn filter_file<R: Source + Drop, W: Sink>(
     script.discard();
     match filtered {
         Ok(()) => Ok(()),
-        Err(word) => Err(FilesFault::Words(PlacedFault {
+        Err(word) => Err(FilesFault::Words(FileFault {
             line: Some(word.line),
             fault: word.fault,
         })),

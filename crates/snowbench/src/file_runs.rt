@@ -4,7 +4,7 @@ ghost use Rattle.sbl_io.specs.Devices.{HasStopped, WritesInTime};
 ghost use Rattle.sbl_io.specs.HeldInput.{KeepsTime, fault_of, input_of, reads_bound};
 ghost use Rattle.snowbench.specs.FileRuns.{ChecksFiles, HasFilesReasons, IsFilesSession, WritesFilesRows, overlong_fault};
 
-use crate::script_files::{FilesFault, FilesInput, PlacedFault, open_files, overlong_line, parse_file};
+use crate::script_files::{FilesFault, FilesInput, FileFault, open_files, overlong_line, parse_file};
 use sbl_batch::check_observed;
 use sbl_bench::{Progress, WordKeys};
 use sbl_input::LoadFault;
@@ -120,11 +120,11 @@ pub fn check_files<W: Sink, P: Progress>(
 }
 
 /// Returns the fault of the first line that is too long.
-fn too_long(bytes: &[u8]) -> Option<PlacedFault>
+fn too_long(bytes: &[u8]) -> Option<FileFault>
     ensures { result ≡ overlong_fault bytes.now }
 {
     match overlong_line(bytes) {
-        Some(line) => Some(PlacedFault {
+        Some(line) => Some(FileFault {
             line: Some(line),
             fault: LoadFault::Input(ServeFault::LineTooLong),
         }),

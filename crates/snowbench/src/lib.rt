@@ -20,4 +20,4 @@ pub use sbl_io::{Device, Lines, ServeFault, Sink, Source, Stop};
 pub use sbl_reports::ListForm;
 pub use sbl_script::ScriptFault;
 pub use sbl_sessions::{NoWatch, RefusedEdit, Watch, serve};
-pub use script_files::{FilesFault, FilesInput, PlacedFault, long_line, overlong_line, script_text};
+pub use script_files::{FilesFault, FilesInput, FileFault, long_line, overlong_line, script_text};

@@ -25,7 +25,7 @@ pub struct FilesInput<'a> {
 
 /// The fault of a file, and the line that has it.
 #[derive(Clone, Copy, Debug, PartialEq, Eq, Drop)]
-pub struct PlacedFault {
+pub struct FileFault {
     /// The number of the line, from 1. `None` if no single line has the fault, and for a fault of the script that has a place of its own.
     pub line: Option<u64>,
     /// The fault.
@@ -36,11 +36,11 @@ pub struct PlacedFault {
 #[derive(Clone, Copy, Debug, PartialEq, Eq, Drop)]
 pub enum FilesFault {
     /// The script.
-    Script(PlacedFault),
+    Script(FileFault),
     /// The words.
-    Words(PlacedFault),
+    Words(FileFault),
     /// The expected stems: a line that is too long.
-    Stems(PlacedFault),
+    Stems(FileFault),
     /// The run itself: the commands, the lists that are compared, or what is written.
     Run(ServeFault),
 }
@@ -119,24 +119,24 @@ pub(crate) fn parse_file(
     alloc: Global,
     bytes: &[u8],
     external: &str,
-) -> Result<Script, PlacedFault>
+) -> Result<Script, FileFault>
     ensures { spec.ParsesFile bytes.now external.now result }
 {
     if let Some(line) = overlong_line(bytes) {
-        return Err(PlacedFault {
+        return Err(FileFault {
             line: Some(line),
             fault: LoadFault::Input(ServeFault::LineTooLong),
         });
     }
     let Ok(text) = script_text(alloc, bytes) else {
-        return Err(PlacedFault {
+        return Err(FileFault {
             line: None,
             fault: LoadFault::Input(ServeFault::OutOfMemory),
         });
     };
     match Script::parse(alloc, &text, external) {
         Ok(script) => Ok(script),
-        Err(fault) => Err(PlacedFault {
+        Err(fault) => Err(FileFault {
             line: None,
             fault: LoadFault::Script(fault),
         }),
@@ -162,7 +162,7 @@ fn push_word(words: &mut Vec<Vec<char>>, text: &str) -> Result<(), AllocError>
 }
 
 /// Returns the words of a file, one from each line, in order; or the fault of the first line that is no text, with its number.
-fn words_of(alloc: Global, bytes: &[u8]) -> Result<Vec<Vec<char>>, PlacedFault>
+fn words_of(alloc: Global, bytes: &[u8]) -> Result<Vec<Vec<char>>, FileFault>
     ensures words { IfOk result (λ words. map (λ w. w.items) words.items ≡ spec.line_words bytes.now) }
     ensures no_fault { OnOk result (spec.text_fault bytes.now ≡ None) }
     ensures fault { IfErr result (λ f. spec.LacksText bytes.now f) }
@@ -175,13 +175,13 @@ fn words_of(alloc: Global, bytes: &[u8]) -> Result<Vec<Vec<char>>, PlacedFault>
         let text = match text_line(line) {
             Ok(text) => text,
             Err(fault) =>
-                return Err(PlacedFault {
+                return Err(FileFault {
                     line: Some(number),
                     fault: LoadFault::Input(fault),
                 }),
         };
         if push_word(&mut words, text).is_err() {
-            return Err(PlacedFault {
+            return Err(FileFault {
                 line: None,
                 fault: LoadFault::Input(ServeFault::OutOfMemory),
             });
@@ -192,14 +192,14 @@ fn words_of(alloc: Global, bytes: &[u8]) -> Result<Vec<Vec<char>>, PlacedFault>
 }
 
 /// Returns the fault of words with which no bench opens, with the line of the first word that is too long.
-fn place_of(words: &[u8], fault: EditFault) -> PlacedFault
+fn place_of(words: &[u8], fault: EditFault) -> FileFault
     ensures { result ≡ spec.opening_place words.now fault }
 {
     let line = match fault {
         EditFault::WordTooLong => long_line(words),
         _ => None,
     };
-    PlacedFault {
+    FileFault {
         line,
         fault: LoadFault::Open(fault),
     }

@@ -8,7 +8,7 @@ use sbl_diagnostics::{offset_of_byte, push_conversion, push_named, script_fault_
 use sbl_input::{read_script, without_mark};
 use sbl_source_map::position_of;
 use snowbench::{
-    Device, FilesFault, Lines, LoadFault, PlacedFault, ScriptFault, ServeFault, Verb, Wanted,
+    Device, FilesFault, Lines, LoadFault, FileFault, ScriptFault, ServeFault, Verb, Wanted,
     long_line, overlong_line, script_text,
 };
 use std::alloc::{AllocError, Global};
@@ -43,7 +43,7 @@ fn line_text(alloc: Global, name: &str, line: u64, text: &str) -> Result<String,
 fn placed_text(
     alloc: Global,
     name: &str,
-    placed: PlacedFault,
+    placed: FileFault,
     bytes: &[u8],
     advice: &str,
 ) -> FaultText {
@@ -99,7 +99,7 @@ pub(crate) fn files_fault_text(
 ) -> FaultText {
     let (script, words, rest) = (texts.script, texts.words, texts.rest);
     match fault {
-        FilesFault::Script(PlacedFault {
+        FilesFault::Script(FileFault {
             fault: LoadFault::Script(fault),
             ..
         }) => {
@@ -113,7 +113,7 @@ pub(crate) fn files_fault_text(
         FilesFault::Stems(placed) => placed_text(alloc, rest.name(), placed, rest.bytes, SHORTEN_IT),
         FilesFault::Run(ServeFault::Cut) => String::from_str(alloc, BLOCK_HAS_NO_END).map(Some),
         FilesFault::Run(ServeFault::LineTooLong) => {
-            let placed = PlacedFault {
+            let placed = FileFault {
                 line: overlong_line(rest.bytes),
                 fault: fault.cause(),
             };
@@ -124,7 +124,7 @@ pub(crate) fn files_fault_text(
                 Some(_) => words,
                 None => rest,
             };
-            let placed = PlacedFault {
+            let placed = FileFault {
                 line: line_without_text(file.bytes),
                 fault: fault.cause(),
             };
@@ -154,7 +154,7 @@ pub(crate) fn words_fault_text(
         }
         _ => None,
     };
-    placed_text(alloc, name, PlacedFault { line, fault }, words, ONE_WORD)
+    placed_text(alloc, name, FileFault { line, fault }, words, ONE_WORD)
 }
 
 /// Returns what there is to say on the fault of a run over standard input. `input` are its first bytes, and lines are counted from its
@@ -186,7 +186,7 @@ pub(crate) fn input_fault_text(
         let rows = count_and_word(alloc, rows, "row", "rows")?;
         return format!(in alloc; "  it is the word after {rows}").map(Some);
     }
-    placed_text(alloc, STANDARD_INPUT, PlacedFault { line, fault }, input, advice)
+    placed_text(alloc, STANDARD_INPUT, FileFault { line, fault }, input, advice)
 }
 
 /// Returns the lines on a fault of the script at the beginning of an input.

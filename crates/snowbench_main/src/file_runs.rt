@@ -91,18 +91,18 @@ pub(crate) fn run_session(rt: &HostRuntime, wanted: &Wanted, names: FileNames<'_
         return FAILED;
     };
     let texts = named_files(names, &files);
-    let Ok((result, output)) = answer_files(rt, wanted, keys, names.rest.is_some(), texts) else {
+    let Ok((result, output, refusals)) = answer_files(rt, wanted, keys, names.rest.is_some(), texts) else {
         return fail_memory(rt);
     };
     match result {
-        Ok(()) if wanted.options.is_strict && output.has_refusal() => FAILED,
+        Ok(()) if wanted.options.is_strict && refusals > 0 => FAILED,
         Ok(()) => 0,
         Err(fault) => fail_files(rt, wanted, texts, fault, output.is_closed()),
     }
 }
 
-/// How a run has ended: its result, and what its output was.
-type Ended = (Result<(), FilesFault>, Output<Stdout>);
+/// How a run has ended: its result, what its output was, and how many replies refused something.
+type Ended = (Result<(), FilesFault>, Output<Stdout>, u64);
 
 /// Answers the commands over the bench of the files, or writes its rows.
 fn answer_files<'x>(
@@ -114,15 +114,14 @@ fn answer_files<'x>(
 ) -> Result<Ended, AllocError> {
     let input = input_of(wanted, texts);
     let mut writer = Device::new(Output::new(rt.stdout()));
+    let mut watch = PlaceWatch::new(rt, wanted, texts.rest.name(), None, true);
     let result = if has_commands {
         let mut commands = Lines::new(rt.alloc(), Device::new(texts.rest.bytes))?;
-        let mut watch = PlaceWatch::new(rt, wanted, texts.rest.name(), None);
         run_files(keys, &input, &mut commands, &mut writer, &mut watch)
     } else {
-        let mut progress = ProgressLine::new(rt, wanted.verb);
-        stem_files(rt.alloc(), keys, &input, &mut writer, &mut progress)
+        stem_files(rt.alloc(), keys, &input, &mut writer, &mut watch)
     };
-    Ok((result, writer.into_inner()))
+    Ok((result, writer.into_inner(), watch.refusals()))
 }
 
 /// Compares the stems of the words of a file with those of another, and returns the exit status. Prints how many differ.

@@ -1,4 +1,4 @@
-//! The places of edits that a session refuses, on standard error.
+//! What a session refuses: how often, and the places of edits, on standard error.
 
 use crate::blocks::split_at_point;
 use crate::messages::print_line;
@@ -6,12 +6,13 @@ use crate::progress_line::ProgressLine;
 use crate::streams::FirstBytes;
 use sbl_bench::{Bench, EditFault, Progress};
 use sbl_diagnostics::{TypedBlock, part_text};
-use sbl_sessions::part_of;
+use sbl_sessions::{Reply, part_of};
 use snowbench::{RefusedEdit, Wanted, Watch};
 use std::alloc::AllocError;
 use std::cell::RefCell;
 
-/// Prints what is wrong with each block that is refused for its text, and shows how many words were run before the session.
+/// Counts the replies that refuse something. If places are shown, prints what is wrong with each block that is refused for its text, and shows
+/// how many words were run before the session.
 #[derive(Drop)]
 pub(crate) struct PlaceWatch<'a> {
     rt: &'a HostRuntime,
@@ -24,6 +25,8 @@ pub(crate) struct PlaceWatch<'a> {
     lines_before: usize,
     /// Shows how many words were run.
     progress: ProgressLine<'a>,
+    shows_places: bool,
+    refusals: u64,
 }
 
 impl<'a> PlaceWatch<'a> {
@@ -33,6 +36,7 @@ impl<'a> PlaceWatch<'a> {
         wanted: &'a Wanted,
         input: &'a str,
         kept: Option<&'a RefCell<FirstBytes>>,
+        shows_places: bool,
     ) -> PlaceWatch<'a> {
         PlaceWatch {
             rt,
@@ -41,7 +45,14 @@ impl<'a> PlaceWatch<'a> {
             kept,
             lines_before: 0,
             progress: ProgressLine::new(rt, wanted.verb),
+            shows_places,
+            refusals: 0,
         }
+    }
+
+    /// Returns how many replies refused something.
+    pub(crate) fn refusals(&self) -> u64 {
+        self.refusals
     }
 
     /// Returns the lines on the fault of the block.
@@ -83,7 +94,16 @@ impl Watch for PlaceWatch<'_> {
         }
     }
 
+    fn see_reply(&mut self, reply: &Reply) {
+        if reply.is_refusal() {
+            self.refusals = self.refusals.saturating_add(1);
+        }
+    }
+
     fn see_refused(&mut self, bench: &Bench, edit: &RefusedEdit, row: u64) {
+        if !self.shows_places {
+            return;
+        }
         match edit.fault {
             EditFault::Script(_) | EditFault::AmongCount => {
                 // If there is no memory for it, nothing is shown.
@@ -98,10 +118,14 @@ impl Watch for PlaceWatch<'_> {
 
 impl Progress for PlaceWatch<'_> {
     fn see_words(&mut self, words: u64) {
-        self.progress.see_words(words);
+        if self.shows_places {
+            self.progress.see_words(words);
+        }
     }
 
     fn see_end(&mut self) {
-        self.progress.see_end();
+        if self.shows_places {
+            self.progress.see_end();
+        }
     }
 }

@@ -5,13 +5,13 @@ use crate::file_names::STANDARD_INPUT;
 use crate::messages::{FAILED, fail_memory, print_fault, word_keys};
 use crate::place_watch::PlaceWatch;
 use crate::streams::{FirstBytes, FirstBytesReader, Output};
-use snowbench::{Device, Lines, LoadFault, NoWatch, Wanted, WordKeys, answer};
+use snowbench::{Device, Lines, LoadFault, Wanted, WordKeys, answer};
 use std::alloc::AllocError;
 use std::cell::RefCell;
 use std::io::Stdout;
 
-/// How a run has ended: its result, and what its output was.
-type Ended = (Result<u64, LoadFault>, Output<Stdout>);
+/// How a run has ended: its result, what its output was, and how many replies refused something.
+type Ended = (Result<u64, LoadFault>, Output<Stdout>, u64);
 
 /// Runs what the command line asks for over standard input, and keeps its first bytes.
 fn answer_input(
@@ -23,13 +23,10 @@ fn answer_input(
     let reader = FirstBytesReader::new(rt.stdin(), kept);
     let mut lines = Lines::new(rt.alloc(), Device::new(reader))?;
     let mut writer = Device::new(Output::new(rt.stdout()));
-    let result = if wanted.options.shows_places {
-        let mut watch = PlaceWatch::new(rt, wanted, STANDARD_INPUT, Some(kept));
-        answer(wanted, keys, &mut lines, &mut writer, &mut watch)
-    } else {
-        answer(wanted, keys, &mut lines, &mut writer, &mut NoWatch {})
-    };
-    Ok((result, writer.into_inner()))
+    let shows_places = wanted.options.shows_places;
+    let mut watch = PlaceWatch::new(rt, wanted, STANDARD_INPUT, Some(kept), shows_places);
+    let result = answer(wanted, keys, &mut lines, &mut writer, &mut watch);
+    Ok((result, writer.into_inner(), watch.refusals()))
 }
 
 /// Runs what the command line asks for over standard input, and returns the exit status.
@@ -38,7 +35,7 @@ pub(crate) fn run_input(rt: &HostRuntime, wanted: &Wanted) -> u8 {
         return FAILED;
     };
     let kept = RefCell::new(FirstBytes::new(rt.alloc(), wanted.options.shows_places));
-    let Ok((result, output)) = answer_input(rt, wanted, keys, &kept) else {
+    let Ok((result, output, refusals)) = answer_input(rt, wanted, keys, &kept) else {
         return fail_memory(rt);
     };
     let kept = kept.into_inner();
@@ -48,7 +45,7 @@ pub(crate) fn run_input(rt: &HostRuntime, wanted: &Wanted) -> u8 {
             if status == 0 && kept.is_whole() {
                 print_hint(rt, wanted, kept.bytes());
             }
-            if wanted.options.is_strict && output.has_refusal() {
+            if wanted.options.is_strict && refusals > 0 {
                 return FAILED;
             }
             status
