@@ -60,14 +60,9 @@ impl VocabularyRows {
         if word.is_empty() {
             return Ok(());
         }
-        match self.words.insert(word) {
-            Err(_) => return Err(EditFault::OutOfMemory),
-            Ok(false) => return Ok(()),
-            Ok(true) => {}
-        }
-        let Some(word) = self.words.last() else {
+        if self.words.contains(word.as_slice()) {
             return Ok(());
-        };
+        }
         write_row(
             self.alloc,
             machine,
@@ -75,7 +70,10 @@ impl VocabularyRows {
             &mut self.records,
             word.as_slice(),
         )?;
-        Ok(())
+        match self.words.insert(word) {
+            Ok(_) => Ok(()),
+            Err(_) => Err(EditFault::OutOfMemory),
+        }
     }
 
     /// Appends words as `push` does, in their order.

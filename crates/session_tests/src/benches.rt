@@ -153,7 +153,7 @@ fn a_bench_holds_what_was_replied_to_before_a_fault(rt: HostRuntime) -> Result<(
 const BEGIN: &str =
     "externals ( stem )\ndefine stem as ( [ among ( 'un' () 're' () ) ] delete )\n.\n.\n";
 
-/// Commands, each with its reply, and with the rows and the count of runs after it. Each edit of a word or of the script is there.
+/// Commands, each with its reply, and with the rows and the count of runs after it. Each edit is there but `grouping`, which ENDINGS has.
 const COMMANDS: &[(&str, &str, &str)] = &[
     ("add undo\n", "ok\n", "undo,stem,do\n1\n"),
     ("add redo\n", "ok\n", "undo,stem,do\nredo,stem,do\n2\n"),

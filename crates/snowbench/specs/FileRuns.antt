@@ -7,7 +7,6 @@ use Rattle.sbl_bench.specs.Contents.{Contents}
 use Rattle.sbl_input.specs.declared.faults.LoadFault.TheVariants.{Input}
 use Rattle.sbl_io.specs.Devices.{Tally}
 use Rattle.sbl_io.specs.declared.lines.Lines.{Lines}
-use Rattle.sbl_io.specs.declared.faults.ServeFault.{ServeFault}
 use Rattle.sbl_io.specs.declared.faults.ServeFault.TheVariants as fault
 use Rattle.sbl_reports.specs.Listings.{stems_text}
 use Rattle.sbl_sessions.specs.Session.{IsSession}

@@ -11,7 +11,7 @@ use Rattle.sbl_bench.specs.declared.fault.EditFault.{EditFault}
 use Rattle.sbl_bench.specs.declared.fault.EditFault.TheVariants as edit
 use Rattle.sbl_input.specs.FileWords.{line_fault}
 use Rattle.sbl_input.specs.declared.faults.LoadFault.{LoadFault}
-use Rattle.sbl_input.specs.declared.faults.LoadFault.TheVariants.{Input, Open} 
+use Rattle.sbl_input.specs.declared.faults.LoadFault.TheVariants.{Input, Open}
 use Rattle.sbl_input.specs.declared.faults.LoadFault.TheVariants as load
 use Rattle.sbl_io.specs.LinesOf.{lines_of, max_line}
 use Rattle.sbl_io.specs.declared.faults.ServeFault.{ServeFault}
@@ -76,7 +76,8 @@ abbrev pub LacksFileScript : List ℕ → List ℕ → FileFault → Type 0
 LacksFileScript bytes external f =
     (f ≡ no_memory)
     ⊎ ((n : ℕ) × (overlong_line bytes ≡ Some n) × (f ≡ placed_at n fault.LineTooLong))
-    ⊎ ((overlong_line bytes ≡ None) × (g : ScriptFault) × (f ≡ record { line = None; fault = load.Script g }) × HasScriptFault (script_text bytes) external g)
+    ⊎ ((overlong_line bytes ≡ None) × (g : ScriptFault) × (f ≡ record { line = None; fault = load.Script g })
+    × HasScriptFault (script_text bytes) external g)
 
 abbrev pub ParsesFile : List ℕ → List ℕ → Result Script FileFault → Type 0
 ParsesFile bytes external (Ok script) = IsFileScript bytes external (source_of script)

@@ -6,7 +6,7 @@ ghost use Rattle.snowbench.specs.Program.{HasReasons};
 ghost use Rattle.snowbench.specs.ScriptFiles.{cause_of};
 ghost use Rattle.snowbench.specs.WholeFilter.{FiltersFile};
 
-use crate::script_files::{FilesFault, FileFault, parse_file};
+use crate::script_files::{FileFault, FilesFault, parse_file};
 use sbl_batch::filter_to_end;
 use sbl_io::{Lines, Sink, Source};
 

@@ -4,7 +4,9 @@ ghost use Rattle.sbl_io.specs.Devices.{HasStopped, WritesInTime};
 ghost use Rattle.sbl_io.specs.HeldInput.{KeepsTime, fault_of, input_of, reads_bound};
 ghost use Rattle.snowbench.specs.FileRuns.{ChecksFiles, HasFilesReasons, IsFilesSession, WritesFilesRows, overlong_fault};
 
-use crate::script_files::{FilesFault, FilesInput, FileFault, open_files, overlong_line, parse_file};
+use crate::script_files::{
+    FileFault, FilesFault, FilesInput, open_files, overlong_line, parse_file,
+};
 use sbl_batch::check_observed;
 use sbl_bench::{Progress, WordKeys};
 use sbl_input::LoadFault;

@@ -239,14 +239,7 @@ fn check_lists<R: Source + Drop, W: Sink, P: Progress>(
 {
     let words = read_word_block(lines)?;
     let expected = read_expected(lines)?;
-    check_observed(
-        lines.alloc(),
-        script,
-        &words,
-        &expected,
-        writer,
-        progress,
-    )
+    check_observed(lines.alloc(), script, &words, &expected, writer, progress)
 }
 
 /// Reads the lines up to a line `.` and returns them, each as `push_line` appends it. Returns `Cut` if the input ends

@@ -51,8 +51,9 @@ impl FilesFault {
         ensures { result ≡ spec.cause_of self }
     {
         match self {
-            FilesFault::Script(placed) | FilesFault::Words(placed) | FilesFault::Stems(placed) =>
-                { placed.fault }
+            FilesFault::Script(placed) | FilesFault::Words(placed) | FilesFault::Stems(placed) => {
+                placed.fault
+            }
             FilesFault::Run(fault) => LoadFault::Input(fault),
         }
     }
@@ -115,11 +116,7 @@ pub fn script_text(alloc: Global, bytes: &[u8]) -> Result<Vec<u8>, AllocError>
 }
 
 /// Returns the script of a file, or why there is none.
-pub(crate) fn parse_file(
-    alloc: Global,
-    bytes: &[u8],
-    external: &str,
-) -> Result<Script, FileFault>
+pub(crate) fn parse_file(alloc: Global, bytes: &[u8], external: &str) -> Result<Script, FileFault>
     ensures { spec.ParsesFile bytes.now external.now result }
 {
     if let Some(line) = overlong_line(bytes) {
@@ -174,11 +171,10 @@ fn words_of(alloc: Global, bytes: &[u8]) -> Result<Vec<Vec<char>>, FileFault>
         number += 1;
         let text = match text_line(line) {
             Ok(text) => text,
-            Err(fault) =>
-                return Err(FileFault {
-                    line: Some(number),
-                    fault: LoadFault::Input(fault),
-                }),
+            Err(fault) => return Err(FileFault {
+                line: Some(number),
+                fault: LoadFault::Input(fault),
+            }),
         };
         if push_word(&mut words, text).is_err() {
             return Err(FileFault {

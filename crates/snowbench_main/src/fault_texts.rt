@@ -1,14 +1,14 @@
 //! What to say on a fault beside its line: where it is, or what is missing.
 
 use crate::blocks::split_at_point;
-use crate::file_names::{FileTexts, STANDARD_INPUT};
+use crate::file_names::{RunFiles, STANDARD_INPUT};
 use crate::messages::count_and_word;
 use sbl_bench::{EditFault, MAX_WORD_LENGTH};
 use sbl_diagnostics::{offset_of_byte, push_conversion, push_named, script_fault_text};
 use sbl_input::{read_script, without_mark};
 use sbl_source_map::position_of;
 use snowbench::{
-    Device, FilesFault, Lines, LoadFault, FileFault, ScriptFault, ServeFault, Verb, Wanted,
+    Device, FileFault, FilesFault, Lines, LoadFault, ScriptFault, ServeFault, Verb, Wanted,
     long_line, overlong_line, script_text,
 };
 use std::alloc::{AllocError, Global};
@@ -94,41 +94,43 @@ fn fault_of_script(
 pub(crate) fn files_fault_text(
     alloc: Global,
     external: &str,
-    texts: FileTexts<'_>,
+    files: &RunFiles<'_>,
     fault: FilesFault,
 ) -> FaultText {
-    let (script, words, rest) = (texts.script, texts.words, texts.rest);
+    let (script, words, rest) = (&files.script, &files.words, &files.rest);
     match fault {
-        FilesFault::Script(FileFault {
-            fault: LoadFault::Script(fault),
-            ..
-        }) => {
-            let text = script_text(alloc, script.bytes)?;
-            fault_of_script(alloc, script.name(), &text, external, fault)
+        FilesFault::Script(
+            FileFault {
+                fault: LoadFault::Script(fault),
+                ..
+            },
+        ) => {
+            let text = script_text(alloc, &script.bytes)?;
+            fault_of_script(alloc, script.name, &text, external, fault)
         }
         FilesFault::Script(placed) => {
-            placed_text(alloc, script.name(), placed, script.bytes, BREAK_IT)
+            placed_text(alloc, script.name, placed, &script.bytes, BREAK_IT)
         }
-        FilesFault::Words(placed) => placed_text(alloc, words.name(), placed, words.bytes, ONE_WORD),
-        FilesFault::Stems(placed) => placed_text(alloc, rest.name(), placed, rest.bytes, SHORTEN_IT),
+        FilesFault::Words(placed) => placed_text(alloc, words.name, placed, &words.bytes, ONE_WORD),
+        FilesFault::Stems(placed) => placed_text(alloc, rest.name, placed, &rest.bytes, SHORTEN_IT),
         FilesFault::Run(ServeFault::Cut) => String::from_str(alloc, BLOCK_HAS_NO_END).map(Some),
         FilesFault::Run(ServeFault::LineTooLong) => {
             let placed = FileFault {
-                line: overlong_line(rest.bytes),
+                line: overlong_line(&rest.bytes),
                 fault: fault.cause(),
             };
-            placed_text(alloc, rest.name(), placed, rest.bytes, SHORTEN_IT)
+            placed_text(alloc, rest.name, placed, &rest.bytes, SHORTEN_IT)
         }
         FilesFault::Run(ServeFault::NotText) => {
-            let file = match line_without_text(words.bytes) {
+            let file = match line_without_text(&words.bytes) {
                 Some(_) => words,
                 None => rest,
             };
             let placed = FileFault {
-                line: line_without_text(file.bytes),
+                line: line_without_text(&file.bytes),
                 fault: fault.cause(),
             };
-            placed_text(alloc, file.name(), placed, file.bytes, "")
+            placed_text(alloc, file.name, placed, &file.bytes, "")
         }
         FilesFault::Run(_) => Ok(None),
     }
@@ -186,7 +188,13 @@ pub(crate) fn input_fault_text(
         let rows = count_and_word(alloc, rows, "row", "rows")?;
         return format!(in alloc; "  it is the word after {rows}").map(Some);
     }
-    placed_text(alloc, STANDARD_INPUT, FileFault { line, fault }, input, advice)
+    placed_text(
+        alloc,
+        STANDARD_INPUT,
+        FileFault { line, fault },
+        input,
+        advice,
+    )
 }
 
 /// Returns the lines on a fault of the script at the beginning of an input.

@@ -1,5 +1,7 @@
 //! The names of the files of a run, and their bytes.
 
+use snowbench::FilesInput;
+
 /// What standard input is called.
 pub(crate) const STANDARD_INPUT: &str = "standard input";
 
@@ -12,27 +14,32 @@ pub(crate) struct FileNames<'a> {
     pub(crate) rest: Option<&'a str>,
 }
 
-/// A file that was read.
-#[derive(Clone, Copy)]
+/// A file, its name and its bytes.
+#[derive(Drop)]
 pub(crate) struct NamedFile<'a> {
-    pub(crate) path: &'a str,
-    pub(crate) bytes: &'a [u8],
-}
-
-impl<'a> NamedFile<'a> {
-    /// Returns the name of the file, as people call it.
-    pub(crate) fn name(&self) -> &'a str {
-        file_name(self.path)
-    }
+    /// What people call the file.
+    pub(crate) name: &'a str,
+    pub(crate) bytes: Vec<u8>,
 }
 
 /// The files of a run.
-#[derive(Clone, Copy)]
-pub(crate) struct FileTexts<'a> {
+#[derive(Drop)]
+pub(crate) struct RunFiles<'a> {
     pub(crate) script: NamedFile<'a>,
     pub(crate) words: NamedFile<'a>,
     /// The commands of `run`, or the stems of `check`. Empty if there are none.
     pub(crate) rest: NamedFile<'a>,
+}
+
+impl RunFiles<'_> {
+    /// Returns what is run of the files.
+    pub(crate) fn input<'x>(&'x self, external: &'x str) -> FilesInput<'x> {
+        FilesInput {
+            external,
+            script: &self.script.bytes,
+            words: &self.words.bytes,
+        }
+    }
 }
 
 /// Returns whether more than one of the files is standard input.

@@ -2,82 +2,30 @@
 
 use crate::blocks::line_count;
 use crate::fault_texts::files_fault_text;
-use crate::file_names::{FileNames, FileTexts, NamedFile, reads_twice};
+use crate::file_names::{FileNames, NamedFile, RunFiles, file_name, reads_twice};
 use crate::messages::{
     FAILED, REFUSED, count_and_word, fail_memory, print_fault, print_line, word_keys,
 };
 use crate::place_watch::PlaceWatch;
 use crate::progress_line::ProgressLine;
-use crate::reading::{open_named, read_named};
+use crate::reading::{open_named, read_file, read_files};
 use crate::standard_input::run_input;
 use crate::streams::Output;
 use snowbench::{
-    Device, FilesFault, FilesInput, Lines, Wanted, WordKeys, check_files, filter_file, run_files,
-    stem_files,
+    Device, FilesFault, Lines, Wanted, WordKeys, check_files, filter_file, run_files, stem_files,
 };
 use std::alloc::{AllocError, Global};
 use std::io::{Read, Stdout};
-
-/// The bytes of the files of a run.
-#[derive(Drop)]
-pub(crate) struct FileBytes {
-    script: Vec<u8>,
-    words: Vec<u8>,
-    /// The commands of `run`, or the stems of `check`. Empty if there are none.
-    rest: Vec<u8>,
-}
-
-/// Reads the files of a run. `what` are the lines of the last one. If one cannot be read, prints why and returns the exit status.
-pub(crate) fn read_files(rt: &HostRuntime, names: FileNames<'_>, what: &str) -> Result<FileBytes, u8> {
-    let script = read_named(rt, names.script, "lines of the script")?;
-    let words = read_named(rt, names.words, "words")?;
-    let rest = match names.rest {
-        Some(path) => read_named(rt, path, what)?,
-        None => Vec::new(rt.alloc()),
-    };
-    Ok(FileBytes {
-        script,
-        words,
-        rest,
-    })
-}
-
-/// Returns the files with their names.
-pub(crate) fn named_files<'x>(names: FileNames<'x>, files: &'x FileBytes) -> FileTexts<'x> {
-    FileTexts {
-        script: NamedFile {
-            path: names.script,
-            bytes: files.script.as_slice(),
-        },
-        words: NamedFile {
-            path: names.words,
-            bytes: files.words.as_slice(),
-        },
-        rest: NamedFile {
-            path: names.rest.unwrap_or("-"),
-            bytes: files.rest.as_slice(),
-        },
-    }
-}
-
-/// Returns what is run of the files.
-pub(crate) fn input_of<'x>(wanted: &'x Wanted, texts: FileTexts<'x>) -> FilesInput<'x> {
-    FilesInput {
-        external: wanted.external.as_str(),
-        script: texts.script.bytes,
-        words: texts.words.bytes,
-    }
-}
 
 /// Prints the fault of a run, and returns the exit status.
 pub(crate) fn fail_files(
     rt: &HostRuntime,
     wanted: &Wanted,
-    texts: FileTexts<'_>,
+    files: &RunFiles<'_>,
     fault: FilesFault,
     is_closed: bool,
 ) -> u8 {
-    let text = files_fault_text(rt.alloc(), wanted.external.as_str(), texts, fault);
+    let text = files_fault_text(rt.alloc(), wanted.external.as_str(), files, fault);
     print_fault(rt, fault.cause(), is_closed, text, FAILED)
 }
 
@@ -90,14 +38,13 @@ pub(crate) fn run_session(rt: &HostRuntime, wanted: &Wanted, names: FileNames<'_
     let Some(keys) = word_keys(rt) else {
         return FAILED;
     };
-    let texts = named_files(names, &files);
-    let Ok((result, output, refusals)) = answer_files(rt, wanted, keys, names.rest.is_some(), texts) else {
+    let Ok((result, output, refusals)) = answer_files(rt, wanted, keys, names.rest.is_some(), &files) else {
         return fail_memory(rt);
     };
     match result {
         Ok(()) if wanted.options.is_strict && refusals > 0 => FAILED,
         Ok(()) => 0,
-        Err(fault) => fail_files(rt, wanted, texts, fault, output.is_closed()),
+        Err(fault) => fail_files(rt, wanted, &files, fault, output.is_closed()),
     }
 }
 
@@ -110,13 +57,13 @@ fn answer_files<'x>(
     wanted: &'x Wanted,
     keys: WordKeys,
     has_commands: bool,
-    texts: FileTexts<'x>,
+    files: &'x RunFiles<'_>,
 ) -> Result<Ended, AllocError> {
-    let input = input_of(wanted, texts);
+    let input = files.input(wanted.external.as_str());
     let mut writer = Device::new(Output::new(rt.stdout()));
-    let mut watch = PlaceWatch::new(rt, wanted, texts.rest.name(), None, true);
+    let mut watch = PlaceWatch::new(rt, wanted, files.rest.name, None, true);
     let result = if has_commands {
-        let mut commands = Lines::new(rt.alloc(), Device::new(texts.rest.bytes))?;
+        let mut commands = Lines::new(rt.alloc(), Device::new(files.rest.bytes.as_slice()))?;
         run_files(keys, &input, &mut commands, &mut writer, &mut watch)
     } else {
         stem_files(rt.alloc(), keys, &input, &mut writer, &mut watch)
@@ -130,21 +77,29 @@ pub(crate) fn run_check(rt: &HostRuntime, wanted: &Wanted, names: FileNames<'_>)
         Ok(files) => files,
         Err(status) => return status,
     };
-    let texts = named_files(names, &files);
-    let (count, other) = (line_count(&files.words), line_count(&files.rest));
+    let (count, other) = (
+        line_count(&files.words.bytes),
+        line_count(&files.rest.bytes),
+    );
     if count != other {
-        return print_line(rt, lengths_text(rt.alloc(), texts, count, other), REFUSED);
+        return print_line(rt, lengths_text(rt.alloc(), &files, count, other), REFUSED);
     }
-    let input = input_of(wanted, texts);
+    let input = files.input(wanted.external.as_str());
     let mut writer = Device::new(Output::new(rt.stdout()));
     let mut progress = ProgressLine::new(rt, wanted.verb);
-    let checked = check_files(rt.alloc(), &input, &files.rest, &mut writer, &mut progress);
+    let checked = check_files(
+        rt.alloc(),
+        &input,
+        &files.rest.bytes,
+        &mut writer,
+        &mut progress,
+    );
     match checked {
         Ok(differences) => {
             let status = if differences == 0 { 0 } else { FAILED };
             print_line(rt, counts_text(rt.alloc(), count, differences), status)
         }
-        Err(fault) => fail_files(rt, wanted, texts, fault, writer.into_inner().is_closed()),
+        Err(fault) => fail_files(rt, wanted, &files, fault, writer.into_inner().is_closed()),
     }
 }
 
@@ -158,11 +113,11 @@ fn counts_text(alloc: Global, words: u64, differences: u64) -> Result<String, Al
 /// Returns that two files have different numbers of lines.
 fn lengths_text(
     alloc: Global,
-    texts: FileTexts<'_>,
+    files: &RunFiles<'_>,
     count: u64,
     other: u64,
 ) -> Result<String, AllocError> {
-    let (words, stems) = (texts.words.name(), texts.rest.name());
+    let (words, stems) = (files.words.name, files.rest.name);
     let count = count_and_word(alloc, count, "line", "lines")?;
     let other = count_and_word(alloc, other, "line", "lines")?;
     format!(in alloc;
@@ -176,25 +131,26 @@ pub(crate) fn run_filter(rt: &HostRuntime, wanted: &Wanted, names: FileNames<'_>
     if reads_twice(names) {
         return run_input(rt, wanted);
     }
-    let script = match read_named(rt, names.script, "lines of the script") {
+    let script = match read_file(rt, names.script, "lines of the script") {
         Ok(script) => script,
         Err(status) => return status,
     };
+    let name = file_name(names.words);
     if names.words == "-" {
-        return filter_words(rt, wanted, names, &script, rt.stdin());
+        return filter_words(rt, wanted, script, name, rt.stdin());
     }
     match open_named(rt, names.words) {
-        Ok(words) => filter_words(rt, wanted, names, &script, words),
+        Ok(words) => filter_words(rt, wanted, script, name, words),
         Err(status) => status,
     }
 }
 
-/// Writes the row of each word, by the script of these bytes. Returns the exit status.
+/// Writes the row of each word, by this script. `name` is what the words are called. Returns the exit status.
 fn filter_words<R: Read + Drop>(
     rt: &HostRuntime,
     wanted: &Wanted,
-    names: FileNames<'_>,
-    script: &[u8],
+    script: NamedFile<'_>,
+    name: &str,
     words: R,
 ) -> u8 {
     let Ok(mut lines) = Lines::new(rt.alloc(), Device::new(words)) else {
@@ -202,22 +158,21 @@ fn filter_words<R: Read + Drop>(
     };
     let mut writer = Device::new(Output::new(rt.stdout()));
     let external = wanted.external.as_str();
-    let Err(fault) = filter_file(external, script, &mut lines, &mut writer) else {
+    let Err(fault) = filter_file(external, &script.bytes, &mut lines, &mut writer) else {
         return 0;
     };
-    let script = NamedFile {
-        path: names.script,
-        bytes: script,
+    // What was read of the line with the fault. Without memory for it nothing is said of its encoding.
+    let line = Vec::from_slice(rt.alloc(), lines.line()).unwrap_or(Vec::new(rt.alloc()));
+    let words = NamedFile { name, bytes: line };
+    let rest = NamedFile {
+        name,
+        bytes: Vec::new(rt.alloc()),
     };
-    // What was read of the line with the fault.
-    let line = NamedFile {
-        path: names.words,
-        bytes: lines.line(),
-    };
-    let texts = FileTexts {
+    let files = RunFiles {
         script,
-        words: line,
-        rest: line,
+        words,
+        rest,
     };
-    fail_files(rt, wanted, texts, fault, writer.into_inner().is_closed())
+    let is_closed = writer.into_inner().is_closed();
+    fail_files(rt, wanted, &files, fault, is_closed)
 }

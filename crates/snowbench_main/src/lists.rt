@@ -1,8 +1,9 @@
 //! `run --as FORM`: the words and stems of files as a list.
 
 use crate::file_names::FileNames;
-use crate::file_runs::{fail_files, input_of, named_files, read_files};
+use crate::file_runs::fail_files;
 use crate::messages::{FAILED, REFUSED, count_and_word, print_line, word_keys};
+use crate::reading::read_files;
 use crate::streams::Output;
 use snowbench::{Device, ListForm, ListKind, Wanted, list_files};
 use std::alloc::{AllocError, Global};
@@ -45,8 +46,7 @@ pub(crate) fn run_list(rt: &HostRuntime, wanted: &Wanted, form: &str, names: Fil
     let Some(keys) = word_keys(rt) else {
         return FAILED;
     };
-    let texts = named_files(names, &files);
-    let input = input_of(wanted, texts);
+    let input = files.input(wanted.external.as_str());
     let mut writer = Device::new(Output::new(rt.stdout()));
     let listed = list_files(rt.alloc(), kind, keys, &input, &mut writer);
     let output = writer.into_inner();
@@ -62,7 +62,7 @@ pub(crate) fn run_list(rt: &HostRuntime, wanted: &Wanted, form: &str, names: Fil
             let _ = eprintln!(rt; "{NO_STEMS}");
             FAILED
         }
-        Err(fault) => fail_files(rt, wanted, texts, fault, output.is_closed()),
+        Err(fault) => fail_files(rt, wanted, &files, fault, output.is_closed()),
     }
 }
 

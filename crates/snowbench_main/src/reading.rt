@@ -1,5 +1,6 @@
 //! Reads files, and standard input in the place of one.
 
+use crate::file_names::{FileNames, NamedFile, RunFiles, file_name};
 use crate::messages::{FAILED, REFUSED, fail_memory, print_line};
 use std::alloc::{AllocError, Global};
 use std::fs::File;
@@ -8,7 +9,7 @@ use std::{fs, io};
 
 /// Returns the bytes of a file, or of standard input if its name is `-`. If it cannot be read, prints why and returns the exit
 /// status. `what` are its lines.
-pub(crate) fn read_named(rt: &HostRuntime, path: &str, what: &str) -> Result<Vec<u8>, u8> {
+fn read_named(rt: &HostRuntime, path: &str, what: &str) -> Result<Vec<u8>, u8> {
     if path == "-" {
         return read_input(rt, what);
     }
@@ -16,6 +17,41 @@ pub(crate) fn read_named(rt: &HostRuntime, path: &str, what: &str) -> Result<Vec
         Ok(bytes) => Ok(bytes),
         Err(error) => Err(print_unread(rt, &error, unread_text(rt.alloc(), path), REFUSED)),
     }
+}
+
+/// Reads the files of a run. `what` are the lines of the last one. If one cannot be read, prints why and returns the exit status.
+pub(crate) fn read_files<'a>(
+    rt: &HostRuntime,
+    names: FileNames<'a>,
+    what: &str,
+) -> Result<RunFiles<'a>, u8> {
+    let script = read_file(rt, names.script, "lines of the script")?;
+    let words = read_file(rt, names.words, "words")?;
+    let rest = match names.rest {
+        Some(path) => read_file(rt, path, what)?,
+        None => NamedFile {
+            name: "",
+            bytes: Vec::new(rt.alloc()),
+        },
+    };
+    Ok(RunFiles {
+        script,
+        words,
+        rest,
+    })
+}
+
+/// Returns a file with its bytes. If it cannot be read, prints why and returns the exit status. `what` are its lines.
+pub(crate) fn read_file<'a>(
+    rt: &HostRuntime,
+    path: &'a str,
+    what: &str,
+) -> Result<NamedFile<'a>, u8> {
+    let bytes = read_named(rt, path, what)?;
+    Ok(NamedFile {
+        name: file_name(path),
+        bytes,
+    })
 }
 
 /// Opens a file. If it cannot be read, prints that and returns the exit status.

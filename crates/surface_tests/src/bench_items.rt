@@ -1,17 +1,37 @@
 //! sbl_bench: the rows and classes of a vocabulary, its edits, and why they are refused.
 
 use crate::common::{displays, field, letters, lists, parse_body, parse_text, text_of};
-use sbl_bench::{Bench, Class, EditFault, Row, ScriptFault, differences};
+use sbl_bench::{Bench, Class, EditFault, Row, ScriptFault, WordKeys, differences};
 use sbl_machine::{Item, Outcome};
 use sbl_script::Script;
 use std::alloc::{AllocError, Global};
+use std::hash::RandomState;
+use std::io;
 use std::process::Abort;
+use std::random::RandomSource;
 use std::test::Fail;
 
 /// A bench over the words of a text, which have commas between them.
 fn bench_over(alloc: Global, script: &str, words: &str) -> Result<Bench, Fail> {
     let words = lists(alloc, words)?;
     Ok(Bench::open(alloc, parse_text(alloc, script)?, words)?)
+}
+
+/// A source that gives the same bytes again and again, so that each run has the same keys.
+struct SameBytes;
+
+impl RandomSource for SameBytes {
+    fn fill_bytes(&self, buf: &mut [u8]) -> io::Result<()> {
+        buf.fill(5);
+        Ok(())
+    }
+}
+
+/// The same bench, with keys of its own.
+fn bench_with_keys(alloc: Global, script: &str, words: &str) -> Result<Bench, Fail> {
+    let keys = WordKeys::new(RandomState::new(&SameBytes)?);
+    let words = lists(alloc, words)?;
+    Ok(Bench::open_with_keys(alloc, keys, parse_text(alloc, script)?, words)?)
 }
 
 /// A row as `WORD STEM;`, or as `WORD` and the fault.
@@ -160,11 +180,20 @@ fn asks(rt: &impl Abort, alloc: Global, bench: &Bench) -> Result<(), Fail> {
     Ok(())
 }
 
-// Empty words and repeats are skipped.
+/// Words with an empty one and a repeat, which are skipped.
+const PLURAL_WORDS: &str = "cats,boxes,,cakes,cake,boxes,dog";
+
 #[test]
 fn a_bench_has_rows_and_classes(rt: HostRuntime) -> Result<(), Fail> {
-    let words = "cats,boxes,,cakes,cake,boxes,dog";
-    let bench = bench_over(rt.alloc(), "PLURALS", words)?;
+    let bench = bench_over(rt.alloc(), "PLURALS", PLURAL_WORDS)?;
+    let done = asks(&rt, rt.alloc(), &bench);
+    drop(bench);
+    done
+}
+
+#[test]
+fn a_bench_with_keys_is_the_same(rt: HostRuntime) -> Result<(), Fail> {
+    let bench = bench_with_keys(rt.alloc(), "PLURALS", PLURAL_WORDS)?;
     let done = asks(&rt, rt.alloc(), &bench);
     drop(bench);
     done

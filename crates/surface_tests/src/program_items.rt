@@ -1,7 +1,7 @@
 //! snowbench: what the words of a command line want, and what the program does.
 
 use crate::common::{PREFIXES, field, field_lines, number};
-use snowbench::{Device, Verb, Wanted, read_words, run};
+use snowbench::{Device, Lines, Verb, Wanted, WordKeys, read_words, run, run_with};
 use std::alloc::{AllocError, Global};
 use std::process::Abort;
 use std::test::Fail;
@@ -86,6 +86,25 @@ fn run_over(alloc: Global, wanted: &Wanted, input: &[u8]) -> Ended {
     }
 }
 
+/// Runs the program over lines, with keys.
+fn run_over_lines(alloc: Global, wanted: &Wanted, input: &[u8]) -> Result<Ended, AllocError> {
+    let mut text = Vec::new(alloc);
+    let mut errors = Vec::new(alloc);
+    let mut lines = Lines::new(alloc, Device::new(input))?;
+    let status = run_with(
+        wanted,
+        WordKeys::constant(),
+        &mut lines,
+        &mut Device::new(&mut text),
+        &mut Device::new(&mut errors),
+    );
+    Ok(Ended {
+        text,
+        status,
+        errors,
+    })
+}
+
 /// A command line, what follows the script, the status, what is written, and the fault line.
 const RUNS: &str = "snowbench stem|¶.¶undo¶redo¶.¶|0|undo,stem,do¶redo,stem,do¶|
 snowbench session|¶.¶.¶add undo¶add redo¶stems¶|0|ok¶ok¶undo,stem,do¶redo,stem,do¶|
@@ -94,11 +113,17 @@ snowbench check|¶.¶undo¶do¶.¶do¶da¶x¶|1|2,do,da,do¶|snowbench: 74 Lengt
 snowbench session| 'ab¶.¶|1||snowbench: 2 UnclosedString at 75¶
 snowbench stem --external go|¶.¶|1||snowbench: 21 NoExternal¶";
 
-/// Asserts what a run of the program gives.
+/// Asserts what a run of the program gives, over a reader and over lines.
 fn gives(rt: &impl Abort, alloc: Global, row: &str) -> Result<(), Fail> {
     let input = format!(in alloc; "{PREFIXES}{}", field_lines(alloc, row, 1)?)?;
     let wanted = wanted_by(alloc, field(row, 0))?.expect(rt, "a line that is not refused");
-    let ended = run_over(alloc, &wanted, input.as_bytes());
+    is_of_row(rt, alloc, row, &run_over(alloc, &wanted, input.as_bytes()))?;
+    let ended = run_over_lines(alloc, &wanted, input.as_bytes())?;
+    is_of_row(rt, alloc, row, &ended)
+}
+
+/// Asserts that a run gave what its row has.
+fn is_of_row(rt: &impl Abort, alloc: Global, row: &str, ended: &Ended) -> Result<(), Fail> {
     let text = field_lines(alloc, row, 3)?;
     let errors = field_lines(alloc, row, 4)?;
     assert!(rt; u32::from(ended.status) == number(row, 2), "{row}");

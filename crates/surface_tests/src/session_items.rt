@@ -4,7 +4,8 @@ use crate::common::{PREFIXES, displays, field_lines, parse_text};
 use crate::device_items::{Single, Slow};
 use sbl_bench::EditFault;
 use snowbench::{
-    Device, Lines, LoadFault, ScriptFault, ServeFault, Sink, Source, check, load, serve,
+    Device, Lines, LoadFault, ScriptFault, ServeFault, Sink, Source, WordKeys, check, load,
+    load_with_keys, serve,
 };
 use std::alloc::Global;
 use std::process::Abort;
@@ -21,6 +22,17 @@ fn serve_lines<R: Source + Drop, W: Sink>(
     writer: &mut W,
 ) -> Result<(), LoadFault> {
     let mut bench = load(lines, "stem")?;
+    let ending = serve(&mut bench, lines, writer);
+    drop(bench);
+    Ok(ending?)
+}
+
+/// Serves a bench that is loaded with keys.
+fn serve_with_keys<R: Source + Drop, W: Sink>(
+    lines: &mut Lines<R>,
+    writer: &mut W,
+) -> Result<(), LoadFault> {
+    let mut bench = load_with_keys(lines, WordKeys::constant(), "stem")?;
     let ending = serve(&mut bench, lines, writer);
     drop(bench);
     Ok(ending?)
@@ -46,6 +58,14 @@ fn session_text(alloc: Global, input: &[u8]) -> Result<Vec<u8>, Fail> {
     with_ending(alloc, text, ending)
 }
 
+/// The same, of a bench that is loaded with keys.
+fn text_with_keys(alloc: Global, input: &[u8]) -> Result<Vec<u8>, Fail> {
+    let mut text = Vec::new(alloc);
+    let mut lines = Lines::new(alloc, Device::new(input))?;
+    let ending = serve_with_keys(&mut lines, &mut Device::new(&mut text));
+    with_ending(alloc, text, ending)
+}
+
 /// The same, by devices that take one byte at a time, and by so many reads.
 fn slow_text(alloc: Global, input: &[u8], most: u64) -> Result<Vec<u8>, Fail> {
     let mut lines = Lines::with_reads(alloc, Single::new(Device::new(input)), most)?;
@@ -68,6 +88,8 @@ fn a_session_is_served(rt: HostRuntime) -> Result<(), Fail> {
         let input = session_of(alloc, field_lines(alloc, row, 0)?.as_str())?;
         let want = field_lines(alloc, row, 1)?;
         let text = session_text(alloc, input.as_bytes())?;
+        assert!(rt; text.as_slice() == want.as_bytes(), "{row}");
+        let text = text_with_keys(alloc, input.as_bytes())?;
         assert!(rt; text.as_slice() == want.as_bytes(), "{row}");
         let text = slow_text(alloc, input.as_bytes(), 1_000)?;
         assert!(rt; text.as_slice() == want.as_bytes(), "{row}");

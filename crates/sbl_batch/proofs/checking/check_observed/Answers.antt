@@ -2,9 +2,20 @@ use Rattle.std.proofs.Common.{rules, arith, ◌≡◌, ◌∙◌, ◌+◌, ◌�
 use Rattle.std.proofs.lemmas.Result.{err_from_is_err_and}
 use Rattle.sbl_script.specs.ParsedScript.{source_of}
 use Rattle.sbl_batch.specs.Checking.{count}
-use Rattle.sbl_batch.proofs.CheckFacts.{compared_all, compared_fails, compared_more, fewer_stems, fewer_words, none_counted, one_counted}
+use Rattle.sbl_batch.proofs.CheckFacts.{compared_all, compared_first, compared_fails, compared_more, fewer_stems, fewer_words, none_counted, one_counted}
 use Rattle.sbl_batch.proofs.checking.check_observed.Goals as goal
 use Rattle.sbl_batch.proofs.checking.check_observed.Goals.{then-branch, else-branch}
+
+pub loop-word-init : goal.loop-word-init
+loop-word-init g c = record {
+  made = search rules;
+  compared = compared_first (source_of c.args.script.now) c.args.words.now c.args.expected.now (g.W.Sink.held c.args.writer.now);
+  steady = search rules;
+  writes = search rules;
+  rested = search rules;
+  numbered = search rules;
+  few = search rules;
+}
 
 pub returns-in_default-first_line-clause-checked : goal.returns-in_default-first_line-clause-checked
 returns-in_default-first_line-clause-checked g c =

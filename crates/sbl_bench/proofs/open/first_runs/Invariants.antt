@@ -9,8 +9,8 @@ use Rattle.sbl_bench.proofs.Opening.{IsOpening}
 use Rattle.sbl_bench.proofs.open.first_runs.Given as goal
 
 abbrev pub invariant-loop-word : goal.invariant-loop-word
-invariant-loop-word l =
-    (goal.iterator-loop-word).can_next l.word-iterator ×
-    (goal.iterator-loop-word).is_finite l.word-iterator ×
+invariant-loop-word g l =
+    (goal.iterator-loop-word g).can_next l.word-iterator ×
+    (goal.iterator-loop-word g).is_finite l.word-iterator ×
     IsOpening (map (λ w. w.items) l.fn.words.items) (map (λ w. w.items) (into_iter_items l.word-iterator)) l.traces.entries l.meter ×
     ((s : Source) → IsLinkedMachineOf l.machine s → IsKept (under s default_limit) l.traces.entries)

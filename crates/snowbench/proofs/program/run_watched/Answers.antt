@@ -1,4 +1,4 @@
-use Rattle.std.proofs.Common.{Ok, Err, refl}
+use Rattle.std.proofs.Common.{Err, refl}
 use Rattle.snowbench.proofs.program.run_watched.Goals as goal
 
 pub returns-in-Err-clause-runs : goal.returns-in-Err-clause-runs

@@ -1,0 +1,9 @@
+use Rattle.std.proofs.Common.{rules}
+use Rattle.std.proofs.lemmas.Iterator.{YieldsList-from_chars}
+use Rattle.std.proofs.lemmas.Iterator.Adapters.{items_from_extend}
+use Rattle.snowbench.proofs.script_files.characters_of.Goals as goal
+
+pub returns : goal.returns
+returns c =
+    let e = items_from_extend c.extend.result c.extend.ensures.ran (YieldsList-from_chars c.args.text.now c.utf8.text c.chars-2.ensures.rest) in
+    search (rules, e)
