@@ -38,7 +38,13 @@ pub(crate) fn run_session(rt: &HostRuntime, wanted: &Wanted, names: FileNames<'_
     let Some(keys) = word_keys(rt) else {
         return FAILED;
     };
-    let Ok((result, output, refusals)) = answer_files(rt, wanted, keys, names.rest.is_some(), &files) else {
+    let Ok((result, output, refusals)) = answer_files(
+        rt,
+        wanted,
+        keys,
+        names.rest.is_some(),
+        &files,
+    ) else {
         return fail_memory(rt);
     };
     match result {
