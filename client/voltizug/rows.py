@@ -13,7 +13,7 @@ TABLE: Dict[str, Dict[str, str]] = {
     },
     "compare": {"differs": "*part", "words": "count differing"},
     "events": {
-        "call": "depth name", "search": "depth name k", "taken": "depth name k string", "none": "depth name k", "test": "depth name n signal",
+        "call": "depth name", "search": "depth name k", "taken": "depth name k string", "none": "depth name k",
         "put": "depth name start end text after", "return": "depth name signal", "more": "count", "stem": "stem", "refused": "name",
     },
     "unused": {"routine": "name", "among": "name k", "grouping": "name", "entry": "name k string"},

@@ -7,9 +7,10 @@ import traceback
 from operator import ne
 from typing import Any, List, Sequence, Tuple
 
-from . import commands, conditions, kept, layout, lints, loops, options, reports, rows, screen, warn, words
+from . import commands, kept, layout, lints, loops, options, reports, rows, screen, warn, words
 from .bench import Bench, typed_edits
 from .commands import BLOCKS, COMMANDS, LANGUAGE, OPEN_BLOCKS, REPORTING, WITH_TEXT
+from .conditions import with_tests
 from .desk import Desk
 from .keys import Broken, Dropped, Hangup
 from .layout import in_words, short
@@ -134,24 +135,24 @@ class Terminal(Desk):
         return mark + reports.families(lines)
 
     def reply_why(self, word: str, lines: Sequence[str]) -> List[str]:
-        figures, found = self.run_of(word, lines)
-        last, turn = found.events[-1], loops.turning(word, rows.read("events", lines), self.bench)
+        figures, events, _ = self.run_of(word, lines)
+        last, turn = events[-1], loops.turning(word, rows.read("events", lines), self.bench)
         meaning = "%s: %s" % (last.name, words.REFUSALS[last.name]) if last.kind == "refused" and last.name in words.REFUSALS else ""
-        shown = reports.why(word, found.events, figures, self.bench.places(), found.tests)
+        shown = reports.why(word, events, figures, self.bench.places())
         return shown + ["  " + line for line in (turn, meaning, words.misspelt(word, self.bench)) if line]
 
     def reply_tests(self, word: str, lines: Sequence[str]) -> List[str]:
-        _, found = self.run_of(word, lines)
+        _, events, is_known = self.run_of(word, lines)
         unknown = ["The tests of this run cannot be shown: it is too long, or near a limit."]
-        return reports.tests(found, self.bench.places()) if found.is_known else unknown
+        return reports.tests(events, self.bench.places()) if is_known else unknown
 
-    def run_of(self, word: str, lines: Sequence[str]) -> Tuple[List[Any], conditions.Found]:
-        """Returns the figures of the run of a word, and its events, from their lines, with its tests."""
+    def run_of(self, word: str, lines: Sequence[str]) -> Tuple[List[Any], List[Any], bool]:
+        """Returns the figures of the run of a word, its events, from their lines, with its tests, and whether these are known."""
         figures = self.bench.read("integers " + word)
-        found = conditions.with_tests(self.bench.program, self.bench.places(), word, rows.read("events", lines), figures)
+        events, is_known = with_tests(self.bench.program, self.bench.places(), word, rows.read("events", lines), figures)
         if self.editor.is_interrupted:
             raise Broken
-        return figures, found
+        return figures, events, is_known
 
     # Commands that are more than a request
 

@@ -199,7 +199,7 @@ class Vocabulary:
         events, figures = self.ask("events " + word, "integers " + word)
         if not events.is_done:
             return [sentence(events, ["why " + word], self.stage)]
-        shown = reports.why(word, rows.read("events", events.lines), rows.read("integers", figures.lines), self.stage.places(), {}, False)
+        shown = reports.why(word, rows.read("events", events.lines), rows.read("integers", figures.lines), self.stage.places(), False)
         return shown + self.answer("class", word, "why " + word)
 
     def changes(self, name: str) -> List[str]:
