@@ -5,8 +5,8 @@ import time
 from voltizug import faults, layout, loops, near, options, reports, rows, warn, words
 from voltizug.bench import Edit
 from voltizug.conditions import Routine
+from voltizug.editor.names import Names
 from voltizug.kept import Kept
-from voltizug.names import Names
 from voltizug.places import Places, line_and_column
 from voltizug.program import Reply
 
@@ -114,7 +114,7 @@ class Others(Case):
         events = rows.read("events", ["call,0,stem", "call,1,r", "put,1,r,0,1,k,kats", "return,1,r,f", "return,0,stem,t", "stem,kats"])
         found = rows.read("places", ["routine,r,0,20,1,1"])
         places = Places("my.sbl", b"define r as 'x' and more", b"define r as 'x' and more", found, [])
-        routine = Routine("r", rows.tokens(["word,0,6,define", "name,7,8,r", "word,9,11,as", "literal,12,15,'x'"]), {}, False)
+        routine = Routine("r", rows.tokens(["word,0,6,define", "name,7,8,r", "word,9,11,as", "literal,12,15,'x'"]), {})
         events.insert(3, routine.asked(routine.tests[0])._replace(signal="f"))
         lines = reports.why("cats", events, rows.read("integers", ["steps,5"]), places)
         self.assertEqual(lines[1:3], ["  r     'x' is false   my.sbl:1:13", "  stem  r is false"])

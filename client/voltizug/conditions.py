@@ -8,7 +8,6 @@ from typing import Any, Collection, Dict, Iterator, List, Sequence, Tuple
 
 from . import rows
 from .layout import named
-from .names import Names
 from .places import Places
 from .program import Memory, Program, encoded
 from .rows import Token
@@ -21,27 +20,27 @@ PARTS: Dict[str, Sequence[str]] = {
     **dict.fromkeys("[ ] substring tolimit delete true next atlimit false".split(), []),
 }
 COMPARISONS, OPERATORS = "== != < <= > >=".split(), "== != < <= > >= + - * / = += -= *= /=".split()
-TESTS, TURNED = "hop atmark tomark next atlimit false non not fail".split(), ("not", "fail")
+TESTS, NEGATIVE = "hop atmark tomark next atlimit false non not fail".split(), ("not", "fail")
 # How many letters of a row of commands are shown at most; the largest limit of steps.
 LONGEST, MOST_STEPS = 60, 10000000
+# Where the body begins, after `define NAME as`.
+BODY = 3
 # A test in the events of a run: TEXT, from the byte START on, and the ROW of commands with `or` and `and` in which it is, if that is not too long. A `not`
-# or a `fail` is turned: it is told only if it was false. In a plain routine no among can fail for a search that found nothing before other commands,
+# or a `fail` is negative: it is told only if it was false. In a plain routine no among can fail for a search that found nothing before other commands,
 # since each substring is in the same row of commands as its among. After a row of the kind `unknown` there may be other tests.
-Asked = namedtuple("Asked", "kind name start text row_start row is_turned is_plain signal", defaults=("", 0, "", 0, "", False, False, ""))
-# A test by the numbers of its first token and of the one after it, with its mode and the rows that it is in.
+Asked = namedtuple("Asked", "kind name start text row_start row is_negative is_plain signal", defaults=("", 0, "", 0, "", False, False, ""))
+# A test by the numbers of its first token and of the one after it; whether it is inside `backwards`; and the rows that it is in.
 Test = Tuple[int, int, bool, List[List[int]]]
 
 
 class Routine:
-    """The tests in the definition of a routine, which begins at one of the tokens. A text that is not as expected is a LookupError."""
+    """The tests in the definition of a routine, by its tokens. A text that is not as expected is a LookupError."""
 
-    def __init__(self, name: str, tokens: Sequence[Token], routines: Collection[str], is_backward: bool, begin: int = 0):
-        self.name, self.tokens, self.routines, self.is_backward, self.begin = name, tokens, routines, is_backward, begin
-        # (after `define NAME as`)
-        self.at, self.pairs = begin + 3, 0
+    def __init__(self, name: str, tokens: Sequence[Token], routines: Collection[str]):
+        self.name, self.tokens, self.routines, self.at, self.pairs = name, tokens, routines, BODY, 0
         self.tests: List[Test] = []
-        self.row([], is_backward)
-        self.is_plain = self.pairs == sum(token.text == "substring" for token in tokens[begin : self.at])
+        self.row([], False)
+        self.is_plain = self.pairs == sum(token.text == "substring" for token in tokens)
 
     def peek(self) -> str:
         return self.tokens[self.at].text if self.at < len(self.tokens) else ""
@@ -50,38 +49,38 @@ class Routine:
         self.at += 1
         return self.tokens[self.at - 1].text
 
-    def row(self, around: List[List[int]], is_backward: bool) -> str:
+    def row(self, around: List[List[int]], is_turned: bool) -> str:
         """Reads commands with `or` and `and` between them."""
         row = [self.at, self.at]
-        self.command([*around, row], is_backward)
+        self.command([*around, row], is_turned)
         while self.peek() in ("or", "and"):
             self.at += 1
-            self.command([*around, row], is_backward)
+            self.command([*around, row], is_turned)
         row[1] = self.at
         return " ".join(token.text for token in self.tokens[row[0] : min(row[1], row[0] + 3)])
 
-    def command(self, around: List[List[int]], is_backward: bool) -> None:
+    def command(self, around: List[List[int]], is_turned: bool) -> None:
         begin, is_name, word = self.at, self.tokens[self.at].kind in ("name", "literal"), self.take()
         for part in [] if is_name else PARTS[word]:
-            getattr(self, part)(around, is_backward or word == "backwards")
+            getattr(self, part)(around, is_turned or word == "backwards")
         is_compared = word == "$" and any(token.text in COMPARISONS for token in self.tokens[begin : self.at])
         if word not in self.routines if is_name else is_compared or word in TESTS:
-            self.tests.append((begin, self.at, is_backward, around))
+            self.tests.append((begin, self.at, is_turned, around))
 
-    def bracket(self, around: List[List[int]], is_backward: bool) -> None:
+    def bracket(self, around: List[List[int]], is_turned: bool) -> None:
         """Reads commands up to a closing parenthesis, and counts the amongs whose substring is among these commands."""
         found = ""
         while self.peek() != ")":
-            row = self.row(around, is_backward)
+            row = self.row(around, is_turned)
             found += "a" if row.startswith("among ") else "s" * (row in ("substring", "test substring"))
         self.at += 1
         self.pairs += found.count("sa")
 
-    def among(self, _: List[List[int]], is_backward: bool) -> None:
+    def among(self, _: List[List[int]], is_turned: bool) -> None:
         self.at += 1
         while self.peek() != ")":
             if self.take() == "(":
-                self.bracket([], is_backward)
+                self.bracket([], is_turned)
         self.at += 1
 
     def number(self, *_: object) -> None:
@@ -98,11 +97,11 @@ class Routine:
         """Returns a test as it is shown, without its signal."""
         begin, end, _, around = test
         # (the body as a whole is no row that one reads)
-        around = around[around[0][0] == self.begin + 3 and len(around) > 1 :]
+        around = around[around[0][0] == BODY and len(around) > 1 :]
         spans = [span for span in around if span[1] - span[0] <= LONGEST and len(self.text(*span)) <= LONGEST] + [[begin, end]]
         starts = [self.tokens[at].start for at in (begin, spans[0][0])]
-        is_turned = self.tokens[begin].text in TURNED
-        return Asked("test", self.name, starts[0], self.text(begin, end), starts[1], self.text(*spans[0]), is_turned, self.is_plain)
+        is_negative = self.tokens[begin].text in NEGATIVE
+        return Asked("test", self.name, starts[0], self.text(begin, end), starts[1], self.text(*spans[0]), is_negative, self.is_plain)
 
     def text(self, begin: int, end: int) -> str:
         """Returns the text of tokens as the author wrote it but for comments and line ends."""
@@ -111,11 +110,9 @@ class Routine:
 
 
 def routines_of(places: Places) -> List[Routine]:
-    """Returns the routines of a script that the program accepts, with their tests."""
-    names = Names(places.tokens)
-    routines = [item for item in names.order if item.is_routine]
-    known = {item.name.text for item in routines}
-    return [Routine(item.name.text, names.tokens, known, item.is_backward, item.first) for item in routines]
+    """Returns the routines of a script with their tests."""
+    names = places.of_kind("routine")
+    return [Routine(name, places.part(name), names) for name in names]
 
 
 def with_tests(program: Program, places: Places, word: str, events: List[Any], figures: Sequence[Any]) -> Tuple[List[Any], bool]:
@@ -149,15 +146,14 @@ class Copy:
         """Yields the start, the end and the new text of each part of a routine that is replaced, and the definitions of its tests."""
         definitions = ""
         for test in routine.tests:
-            name, tokens, is_backward = "%s%d" % (self.prefix, len(self.tests)), routine.tokens[test[0] : test[1]], test[2]
+            name, tokens = "%s%d" % (self.prefix, len(self.tests)), routine.tokens[test[0] : test[1]]
             self.tests[name] = routine, test
-            is_turned = tokens[0].text in TURNED
-            start, end = tokens[is_turned].start, tokens[-1].end
-            yield from [(start, start, " ( "), (end, end, " %s ) " % name)] if is_turned else [(start, end, " %s " % name)]
-            define = "define %s as %s" % (name, "true" if is_turned else " ".join(token.text for token in tokens))
-            define = define if is_backward == routine.is_backward else "backwardmode ( %s )" % define
-            definitions += "routines ( %s ) %s\n" % (name, define)
-        yield routine.tokens[routine.begin].start, routine.tokens[routine.begin].start, definitions
+            is_negative = tokens[0].text in NEGATIVE
+            start, end = tokens[is_negative].start, tokens[-1].end
+            yield from [(start, start, " ( "), (end, end, " %s ) " % name)] if is_negative else [(start, end, " %s " % name)]
+            define = "define %s as %s" % (name, "true" if is_negative else " ".join(token.text for token in tokens))
+            definitions += "routines ( %s ) %s\n" % (name, "backwardmode ( %s )" % define if test[2] else define)
+        yield routine.tokens[0].start, routine.tokens[0].start, definitions
 
     def events(self, program: Program, word: str, limit: int) -> List[Any]:
         """Returns the events of a word's run by the copy under a limit, with its tests; none if it cannot be run."""
@@ -180,7 +176,7 @@ def told(events: Sequence[Any], tests: Dict[str, Any]) -> Iterator[Any]:
         if not test:
             yield row
         elif row.kind == "return":
-            yield test._replace(signal="f" if test.is_turned else row.signal)
+            yield test._replace(signal="f" if test.is_negative else row.signal)
 
 
 def agreed(events: Sequence[Any], kept: Sequence[Any]) -> int:

@@ -95,7 +95,7 @@ def tests(events: Sequence[Any], places: Places) -> List[str]:
     """The tests without a name of a run. Of those that come before anything else happens, equal ones share a line."""
     asked: List[Tuple[Any, int]] = []
     for is_test, part in groupby(events, key=lambda row: row.kind == "test"):
-        asked += Counter(row for row in part if is_test and not row.is_turned).items()
+        asked += Counter(row for row in part if is_test and not row.is_negative).items()
     lines: List[Line] = []
     for row, count in asked[:MOST_TESTS]:
         times = " {:,} times".format(count) if count > 1 else ""

@@ -44,7 +44,7 @@ class Timeline:
         self.note("taken", self.line(self.places.entries.get((row.name, row.k, row.string))), k=row.k, string=row.string)
 
     def read_test(self, row: Any) -> None:
-        if not row.is_turned:
+        if not row.is_negative:
             self.note("test", self.places.text.count(b"\n", 0, row.start) + 1, True, what=row.text, true=row.signal == "t")
 
     def read_unknown(self, row: Any) -> None:
