@@ -64,6 +64,9 @@ class Stage:
     def outcomes(self) -> List[rows.Outcome]:
         return rows.outcomes(self.known("stems") or [])
 
+    def by_word(self) -> Dict[str, rows.Outcome]:
+        return {row.word: row for row in self.outcomes()}
+
 
 class Bench(Stage):
     """A script and words at work."""

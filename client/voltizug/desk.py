@@ -245,14 +245,13 @@ class Desk:
         last = self.screen.broken([line for line in [*tail, note, self.note_words(), layout.families_line(edit.pairs), layout.summary(edit)] if line])
         size = self.screen.size()
         room = max(1, size.lines - len(last) - 1 - self.editor.rows_typed(size.columns))
-        found = layout.changes(own, self.outcomes(own), room, '"changes" shows all' + " since the mark" * (own is not edit.changes))
+        found = layout.changes(own, self.added(own), room, '"changes" shows all' + " since the mark" * (own is not edit.changes))
         self.screen.write([layout.cut(layout.named(line), size.columns) for line in found] + last)
         return True
 
-    def outcomes(self, changes: Sequence[Any]) -> Dict[str, rows.Outcome]:
+    def added(self, changes: Sequence[Any]) -> Dict[str, rows.Outcome]:
         """Returns the outcomes of the words if some were added, by the words."""
-        return {row.word: row for row in self.bench.outcomes()} if any(row.kind == "added" for row in changes) else {}
+        return self.bench.by_word() if any(row.kind == "added" for row in changes) else {}
 
     def turning(self, word: str) -> str:
-        """Returns the sentence on what goes round in the run of a word."""
         return loops.turning(word, self.bench.read("events " + word), self.bench)

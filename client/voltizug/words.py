@@ -8,7 +8,7 @@ from typing import Callable, Dict, Sequence
 
 from .bench import Bench, Stage
 from .commands import COMMANDS, NAMED, OPEN_BLOCKS, STRANGE
-from .kept import is_same, read_file
+from .kept import is_same, read_lines
 from .layout import counted, in_words, named, short
 from .near import folded, meant, near
 from .options import CALLED
@@ -103,7 +103,7 @@ def in_quotes(word: str, is_sure: bool = False) -> str:
 
 def absent(line: str, bench: Stage) -> str:
     command, _, word = line.partition(" ")
-    words, form = [row.word for row in bench.outcomes()], folded(word)
+    words, form = bench.by_word(), folded(word)
     same = [other for other in words if folded(other).strip() == form.strip()]
     found = list(map(in_quotes, same[:4])) if same else near(word, words)
     question = " Did you mean %s?" % in_words(found, "or") if found else ""
@@ -117,20 +117,19 @@ def misspelt(word: str, bench: Bench) -> str:
     """Returns the question on a word that is not in the vocabulary, but near one that is; otherwise nothing."""
     is_there = not bench.size or bench.known("class " + word) is not None
     is_many = " It was run as one word, with a blank in it." * (" " in word.strip())
-    question = "" if is_there else is_many or meant(word, [row.word for row in bench.outcomes()])
+    question = "" if is_there else is_many or meant(word, bench.by_word())
     return "%s is not in the vocabulary.%s" % (in_quotes(word, " " in word), question) if question else ""
 
 
 def no_class(line: str, bench: Stage) -> str:
     stem = line.partition(" ")[2]
-    is_word = any(row.word == stem for row in bench.outcomes())
-    how = "It is a word: why %s shows its stem." if is_word else "find %s shows the words and stems that have it in them."
+    how = "It is a word: why %s shows its stem." if stem in bench.by_word() else "find %s shows the words and stems that have it in them."
     return ("No word has the stem %s. " + how) % (in_quotes(stem), short(stem)) if stem else "No word has the empty stem."
 
 
 def other_lines(line: str, bench: Stage) -> str:
     path, size = file_of(line, bench), next(int(row.count) for row in bench.read("stats") if row.kind == "words")
-    has = counted(len((read_file(path) or b"").splitlines()), "line")
+    has = counted(len(read_lines(path)), "line")
     return "%s has %s, and there are %s: it needs a line for each word. The mark stays." % (short(path), has, counted(size, "word"))
 
 
