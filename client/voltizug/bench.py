@@ -81,7 +81,7 @@ class Bench(Stage):
         self.written, self.refused_text, self.is_older = {}, None, False  # type: Dict[str, FileState], Optional[bytes], bool
         # The texts that were read, by their hashes; by the hash of a text that was saved to SCRIPT, what SCRIPT had before.
         self.read_texts, self.replaced = set(), {}  # type: Set[int], Dict[int, bytes]
-        # The texts that reload put aside, with the names of their edits; the words that were added; what differs from the mark.
+        # The texts that reload put aside, with the names of their edits; the words that were added; what differs from the mark; families.
         self.aside, self.added, self.changes = [], [], []  # type: List[Tuple[bytes, Tuple[str, ...]]], List[str], List[Any]
         self.families, self.pairs = "", ()  # type: str, Tuple[Any, ...]
 
@@ -92,7 +92,7 @@ class Bench(Stage):
         reply = self.program.start()
         self.is_waiting = not reply.is_done
         if reply.is_done:
-            self.size = next(int(row.count) for row in rows.read("stats", reply.lines) if row.kind == "words")
+            self.size = rows.figures(reply.lines)["words"]
             self.note_file()
             self.read_texts.add(hash(self.file_text))
         return reply
@@ -267,7 +267,6 @@ class Bench(Stage):
 
 
 def pairs_of(*replies: Reply) -> Tuple[Any, ...]:
-    """Returns the figures of families."""
     return tuple(row for reply in replies for row in rows.read("families", reply.lines) if row.kind == "pairs")
 
 

@@ -36,10 +36,8 @@ class Desk:
         self.completion = Completion(bench)
         self.editor = Editor(bench.kept.history, self.completion.complete, bench.saved if options.is_watching else None, self.show_saved)
         self.screen = Screen(self.editor, options.color, options.has_pager)
-        # Warnings that were given; lines in a row that are no command.
-        self.warned, self.nonsense = [], 0  # type: List[str], int
-        # Whether WORDS was saved since it was read.
-        self.has_old_words = False
+        # Warnings that were given; lines in a row that are no command; whether WORDS was saved since it was read.
+        self.warned, self.nonsense, self.has_old_words = [], 0, False  # type: List[str], int, bool
         # The files and what they had; whether `work` has waited for one without its fault; the status with which it ends.
         self.paths = [path for path in (bench.script, bench.words) if path]
         self.files: Sequence[Optional[bytes]] = ()
@@ -95,7 +93,7 @@ class Desk:
 
     def show_figures(self, reply: Reply) -> None:
         """Shows figures, and what to do if there are no words or some are refused; also that typed edits were left behind."""
-        bench, say, figures = self.bench, self.screen.say, {row.kind: int(row.count) for row in rows.read("stats", reply.lines)}
+        bench, say, figures = self.bench, self.screen.say, rows.figures(reply.lines)
         say(*self.new_lines(lints.lints(bench)))
         refused = [row for row in bench.outcomes() if row.kind == "refused"] if figures["refused"] else []
         for row in refused[:1]:
@@ -147,12 +145,10 @@ class Desk:
     # What becomes of a request
 
     def tell_long(self) -> None:
-        if self.bench.is_waiting:
-            ends = "breaks it off" if self.has_waited else "ends it"
-            self.screen.say("This takes long. Ctrl-C %s. It may be that the script loops." % ends)
-        else:
-            breaks = "" if self.bench.program.is_deaf else "Ctrl-C breaks it off. "
-            self.screen.say('This takes long. %sIf the script loops, "limit 1000" lets each run end sooner.' % breaks)
+        ends = "ends it" if self.bench.is_waiting and not self.has_waited else "breaks it off"
+        how = "" if self.bench.program.is_deaf else "Ctrl-C %s. " % ends
+        loops = "It may be that the script loops." if self.bench.is_waiting else 'If the script loops, "limit 1000" lets each run end sooner.'
+        self.screen.say("This takes long. %s%s" % (how, loops))
 
     def settle(self, reply: Reply) -> bool:
         """Says what became of a reply that is no answer; returns whether it is one."""

@@ -86,6 +86,11 @@ def by_kind(found: Iterable[Any]) -> Dict[str, List[Any]]:
     return {kind: list(part) for kind, part in groupby(found, key=lambda row: row.kind)}
 
 
+def figures(lines: Iterable[str]) -> Dict[str, int]:
+    """Returns the figures of `stats` by their names."""
+    return {row.kind: int(row.count) for row in read("stats", lines)}
+
+
 def outcomes(lines: Iterable[str]) -> List[Outcome]:
     return [Outcome(*row) for row in rows_of(lines)]
 

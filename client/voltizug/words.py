@@ -128,9 +128,8 @@ def no_class(line: str, bench: Stage) -> str:
 
 
 def other_lines(line: str, bench: Stage) -> str:
-    path, size = file_of(line, bench), next(int(row.count) for row in bench.read("stats") if row.kind == "words")
-    has = counted(len(read_lines(path)), "line")
-    return "%s has %s, and there are %s: it needs a line for each word. The mark stays." % (short(path), has, counted(size, "word"))
+    path, size = file_of(line, bench), counted(len(bench.outcomes()), "word")
+    return "%s has %s, and there are %s: it needs a line for each word. The mark stays." % (short(path), counted(len(read_lines(path)), "line"), size)
 
 
 def no_stem(_: str, bench: Stage) -> str:

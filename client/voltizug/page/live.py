@@ -209,7 +209,7 @@ class Live:
                 self.owed.pop(0)()
 
     def show_figures(self) -> None:
-        self.publish(figures={row.kind: int(row.count) for row in self.bench.read("stats")})
+        self.publish(figures=rows.figures(self.bench.known("stats") or []))
 
     def show_ink(self) -> None:
         """Shows colours and rules, as far as the program tells them; and names the edit by the definitions that differ."""
