@@ -4,7 +4,7 @@ routine of its own. If the copy does not do the same otherwise, nothing is told.
 """
 from collections import namedtuple
 from itertools import accumulate
-from typing import Any, Collection, Dict, Iterator, List, Sequence, Tuple
+from typing import Any, Collection, Dict, List, Sequence, Tuple
 
 from . import rows
 from .layout import named
@@ -133,27 +133,24 @@ class Copy:
     """The copy of a script, and its tests by the names of their routines in it."""
 
     def __init__(self, routines: Sequence[Routine], places: Places):
-        self.prefix, parts, at = "test_", [], 0  # type: str, List[bytes], int
-        while any(token.text.startswith(self.prefix) for token in places.tokens):
-            self.prefix += "x"
         self.tests: Dict[str, Tuple[Routine, Test]] = {}
-        for start, end, new in sorted((edit for routine in routines for edit in self.edits(routine)), key=lambda edit: edit[:2]):
+        edits, parts, at = [], [], 0  # type: List[Tuple[int, int, str]], List[bytes], int
+        prefix = "test_" + "x" * max((len(token.text) for token in places.tokens if token.text.startswith("test_")), default=0)
+        for routine in routines:
+            definitions = ""
+            for test in routine.tests:
+                name, tokens = prefix + str(len(self.tests)), routine.tokens[test[0] : test[1]]
+                self.tests[name] = routine, test
+                is_negative = tokens[0].text in NEGATIVE
+                start, end = tokens[is_negative].start, tokens[-1].end
+                edits += [(start, start, " ( "), (end, end, " %s ) " % name)] if is_negative else [(start, end, " %s " % name)]
+                define = "define %s as %s" % (name, "true" if is_negative else " ".join(token.text for token in tokens))
+                definitions += "routines ( %s ) %s\n" % (name, "backwardmode ( %s )" % define if test[2] else define)
+            edits.append((routine.tokens[0].start, routine.tokens[0].start, definitions))
+        for start, end, new in sorted(edits, key=lambda edit: edit[:2]):
             parts += [places.text[at:start], encoded(new)]
             at = end
         self.text = b"".join(parts) + places.text[at:]
-
-    def edits(self, routine: Routine) -> Iterator[Tuple[int, int, str]]:
-        """Yields the start, the end and the new text of each part of a routine that is replaced, and the definitions of its tests."""
-        definitions = ""
-        for test in routine.tests:
-            name, tokens = "%s%d" % (self.prefix, len(self.tests)), routine.tokens[test[0] : test[1]]
-            self.tests[name] = routine, test
-            is_negative = tokens[0].text in NEGATIVE
-            start, end = tokens[is_negative].start, tokens[-1].end
-            yield from [(start, start, " ( "), (end, end, " %s ) " % name)] if is_negative else [(start, end, " %s " % name)]
-            define = "define %s as %s" % (name, "true" if is_negative else " ".join(token.text for token in tokens))
-            definitions += "routines ( %s ) %s\n" % (name, "backwardmode ( %s )" % define if test[2] else define)
-        yield routine.tokens[0].start, routine.tokens[0].start, definitions
 
     def events(self, program: Program, word: str, limit: int) -> List[Any]:
         """Returns the events of a word's run by the copy under a limit, with its tests; none if it cannot be run."""
@@ -165,18 +162,12 @@ class Copy:
         finally:
             runner.stop()
         found = rows.read("events", reply.lines) if limited.is_done and reply.is_done else []
-        names = self.tests.keys() & {row.name for row in found if row.kind == "call"}
-        return list(told(found, {name: self.tests[name][0].asked(self.tests[name][1]) for name in names}))
-
-
-def told(events: Sequence[Any], tests: Dict[str, Any]) -> Iterator[Any]:
-    """Yields events; of the routine of a test the test in the place of its end, and nothing in that of its call."""
-    for row in events:
-        test = tests.get(getattr(row, "name", ""))
-        if not test:
-            yield row
-        elif row.kind == "return":
-            yield test._replace(signal="f" if test.is_negative else row.signal)
+        asked = {name: self.tests[name][0].asked(self.tests[name][1]) for name in self.tests.keys() & {getattr(row, "name", "") for row in found}}
+        # (of the routine of a test there is the test in the place of its end, and nothing in that of its call)
+        for i, row in enumerate(found):
+            test = asked.get(getattr(row, "name", ""))
+            found[i] = row if not test else test._replace(signal="f" if test.is_negative else row.signal) if row.kind == "return" else None
+        return [row for row in found if row]
 
 
 def agreed(events: Sequence[Any], kept: Sequence[Any]) -> int:
