@@ -25,9 +25,9 @@ TESTS, NEGATIVE = "hop atmark tomark next atlimit false non not fail".split(), (
 LONGEST, MOST_STEPS = 60, 10000000
 # Where the body begins, after `define NAME as`.
 BODY = 3
-# A test in the events of a run: TEXT, from the byte START on, and the ROW of commands with `or` and `and` in which it is, if that is not too long. A `not`
-# or a `fail` is negative: it is told only if it was false. In a plain routine no among can fail for a search that found nothing before other commands,
-# since each substring is in the same row of commands as its among. After a row of the kind `unknown` there may be other tests.
+# A test in the events of a run: TEXT, from the byte START on, and the ROW of commands with `or` and `and` in which it is, if that is not too long.
+# A `not` or a `fail` is negative: it is told only if it was false. In a plain routine each substring is in the same row of commands as its among, so
+# no among can fail for a search that found nothing before other commands. After a row of the kind `unknown` there may be other tests.
 Asked = namedtuple("Asked", "kind name start text row_start row is_negative is_plain signal", defaults=("", 0, "", 0, "", False, False, ""))
 # A test by the numbers of its first token and of the one after it; whether it is inside `backwards`; and the rows that it is in.
 Test = Tuple[int, int, bool, List[List[int]]]
@@ -49,38 +49,38 @@ class Routine:
         self.at += 1
         return self.tokens[self.at - 1].text
 
-    def row(self, around: List[List[int]], is_turned: bool) -> str:
+    def row(self, around: List[List[int]], is_back: bool) -> str:
         """Reads commands with `or` and `and` between them."""
         row = [self.at, self.at]
-        self.command([*around, row], is_turned)
+        self.command([*around, row], is_back)
         while self.peek() in ("or", "and"):
             self.at += 1
-            self.command([*around, row], is_turned)
+            self.command([*around, row], is_back)
         row[1] = self.at
         return " ".join(token.text for token in self.tokens[row[0] : min(row[1], row[0] + 3)])
 
-    def command(self, around: List[List[int]], is_turned: bool) -> None:
+    def command(self, around: List[List[int]], is_back: bool) -> None:
         begin, is_name, word = self.at, self.tokens[self.at].kind in ("name", "literal"), self.take()
         for part in [] if is_name else PARTS[word]:
-            getattr(self, part)(around, is_turned or word == "backwards")
+            getattr(self, part)(around, is_back or word == "backwards")
         is_compared = word == "$" and any(token.text in COMPARISONS for token in self.tokens[begin : self.at])
         if word not in self.routines if is_name else is_compared or word in TESTS:
-            self.tests.append((begin, self.at, is_turned, around))
+            self.tests.append((begin, self.at, is_back, around))
 
-    def bracket(self, around: List[List[int]], is_turned: bool) -> None:
+    def bracket(self, around: List[List[int]], is_back: bool) -> None:
         """Reads commands up to a closing parenthesis, and counts the amongs whose substring is among these commands."""
         found = ""
         while self.peek() != ")":
-            row = self.row(around, is_turned)
+            row = self.row(around, is_back)
             found += "a" if row.startswith("among ") else "s" * (row in ("substring", "test substring"))
         self.at += 1
         self.pairs += found.count("sa")
 
-    def among(self, _: List[List[int]], is_turned: bool) -> None:
+    def among(self, _: List[List[int]], is_back: bool) -> None:
         self.at += 1
         while self.peek() != ")":
             if self.take() == "(":
-                self.bracket([], is_turned)
+                self.bracket([], is_back)
         self.at += 1
 
     def number(self, *_: object) -> None:

@@ -71,7 +71,8 @@ def between(before: List[str], after: List[str]) -> List[Any]:
         of.setdefault(new, set()).add(old)
     split = [make["split"]("split", old, tuple(sorted(news))) for old, news in sorted(to.items()) if len(news) > 1]
     merged = [make["merged"]("merged", new, tuple(sorted(olds))) for new, olds in sorted(of.items()) if len(olds) > 1]
-    renamed = [make["renamed"]("renamed", old, *news) for old, news in sorted(to.items()) if len(news) == 1 and {old} != news and of[min(news)] == {old}]
+    ways = [(old, min(news)) for old, news in sorted(to.items()) if len(news) == 1]
+    renamed = [make["renamed"]("renamed", old, new) for old, new in ways if old != new and of[new] == {old}]
     return changed + split + merged + renamed
 
 

@@ -266,7 +266,8 @@ def may_not(why: str, command: str, path: str, then: str = "") -> str:
     to, folder = "save to %s file" if command == "save" else "name %s file", os.path.dirname(path) or "."
     room = no_room(folder) if "{room}" in MAY_NOT[why] else ""
     other, new = to % "another", to % "a new"
-    return MAY_NOT[why].format(path=short(path), c=command, other=other, Other=other.capitalize(), new=new, then=then, folder=short(folder), room=room)
+    fields = {"other": other, "Other": other.capitalize(), "new": new, "then": then, "folder": short(folder), "room": room}
+    return MAY_NOT[why].format(path=short(path), c=command, **fields)
 
 
 # By the number of a refusal what makes its sentence of the line and the bench.
