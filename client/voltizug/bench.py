@@ -241,14 +241,15 @@ class Bench(Stage):
     # Files
 
     def may_write(self, word: str, path: str) -> str:
-        """Returns a key of words.MAY_NOT if `save` or `approve` should not write to a file, or only if it is asked for again (with a ?)."""
-        is_script, name = is_same(path, self.script), os.path.realpath(path)
-        is_refused = self.refused_text is not None and self.refused_text == read_file(self.script)
-        return next((key for is_so, key in (
-            (is_same(path, self.words), "words"), (is_script and word == "approve", "script"), (is_script and is_refused, "refused?"),
-            (is_script and self.script in self.saved(), "changed"), (is_script and self.is_older, "undone?"),
-            (is_script or not os.path.isfile(path), ""), (name not in self.written, "there"), (self.written.get(name) != state_of(path), "others"),
-        ) if is_so), "")
+        """Returns a key of words.MAY_NOT if `save` or `approve` should not write to a file, or only if it is asked for again (with a ?), though
+        the program would."""
+        if is_same(path, self.script) and word == "save":
+            is_refused = self.refused_text is not None and self.refused_text == read_file(self.script)
+            return "refused?" if is_refused else "undone?" if self.is_older and self.script not in self.saved() else ""
+        name = os.path.realpath(path)
+        if not os.path.isfile(path) or is_same(path, self.script) or is_same(path, self.words):
+            return ""
+        return "there" if name not in self.written else "others" if self.written[name] != state_of(path) else ""
 
     def write(self, word: str, path: str) -> Reply:
         """Has the program write the script (`save`) or the stems (`approve`) to a file."""

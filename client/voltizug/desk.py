@@ -189,7 +189,7 @@ class Desk:
         elif code == 48 and not reply.said:
             # (a fault of the whole script has no line)
             said = "%s. %s" % (name, said)
-        found, most = self.bench.read("faults")[1:], max(1, self.screen.size().lines // 3)
+        found, most = self.bench.read("faults")[1:] if code == 48 else [], max(1, self.screen.size().lines // 3)
         others = [layout.cut(layout.named("also %s:%s: %s" % row[5:8]), self.screen.size().columns) for row in found[:most]]
         self.screen.say(said, *others, "{:,} more faults".format(len(found) - most) if len(found) > most else "")
         self.nonsense = self.nonsense + 1 if code == 52 and self.editor.has_key() else 0

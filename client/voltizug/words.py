@@ -205,8 +205,10 @@ def not_written(command: str, path: str, bench: Stage) -> str:
     if not path:
         return "%s needs a file: %s%s." % (command, COMMANDS[command].usage, ", such as save " + short(bench.script) if command == "save" else "")
     folder, is_script, is_there = os.path.dirname(path) or ".", is_same(path, bench.script), os.path.exists(path)
+    is_list = is_same(path, bench.words)
     return may_not(next(key for is_so, key in (
-        (command != "save" and is_script, "script"), (command == "append" and is_there and not is_same(path, bench.words), "no words"),
+        (command != "append" and is_list, "words"), (command != "save" and is_script, "script"),
+        (command == "append" and is_there and not is_list, "no words"),
         (os.path.realpath(path) == os.path.realpath(bench.script) and not os.path.lexists(path), "gone"),
         (not os.path.isdir(folder), "no folder"), (os.path.isdir(path), "folder"), (not os.access(path if is_there else folder, os.W_OK), "closed"),
         (path in bench.saved() or is_script, "changed"), (is_there, "full, there"), (True, "full"),
@@ -249,16 +251,12 @@ def converting(code: str, path: str) -> str:
 
 
 def early(line: str, bench: Stage) -> str:
-    """Returns what is wrong with the line before a block, so that it opens none."""
-    command, name, k = [*line.split(" ", 2), "", ""][:3]
-    if command in OPEN_BLOCKS:
+    """Returns what is wrong with the line before a block, so that it opens none. The program says so of an empty block, too."""
+    if line in OPEN_BLOCKS:
         return ""
-    places, is_among = bench.places(), command == "among"
-    if is_among and (not name or places.kind(name) == "routine" and not re.match(r"[0-9]{1,9}\Z", k)):
-        return refused(52, line, bench)
-    if places.kind(name) != ("grouping" if command == "grouping" else "routine") or k and not is_among:
-        return refused(45, line, bench)
-    return amongs_of(line, bench) if is_among and not 1 <= int(k) <= places.count(name) else ""
+    code, (command, name) = (bench.program.ask([line, "."]).refusal() or (0, ""))[0], [*line.split(" ", 2), ""][:2]
+    is_unknown = command == "among" and name and bench.places().kind(name) != "routine"
+    return refused(45 if is_unknown else code, line, bench) if is_unknown or code in (45, 46, 52, 53) else ""
 
 
 def may_not(why: str, command: str, path: str, then: str = "") -> str:
