@@ -128,13 +128,14 @@ class Bench(Stage):
 
     # Asking
 
-    def ask(self, line: str) -> Reply:
-        reply = self.settled(self.program.ask([line]))
+    def ask(self, *lines: str) -> Reply:
+        """Asks for something that is no edit."""
+        reply = self.settled(self.program.ask(lines))
         if reply.state == ENDED:
             # (somebody killed the program, and it is there again)
-            reply = self.settled(self.program.ask([line]))
+            reply = self.settled(self.program.ask(lines))
         if reply.is_done:
-            self.note(line, reply)
+            self.note(lines[0], reply)
         return reply
 
     def note(self, line: str, reply: Reply) -> None:

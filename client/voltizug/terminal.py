@@ -252,7 +252,7 @@ class Terminal(Desk):
         elif end != ".":
             self.screen.say("Nothing was done: the block has no line with only a point at its end.")
         elif block[0] == "families":
-            reply = self.bench.settled(self.bench.program.ask([*block, "."]))
+            reply = self.bench.ask(*block, ".")
             if self.is_done(reply, "families"):
                 self.screen.write(reports.families(reply.lines), is_report=True)
         elif not self.edit([*block, "."]):

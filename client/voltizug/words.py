@@ -250,11 +250,11 @@ def converting(code: str, path: str) -> str:
     return "iconv -f %s -t utf-8 %s > NEW. Then, if NEW is right: mv NEW %s" % (code, name, name)
 
 
-def early(line: str, bench: Stage) -> str:
+def early(line: str, bench: Bench) -> str:
     """Returns what is wrong with the line before a block, so that it opens none. The program says so of an empty block, too."""
     if line in OPEN_BLOCKS:
         return ""
-    code, (command, name) = (bench.program.ask([line, "."]).refusal() or (0, ""))[0], [*line.split(" ", 2), ""][:2]
+    code, (command, name) = (bench.ask(line, ".").refusal() or (0, ""))[0], [*line.split(" ", 2), ""][:2]
     is_unknown = command == "among" and name and bench.places().kind(name) != "routine"
     return refused(45 if is_unknown else code, line, bench) if is_unknown or code in (45, 46, 52, 53) else ""
 
