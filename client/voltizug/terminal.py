@@ -56,8 +56,8 @@ class Terminal(Desk):
             self.edit([line or "reload"])
         elif command in BLOCKS or line in OPEN_BLOCKS:
             self.read_block([line])
-        elif DEFINITION.match(line):
-            name, is_routine = DEFINITION.match(line).groups()
+        elif definition := DEFINITION.match(line):
+            name, is_routine = definition.groups()
             self.read_block(["%s %s" % ("routine" if is_routine else "grouping", name), line])
         elif command in ("save", "approve"):
             self.write(command, argument.strip())
