@@ -139,13 +139,13 @@ class Copy:
         for routine in routines:
             definitions = ""
             for test in routine.tests:
-                name, tokens = prefix + str(len(self.tests)), routine.tokens[test[0] : test[1]]
+                name, (first, after, is_back, _) = prefix + str(len(self.tests)), test
                 self.tests[name] = routine, test
-                is_negative = tokens[0].text in NEGATIVE
+                tokens, is_negative = routine.tokens[first:after], routine.tokens[first].text in NEGATIVE
                 start, end = tokens[is_negative].start, tokens[-1].end
                 edits += [(start, start, " ( "), (end, end, " %s ) " % name)] if is_negative else [(start, end, " %s " % name)]
                 define = "define %s as %s" % (name, "true" if is_negative else " ".join(token.text for token in tokens))
-                definitions += "routines ( %s ) %s\n" % (name, "backwardmode ( %s )" % define if test[2] else define)
+                definitions += "routines ( %s ) %s\n" % (name, "backwardmode ( %s )" % define if is_back else define)
             edits.append((routine.tokens[0].start, routine.tokens[0].start, definitions))
         for start, end, new in sorted(edits, key=lambda edit: edit[:2]):
             parts += [places.text[at:start], encoded(new)]
