@@ -5,7 +5,6 @@ from typing import Dict, Iterable, List, Sequence, Set, Tuple
 
 from .bench import Bench
 from .layout import in_words, named, short
-from .names import Names
 from .places import LARGEST, Places, line_and_column
 from .rows import Outcome, Token
 
@@ -33,7 +32,7 @@ def lints(bench: Bench, has_all: bool = False) -> List[str]:
         (left.start, "the slice is empty here: " + EMPTY[after.text]) for left, right, after in zip(tokens, tokens[1:], tokens[2:])
         if left.text == "[" and right.text == "]" and after.text in EMPTY
     ]
-    found += [*sure_alternatives(tokens), *unset_slices(Names(places.tokens)), *plain_braces(tokens)]
+    found += [*sure_alternatives(tokens), *unset_slices(places), *plain_braces(tokens)]
     found += strange_strings(places, outcomes, tokens) if has_all or bench.size >= FEW else []
     found += [(token.start, beyond % short(token.text)) for token in tokens if has_all and token.kind == "literal" and not token.text.isascii()]
     shown = ["%s:%d:%d: %s" % (named(bench.script), *line_and_column(places.text, start), what) for start, what in sorted(found)]
@@ -57,9 +56,9 @@ def plain_braces(tokens: Sequence[Token]) -> Iterable[Tuple[int, str]]:
         yield token.start, "%s has { and } as letters: no stringescapes {} is above it" % short(token.text)
 
 
-def unset_slices(names: Names) -> Iterable[Tuple[int, str]]:
+def unset_slices(places: Places) -> Iterable[Tuple[int, str]]:
     """The first command of a routine that takes the slice, if there is no [ or no ] in the routine, in what it calls, and in what calls it."""
-    parts = {item.name.text: names.part(item)[1:] for item in names.order if item.is_routine}
+    parts = {name: places.part(name)[2:] for name in places.of_kind("routine")}
     calls = {name: {token.text for token in part}.intersection(parts) for name, part in parts.items()}
     callers: Dict[str, Set[str]] = {name: set() for name in parts}
     for name, others in calls.items():
