@@ -3,6 +3,7 @@
 
   python3 tests/sources/grouped TOP JOBS CRATE[/EDIT]..         TOP: a copy of the repository in which these crates were checked
   python3 tests/sources/grouped TOP JOBS --record CRATE[/EDIT]..         the same; writes what came of each edit to tests/sources/tried.csv
+  python3 tests/sources/grouped TOP JOBS --functions CRATE[/EDIT]..      the same with --record, by checks of the functions that edits change
   python3 tests/sources/grouped TOP JOBS --untried CRATE..      prints the edits that tried.csv does not say are refused as all is now
   python3 tests/sources/grouped TOP JOBS --tried CRATE..        only says what tried.csv has of these crates' edits
   python3 tests/sources/grouped TOP JOBS --sample N COMMIT      tries N edits of all crates, which the commit chooses
@@ -144,6 +145,18 @@ def try_sample(kit: Kit, jobs: int, number: int, commit: str, tally: Tally) -> N
         tally.add(edit, verdict)
 
 
+def try_functions(kit: Kit, jobs: int, wanted: dict[str, set[str]], tally: Tally) -> None:
+    """Tries the edits of these crates in checks of the functions that they change, and writes to tried.csv what came of each."""
+    sources = {it: Sources(kit.folder(it)) for it in wanted}
+    edits = [edit for it, names in wanted.items() for edit in edits_of(kit, it, sources[it]) if not edit.is_control and (not names or edit.name in names)]
+    sample, keepers = Sample(kit, sources, edits), {it: keeper(kit, it) for it in wanted}
+    for edit, verdict in sample.try_all(sample.edits, jobs, lambda edit, verdict, seconds: keepers[edit.crate](edit, verdict, seconds)):
+        tally.add(edit, verdict)
+    for edit in edits:
+        if edit not in sample.edits:
+            tally.add(edit, Verdict(Kind.UNKNOWN, "it is not inside of bodies: it needs a check of the whole crate"))
+
+
 def compile_edits(kit: Kit, wanted: dict[str, set[str]]) -> bool:
     """Compiles the edits of these crates, prints those that do not compile, and returns whether all compile."""
     sources = {it: Sources(kit.folder(it)) for it in wanted}
@@ -169,6 +182,8 @@ def main(top: str, jobs: str, *names: str) -> int:
         return 1 if untried(kit, words or list(kit.crates)) else 0
     if verb == "--sample":
         try_sample(kit, int(jobs), int(words[0]), words[1], tally)
+    elif verb == "--functions":
+        try_functions(kit, int(jobs), edits_by_crate(words), tally)
     else:
         for crate, wanted in edits_by_crate(words).items():
             is_proved &= try_crate(kit, crate, wanted, int(jobs), tally, verb == "--record")
