@@ -190,7 +190,8 @@ class Desk:
             # (a fault of the whole script has no line)
             said = "%s. %s" % (name, said)
         found, most = self.bench.read("faults")[1:] if code == 48 else [], max(1, self.screen.size().lines // 3)
-        others = [layout.cut(layout.named("also %s:%s: %s" % row[5:8]), self.screen.size().columns) for row in found[:most]]
+        others = ["also %s:%s: %s" % row[5:8] if row.line else "also: " + row.sentence for row in found[:most]]
+        others = [layout.cut(layout.named(line), self.screen.size().columns) for line in others]
         self.screen.say(said, *others, "{:,} more faults".format(len(found) - most) if len(found) > most else "")
         self.nonsense = self.nonsense + 1 if code == 52 and self.editor.has_key() else 0
         # (of a script that was pasted one line is enough)

@@ -35,7 +35,7 @@ SENTENCES: Dict[int, str] = {
 }
 # Why `save`, `approve` or `append` does not write to a file. {other} is what to do, {new} the same with a new file.
 MAY_NOT: Dict[str, str] = {
-    "there": "{path} is there already, and {c} does not overwrite it. Nothing was written: {new}.",
+    "there": "{path} is there already, and {c} does not overwrite it. Nothing was written: {new}, or delete that one first.",
     "others": "{path} was changed since {c} wrote it. Nothing was written: {new}.",
     "words": "{path} has the words, and {c} does not overwrite it. Nothing was written: {other}.",
     "script": "{path} has the script, and {c} does not overwrite it. Nothing was written: {other}.",
@@ -154,6 +154,9 @@ def no_name(line: str, bench: Stage) -> str:
         return begin + "this is a " + use % short(name)
     if any(row.kind == "integer" and row.name == name for row in bench.read("integers a")):
         return "%sthis is an integer variable, and no %s. integers WORD shows its value at the end of a run." % (begin, kinds[0])
+    entry = next((key for key in places.entries if argument in (key[2], "'%s'" % key[2])), None) if command == "uses" else None
+    if entry:
+        return "%s is a string of an among: uses %s %s %s." % (short(argument), *map(short, entry))
     others = " The script has %s." % (in_words(there, "and") if there else "none")
     others += " Declare and define a new one in the file." if command in ("routine", "grouping") else ""
     return "%sthere is no %s of this name.%s" % (begin, " or ".join(kinds), meant(name, there) or others)
@@ -181,6 +184,8 @@ def unknown(line: str, bench: Stage) -> str:
     if command in COMMANDS:
         return "%s needs more: %s." % (command, COMMANDS[command].usage) if COMMANDS[command].takes else "%s takes nothing after it." % command
     longer = [name for name in COMMANDS if name.startswith(command.casefold())] if command else []
+    if line and bench.known("class " + line) is not None:
+        return "%s is a word: why %s shows its way to its stem. help lists the commands." % (short(line), short(line))
     question = meant(command, COMMANDS) or (" Did you mean %s?" % in_words(longer, "or") if 0 < len(longer) < 4 else "")
     return "%s is not a command.%s help lists the commands." % (short(command or line.strip()), question)
 
