@@ -67,7 +67,7 @@ class Terminal(Desk):
             self.write(command, argument.strip())
         elif not hasattr(self, "do_" + command):
             self.ask(line)
-        elif argument and not COMMANDS[command].takes and not TO_FILE.match(line):
+        elif argument and not COMMANDS[command].takes:
             self.screen.say(words.unknown(line, self.bench))
         else:
             getattr(self, "do_" + command)(argument)
@@ -84,7 +84,8 @@ class Terminal(Desk):
             return
         # (a string may be typed as it is shown)
         line = re.sub(r"\A(uses \S+ [0-9]+) '(.*)'\Z", r"\1 \2", line)
-        reply = self.bench.ask({"changes": "changes", "tests": "events " + argument}.get(command, "largest 10" if line == "largest" else line))
+        asked = {"changes": "changes", "tests": "events " + argument}.get(command, {"largest": "largest 10", "lint": "echo"}.get(line, line))
+        reply = self.bench.ask(asked)
         if not self.is_done(reply, line):
             return
         self.nonsense = 0
@@ -118,6 +119,9 @@ class Terminal(Desk):
         found = [row for row in rows.read("changes", lines) if any(text in name for name in rows.names_of(row))]
         all_of = "no change has %s" % short(text) if text and not found else layout.figures(found)
         return layout.changes(found, self.added(found)) + [all_of]
+
+    def reply_lint(self, *_: object) -> List[str]:
+        return [*warn.warnings_on(self.bench.script, self.bench.words), *lints.lints(self.bench, has_all=True)] or ["nothing was found"]
 
     def reply_script(self, *_: object) -> List[str]:
         return readable(self.bench.program.now.text).rstrip("\n").split("\n")
@@ -170,11 +174,6 @@ class Terminal(Desk):
 
     def do_limit(self, _: str) -> None:
         self.screen.say("Each run may use {:,} steps. limit N sets another number.".format(int(self.bench.program.now.limit)))
-
-    def do_lint(self, argument: str) -> None:
-        found = [*warn.warnings_on(self.bench.script, self.bench.words), *lints.lints(self.bench, has_all=True)] or ["nothing was found"]
-        to_file = TO_FILE.match("lint " + argument)
-        self.screen.write([screen.to_file(os.path.expanduser(to_file[2]), found)] if to_file else found, is_report=True)
 
     def do_add(self, text: str) -> None:
         parts, reply = text.split(), "one"

@@ -109,6 +109,8 @@ def absent(line: str, bench: Stage) -> str:
     question = " Did you mean %s?" % in_words(found, "or") if found else ""
     if same and folded(same[0]) == form and same[0].casefold() != word.casefold():
         question = " It is there in another form of Unicode (NFC and NFD are different words)."
+    if command == "class" and bench.known("stem " + word) is not None:
+        return "%s is a stem and no word: stem %s shows its words." % (in_quotes(word), short(word))
     why = "" if found or command in ("remove", "why") or word != word.strip() else ' "why %s" shows how it would be stemmed.' % short(word)
     return "%s is not in the vocabulary.%s%s" % (in_quotes(word), question, why)
 
@@ -182,7 +184,9 @@ def unknown(line: str, bench: Stage) -> str:
         what = "and a number: among NAME K, then an among, then a line with a single point."
         return "%s needs a name%s%s" % (command, ": %s." % COMMANDS["uses"].usage if command == "uses" else " " + what, known)
     if command in COMMANDS:
-        return "%s needs more: %s." % (command, COMMANDS[command].usage) if COMMANDS[command].takes else "%s takes nothing after it." % command
+        other = {"classes": "class WORD", "stems": "find TEXT", "counts": "uses NAME", "script": "show NAME"}.get(command, "")
+        said = "%s takes nothing after it." % command + " For a part of it: %s." % other * bool(other)
+        return "%s needs more: %s." % (command, COMMANDS[command].usage) if COMMANDS[command].takes else said
     longer = [name for name in COMMANDS if name.startswith(command.casefold())] if command else []
     if line and bench.known("class " + line) is not None:
         return "%s is a word: why %s shows its way to its stem. help lists the commands." % (short(line), short(line))
