@@ -279,5 +279,6 @@ def may_not(why: str, command: str, path: str, then: str = "") -> str:
 
 # By the number of a refusal what makes its sentence of the line and the bench.
 SPECIAL: Dict[int, Callable[[str, Stage], str]] = {
+    54: lambda _, bench: SENTENCES[54] + " remove WORD takes an added word out." * bool(getattr(bench, "added", [])),
     41: absent, 45: no_name, 46: amongs_of, 52: unknown, 53: no_name, 57: bad_file, 59: no_class, 67: no_stem, 74: other_lines,
 }
