@@ -2,6 +2,7 @@
 own, and makes no sentence.
 """
 import os
+import time
 from typing import Any, Callable, Dict, List, NamedTuple, Optional, Sequence, Set, Tuple
 
 from . import rows
@@ -35,9 +36,10 @@ class Stage:
         self.known_places: Optional[Places] = None
 
     def saved(self) -> Dict[str, FileState]:
-        """Returns the files that were saved since they were read, with their states. (An editor may take a file away for a moment.)"""
+        """Returns the files that were saved since they were read, with their states. (An editor may take a file away or empty it for a moment.)"""
         now = {path: (state_of(path), state) for path, state in dict(self.seen).items()}
-        return {path: state for path, (state, before) in now.items() if state not in (None, before)}
+        changed = {path: state for path, (state, before) in now.items() if state and state != before}
+        return {path: state for path, state in changed.items() if state[1] or abs(time.time() - state[0] / 1e9) > 1}
 
     def settled(self, reply: Reply) -> Reply:
         """Returns the reply after what has to be done if the program is gone."""

@@ -22,6 +22,8 @@ TO_FILE = re.compile(r"(.*\S)\s+>\s*(\S+)\s*\Z")
 USAGE = "usage: %s work [--watch] [--rows | --text] [--color WHEN] [--no-pager] [--external NAME] [--from TEXT] SCRIPT [WORDS]" % options.CALLED
 # Replies that are not broken, since an author wrote them.
 TEXTS = ("script", "show", "echo", "events")
+# By report how many of its last lines are figures.
+FIGURES = {"changes": 1, "families": 2}
 
 
 class Terminal(Desk):
@@ -52,6 +54,8 @@ class Terminal(Desk):
             self.screen.say("A file has a fault, so no command runs yet. Correct it there%s. quit or Ctrl-D ends." % then)
         elif len(encoded(line)) > LONGEST:
             self.screen.say(words.SENTENCES[72])
+        elif line == "families" and self.bench.families and not self.editor.pending:
+            self.ask("families " + self.bench.families)
         elif line in ("", "reload", "undo", "redo") or command in ("limit", "replace") and argument:
             self.edit([line or "reload"])
         elif command in BLOCKS or line in OPEN_BLOCKS:
@@ -73,13 +77,15 @@ class Terminal(Desk):
         found = TO_FILE.match(line) if line.partition(" ")[0] in REPORTING else None
         line, path = found.groups() if found else (line, "")
         command, _, argument = line.partition(" ")
-        is_piped = " | " in argument or argument.endswith(" >") or argument == ">" and command in COMMANDS and not COMMANDS[command].takes
+        is_alone = argument in (">", ">>", "|") and command in COMMANDS and not COMMANDS[command].takes
+        is_piped = " | " in " " + argument or " >> " in " " + argument or argument.endswith(" >") or is_alone
         if is_piped and command in REPORTING and command != "uses":
             self.screen.say("A report goes into a file by > FILE, as in: classes > my.classes. There are no pipes here.")
             return
         # (a string may be typed as it is shown)
         line = re.sub(r"\A(uses \S+ [0-9]+) '(.*)'\Z", r"\1 \2", line)
-        reply = self.bench.ask({"changes": "changes", "tests": "events " + argument}.get(command, "largest 10" if line == "largest" else line))
+        asked = {"changes": "changes", "tests": "events " + argument}.get(command, {"largest": "largest 10", "lint": "echo"}.get(line, line))
+        reply = self.bench.ask(asked)
         if not self.is_done(reply, line):
             return
         self.nonsense = 0
@@ -90,7 +96,7 @@ class Terminal(Desk):
         if path:
             self.screen.say(screen.to_file(os.path.expanduser(path), shown))
         else:
-            self.screen.write(shown, is_report=command in REPORTING, is_text=command in TEXTS)
+            self.screen.write(shown, is_report=command in REPORTING, is_text=command in TEXTS, last=FIGURES.get(command, 0))
 
     # Replies that are shown with more than their rows
 
@@ -105,12 +111,17 @@ class Terminal(Desk):
         return [short(word) + " is removed."]
 
     def reply_mark(self, path: str, _: Sequence[str]) -> List[str]:
-        return [layout.figures(self.bench.changes) if path else "Changes are told since now."]
+        figures, changed = layout.figures(self.bench.changes), sum(row.kind == "changed" for row in self.bench.changes)
+        doubt = "Most stems differ. %s needs the stems alone, one on a line, in the order of the words, as approve writes them." % short(path)
+        return [doubt] * (2 * changed > self.bench.size) + [figures] if path else ["The mark is set: changes are counted from here."]
 
     def reply_changes(self, text: str, lines: Sequence[str]) -> List[str]:
         found = [row for row in rows.read("changes", lines) if any(text in name for name in rows.names_of(row))]
         all_of = "no change has %s" % short(text) if text and not found else layout.figures(found)
         return layout.changes(found, self.added(found)) + [all_of]
+
+    def reply_lint(self, *_: object) -> List[str]:
+        return [*warn.warnings_on(self.bench.script, self.bench.words), *lints.lints(self.bench, has_all=True)] or ["nothing was found"]
 
     def reply_script(self, *_: object) -> List[str]:
         return readable(self.bench.program.now.text).rstrip("\n").split("\n")
@@ -130,7 +141,10 @@ class Terminal(Desk):
 
     def reply_families(self, path: str, lines: Sequence[str]) -> List[str]:
         mark = ["%s begins with a byte order mark, which is part of its first word." % short(path)] * (kept.read_file(path) or b"").startswith(BOM)
-        return mark + reports.families(lines)
+        text, there = (kept.read_file(path) or b"").decode("utf-8", "surrogateescape"), self.bench.by_word()
+        strange = [word for word in re.split("[ \t\r\n,]+", text) if word and word not in there][:1]
+        first = ["The first word that is not in the vocabulary is %s." % words.in_quotes(word) for word in strange]
+        return mark + warn.on_lines(layout.named(path), path, text, warn.DECOMPOSED) + first + reports.families(lines)
 
     def reply_why(self, word: str, lines: Sequence[str]) -> List[str]:
         figures, events, _ = self.run_of(word, lines)
@@ -160,10 +174,6 @@ class Terminal(Desk):
 
     def do_limit(self, _: str) -> None:
         self.screen.say("Each run may use {:,} steps. limit N sets another number.".format(int(self.bench.program.now.limit)))
-
-    def do_lint(self, _: str) -> None:
-        found = [*warn.warnings_on(self.bench.script, self.bench.words), *lints.lints(self.bench, has_all=True)]
-        self.screen.write(found or ["nothing was found"], is_report=True)
 
     def do_add(self, text: str) -> None:
         parts, reply = text.split(), "one"

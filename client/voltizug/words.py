@@ -35,7 +35,7 @@ SENTENCES: Dict[int, str] = {
 }
 # Why `save`, `approve` or `append` does not write to a file. {other} is what to do, {new} the same with a new file.
 MAY_NOT: Dict[str, str] = {
-    "there": "{path} is there already, and {c} does not overwrite it. Nothing was written: {new}.",
+    "there": "{path} is there already, and {c} does not overwrite it. Nothing was written: {new}, or delete that one first.",
     "others": "{path} was changed since {c} wrote it. Nothing was written: {new}.",
     "words": "{path} has the words, and {c} does not overwrite it. Nothing was written: {other}.",
     "script": "{path} has the script, and {c} does not overwrite it. Nothing was written: {other}.",
@@ -109,6 +109,8 @@ def absent(line: str, bench: Stage) -> str:
     question = " Did you mean %s?" % in_words(found, "or") if found else ""
     if same and folded(same[0]) == form and same[0].casefold() != word.casefold():
         question = " It is there in another form of Unicode (NFC and NFD are different words)."
+    if command == "class" and bench.known("stem " + word) is not None:
+        return "%s is a stem and no word: stem %s shows its words." % (in_quotes(word), short(word))
     why = "" if found or command in ("remove", "why") or word != word.strip() else ' "why %s" shows how it would be stemmed.' % short(word)
     return "%s is not in the vocabulary.%s%s" % (in_quotes(word), question, why)
 
@@ -154,6 +156,9 @@ def no_name(line: str, bench: Stage) -> str:
         return begin + "this is a " + use % short(name)
     if any(row.kind == "integer" and row.name == name for row in bench.read("integers a")):
         return "%sthis is an integer variable, and no %s. integers WORD shows its value at the end of a run." % (begin, kinds[0])
+    entry = next((key for key in places.entries if argument in (key[2], "'%s'" % key[2])), None) if command == "uses" else None
+    if entry:
+        return "%s is a string of an among: uses %s %s %s." % (short(argument), *map(short, entry))
     others = " The script has %s." % (in_words(there, "and") if there else "none")
     others += " Declare and define a new one in the file." if command in ("routine", "grouping") else ""
     return "%sthere is no %s of this name.%s" % (begin, " or ".join(kinds), meant(name, there) or others)
@@ -179,8 +184,12 @@ def unknown(line: str, bench: Stage) -> str:
         what = "and a number: among NAME K, then an among, then a line with a single point."
         return "%s needs a name%s%s" % (command, ": %s." % COMMANDS["uses"].usage if command == "uses" else " " + what, known)
     if command in COMMANDS:
-        return "%s needs more: %s." % (command, COMMANDS[command].usage) if COMMANDS[command].takes else "%s takes nothing after it." % command
+        other = {"classes": "class WORD", "stems": "find TEXT", "counts": "uses NAME", "script": "show NAME"}.get(command, "")
+        said = "%s takes nothing after it." % command + " For a part of it: %s." % other * bool(other)
+        return "%s needs more: %s." % (command, COMMANDS[command].usage) if COMMANDS[command].takes else said
     longer = [name for name in COMMANDS if name.startswith(command.casefold())] if command else []
+    if line and bench.known("class " + line) is not None:
+        return "%s is a word: why %s shows its way to its stem. help lists the commands." % (short(line), short(line))
     question = meant(command, COMMANDS) or (" Did you mean %s?" % in_words(longer, "or") if 0 < len(longer) < 4 else "")
     return "%s is not a command.%s help lists the commands." % (short(command or line.strip()), question)
 
@@ -270,5 +279,6 @@ def may_not(why: str, command: str, path: str, then: str = "") -> str:
 
 # By the number of a refusal what makes its sentence of the line and the bench.
 SPECIAL: Dict[int, Callable[[str, Stage], str]] = {
+    54: lambda _, bench: SENTENCES[54] + " remove WORD takes an added word out." * bool(getattr(bench, "added", [])),
     41: absent, 45: no_name, 46: amongs_of, 52: unknown, 53: no_name, 57: bad_file, 59: no_class, 67: no_stem, 74: other_lines,
 }
